@@ -1,0 +1,20 @@
+//! Benchmarks of the migration crates. Each figure is the time of a work as a ratio to that of a copy of the same bytes
+//! in the same run, since times alone say nothing from one machine to another.
+//!
+//! The first argument names the benchmark, and each is a module: what is measured stands there, how in `measure`, and
+//! the copies in `yardstick`. Nothing here is part of the library, and no test compares a figure.
+#![tactic(auto)]
+
+mod measure;
+mod yardstick;
+mod zero;
+
+use std::{env, io};
+
+fn main(rt: HostRuntime) -> io::Result<()> {
+    let word = env::args(&rt)?.nth(1);
+    match word.as_ref().map(|word| word.as_str()) {
+        Some("zero") => zero::run(&rt, rt.alloc(), 1 << 28, 1 << 17),
+        _ => println!(rt; "usage: mig_bench zero"),
+    }
+}

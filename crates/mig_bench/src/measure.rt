@@ -1,0 +1,62 @@
+//! How long a work takes, and how that compares with another.
+ghost use Rattle.std.specs.Prelude.{◌≡◌, ◌+◌, ◌*◌, ◌/◌, ◌%◌, ◌<◌, ◌++◌, Some, codes};
+ghost use Rattle.std.specs.Fmt.{decimal};
+
+use std::rt::Clock;
+use std::time::Instant;
+use std::{fmt, io};
+
+const RUNS: usize = 5;
+
+/// The least time of the runs of a work, and what the last of them returned.
+#[derive(Drop)]
+pub struct Measured {
+    pub nanos: u64,
+    pub answer: usize,
+    ghost positive: { 0 < nanos },
+}
+
+/// Runs a work five times. The least time counts, since whatever else the machine does only adds to it. The work
+/// returns a number that depends on all that it did, so that no compiler leaves a part of it out.
+pub fn best_of_five<F: FnMut() -> usize>(rt: &impl Clock, mut work: F) -> io::Result<Measured>
+    requires { F.IsAlwaysCallable work }
+{
+    let mut answer = 0;
+    let mut nanos = u64::MAX;
+    for _ in 0..RUNS {
+        let start = Instant::now(rt)?;
+        answer = work();
+        let time = start.elapsed(rt)?.as_nanos();
+        nanos = nanos.min(u64::try_from(time).unwrap_or(u64::MAX));
+    }
+    let nanos = nanos.max(1);
+    Ok(Measured { nanos, answer })
+}
+
+/// The ratio of two times, rounded to hundredths.
+#[derive(Clone, Copy)]
+pub struct Ratio {
+    hundredths: u128,
+}
+
+impl Measured {
+    pub fn ratio_to(&self, yardstick: &Measured) -> Ratio
+        ensures { result.hundredths ≡ (100 * self.now.nanos + yardstick.now.nanos / 2) / yardstick.now.nanos }
+    {
+        let time = u128::from(self.nanos);
+        let unit = u128::from(yardstick.nanos);
+        Ratio {
+            hundredths: (100 * time + unit / 2) / unit,
+        }
+    }
+}
+
+impl fmt::Display for Ratio {
+    ghost output = { λ r. let h = r.hundredths in
+        Some (decimal (h / 100) ++ codes "." ++ decimal (h / 10 % 10) ++ decimal (h % 10)) };
+
+    fn fmt<W: fmt::Write>(&self, f: &mut fmt::Formatter<W>) -> fmt::Result {
+        let h = self.hundredths;
+        write!(f, "{}.{}{}", h / 100, h / 10 % 10, h % 10)
+    }
+}

@@ -1,0 +1,47 @@
+//! What the works are measured against: copies of memory into other memory that is in use.
+use crate::measure::{Measured, best_of_five};
+use std::io;
+use std::rt::Clock;
+
+pub const PAGE_SIZE: usize = 4096;
+
+/// The times of copies of the same bytes: page by page, as a guest's pages are handled, and all at once.
+#[derive(Drop)]
+pub struct Yardstick {
+    pub by_pages: Measured,
+    pub at_once: Measured,
+}
+
+impl Yardstick {
+    /// Copies as many bytes as both have, `times` times in each run.
+    pub fn new(rt: &impl Clock, from: &[u8], to: &mut [u8], times: usize) -> io::Result<Yardstick> {
+        Ok(Yardstick {
+            by_pages: best_of_five(rt, || copy_by_pages(from, to, times))?,
+            at_once: best_of_five(rt, || copy_at_once(from, to, times))?,
+        })
+    }
+}
+
+fn copy_by_pages(from: &[u8], to: &mut [u8], times: usize) -> usize {
+    for _ in 0..times {
+        for (from, to) in from
+            .chunks_exact(PAGE_SIZE)
+            .zip(to.chunks_exact_mut(PAGE_SIZE))
+        {
+            to.copy_from_slice(from);
+        }
+    }
+    last_byte(to)
+}
+
+fn copy_at_once(from: &[u8], to: &mut [u8], times: usize) -> usize {
+    let len = from.len().min(to.len());
+    for _ in 0..times {
+        to[..len].copy_from_slice(&from[..len]);
+    }
+    last_byte(to)
+}
+
+fn last_byte(bytes: &[u8]) -> usize {
+    bytes.last().map_or(0, |byte| usize::from(*byte))
+}

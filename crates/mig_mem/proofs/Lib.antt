@@ -1,0 +1,17 @@
+pub mod Lists
+pub mod PageSizes
+pub mod Refusals
+pub mod Packing
+pub mod Lawful
+pub mod Blocks
+pub mod PlaceOrder
+pub mod Members
+pub mod TablePlaces
+pub mod Images
+pub mod Rounds
+pub mod Tracked
+pub mod Parts
+pub mod Kept
+pub mod Bits
+pub mod Sets
+pub mod Walks

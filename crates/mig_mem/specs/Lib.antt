@@ -1,0 +1,12 @@
+pub mod PageSize
+pub mod RamTable
+pub mod First
+pub mod Refusal
+pub mod Packed
+pub mod Place
+pub mod Image
+pub mod Buffers
+pub mod Round
+pub mod PlaceSet
+pub mod Marks
+pub mod Tracking

@@ -1,0 +1,29 @@
+-- A set of a table's places: the list of them, ascending.
+use Rattle.std.specs.Prelude.{ℕ, ◌≡◌, ◌<◌, ◌≤◌, List, All, Bool, true, false, ◌||◌}
+use Rattle.std.specs.List.{filter}
+use Rattle.mig_mem.specs.declared.place.Place.{Place}
+use Rattle.mig_mem.specs.RamTable.{RamTable, IsTable}
+use Rattle.mig_mem.specs.Place.{place_at, place_eq, IsPlace, IsAscending, has_place, places}
+
+pub record PlaceSet : Type 0 where
+  pub table : RamTable
+  pub marked : List Place
+
+pub record IsPlaceSet (s : PlaceSet) : Type 0 where
+  pub has_table : IsTable s.table
+  pub is_within : All (IsPlace s.table) s.marked
+  pub is_ascending : IsAscending s.marked
+
+-- the places of a table that pass a test
+unfoldable pub places_where : RamTable → (Place → Bool) → List Place
+places_where table test = filter test (places table)
+
+-- the set with a place in it, which may be there already; a place that the table lacks is not added
+abbrev pub with_place : PlaceSet → Place → PlaceSet
+with_place s p = record s { marked = places_where s.table (λ q. place_eq q p || has_place s.marked q) }
+
+-- the first page of a block, from a page on, that is in the set
+pub record IsFirstIn (s : PlaceSet) (b from page : ℕ) : Type 0 where
+  pub low : from ≤ page
+  pub has : has_place s.marked (place_at b page) ≡ true
+  pub before : (q : ℕ) → from ≤ q → q < page → has_place s.marked (place_at b q) ≡ false

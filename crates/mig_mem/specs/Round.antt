@@ -1,0 +1,39 @@
+-- Rounds of pages, and the memory after them.
+use Rattle.std.specs.Prelude.{◌≡◌, List, [], ◌∷◌, ◌++◌, length, find, reverse, Option, All}
+use Rattle.std.specs.List.{flat_map}
+use Rattle.std.specs.Option.{option_map_or}
+use Rattle.mig_mem.specs.declared.place.Place.{Place}
+use Rattle.mig_mem.specs.RamTable.{RamTable}
+use Rattle.mig_mem.specs.Place.{place_eq, IsPlace}
+use Rattle.mig_mem.specs.Image.{Page, Image, IsImage, content_at, pages_of, image_of, zero_page, with_page}
+
+-- The round of an image and its dirty places: a page for each of them, in the order given (a dirty set gives them
+-- ascending), with its content in the image.
+abbrev pub round_of : Image → List Place → List Page
+round_of m dirty = pages_of (content_at m) dirty
+
+-- the last page at a place
+unfoldable pub last_at : Place → List Page → Option Page
+last_at p pages = find (λ x. place_eq x.place p) (reverse pages)
+
+-- all pages of some rounds, round after round
+abbrev pub all_pages : List (List Page) → List Page
+all_pages rounds = flat_map (λ r. r) rounds
+
+-- The memory after rounds has at each place the content of the last page with that place, in the last round that has
+-- one, and zeros where no round has one.
+abbrev pub after : RamTable → List (List Page) → Image
+after table rounds = image_of table (λ p. option_map_or (λ x. x.content) (last_at p (all_pages rounds)) (zero_page table.page_size))
+
+-- The pages of a round lie in the table, and have its page size.
+pub record IsRound (table : RamTable) (round : List Page) : Type 0 where
+  pub has_places : All (λ x. IsPlace table x.place) round
+  pub has_sizes : All (λ x. length x.content ≡ table.page_size) round
+
+-- What rounds leave is a memory.
+abbrev pub RoundsMakeMemory : Type 0
+RoundsMakeMemory = (table : RamTable) (rounds : List (List Page)) → All (IsRound table) rounds → IsImage (after table rounds)
+
+-- A round of one page changes the memory at its place alone.
+abbrev pub OnePageMore : Type 0
+OnePageMore = (table : RamTable) (rounds : List (List Page)) (x : Page) → after table (rounds ++ (x ∷ []) ∷ []) ≡ with_page (after table rounds) x.place x.content

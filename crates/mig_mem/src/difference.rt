@@ -1,0 +1,38 @@
+//! Where two memories differ.
+
+ghost use Rattle.std.specs.Prelude.{◌≡◌, ℕ, ◌<◌, length, find, IfSome, IfNone, false};
+ghost use Rattle.mig_mem.specs.RamTable.{block as block_of_number};
+ghost use Rattle.mig_mem.specs.Place.{place_at, places};
+ghost use Rattle.mig_mem.specs.Image.{differs, IsFirstDifference};
+
+use crate::{Memory, Place};
+use std::alloc::Allocator;
+
+/// The least place where two memories of one table have different contents. `Table::same` is the test of the tables.
+pub fn first_difference<A: Allocator, B: Allocator>(a: &Memory<A>, b: &Memory<B>) -> Option<Place>
+    requires { a.now.table ≡ b.now.table }
+    ensures { result ≡ find (differs a.now b.now) (places a.now.table) }
+{
+    for block in 0..a.table().len() {
+        if let Some(page) = first_page(a, b, block) {
+            return Some(Place { block, page });
+        }
+    }
+    None
+}
+
+// The first page of a block where they differ.
+fn first_page<A: Allocator, B: Allocator>(a: &Memory<A>, b: &Memory<B>, block: usize) -> Option<u64>
+    requires same { a.now.table ≡ b.now.table }
+    requires has_block { block < length a.now.table.blocks }
+    ensures some { IfSome result (λ page. IsFirstDifference a.now b.now block page) }
+    ensures none { IfNone result ((page : ℕ) → page < (block_of_number a.now.table.blocks block).pages → differs a.now b.now (place_at block page) ≡ false) }
+{
+    for page in 0..a.table().pages(block) {
+        let place = Place { block, page };
+        if a.page_in(place) != b.page_in(place) {
+            return Some(page);
+        }
+    }
+    None
+}

@@ -1,0 +1,161 @@
+//! Sets of a guest's pages: the dirty bitmap.
+
+ghost use Rattle.std.specs.Prelude.{◌≡◌, ℕ, ◌<◌, ◌≤◌, length, false, replicate, not, find, IfOk, IfSome, IfNone, Ok, []};
+ghost use Rattle.mig_mem.specs.Place.{IsPlace, IsAscending, place_at, place_lt, has_place};
+ghost use Rattle.mig_mem.specs.PlaceSet.{PlaceSet, IsPlaceSet, IsFirstIn, with_place};
+ghost use Rattle.mig_mem.specs.Buffers.{buffers_of};
+ghost use Rattle.mig_mem.specs.Marks.{AreCleared};
+
+use crate::{NoMemory, Place, Table, marks};
+use std::alloc::{Allocator, Global};
+use std::marker::Model;
+
+/// A set of the places of a table: which pages are dirty, as in QEMU's dirty bitmap (`RAMBlock.bmap`).
+#[derive(Drop)]
+pub struct Dirty<A: Allocator = Global> {
+    table: Table<A>,
+    // the marks of each block, 64 to a word
+    words: Vec<Vec<u64, A>, A>,
+    // how many marks there are
+    count: u64,
+}
+
+impl<A: Allocator> Model for Dirty<A> {
+    ghost use Rattle.mig_mem.specs.PlaceSet.{PlaceSet};
+
+    ghost Value = { PlaceSet };
+
+    ghost use Rattle.mig_mem.specs.Marks.{set_in, IsCounted};
+
+    ghost view = { λ d. set_in d.table d.words.items };
+
+    ghost invariant = { λ d. IsCounted d.table d.words.items d.count };
+}
+
+// Words without a mark.
+fn no_words<A: Allocator>(alloc: A, len: usize) -> Result<Vec<u64, A>, NoMemory>
+    ensures { IfOk result (λ v. v.items ≡ replicate len 0) }
+{
+    Ok(vec![in alloc; 0u64; len]?)
+}
+
+// Takes all marks of all blocks away.
+fn clear_rows<A: Allocator>(rows: &mut [Vec<u64, A>])
+    ensures { AreCleared (buffers_of rows.old) (buffers_of rows.new) }
+{
+    for i in 0..rows.len() {
+        marks::clear(&mut rows[i]);
+    }
+}
+
+impl<A: Allocator + Copy> Dirty<A> {
+    /// The empty set. It keeps a copy of the table.
+    pub fn none<B: Allocator>(alloc: A, table: &Table<B>) -> Result<Dirty<A>, NoMemory>
+        ensures { IfOk result (λ d. d ≡ record { table = table.now; marked = [] }) }
+    {
+        let mut words = Vec::with_capacity(alloc, table.len())?;
+        for i in 0..table.len() {
+            let len = table.pages(i).div_ceil(marks::WORD) as usize;
+            words.push(no_words(alloc, len)?)?;
+        }
+        let table = table.copy_in(alloc)?;
+        Ok(Dirty {
+            table,
+            words,
+            count: 0,
+        })
+    }
+
+    /// The places of the set, in ascending order.
+    pub fn pages(&self) -> Result<Vec<Place, A>, NoMemory>
+        ensures value { IfOk result (λ v. v.items ≡ self.now.marked) }
+        ensures ascending { IsAscending self.now.marked }
+    {
+        let mut places = Vec::with_capacity(*self.words.allocator(), self.count() as usize)?;
+        let mut from = Place { block: 0, page: 0 };
+        'marks: while let Some(place) = self.first_from(from) {
+            places.push(place)?;
+            from = Place {
+                block: place.block,
+                page: place.page + 1,
+            };
+        }
+        Ok(places)
+    }
+}
+
+impl<A: Allocator> Dirty<A> {
+    /// The table whose places may be in the set. It also says what a set keeps: its places are the table's, ascending.
+    pub fn table(&self) -> &Table<A>
+        ensures value { result.now ≡ self.now.table }
+        ensures set { IsPlaceSet self.now }
+    {
+        &self.table
+    }
+
+    /// Adds a place, and says whether it is new. `Table::holds` is the test of the place. It takes no memory, and is always
+    /// `Ok`.
+    pub fn mark(&mut self, place: Place) -> Result<bool, NoMemory>
+        requires { IsPlace self.old.table place }
+        ensures set { self.new ≡ with_place self.old place }
+        ensures new { result ≡ Ok (not (has_place self.old.marked place)) }
+    {
+        if marks::is_set(&self.words[place.block], place.page) {
+            return Ok(false);
+        }
+        marks::set(&mut self.words[place.block], place.page);
+        self.count += 1;
+        Ok(true)
+    }
+
+    /// Whether a place is in the set. A place that the table doesn't have is not.
+    pub fn has(&self, place: Place) -> bool
+        ensures { result ≡ has_place self.now.marked place }
+    {
+        self.table.holds(place) && marks::is_set(&self.words[place.block], place.page)
+    }
+
+    /// The number of places in the set.
+    pub fn count(&self) -> u64
+        ensures value { result ≡ length self.now.marked }
+        ensures set { IsPlaceSet self.now }
+    {
+        self.count
+    }
+
+    /// Takes all places out of the set.
+    pub fn clear(&mut self)
+        ensures { self.new ≡ record self.old { marked = [] } }
+    {
+        clear_rows(&mut self.words);
+        self.count = 0;
+    }
+
+    /// The first place of the set that isn't before a given one: with it the set is walked in ascending order without a
+    /// list of its places.
+    pub fn first_from(&self, from: Place) -> Option<Place>
+        ensures { result ≡ find (λ p. not (place_lt p from)) self.now.marked }
+    {
+        let mut page = from.page;
+        for block in from.block..self.table().len() {
+            if let Some(page) = self.first_in(block, page) {
+                return Some(Place { block, page });
+            }
+            page = 0;
+        }
+        None
+    }
+
+    // The first page of a block, from a page on, that is in the set.
+    fn first_in(&self, block: usize, from: u64) -> Option<u64>
+        requires { block < length self.now.table.blocks }
+        ensures some { IfSome result (λ page. IsFirstIn self.now block from page) }
+        ensures none { IfNone result ((page : ℕ) → from ≤ page → has_place self.now.marked (place_at block page) ≡ false) }
+    {
+        let page = marks::first_set(&self.words[block], from)?;
+        if page >= self.table.pages(block) {
+            return None;
+        }
+        Some(page)
+    }
+}

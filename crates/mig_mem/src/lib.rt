@@ -1,0 +1,26 @@
+//! Guest memory: the table of RAM blocks, the content of each page, and sets of pages.
+//!
+//! This is the lowest layer. It knows no format: what a stream or a packet holds is said in the crates above, over the
+//! definitions that stand in `specs/` here. A contract sees a `Table` as a `RamTable`, a `Memory` as an `Image` and a
+//! `Dirty` as a `PlaceSet`, and never how they are kept.
+#![tactic(auto)]
+
+mod difference;
+mod dirty;
+mod fault;
+mod laws;
+mod marks;
+mod memory;
+mod page_size;
+mod place;
+mod refusal;
+mod table;
+
+pub use difference::first_difference;
+pub use dirty::Dirty;
+pub use fault::{NoMemory, TableFault};
+pub use laws::{one_page_more, rounds_make_memory, table_is_lawful, tracking_gives_last_image};
+pub use memory::Memory;
+pub use page_size::{PAGE_SIZE_4K, PAGE_SIZE_8K, is_page_size};
+pub use place::Place;
+pub use table::{MAX_BLOCKS, MAX_ID_LEN, MAX_TOTAL, Table};

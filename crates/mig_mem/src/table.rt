@@ -1,0 +1,193 @@
+//! The table of a guest's memory: its page size and its RAM blocks.
+
+ghost use Rattle.std.specs.Prelude.{◌≡◌, ◌*◌, ◌^◌, ◌<◌, ◌≤◌, ◌⊎◌, ◌↔◌, length, IfOk, IfErr, OnOk, IsTrue, None, Some};
+ghost use Rattle.mig_mem.specs.PageSize.{IsPageSize};
+ghost use Rattle.mig_mem.specs.RamTable.{block, block_of, IsTable, table_from};
+ghost use Rattle.mig_mem.specs.Place.{IsPlace};
+ghost use Rattle.mig_mem.specs.Refusal.{refusal};
+
+use crate::refusal::fault;
+use crate::{NoMemory, Place, TableFault};
+use std::alloc::{Allocator, Global};
+use std::marker::Model;
+
+/// The most blocks that a table has.
+pub const MAX_BLOCKS: usize = 256;
+
+/// The most bytes that a block's id has.
+pub const MAX_ID_LEN: usize = 255;
+
+/// The most bytes that all blocks have together.
+pub const MAX_TOTAL: u64 = 1 << 40;
+
+// Where a block's id lies in the buffer of all ids, and how many pages the block has.
+#[derive(Clone, Copy)]
+struct Span {
+    start: usize,
+    len: usize,
+    pages: u64,
+}
+
+/// The table of a guest's memory: what QEMU's `RAMBlock` list tells a migration. Blocks are numbered from 0, in the order of the list.
+#[derive(Drop)]
+pub struct Table<A: Allocator = Global> {
+    page_size: u64,
+    ids: Vec<u8, A>,
+    spans: Vec<Span, A>,
+}
+
+impl<A: Allocator> Model for Table<A> {
+    ghost use Rattle.mig_mem.specs.RamTable.{RamTable, IsTable};
+
+    ghost Value = { RamTable };
+
+    ghost use Rattle.mig_mem.specs.Packed.{table_of_spans, AllWithin};
+
+    ghost view = { λ t. table_of_spans t.page_size t.ids.items t.spans.items };
+
+    ghost invariant = { λ t. AllWithin t.ids.items t.spans.items × IsTable (table_of_spans t.page_size t.ids.items t.spans.items) };
+}
+
+// The list's ids in one buffer.
+fn packed_from<A: Allocator + Copy>(
+    alloc: A,
+    page_size: u64,
+    list: &[(Vec<u8, A>, u64)],
+) -> Result<Table<A>, NoMemory>
+    requires { IsTable (table_from page_size list.now) }
+    ensures { IfOk result (λ t. t ≡ table_from page_size list.now) }
+{
+    let mut ids = Vec::new(alloc);
+    let mut spans = Vec::new(alloc);
+    for (id, pages) in list {
+        let start = ids.len();
+        ids.extend_from_slice(id)?;
+        spans.push(Span {
+            start,
+            len: id.len(),
+            pages: *pages,
+        })?;
+    }
+    Ok(Table {
+        page_size,
+        ids,
+        spans,
+    })
+}
+
+impl<A: Allocator + Copy> Table<A> {
+    /// The table of a list of ids with their numbers of pages, in the list's order. `is_page_size` is the test of the page
+    /// size. The first fault that applies is told, in the order of `TableFault`; `NoMemory` may come in place of any. The
+    /// list is dropped on a refusal.
+    pub fn new(
+        alloc: A,
+        page_size: u64,
+        list: Vec<(Vec<u8, A>, u64), A>,
+    ) -> Result<Table<A>, TableFault>
+        requires { IsPageSize page_size }
+        ensures ok { IfOk result (λ t. t ≡ table_from page_size list.items) }
+        ensures lawful { OnOk result (refusal (table_from page_size list.items) ≡ None) }
+        ensures err { IfErr result (λ e. (e ≡ TableFault.NoMemory) ⊎ (refusal (table_from page_size list.items) ≡ Some e)) }
+    {
+        if let Some(fault) = fault(page_size, &list) {
+            return Err(fault);
+        }
+        Ok(packed_from(alloc, page_size, &list)?)
+    }
+}
+
+impl<A: Allocator> Table<A> {
+    // A table of the same blocks, in memory of another allocator.
+    pub(crate) fn copy_in<B: Allocator + Copy>(&self, alloc: B) -> Result<Table<B>, NoMemory>
+        ensures { IfOk result (λ t. t ≡ self.now) }
+    {
+        let mut ids = Vec::new(alloc);
+        let mut spans = Vec::new(alloc);
+        ids.extend_from_slice(&self.ids)?;
+        spans.extend_from_slice(&self.spans)?;
+        Ok(Table {
+            page_size: self.page_size,
+            ids,
+            spans,
+        })
+    }
+
+    /// A table of the same page size and blocks.
+    pub fn try_copy(&self) -> Result<Table<A>, NoMemory>
+    where
+        A: Copy,
+        ensures { IfOk result (λ t. t ≡ self.now) }
+    {
+        self.copy_in(*self.ids.allocator())
+    }
+
+    /// The number of bytes of a page.
+    pub fn page_size(&self) -> u64
+        ensures { result ≡ self.now.page_size }
+    {
+        self.page_size
+    }
+
+    /// The number of blocks, which is never 0. It also says that the table keeps the limits.
+    #[allow(clippy::len_without_is_empty)]
+    pub fn len(&self) -> usize
+        ensures value { result ≡ length self.now.blocks }
+        ensures table { IsTable self.now }
+    {
+        self.spans.len()
+    }
+
+    /// The id of a block.
+    pub fn id(&self, i: usize) -> &[u8]
+        requires { i < length self.now.blocks }
+        ensures value { result.now ≡ (block self.now.blocks i).id }
+        ensures len { (0 < length result.now) × (length result.now ≤ 255) }
+    {
+        let span = self.spans[i];
+        &self.ids[span.start..span.start + span.len]
+    }
+
+    /// The number of pages of a block.
+    pub fn pages(&self, i: usize) -> u64
+        requires { i < length self.now.blocks }
+        ensures value { result ≡ (block self.now.blocks i).pages }
+        ensures some { 0 < result }
+        ensures room { result * self.now.page_size ≤ 2 ^ 40 }
+    {
+        self.spans[i].pages
+    }
+
+    /// The number of the block with an id.
+    pub fn find(&self, id: &[u8]) -> Option<usize>
+        ensures { result ≡ block_of self.now.blocks id.now }
+    {
+        for i in 0..self.len() {
+            if self.id(i) == id {
+                return Some(i);
+            }
+        }
+        None
+    }
+
+    /// Whether the table has a page there.
+    pub fn holds(&self, place: Place) -> bool
+        ensures { IsTrue result ↔ IsPlace self.now place }
+    {
+        place.block < self.len() && place.page < self.pages(place.block)
+    }
+
+    /// Whether two tables have the same page size and the same blocks in the same order.
+    pub fn same<B: Allocator>(&self, other: &Table<B>) -> bool
+        ensures { IsTrue result ↔ (self.now ≡ other.now) }
+    {
+        if self.page_size() != other.page_size() || self.len() != other.len() {
+            return false;
+        }
+        for i in 0..self.len() {
+            if self.pages(i) != other.pages(i) || self.id(i) != other.id(i) {
+                return false;
+            }
+        }
+        true
+    }
+}

@@ -1,0 +1,16 @@
+//! Tests of all crates together: the worked examples, and every call that takes memory with each of its growths refused.
+//!
+//! They show what no contract says: that a call succeeds where there is memory, what its answers look like in numbers,
+//! and what stands after a refused growth. What the contracts say isn't tested again.
+#![tactic(auto)]
+
+#[cfg(test)]
+mod common;
+#[cfg(test)]
+mod dirty;
+#[cfg(test)]
+mod memory;
+#[cfg(test)]
+mod refused;
+#[cfg(test)]
+mod table;

@@ -1,0 +1,73 @@
+//! The zero test of guest memory: whether a page, or any other run of bytes, has no byte other than 0.
+//!
+//! A sender asks it of each page that is due, since a page of zeros goes out as a short mark in place of its bytes.
+//! So it is to cost little beside the copy of a page that goes out whole, for a page of zeros and for any other. It
+//! only reads and answers: what a page is, how long it is and what becomes of it are for the crates above.
+#![tactic(auto)]
+
+ghost use Rattle.std.specs.Prelude.{◌≡◌, ◌↔◌, ◌+◌, ◌-◌, ◌/◌, ◌≤◌, [], ◌∷◌, length, All, IsTrue, slice_index};
+ghost use Rattle.std.specs.List.{AllWithin};
+ghost use Rattle.mig_zero.specs.Zero.{IsZero};
+
+use std::simd::prelude::*;
+
+#[cfg(test)]
+mod tests;
+
+/// Whether no byte is other than 0, for any number of bytes; of none it is true.
+///
+/// It works as QEMU's `buffer_is_zero` does (`util/bufferiszero.c`): first a few bytes, which tell most pages that
+/// aren't zero, then whole blocks of 256 bytes in vectors, and then the bytes that are left one at a time.
+pub fn is_zero(bytes: &[u8]) -> bool
+    ensures { IsTrue result ↔ IsZero bytes.now }
+{
+    if !has_zero_samples(bytes) {
+        return false;
+    }
+    let (blocks, rest) = bytes.as_chunks::<256>();
+    are_zero_blocks(blocks) && is_zero_plain(rest)
+}
+
+// Whether the first, the last and the middle byte are 0. They lie in three cache lines of a page, so each is read only
+// where those before it are 0.
+fn has_zero_samples(bytes: &[u8]) -> bool
+    ensures { let samples = 0 ∷ (length bytes.now - 1) ∷ (length bytes.now / 2) ∷ [] in
+        IsTrue result ↔ All (λ at. slice_index bytes.now at ≡ 0) samples }
+{
+    if bytes.is_empty() {
+        return true;
+    }
+    bytes[0] == 0 && bytes[bytes.len() - 1] == 0 && bytes[bytes.len() / 2] == 0
+}
+
+fn are_zero_blocks(blocks: &[[u8; 256]]) -> bool
+    ensures { IsTrue result ↔ All IsZero blocks.now }
+{
+    blocks.iter().all(|block| is_zero_block(block))
+}
+
+// The four tests are joined by `&`, which reads all of them, so that they become one test of four vectors together.
+fn is_zero_block(block: &[u8; 256]) -> bool
+    ensures { IsTrue result ↔ IsZero block.now }
+{
+    is_zero_vector(block, 0)
+        & is_zero_vector(block, 64)
+        & is_zero_vector(block, 128)
+        & is_zero_vector(block, 192)
+}
+
+// Whether the 64 bytes from a place on are 0.
+fn is_zero_vector(bytes: &[u8], at: usize) -> bool
+    requires { at + 64 ≤ length bytes.now }
+    ensures { IsTrue result ↔ AllWithin (λ b. b ≡ 0) bytes.now at (at + 64) }
+{
+    let vector = u8x64::from_slice(&bytes[at..]);
+    vector.simd_ne(u8x64::splat(0)).to_bitmask() == 0
+}
+
+// The same as `is_zero`, a byte at a time.
+fn is_zero_plain(bytes: &[u8]) -> bool
+    ensures { IsTrue result ↔ IsZero bytes.now }
+{
+    bytes.iter().all(|byte| *byte == 0)
+}
