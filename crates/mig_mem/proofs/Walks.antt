@@ -66,9 +66,6 @@ no_place table f none = find_nothing f (places table) (λ q has. none q (place_f
 
 -- ---- from a place on
 
-not_before : Place → Place → Bool
-not_before from p = not (place_lt p from)
-
 pub first_from : (s : PlaceSet) (from p : Place) → IsPlaceSet s → has_place s.marked p ≡ true → place_lt p from ≡ false
     → ((q : Place) → has_place s.marked q ≡ true → place_lt q p ≡ true → place_lt q from ≡ true) → find (λ q. not (place_lt q from)) s.marked ≡ Some p
 first_from s from p is has at before =

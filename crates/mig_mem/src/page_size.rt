@@ -9,6 +9,8 @@ pub const PAGE_SIZE_4K: u64 = 4096;
 /// A page of 8 KiB, in bytes: QEMU's `TARGET_PAGE_SIZE` for Alpha and SPARC64 guests.
 pub const PAGE_SIZE_8K: u64 = 8192;
 
+const _: () = prove!(PAGE_SIZE_4K == 4096 && PAGE_SIZE_8K == 8192);
+
 /// Whether a page of so many bytes is handled.
 pub fn is_page_size(size: u64) -> bool
     ensures { IsTrue result ↔ IsPageSize size }

@@ -1,9 +1,22 @@
 //! Where a page is.
 
+ghost use Rattle.std.specs.Prelude.{◌≡◌};
+
 /// A page of a guest, by the number of its RAM block and its number in the block, both from 0.
 /// Places order by block, then page.
 #[derive(Clone, Copy, Debug, PartialEq, Eq, PartialOrd, Ord, Hash)]
 pub struct Place {
     pub block: usize,
     pub page: u64,
+}
+
+impl Place {
+    ghost use Rattle.mig_mem.specs.Place.{place_lt};
+
+    /// Whether this place comes before another one: the order of `<`.
+    pub fn is_before(self, other: Place) -> bool
+        ensures { result ≡ place_lt self other }
+    {
+        self < other
+    }
 }

@@ -1,7 +1,7 @@
 //! Each call that takes memory, with its first growth refused, then its second, until a run has no refusal. A refused run
 //! answers want of memory and leaves what it was handed as it was; the run with memory answers as ever.
 
-use crate::common::{at, list, table};
+use crate::common::{at, has_byte, is_full, list, mark, marked, set, table, zeroed};
 use mig_mem::{Dirty, Memory, PAGE_SIZE_4K, Table, TableFault};
 use mig_refusing::Refusing;
 use std::alloc::Allocator;
@@ -65,7 +65,7 @@ fn table_new(rt: HostRuntime) -> Result<(), Fail> {
 #[test]
 fn table_copy(rt: HostRuntime) -> Result<(), Fail> {
     let heap = Refusing::new(rt.alloc(), 0);
-    let made = table(&heap, &BLOCKS)?;
+    let made = table(&heap, &BLOCKS).expect(&rt, "a table");
     with_each_growth_refused!(rt, heap, made.try_copy(), copy => {
         assert!(rt; has_blocks(&made));
         assert!(rt; copy.same(&made));
@@ -75,54 +75,51 @@ fn table_copy(rt: HostRuntime) -> Result<(), Fail> {
 #[test]
 fn memory_zeroed(rt: HostRuntime) -> Result<(), Fail> {
     let heap = Refusing::new(rt.alloc(), 0);
-    let table = table(&heap, &BLOCKS)?;
+    let table = table(&heap, &BLOCKS).expect(&rt, "a table");
     with_each_growth_refused!(rt, heap, Memory::zeroed(&heap, &table), memory => {
-        assert!(rt; has_blocks(&table));
         assert!(rt; memory.table().same(&table));
-        assert!(rt; memory.page(at(1, 64)).is_some_and(|page| page.len() == 4096 && page.iter().all(|b| *b == 0)));
+        assert!(rt; is_full(&memory, at(1, 64), 0));
     });
 }
 
 #[test]
 fn memory_copy(rt: HostRuntime) -> Result<(), Fail> {
     let heap = Refusing::new(rt.alloc(), 0);
-    let mut memory = Memory::zeroed(&heap, &table(&heap, &BLOCKS)?).expect(&rt, "a memory");
-    assert_eq!(rt; memory.table().len(), 2);
-    assert_eq!(rt; memory.table().pages(1), 65);
-    assert_eq!(rt; memory.table().page_size(), 4096);
-    memory.set(1, 5, 7);
+    let mut memory = zeroed(&heap, &BLOCKS).expect(&rt, "a memory");
+    assert!(rt; set(&mut memory, 1, 5, 7).is_some());
     with_each_growth_refused!(rt, heap, memory.try_copy(), copy => {
-        for one in [&memory, &copy] {
-            assert!(rt; has_blocks(one.table()));
-            assert!(rt; one.page(at(1, 0)).is_some_and(|page| page.iter().position(|b| *b == 7) == Some(5)));
-        }
+        assert!(rt; has_byte(&memory, at(1, 0), 5, 7));
+        assert!(rt; has_byte(&copy, at(1, 0), 5, 7));
+        assert!(rt; copy.table().same(memory.table()));
     });
 }
 
 #[test]
 fn dirty_none(rt: HostRuntime) -> Result<(), Fail> {
     let heap = Refusing::new(rt.alloc(), 0);
-    let table = table(&heap, &BLOCKS)?;
+    let table = table(&heap, &BLOCKS).expect(&rt, "a table");
     with_each_growth_refused!(rt, heap, Dirty::none(&heap, &table), dirty => {
-        assert!(rt; has_blocks(&table));
-        assert_eq!(rt; dirty.count(), 0);
+        assert!(rt; dirty.table().same(&table));
+        assert!(rt; dirty.count() == 0);
     });
 }
 
 #[test]
 fn dirty_pages(rt: HostRuntime) -> Result<(), Fail> {
     let heap = Refusing::new(rt.alloc(), 0);
-    let mut dirty = Dirty::none(&heap, &table(&heap, &BLOCKS)?).expect(&rt, "a set");
-    for place in [at(1, 64), at(0, 1), at(1, 0)] {
-        assert!(rt; dirty.table().holds(place));
-        // no growth is refused, since none is made
-        heap.refuse(1);
-        assert_eq!(rt; dirty.mark(place), Ok(true));
-        assert!(rt; heap.is_waiting());
-        heap.refuse(0);
-    }
+    let dirty = marked(&heap, &BLOCKS, &[at(1, 64), at(0, 1), at(1, 0)]).expect(&rt, "a set");
     with_each_growth_refused!(rt, heap, dirty.pages(), pages => {
-        assert_eq!(rt; pages.as_slice(), [at(0, 1), at(1, 0), at(1, 64)].as_slice());
-        assert_eq!(rt; dirty.count(), 3);
+        assert!(rt; pages.as_slice() == [at(0, 1), at(1, 0), at(1, 64)].as_slice());
+        assert!(rt; dirty.count() == 3);
     });
+}
+
+// It takes no memory: the growth that is to be refused doesn't come.
+#[test]
+fn dirty_mark(rt: HostRuntime) {
+    let heap = Refusing::new(rt.alloc(), 0);
+    let mut dirty = marked(&heap, &BLOCKS, &[]).expect(&rt, "a set");
+    heap.refuse(1);
+    assert!(rt; mark(&mut dirty, at(1, 64)) == Some(true));
+    assert!(rt; heap.is_waiting());
 }

@@ -3,8 +3,15 @@
 use crate::common::{at, list, table};
 use mig_mem::{NoMemory, PAGE_SIZE_4K, PAGE_SIZE_8K, Table, TableFault, is_page_size};
 use std::alloc::{AllocError, Allocator, Global};
-use std::process::Abort;
 use std::test::Fail;
+
+#[test]
+fn order_of_places(rt: HostRuntime) {
+    assert!(rt; at(0, 1) < at(1, 0));
+    assert!(rt; at(1, 0) < at(1, 1));
+    assert!(rt; at(0, u64::MAX).is_before(at(1, 0)));
+    assert!(rt; !at(1, 0).is_before(at(1, 0)));
+}
 
 // What a list is refused for, with pages of 4096 bytes.
 fn fault(alloc: Global, entries: &[(&str, u64)]) -> Result<Option<TableFault>, AllocError> {
@@ -156,40 +163,47 @@ fn fault_numbers(rt: HostRuntime) {
     assert_eq!(rt; NoMemory.number(), 60);
 }
 
-// What the table of two blocks says of itself.
-fn check_parts<A: Allocator + Copy>(rt: &impl Abort, table: &Table<A>) {
-    assert_eq!(rt; table.page_size(), 4096);
-    assert_eq!(rt; table.len(), 2);
-    assert_eq!(rt; table.id(0), b"a".as_slice());
-    assert_eq!(rt; table.id(1), b"pc.ram".as_slice());
-    assert_eq!(rt; table.pages(0), 2);
-    assert_eq!(rt; table.pages(1), 1);
-    assert_eq!(rt; table.find(b"pc.ram"), Some(1));
-    assert_eq!(rt; table.find(b"pc"), None);
-    assert!(rt; table.holds(at(0, 1)));
-    assert!(rt; !table.holds(at(0, 2)));
-    assert!(rt; !table.holds(at(2, 0)));
+// Whether the table of two blocks says so of all its parts.
+fn has_parts<A: Allocator>(table: &Table<A>) -> bool {
+    table.page_size() == 4096
+        && table.len() == 2
+        && table.id(0) == b"a".as_slice()
+        && table.id(1) == b"pc.ram".as_slice()
+        && table.pages(0) == 2
+        && table.pages(1) == 1
 }
 
 #[test]
-fn parts(rt: HostRuntime) -> Result<(), Fail> {
-    let alloc = rt.alloc();
-    let made = table(alloc, &[("a", 2), ("pc.ram", 1)])?;
-    check_parts(&rt, &made);
+fn parts(rt: HostRuntime) {
+    let made = table(rt.alloc(), &[("a", 2), ("pc.ram", 1)]).expect(&rt, "a table");
+    assert!(rt; has_parts(&made));
+    assert!(rt; made.find(b"pc.ram") == Some(1));
+    assert!(rt; made.find(b"pc") == None);
+    assert!(rt; made.holds(at(0, 1)));
+    assert!(rt; !made.holds(at(0, 2)));
+    assert!(rt; !made.holds(at(2, 0)));
     let copy = made.try_copy().expect(&rt, "a copy");
-    check_parts(&rt, &copy);
+    assert!(rt; has_parts(&copy));
     assert!(rt; copy.same(&made));
-    Ok(())
+}
+
+// Whether a list makes the table of `a` with 2 pages and `b` with 1.
+fn is_same(alloc: Global, page_size: u64, entries: &[(&str, u64)]) -> Option<bool> {
+    if !is_page_size(page_size) {
+        return None;
+    }
+    let made = table(alloc, &[("a", 2), ("b", 1)])?;
+    let other = Table::new(alloc, page_size, list(alloc, entries).ok()?).ok()?;
+    Some(made.same(&other))
 }
 
 #[test]
-fn same(rt: HostRuntime) -> Result<(), Fail> {
+fn same(rt: HostRuntime) {
     let alloc = rt.alloc();
-    let made = table(alloc, &[("a", 2), ("b", 1)])?;
-    assert!(rt; !made.same(&table(alloc, &[("a", 2)])?));
-    assert!(rt; !made.same(&table(alloc, &[("a", 2), ("b", 2)])?));
-    assert!(rt; !made.same(&table(alloc, &[("a", 2), ("c", 1)])?));
-    assert!(rt; !made.same(&table(alloc, &[("b", 1), ("a", 2)])?));
-    assert!(rt; !made.same(&Table::new(alloc, PAGE_SIZE_8K, list(alloc, &[("a", 2), ("b", 1)])?)?));
-    Ok(())
+    assert!(rt; is_same(alloc, PAGE_SIZE_4K, &[("a", 2), ("b", 1)]) == Some(true));
+    assert!(rt; is_same(alloc, PAGE_SIZE_8K, &[("a", 2), ("b", 1)]) == Some(false));
+    assert!(rt; is_same(alloc, PAGE_SIZE_4K, &[("a", 2)]) == Some(false));
+    assert!(rt; is_same(alloc, PAGE_SIZE_4K, &[("a", 2), ("b", 2)]) == Some(false));
+    assert!(rt; is_same(alloc, PAGE_SIZE_4K, &[("a", 2), ("c", 1)]) == Some(false));
+    assert!(rt; is_same(alloc, PAGE_SIZE_4K, &[("b", 1), ("a", 2)]) == Some(false));
 }
