@@ -120,6 +120,8 @@ fn dirty_mark(rt: HostRuntime) {
     let heap = Refusing::new(rt.alloc(), 0);
     let mut dirty = marked(&heap, &BLOCKS, &[]).expect(&rt, "a set");
     heap.refuse(1);
-    assert!(rt; mark(&mut dirty, at(1, 64)) == Some(true));
+    for place in [at(0, 1), at(1, 0), at(1, 64)] {
+        assert!(rt; mark(&mut dirty, place) == Some(true));
+    }
     assert!(rt; heap.is_waiting());
 }
