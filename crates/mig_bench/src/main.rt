@@ -6,6 +6,7 @@
 #![tactic(auto)]
 
 mod measure;
+mod stream;
 mod yardstick;
 mod zero;
 
@@ -15,6 +16,7 @@ fn main(rt: HostRuntime) -> io::Result<()> {
     let word = env::args(&rt)?.nth(1);
     match word.as_ref().map(|word| word.as_str()) {
         Some("zero") => zero::run(&rt, rt.alloc(), 1 << 28, 1 << 17),
-        _ => println!(rt; "usage: mig_bench zero"),
+        Some("stream") => stream::run(&rt, rt.alloc(), 1 << 16),
+        _ => println!(rt; "usage: mig_bench zero|stream"),
     }
 }

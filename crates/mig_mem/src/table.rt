@@ -97,8 +97,8 @@ impl<A: Allocator + Copy> Table<A> {
 }
 
 impl<A: Allocator> Table<A> {
-    // A table of the same blocks, in memory of another allocator.
-    pub(crate) fn copy_in<B: Allocator + Copy>(&self, alloc: B) -> Result<Table<B>, NoMemory>
+    /// A table of the same page size and blocks, in memory of another allocator.
+    pub fn copy_in<B: Allocator + Copy>(&self, alloc: B) -> Result<Table<B>, NoMemory>
         ensures { IfOk result (λ t. t ≡ self.now) }
     {
         let mut ids = Vec::new(alloc);

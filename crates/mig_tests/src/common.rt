@@ -1,6 +1,7 @@
 //! What several tests build, and what they ask of it. A test that builds all by itself takes the prover ten times as long.
 
-use mig_mem::{Dirty, Memory, PAGE_SIZE_4K, Place, Table};
+use mig_mem::{Dirty, Memory, NoMemory, PAGE_SIZE_4K, Place, Table, is_page_size};
+use mig_stream::StreamWriter;
 use std::alloc::{AllocError, Allocator, Global};
 
 /// The place of a page.
@@ -24,6 +25,19 @@ pub(crate) fn list<A: Allocator + Copy>(
 pub(crate) fn table<A: Allocator + Copy>(alloc: A, entries: &[(&str, u64)]) -> Option<Table<A>> {
     let list = list(alloc, entries).ok()?;
     Table::new(alloc, PAGE_SIZE_4K, list).ok()
+}
+
+/// The table of such a list, with pages of a size; None where that isn't one.
+pub(crate) fn table_at<A: Allocator + Copy>(
+    alloc: A,
+    page_size: u64,
+    entries: &[(&str, u64)],
+) -> Option<Table<A>> {
+    if !is_page_size(page_size) {
+        return None;
+    }
+    let list = list(alloc, entries).ok()?;
+    Table::new(alloc, page_size, list).ok()
 }
 
 /// A memory of zeros of such a table.
@@ -108,4 +122,97 @@ pub(crate) fn has_exactly<A: Allocator + Copy>(dirty: &Dirty<A>, places: &[Place
     dirty.count() == places.len() as u64
         && places.iter().all(|place| dirty.has(*place))
         && dirty.pages().is_ok_and(|pages| pages.as_slice() == places)
+}
+
+/// What is put into a stream, one after another.
+#[derive(Clone, Copy)]
+pub(crate) enum Step<'a> {
+    /// Sets the first byte of a page of the image.
+    Set(Place, u8),
+    /// Writes the pages of these places as one PART.
+    Round(&'a [Place]),
+    /// Writes a PART of FLUSH.
+    Flush,
+}
+
+/// Sets the first byte of a page; None where the table lacks it.
+pub(crate) fn set_first<A: Allocator>(image: &mut Memory<A>, place: Place, byte: u8) -> Option<()> {
+    let offset = place.page.checked_mul(image.table().page_size())?;
+    set(image, place.block, offset, byte)
+}
+
+/// The set of some places of a table.
+pub(crate) fn places_of<A: Allocator + Copy>(
+    alloc: A,
+    table: &Table<A>,
+    places: &[Place],
+) -> Option<Dirty<A>> {
+    let mut dirty = Dirty::none(alloc, table).ok()?;
+    for place in places {
+        mark(&mut dirty, *place)?;
+    }
+    Some(dirty)
+}
+
+/// Writes a PART; None where the image or the set is of another table.
+pub(crate) fn part<A: Allocator, B: Allocator>(
+    writer: &mut StreamWriter<A>,
+    image: &Memory<B>,
+    dirty: &Dirty<B>,
+) -> Option<Result<(), NoMemory>> {
+    if !image.table().same(writer.table()) || !dirty.table().same(writer.table()) {
+        return None;
+    }
+    Some(writer.part(image, dirty))
+}
+
+fn take_step<A: Allocator + Copy>(
+    alloc: A,
+    writer: &mut StreamWriter<A>,
+    image: &mut Memory<A>,
+    step: &Step,
+) -> Option<()> {
+    match step {
+        Step::Set(place, byte) => set_first(image, *place, *byte),
+        Step::Round(places) => {
+            let dirty = places_of(alloc, image.table(), places)?;
+            part(writer, image, &dirty)?.ok()
+        }
+        Step::Flush => writer.flush_part().ok(),
+    }
+}
+
+/// The text of a stream with pages of a size, from an image of zeros on.
+pub(crate) fn written<A: Allocator + Copy>(
+    alloc: A,
+    page_size: u64,
+    entries: &[(&str, u64)],
+    steps: &[Step],
+) -> Option<Vec<u8, A>> {
+    let table = table_at(alloc, page_size, entries)?;
+    let mut image = Memory::zeroed(alloc, &table).ok()?;
+    let mut writer = StreamWriter::new(alloc, &table).ok()?;
+    for step in steps {
+        take_step(alloc, &mut writer, &mut image, step)?;
+    }
+    writer.finish().ok()
+}
+
+/// A page of a size, all zeros but its first byte.
+pub(crate) fn page_of<A: Allocator>(alloc: A, size: usize, first: u8) -> Option<Vec<u8, A>> {
+    let mut page = vec![in alloc; 0u8; size].ok()?;
+    *page.first_mut()? = first;
+    Some(page)
+}
+
+/// Whether a text is these pieces, one after another, and no more.
+pub(crate) fn is_joined(text: &[u8], pieces: &[&[u8]]) -> bool {
+    let mut rest = text;
+    for piece in pieces {
+        match rest.strip_prefix(*piece) {
+            Some(left) => rest = left,
+            None => return false,
+        }
+    }
+    rest.is_empty()
 }

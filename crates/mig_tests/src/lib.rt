@@ -14,3 +14,5 @@ mod memory;
 mod refused;
 #[cfg(test)]
 mod table;
+#[cfg(test)]
+mod writer;

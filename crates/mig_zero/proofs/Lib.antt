@@ -1,2 +1,3 @@
 pub mod Blocks
 pub mod Vectors
+pub mod Zeros

@@ -1,0 +1,83 @@
+//! The writing of a round into a stream.
+ghost use Rattle.std.specs.Prelude.{◌≤◌, ◌*◌, ◌^◌};
+
+use crate::measure::best_of_five;
+use crate::yardstick::{PAGE_SIZE, Yardstick};
+use mig_mem::{Dirty, Memory, NoMemory, PAGE_SIZE_4K, Place, Table, TableFault};
+use mig_stream::StreamWriter;
+use std::alloc::Global;
+use std::io;
+use std::rt::Clock;
+
+/// Writes the round of a guest whose pages are all dirty, with none, half and nine tenths of them zeros.
+pub fn run(rt: &(impl Clock + Print), alloc: Global, pages: u64) -> io::Result<()>
+    requires { pages * PAGE_SIZE ≤ 2 ^ 40 }
+{
+    let Ok((mut image, dirty)) = guest(alloc, pages) else {
+        return println!(rt; "no memory for the guest");
+    };
+    let len = pages as usize * PAGE_SIZE;
+    let from = vec![in alloc; 1u8; len]?;
+    let mut to = vec![in alloc; 1u8; len]?;
+    let copies = Yardstick::new(rt, &from, &mut to, 1)?;
+    drop(from);
+    drop(to);
+    println!(rt;
+        "writing {pages} dirty pages of {PAGE_SIZE} bytes: the least time of five runs, as a ratio to a copy of them"
+    )?;
+    for tenths in [0, 5, 9] {
+        fill(&mut image, pages, tenths);
+        let measured = best_of_five(rt, || written_len(alloc, &image, &dirty))?;
+        println!(rt;
+            "{tenths} tenths of zeros  {} by pages, {} at once; {} bytes written",
+            measured.ratio_to(&copies.by_pages),
+            measured.ratio_to(&copies.at_once),
+            measured.answer
+        )?;
+    }
+    Ok(())
+}
+
+// A guest of one block, and the set of all its pages.
+fn guest(alloc: Global, pages: u64) -> Result<(Memory, Dirty), TableFault> {
+    let mut list = Vec::new(alloc);
+    let id = Vec::from_slice(alloc, b"pc.ram").map_err(NoMemory::from)?;
+    list.push((id, pages)).map_err(NoMemory::from)?;
+    let table = Table::new(alloc, PAGE_SIZE_4K, list)?;
+    let image = Memory::zeroed(alloc, &table)?;
+    let mut dirty = Dirty::none(alloc, &table)?;
+    for page in 0..pages {
+        let place = Place { block: 0, page };
+        if dirty.table().holds(place) {
+            dirty.mark(place)?;
+        }
+    }
+    Ok((image, dirty))
+}
+
+// Of each ten pages some are zeros and the others full of ones.
+fn fill(image: &mut Memory, pages: u64, zero_tenths: u64) {
+    for page in 0..pages {
+        let place = Place { block: 0, page };
+        let byte = u8::from(page % 10 >= zero_tenths);
+        let content = [byte; PAGE_SIZE];
+        let table = image.table();
+        if table.holds(place) && table.page_size() == PAGE_SIZE as u64 {
+            image.put_page(place, &content);
+        }
+    }
+}
+
+// The length of the stream of one round; 0 where memory is refused.
+fn written_len(alloc: Global, image: &Memory, dirty: &Dirty) -> usize {
+    let Ok(mut writer) = StreamWriter::new(alloc, image.table()) else {
+        return 0;
+    };
+    if !dirty.table().same(writer.table()) || writer.part(image, dirty).is_err() {
+        return 0;
+    }
+    match writer.finish() {
+        Ok(text) => text.len(),
+        Err(_) => 0,
+    }
+}

@@ -1,0 +1,121 @@
+-- Worked examples of the definitions: what a writer spells, and how items are judged.
+use Rattle.std.proofs.Common.{◌≡◌, ℕ, ◌^◌, List, [], ◌∷◌, ◌++◌, replicate, Some, None, refl}
+use Rattle.mig_mem.specs.Image.{Page}
+use Rattle.mig_mem.specs.RamTable.{RamTable, is_id}
+use Rattle.mig_stream.specs.declared.fault.StreamFault.TheVariants as fault
+use Rattle.mig_stream.specs.declared.item.Mode.{Mode}
+use Rattle.mig_stream.specs.declared.item.Mode.TheVariants.{Single, Main}
+use Rattle.mig_stream.specs.declared.item.Section.TheVariants as section
+use Rattle.mig_stream.specs.declared.item.Before.TheVariants as before
+use Rattle.mig_stream.specs.declared.item.Filling.TheVariants.{Zero}
+use Rattle.mig_stream.specs.declared.item.Due.TheVariants.{TypeByte, RecordHead, ListEntry, BlockName, Content}
+use Rattle.mig_stream.specs.Fields.{be64, be64_at}
+use Rattle.mig_stream.specs.Progress.{Progress, start}
+use Rattle.mig_stream.specs.Items.{first_fault}
+use Rattle.mig_stream.specs.Text.{file_header, size_list}
+use Rattle.mig_stream.specs.Written.{RoundPart, FlushPart, written, written_parts, opening, closing}
+
+-- ---- what a writer spells
+
+-- the table of one block `a`, of this many pages
+abbrev table : ℕ → ℕ → RamTable
+table page_size pages = record { page_size = page_size; blocks = record { id = 0x61 ∷ []; pages = pages } ∷ [] }
+
+-- a page of that block
+abbrev page : ℕ → List ℕ → Page
+page number content = record { place = record { block = 0; page = number }; content = content }
+
+-- A table of one page and no part: file header, START with the size list, END, end byte.
+no_part : written (table 4096 1) [] ≡
+    0x51 ∷ 0x45 ∷ 0x56 ∷ 0x4D ∷ 0 ∷ 0 ∷ 0 ∷ 3
+    ∷ 0x01 ∷ 0 ∷ 0 ∷ 0 ∷ 1 ∷ 3 ∷ 0x72 ∷ 0x61 ∷ 0x6D ∷ 0 ∷ 0 ∷ 0 ∷ 0 ∷ 0 ∷ 0 ∷ 0 ∷ 4
+    ∷ 0 ∷ 0 ∷ 0 ∷ 0 ∷ 0 ∷ 0 ∷ 0x10 ∷ 4 ∷ 1 ∷ 0x61 ∷ 0 ∷ 0 ∷ 0 ∷ 0 ∷ 0 ∷ 0 ∷ 0x10 ∷ 0
+    ∷ 0 ∷ 0 ∷ 0 ∷ 0 ∷ 0 ∷ 0 ∷ 0 ∷ 0x10 ∷ 0x7E ∷ 0 ∷ 0 ∷ 0 ∷ 1
+    ∷ 0x03 ∷ 0 ∷ 0 ∷ 0 ∷ 1 ∷ 0 ∷ 0 ∷ 0 ∷ 0 ∷ 0 ∷ 0 ∷ 0 ∷ 0x10 ∷ 0x7E ∷ 0 ∷ 0 ∷ 0 ∷ 1
+    ∷ 0x00 ∷ []
+unfolding opening closing file_header size_list
+no_part = refl
+
+-- A page of zeros and another page, in one round: a zero record that names the block, and a page with CONTINUE.
+two_pages : written_parts (table 4096 2) None (RoundPart (page 0 (replicate 4096 0) ∷ page 1 (9 ∷ replicate 4095 0) ∷ []) ∷ []) ≡
+    (0x02 ∷ 0 ∷ 0 ∷ 0 ∷ 1 ∷ []) ++ (0 ∷ 0 ∷ 0 ∷ 0 ∷ 0 ∷ 0 ∷ 0 ∷ 0x02 ∷ 1 ∷ 0x61 ∷ 0 ∷ [])
+    ++ (0 ∷ 0 ∷ 0 ∷ 0 ∷ 0 ∷ 0 ∷ 0x10 ∷ 0x28 ∷ 9 ∷ replicate 4095 0)
+    ++ (0 ∷ 0 ∷ 0 ∷ 0 ∷ 0 ∷ 0 ∷ 0 ∷ 0x10 ∷ 0x7E ∷ 0 ∷ 0 ∷ 0 ∷ 1 ∷ [])
+two_pages = refl
+
+-- A page of zeros, a FLUSH, and the page again: the second record has CONTINUE, across sections and the FLUSH.
+carried_on : written_parts (table 4096 1) None (RoundPart (page 0 (replicate 4096 0) ∷ []) ∷ FlushPart ∷ RoundPart (page 0 (replicate 4096 0) ∷ []) ∷ []) ≡
+    (0x02 ∷ 0 ∷ 0 ∷ 0 ∷ 1 ∷ 0 ∷ 0 ∷ 0 ∷ 0 ∷ 0 ∷ 0 ∷ 0 ∷ 0x02 ∷ 1 ∷ 0x61 ∷ 0 ∷ 0 ∷ 0 ∷ 0 ∷ 0 ∷ 0 ∷ 0 ∷ 0 ∷ 0x10 ∷ 0x7E ∷ 0 ∷ 0 ∷ 0 ∷ 1 ∷ [])
+    ++ (0x02 ∷ 0 ∷ 0 ∷ 0 ∷ 1 ∷ 0 ∷ 0 ∷ 0 ∷ 0 ∷ 0 ∷ 0 ∷ 0x02 ∷ 0x00 ∷ 0 ∷ 0 ∷ 0 ∷ 0 ∷ 0 ∷ 0 ∷ 0 ∷ 0x10 ∷ 0x7E ∷ 0 ∷ 0 ∷ 0 ∷ 1 ∷ [])
+    ++ (0x02 ∷ 0 ∷ 0 ∷ 0 ∷ 1 ∷ 0 ∷ 0 ∷ 0 ∷ 0 ∷ 0 ∷ 0 ∷ 0 ∷ 0x22 ∷ 0 ∷ 0 ∷ 0 ∷ 0 ∷ 0 ∷ 0 ∷ 0 ∷ 0 ∷ 0x10 ∷ 0x7E ∷ 0 ∷ 0 ∷ 0 ∷ 1 ∷ [])
+carried_on = refl
+
+-- ---- how items are judged
+
+-- START's head was read, and the limit on the table's total is one page of 4,096 bytes
+abbrev in_start : Mode → Progress
+in_start mode = record (start mode 4096 4096) { due = RecordHead; section_id = 1 }
+
+-- the head of a PART was read; the table has one page, and no block was named yet
+abbrev in_part : Mode → ℕ → Progress
+in_part mode page_size = record (start mode page_size (2 ^ 40)) {
+  due = RecordHead;
+  section = section.Part;
+  section_id = 1;
+  left = Some 0;
+  blocks = (table page_size 1).blocks;
+}
+
+-- START's first record is the size list and nothing else: a FLUSH there is judged so, even in a single stream.
+flush_in_place_of_list : first_fault (in_start Single) (be64 0x200) ≡ Some fault.SizePlace
+unfolding be64_at
+flush_in_place_of_list = refl
+
+-- A size list elsewhere is judged by its place, even where its total of 0 would be a fault too.
+list_in_part : first_fault (in_part Single 4096) (be64 0x004) ≡ Some fault.SizePlace
+unfolding be64_at
+list_in_part = refl
+
+-- A total that is the limit is accepted; one page more is not.
+total_at_limit : first_fault (in_start Single) (be64 0x1004) ≡ None
+unfolding be64_at
+total_at_limit = refl
+
+total_above_limit : first_fault (in_start Single) (be64 0x2004) ≡ Some fault.Total
+unfolding be64_at
+total_above_limit = refl
+
+-- A 257th entry is one too many, before its id is looked at.
+entry_too_many : first_fault (record (in_start Single) { due = ListEntry; left = Some 4096; blocks = replicate 256 (record { id = 0x61 ∷ []; pages = 1 }) }) (0 ∷ be64 0x1000) ≡ Some fault.TooManyBlocks
+unfolding be64_at is_id
+entry_too_many = refl
+
+-- At pages of 8,192 bytes the flags have 13 bits, so a head with offset 4,096 has flags that no record has.
+thirteenth_bit : first_fault (in_part Single 8192) (be64 0x1008) ≡ Some (fault.Flags 0x1008)
+unfolding be64_at
+thirteenth_bit = refl
+
+-- A FLUSH is refused in a single stream before its offset is looked at.
+flush_in_single : first_fault (in_part Single 4096) (be64 0x1200) ≡ Some fault.Flush
+unfolding be64_at
+flush_in_single = refl
+
+-- CONTINUE where no block was named yet is told before the offset, which lies outside of the only block.
+continue_without_block : first_fault (in_part Single 4096) (be64 0x5028) ≡ Some fault.NoBlock
+unfolding be64_at
+continue_without_block = refl
+
+-- An empty id in a page record is one that the table hasn't.
+empty_id : first_fault (record (in_part Single 4096) { due = BlockName Zero 0 }) (0 ∷ []) ≡ Some fault.UnknownBlock
+empty_id = refl
+
+-- The byte of a zero page record has to be 0.
+fill_byte : first_fault (record (in_part Single 4096) { due = Content Zero (record { block = 0; page = 0 }) }) (7 ∷ []) ≡ Some (fault.Fill 7)
+fill_byte = refl
+
+-- A main stream may not end after a page record that no FLUSH follows.
+abbrev with_open_record : Progress
+with_open_record = record (in_part Main 4096) { due = TypeByte before.LastFooter; records = record { place = record { block = 0; page = 0 }; content = None } ∷ [] }
+
+end_behind_record : first_fault with_open_record (0x00 ∷ []) ≡ Some fault.Tail
+end_behind_record = refl

@@ -1,0 +1,164 @@
+-- Each text has a reading, and it has no other.
+use Rattle.std.proofs.Common.{◌≡◌, ◌≢◌, ◌⊎◌, ℕ, zero, suc, ◌+◌, ◌*◌, ◌<◌, ◌≤◌, List, [], ◌++◌, length, take, drop, Option, Some, None, refl, sym, ap, ◌∙◌, inl, inr, append_assoc, eqb, arith}
+use Rattle.std.specs.Prelude.{slice_index}
+use Rattle.std.proofs.lemmas.Bool.{cond_both, cases_lt}
+use Rattle.std.proofs.lemmas.List.{take-append-drop, length-append}
+use Rattle.mig_mem.specs.RamTable.{RamTable}
+use Rattle.mig_mem.proofs.PageSizes.{page_size_some}
+use Rattle.mig_stream.specs.declared.item.Filling.TheVariants.{Zero, Normal}
+use Rattle.mig_stream.specs.declared.item.RecordKind.{RecordKind}
+use Rattle.mig_stream.specs.declared.item.RecordKind.TheVariants.{SizeList, Named, Continued, EndOfSection, Flush}
+use Rattle.mig_stream.specs.declared.item.Due.{Due}
+use Rattle.mig_stream.specs.declared.item.Due.TheVariants.{FileHeader, TypeByte, ConfigLength, ConfigName, StartHead, SectionHead, RecordHead, ListEntry, BlockName, Content, Footer, Nothing}
+use Rattle.mig_stream.specs.declared.item.StreamState.{StreamState}
+use Rattle.mig_stream.specs.declared.item.StreamState.TheVariants.{Reading, Closed, Bad}
+use Rattle.mig_stream.specs.declared.fault.StreamFault.{StreamFault}
+use Rattle.mig_stream.specs.PageRecord.{PageRecord}
+use Rattle.mig_stream.specs.Progress.{Progress, start, whole_table}
+use Rattle.mig_stream.specs.Items.{size, first_fault, after_type, after_head, after_item, after}
+use Rattle.mig_stream.specs.Reading.{IsItem, Front, Reads, StreamReading}
+use Rattle.mig_stream.specs.Law.{HasOneReading}
+use Rattle.mig_stream.proofs.Fronts.{Front-none, Front-push, work, no_item, item_at}
+use Rattle.mig_stream.proofs.Unique.{one_reading}
+
+-- ---- an item leaves the page size as it was
+
+-- a type byte leaves it
+type_size : (c : Progress) (byte : ℕ) → (after_type c byte).page_size ≡ c.page_size
+type_size c byte =
+    cond_both (eqb byte 7) _ _ (λ (x : Progress). x.page_size ≡ c.page_size) (λ _. refl) (λ _.
+    cond_both (eqb byte 1) _ _ (λ (x : Progress). x.page_size ≡ c.page_size) (λ _. refl) (λ _.
+    cond_both (eqb byte 2) _ _ (λ (x : Progress). x.page_size ≡ c.page_size) (λ _. refl) (λ _.
+    cond_both (eqb byte 3) _ _ (λ (x : Progress). x.page_size ≡ c.page_size) (λ _. refl) (λ _. refl))))
+
+-- so does a record head, of any kind
+head_size : (c : Progress) (kind : Option RecordKind) (page : ℕ) → (after_head c kind page).page_size ≡ c.page_size
+head_size c None page = refl
+head_size c (Some SizeList) page = refl
+head_size c (Some (Named filling)) page = refl
+head_size c (Some (Continued filling)) page = refl
+head_size c (Some EndOfSection) page = refl
+head_size c (Some Flush) page = refl
+
+-- and so does each item
+item_size : (c : Progress) (d : Due) (item : List ℕ) → (after_item c d item).page_size ≡ c.page_size
+item_size c FileHeader item = refl
+item_size c (TypeByte before) item = type_size c (slice_index item 0)
+item_size c ConfigLength item = refl
+item_size c (ConfigName len) item = refl
+item_size c StartHead item = refl
+item_size c SectionHead item = refl
+item_size c RecordHead item = head_size c _ _
+item_size c ListEntry item = refl
+item_size c (BlockName filling page) item = refl
+item_size c (Content Zero place) item = refl
+item_size c (Content Normal place) item = refl
+item_size c Footer item = refl
+item_size c Nothing item = refl
+
+-- ---- each item is a step forward
+
+-- the work that is due is 1 at most
+work_small : (d : Due) → work d ≤ 1
+work_small FileHeader = omega arith
+work_small (TypeByte before) = omega arith
+work_small ConfigLength = omega arith
+work_small (ConfigName len) = omega arith
+work_small StartHead = omega arith
+work_small SectionHead = omega arith
+work_small RecordHead = omega arith
+work_small ListEntry = omega arith
+work_small (BlockName filling page) = omega arith
+work_small (Content filling place) = omega arith
+work_small Footer = omega arith
+work_small Nothing = omega arith
+
+-- an item is not empty, or it is a name, behind which no name comes
+step : (c : Progress) (d : Due) (item : List ℕ) → 0 < c.page_size → d ≢ Nothing → length item ≡ size c.page_size d item → work (after_item c d item).due < 2 * length item + work d
+step c FileHeader item some open_ whole = omega arith
+step c (TypeByte before) item some open_ whole = omega (arith, work_small (after_type c (slice_index item 0)).due)
+step c ConfigLength item some open_ whole = omega (arith, work_small (after_item c ConfigLength item).due)
+step c (ConfigName len) item some open_ whole = omega arith
+step c StartHead item some open_ whole = omega arith
+step c SectionHead item some open_ whole = omega arith
+step c RecordHead item some open_ whole = omega (arith, work_small (after_item c RecordHead item).due)
+step c ListEntry item some open_ whole = omega (arith, work_small (after_item c ListEntry item).due)
+step c (BlockName filling page) item some open_ whole = omega arith
+step c (Content Zero place) item some open_ whole = omega arith
+step c (Content Normal place) item some open_ whole = omega arith
+step c Footer item some open_ whole = omega arith
+step c Nothing item some open_ whole = absurd (open_ refl)
+
+-- whether an item is due at all
+is_nothing : (d : Due) → (d ≡ Nothing) ⊎ (d ≢ Nothing)
+is_nothing FileHeader = inr (λ e. absurd cc)
+is_nothing (TypeByte before) = inr (λ e. absurd cc)
+is_nothing ConfigLength = inr (λ e. absurd cc)
+is_nothing (ConfigName len) = inr (λ e. absurd cc)
+is_nothing StartHead = inr (λ e. absurd cc)
+is_nothing SectionHead = inr (λ e. absurd cc)
+is_nothing RecordHead = inr (λ e. absurd cc)
+is_nothing ListEntry = inr (λ e. absurd cc)
+is_nothing (BlockName filling page) = inr (λ e. absurd cc)
+is_nothing (Content filling place) = inr (λ e. absurd cc)
+is_nothing Footer = inr (λ e. absurd cc)
+is_nothing Nothing = inl refl
+
+-- ---- a text has a reading
+
+-- some reading of a text from here
+abbrev SomeReading : Progress → List ℕ → Type 0
+SomeReading from text = (to : Progress) × (rest : List ℕ) × (state : StreamState) × Reads from text to rest state
+
+-- whether an item has a fault
+faulty : (o : Option StreamFault) → (o ≡ None) ⊎ ((fault : StreamFault) × (o ≡ Some fault))
+faulty None = inl refl
+faulty (Some fault) = inr (fault, refl)
+
+-- however far a text has been read, it can be read on, since each item is a step forward
+read_on : (fuel : ℕ) (from c : Progress) (text front rest : List ℕ) → 0 < c.page_size → 2 * length rest + work c.due < fuel → text ≡ front ++ rest → Front from front c → SomeReading from text
+read_on zero from c text front rest some few e so_far = absurd (omega arith)
+read_on (suc fuel) from c text front rest some few e so_far =
+    elim (is_nothing c.due) [
+      | inl none ↦ (c, rest, Closed, record { front = front; has_text = e; leads = so_far; ends = none })
+      | inr open_ ↦ elim (cases_lt (length rest) (size c.page_size c.due rest)) [
+        | inl short ↦ (c, rest, Reading, record { front = front; has_text = e; leads = so_far; ends = (open_, no_item c.page_size c.due rest short) })
+        | inr le ↦
+            let n : ℕ = size c.page_size c.due rest in
+            let item : List ℕ = take n rest in
+            let more : List ℕ = drop n rest in
+            let parts : item ++ more ≡ rest = take-append-drop n rest in
+            let is : IsItem c.page_size c.due item = item_at c.page_size c.due rest open_ (omega arith) in
+            elim (faulty (first_fault c item)) [
+              | inl free ↦
+                  let lens : length item + length more ≡ length rest = sym (length-append item more) ∙ ap length parts in
+                  let less : work (after c item).due < 2 * length item + work c.due = step c c.due item some open_ is.is_whole in
+                  let text_is : text ≡ (front ++ item) ++ more = e ∙ ap (λ (x : List ℕ). front ++ x) (sym parts) ∙ sym (append_assoc front item more) in
+                  read_on fuel from (after c item) text (front ++ item) more (omega (arith, item_size c c.due item)) (omega arith) text_is (Front-push from c front item so_far is free)
+              | inr found ↦ (c, rest, Bad found.0, record { front = front; has_text = e; leads = so_far; ends = (item, more, sym parts, is, found.1) })
+            ]
+      ]
+    ]
+
+-- two readings of a text tell the same
+same_reading : (from : Progress) (text : List ℕ) (other : StreamReading) (c : Progress) (x : List ℕ) (s : StreamState) → Reads from text c x s
+    → (d : Progress) (y : List ℕ) → Reads from text d y other.state → other.table ≡ whole_table d → other.rounds ≡ d.rounds
+    → other ≡ record { table = whole_table c; rounds = c.rounds; state = s }
+same_reading from text other c x s a d y b table rounds =
+    let same = one_reading from text d c y x other.state s b a in
+    let t : other.table ≡ whole_table c = table ∙ ap whole_table same.0 in
+    let r : other.rounds ≡ c.rounds = rounds ∙ ap (λ (p : Progress). p.rounds) same.0 in
+    ap (λ (v : Option RamTable). record { table = v; rounds = other.rounds; state = other.state }) t
+    ∙ ap (λ (v : List (List PageRecord)). record { table = whole_table c; rounds = v; state = other.state }) r
+    ∙ ap (λ (v : StreamState). record { table = whole_table c; rounds = c.rounds; state = v }) same.2
+
+-- Each text has exactly one reading.
+pub one_reading_law : HasOneReading
+one_reading_law = λ mode page_size limit text is.
+    let from : Progress = start mode page_size limit in
+    let r = read_on (suc (2 * length text + work from.due)) from from text [] text (page_size_some page_size is) (omega arith) refl (Front-none from) in
+    let reading : StreamReading = record { table = whole_table r.0; rounds = r.0.rounds; state = r.2 } in (
+      reading,
+      record { to = r.0; rest = r.1; reads = r.3; has_table = refl; has_rounds = refl },
+      λ other is_other. same_reading from text other r.0 r.1 r.2 r.3 is_other.to is_other.rest is_other.reads is_other.has_table is_other.has_rounds,
+    )

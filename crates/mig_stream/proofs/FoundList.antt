@@ -1,0 +1,157 @@
+-- What is left of START from its size list on, where its head and its entries were read without a fault.
+use Rattle.std.proofs.Common.{◌≡◌, ℕ, zero, suc, ◌+◌, ◌-◌, ◌*◌, ◌/◌, ◌%◌, ◌<◌, ◌≤◌, false, not, eqb, ltb, leb, List, [], ◌∷◌, ◌++◌, length, get_or, Option, Some, None, refl, sym, ap, subst, ◌∙◌, append_assoc, arith}
+use Rattle.std.specs.Prelude.{◌||◌, IsTrue, is_some}
+use Rattle.std.specs.Option.{unwrap_or}
+use Rattle.std.specs.List.{flat_map}
+use Rattle.std.proofs.lemmas.Nat.{div-add-mod'}
+use Rattle.std.proofs.lemmas.Bool.{not-false, eqb-true, eqb-false, leb-false, ltb-false, or_parts}
+use Rattle.std.proofs.lemmas.List.{length-append}
+use Rattle.mig_mem.specs.RamTable.{Block, block_of, is_id}
+use Rattle.mig_stream.specs.declared.item.Due.TheVariants.{RecordHead, ListEntry}
+use Rattle.mig_stream.specs.declared.item.RecordKind.TheVariants.{SizeList}
+use Rattle.mig_stream.specs.declared.fault.StreamFault.TheVariants as fault
+use Rattle.mig_stream.specs.Fields.{be64}
+use Rattle.mig_stream.specs.Format.{flags_of, most_blocks}
+use Rattle.mig_stream.specs.Progress.{Progress}
+use Rattle.mig_stream.specs.Items.{id_in, length_in, faults, first_of}
+use Rattle.mig_stream.specs.Text.{entry}
+use Rattle.mig_stream.proofs.Tables.{AreBlocks, sum_of}
+use Rattle.mig_stream.proofs.FoundFields.{IsBytes, passed}
+use Rattle.mig_stream.proofs.FoundParts.{entry_found}
+use Rattle.mig_stream.proofs.FoundPages.{RestOfBody}
+
+-- The entries of one or more blocks are left, and then START's records.
+pub record RestOfEntries (Behind : Progress → List ℕ → Type 0) (c : Progress) (bytes : List ℕ) : Type 0 where
+  pub blocks : List Block
+  pub tail : List ℕ
+  pub has_bytes : bytes ≡ flat_map (entry c.page_size) blocks ++ tail
+  pub are_blocks : AreBlocks c.blocks blocks
+  pub has_some : 0 < length blocks
+  pub has_few : length c.blocks + length blocks ≤ 256
+  pub has_sum : sum_of c.page_size blocks ≡ unwrap_or c.left 0
+  pub rest : RestOfBody Behind (record c { due = RecordHead; left = Some 0; blocks = c.blocks ++ blocks }) tail
+
+-- The size list is left, and then START's records.
+pub record RestOfList (Behind : Progress → List ℕ → Type 0) (c : Progress) (bytes : List ℕ) : Type 0 where
+  pub blocks : List Block
+  pub tail : List ℕ
+  pub has_bytes : bytes ≡ be64 (sum_of c.page_size blocks + flags_of SizeList) ++ (flat_map (entry c.page_size) blocks ++ tail)
+  pub are_blocks : AreBlocks c.blocks blocks
+  pub has_some : 0 < length blocks
+  pub has_few : length c.blocks + length blocks ≤ 256
+  pub has_limit : sum_of c.page_size blocks ≤ c.limit
+  pub rest : RestOfBody Behind (record c { due = RecordHead; left = Some 0; blocks = c.blocks ++ blocks }) tail
+
+-- ---- what an entry without a fault is
+
+-- what the five tests of an entry say, where none has found a fault
+pub record IsEntry (c : Progress) (item : List ℕ) : Type 0 where
+  pub has_few : length c.blocks < 256
+  pub has_id : IsTrue (is_id (id_in item))
+  pub is_new : block_of c.blocks (id_in item) ≡ None
+  pub has_pages : 0 < length_in item / c.page_size
+  pub has_length : length_in item / c.page_size * c.page_size ≡ length_in item
+  pub has_room : length_in item ≤ unwrap_or c.left 0
+
+-- nothing was found
+no_some : {A : Type 0} (o : Option A) → is_some o ≡ false → o ≡ None
+no_some None e = refl
+no_some (Some x) e = absurd cc
+
+-- a length that isn't 0 and is pages times the page size has a page
+some_pages : (len pages p : ℕ) → pages * p ≡ len → (len ≡ 0 → ⊥) → 0 < pages
+some_pages len zero p whole some = absurd (some (omega (arith, whole)))
+some_pages len (suc pages) p whole some = omega arith
+
+-- an entry without a fault is such an entry
+pub entry_is : (c : Progress) (item : List ℕ) → first_of (faults c ListEntry item) ≡ None → IsEntry c item
+entry_is c item free =
+    let len = length_in item in
+    let room = ltb (unwrap_or c.left 0) len in
+    let odd = eqb len 0 || not (eqb (len % c.page_size) 0) in
+    let twice = is_some (block_of c.blocks (id_in item)) in
+    let good = is_id (id_in item) in
+    let t1 = passed (leb most_blocks (length c.blocks)) fault.TooManyBlocks ((not good, fault.Id) ∷ (twice, fault.IdTwice) ∷ (odd, fault.Length) ∷ (room, fault.SizeSum) ∷ []) free in
+    let t2 = passed (not good) fault.Id ((twice, fault.IdTwice) ∷ (odd, fault.Length) ∷ (room, fault.SizeSum) ∷ []) t1.1 in
+    let t3 = passed twice fault.IdTwice ((odd, fault.Length) ∷ (room, fault.SizeSum) ∷ []) t2.1 in
+    let t4 = passed odd fault.Length ((room, fault.SizeSum) ∷ []) t3.1 in
+    let t5 = passed room fault.SizeSum [] t4.1 in
+    let parts = or_parts (eqb len 0) (not (eqb (len % c.page_size) 0)) t4.0 in
+    let none : len % c.page_size ≡ 0 = eqb-true _ _ (not-false (eqb (len % c.page_size) 0) parts.1) in
+    let whole : len / c.page_size * c.page_size ≡ len = omega (arith, none, div-add-mod' len c.page_size) in
+    record {
+      has_few = leb-false _ _ t1.0;
+      has_id = not-false good t2.0;
+      is_new = no_some (block_of c.blocks (id_in item)) t3.0;
+      has_pages = some_pages len (len / c.page_size) c.page_size whole (eqb-false len 0 parts.0);
+      has_length = whole;
+      has_room = ltb-false _ _ t5.0;
+    }
+
+-- ---- entries
+
+-- the block of an entry
+abbrev pub block_in : ℕ → List ℕ → Block
+block_in p item = record { id = id_in item; pages = length_in item / p }
+
+-- the bytes that the total leaves behind an entry
+abbrev pub left_after : Progress → List ℕ → ℕ
+left_after c item = unwrap_or c.left 0 - length_in item
+
+-- and its bytes are spelled as its block's entry
+entry_bytes : (c : Progress) (item : List ℕ) → length item ≡ 9 + get_or item 0 0 → IsBytes item → IsEntry c item → item ≡ entry c.page_size (block_in c.page_size item)
+entry_bytes c item len all is = entry_found item len all ∙ ap (λ (n : ℕ). length (id_in item) ∷ (id_in item ++ be64 n)) (sym is.has_length)
+
+-- the last entry, in front of what is left
+pub last_entry_back : (Behind : Progress → List ℕ → Type 0) (c : Progress) (item bytes : List ℕ) → length item ≡ 9 + get_or item 0 0 → IsBytes item → IsEntry c item → left_after c item ≡ 0
+    → RestOfBody Behind (record c { due = RecordHead; left = Some 0; blocks = c.blocks ++ block_in c.page_size item ∷ [] }) bytes → RestOfEntries Behind c (item ++ bytes)
+last_entry_back Behind c item bytes len all is none r =
+    let b = block_in c.page_size item in
+    let spelled : item ++ bytes ≡ (entry c.page_size b ++ []) ++ bytes =
+    ap (λ (x : List ℕ). x ++ bytes) (entry_bytes c item len all is) ∙ sym (append_assoc (entry c.page_size b) [] bytes) in
+    record {
+      blocks = b ∷ [];
+      tail = bytes;
+      has_bytes = spelled;
+      are_blocks = (is.has_id, is.is_new, is.has_pages, tt);
+      has_some = omega arith;
+      has_few = omega (arith, is.has_few);
+      has_sum = omega (arith, is.has_length, is.has_room, none);
+      rest = r;
+    }
+
+-- an entry in front of others
+pub entry_back : (Behind : Progress → List ℕ → Type 0) (c : Progress) (item bytes : List ℕ) → length item ≡ 9 + get_or item 0 0 → IsBytes item → IsEntry c item
+    → RestOfEntries Behind (record c { due = ListEntry; left = Some (left_after c item); blocks = c.blocks ++ block_in c.page_size item ∷ [] }) bytes → RestOfEntries Behind c (item ++ bytes)
+entry_back Behind c item bytes len all is r =
+    let b = block_in c.page_size item in
+    let others = flat_map (entry c.page_size) r.blocks in
+    let spelled : item ++ bytes ≡ (entry c.page_size b ++ others) ++ r.tail =
+    ap (λ (x : List ℕ). x ++ bytes) (entry_bytes c item len all is) ∙ ap (λ (x : List ℕ). entry c.page_size b ++ x) r.has_bytes ∙ sym (append_assoc (entry c.page_size b) others r.tail) in
+    record {
+      blocks = b ∷ r.blocks;
+      tail = r.tail;
+      has_bytes = spelled;
+      are_blocks = (is.has_id, is.is_new, is.has_pages, r.are_blocks);
+      has_some = omega arith;
+      has_few = omega (arith, r.has_few, length-append c.blocks (b ∷ []));
+      has_sum = omega (arith, is.has_length, is.has_room, r.has_sum);
+      rest = subst (λ (x : List Block). RestOfBody Behind (record c { due = RecordHead; left = Some 0; blocks = x }) r.tail) (append_assoc c.blocks (b ∷ []) r.blocks) r.rest;
+    }
+
+-- ---- the head of the size list
+
+-- the head says how many bytes the entries have in all
+pub list_back : (Behind : Progress → List ℕ → Type 0) (c : Progress) (page : ℕ) (item bytes : List ℕ) → item ≡ be64 (page * c.page_size + flags_of SizeList) → page * c.page_size ≤ c.limit
+    → RestOfEntries Behind (record c { due = ListEntry; left = Some (page * c.page_size) }) bytes → RestOfList Behind c (item ++ bytes)
+list_back Behind c page item bytes head small r = record {
+  blocks = r.blocks;
+  tail = r.tail;
+  has_bytes = ap (λ (x : List ℕ). x ++ bytes) (head ∙ ap (λ (n : ℕ). be64 (n + flags_of SizeList)) (sym r.has_sum))
+      ∙ ap (λ (x : List ℕ). be64 (sum_of c.page_size r.blocks + flags_of SizeList) ++ x) r.has_bytes;
+  are_blocks = r.are_blocks;
+  has_some = r.has_some;
+  has_few = r.has_few;
+  has_limit = omega (arith, small, r.has_sum);
+  rest = r.rest;
+}

@@ -1,0 +1,40 @@
+-- What is left of a stream from each kind of item on.
+use Rattle.std.proofs.Common.{◌≡◌, ℕ, List, [], ◌∷◌, Some, None}
+use Rattle.mig_stream.specs.declared.item.Before.{Before}
+use Rattle.mig_stream.specs.declared.item.Before.TheVariants as before
+use Rattle.mig_stream.specs.declared.item.Section.TheVariants as section
+use Rattle.mig_stream.specs.declared.item.Due.{Due}
+use Rattle.mig_stream.specs.declared.item.Due.TheVariants.{FileHeader, TypeByte, ConfigLength, ConfigName, StartHead, SectionHead, RecordHead, ListEntry, BlockName, Content, Footer, Nothing}
+use Rattle.mig_stream.specs.Format.{section_type}
+use Rattle.mig_stream.specs.Progress.{Progress, whole_table}
+use Rattle.mig_stream.proofs.FoundPages.{RestOfBody, RestOfPage, RestOfName}
+use Rattle.mig_stream.proofs.FoundSections.{RestOfFooter, RestOfSection}
+use Rattle.mig_stream.proofs.FoundList.{RestOfEntries, RestOfList}
+use Rattle.mig_stream.proofs.FoundTail.{RestOfEnd, RestOfParts, Behind}
+use Rattle.mig_stream.proofs.FoundOpening.{RestOfStart, RestOfConfigName, RestOfConfigLength, RestOfOpening, RestOfFile}
+
+-- what is left from a type byte on, up to where the reading stands at `to`
+abbrev pub RestAtType : Progress → Progress → Before → List ℕ → Type 0
+RestAtType to c before.FileHeader bytes = c.left ≡ None → RestOfOpening to c bytes
+RestAtType to c before.Configuration bytes = c.left ≡ None → RestOfStart [] to (record c { due = TypeByte before.Configuration }) bytes
+RestAtType to c before.Footer bytes = c.left ≡ Some 0 → RestOfParts to c bytes
+RestAtType to c before.LastFooter bytes = RestOfEnd to c bytes
+
+-- Each kind says what of the size list must have been read before it: nothing, or all of it.
+abbrev pub RestAt : Progress → Progress → Due → List ℕ → Type 0
+RestAt to c FileHeader bytes = c.left ≡ None → RestOfFile to c bytes
+RestAt to c (TypeByte b) bytes = RestAtType to c b bytes
+RestAt to c ConfigLength bytes = c.left ≡ None → RestOfConfigLength to c bytes
+RestAt to c (ConfigName len) bytes = c.left ≡ None → RestOfConfigName to c len bytes
+RestAt to c StartHead bytes = c.left ≡ None → c.section ≡ section.Start → RestOfStart (section_type section.Start ∷ []) to c bytes
+RestAt to c SectionHead bytes = c.left ≡ Some 0 → RestOfSection (Behind to) c bytes
+RestAt to c RecordHead bytes = (c.left ≡ None → RestOfList (Behind to) c bytes) × (c.left ≡ Some 0 → RestOfBody (Behind to) c bytes)
+RestAt to c ListEntry bytes = RestOfEntries (Behind to) c bytes
+RestAt to c (BlockName f page) bytes = c.left ≡ Some 0 → RestOfName (Behind to) c f page bytes
+RestAt to c (Content f place) bytes = c.left ≡ Some 0 → RestOfPage (Behind to) c f place bytes
+RestAt to c Footer bytes = c.left ≡ Some 0 → RestOfFooter (Behind to) c bytes
+RestAt to c Nothing bytes = (bytes ≡ []) × (to.rounds ≡ c.rounds) × (whole_table to ≡ whole_table c)
+
+-- what is left from the item that is due on
+abbrev pub RestFrom : Progress → Progress → List ℕ → Type 0
+RestFrom to c bytes = RestAt to c c.due bytes

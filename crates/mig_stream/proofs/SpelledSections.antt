@@ -1,0 +1,92 @@
+-- What is spelled is read as the sections behind START's footer, up to and with the end byte.
+use Rattle.std.proofs.Common.{◌≡◌, ◌⊎◌, ℕ, ◌^◌, ◌<◌, false, List, [], ◌∷◌, ◌++◌, Option, Some, refl, sym, subst, append_assoc, inl, inr}
+use Rattle.std.specs.Prelude.{is_none}
+use Rattle.std.specs.List.{flat_map}
+use Rattle.mig_mem.specs.RamTable.{RamTable, IsTable}
+use Rattle.mig_stream.specs.declared.item.Mode.{Mode}
+use Rattle.mig_stream.specs.declared.item.Section.TheVariants as sections
+use Rattle.mig_stream.specs.declared.item.Before.TheVariants as before
+use Rattle.mig_stream.specs.declared.item.Due.TheVariants.{TypeByte, Nothing}
+use Rattle.mig_stream.specs.Format.{end_byte, section_type}
+use Rattle.mig_stream.specs.Progress.{Progress, table_of}
+use Rattle.mig_stream.specs.Items.{is_single}
+use Rattle.mig_stream.specs.Reading.{Front}
+use Rattle.mig_stream.specs.Text.{named_after, Record, PageOf, FlushMark, Follow, HasNoFlush, all_records, section}
+use Rattle.mig_stream.proofs.Fronts.{Front-append}
+use Rattle.mig_stream.proofs.After.{after_body, records_behind, rounds_behind, FlushesFit, HasNoTail}
+use Rattle.mig_stream.proofs.SpelledItems.{type_front, section_front, end_front}
+use Rattle.mig_stream.proofs.SpelledRecords.{body_front}
+
+-- ---- what holds of sections holds of the first and of the others
+
+-- the FLUSHes of the first section fit the mode
+pub FlushesFit-first : (mode : Mode) (records : List Record) (others : List (List Record)) → FlushesFit mode (records ∷ others) → is_single mode ≡ false ⊎ HasNoFlush records
+FlushesFit-first mode records others (inl e) = inl e
+FlushesFit-first mode records others (inr h) = inr h.0
+
+-- and those of the others do
+pub FlushesFit-rest : (mode : Mode) (records : List Record) (others : List (List Record)) → FlushesFit mode (records ∷ others) → FlushesFit mode others
+FlushesFit-rest mode records others (inl e) = inl e
+FlushesFit-rest mode records others (inr h) = inr h.1
+
+-- of records that may stand one after the other, so may the first ones
+pub Follow-first : (table : RamTable) (named : Option ℕ) (xs ys : List Record) → Follow table named (xs ++ ys) → Follow table named xs
+Follow-first table named [] ys f = tt
+Follow-first table named (PageOf continued r ∷ xs) ys f = (f.0, Follow-first table (Some r.place.block) xs ys f.1)
+Follow-first table named (FlushMark ∷ xs) ys f = Follow-first table named xs ys f
+
+-- and the others, behind them
+pub Follow-rest : (table : RamTable) (named : Option ℕ) (xs ys : List Record) → Follow table named (xs ++ ys) → Follow table (named_after named xs) ys
+Follow-rest table named [] ys f = f
+Follow-rest table named (PageOf continued r ∷ xs) ys f = Follow-rest table (Some r.place.block) xs ys f.1
+Follow-rest table named (FlushMark ∷ xs) ys f = Follow-rest table named xs ys f
+
+-- ---- sections one after the other
+
+-- the block named last behind sections
+abbrev pub named_behind : Option ℕ → List (List Record) → Option ℕ
+named_behind named [] = named
+named_behind named (records ∷ others) = named_behind (named_after named records) others
+
+-- how far a stream has been read behind its end byte, where these sections were the last ones
+abbrev pub at_end : Progress → List (List Record) → Progress
+at_end c others = record c {
+  due = Nothing;
+  section = sections.End;
+  named = named_behind c.named others;
+  records = records_behind c.mode c.records others;
+  rounds = rounds_behind c.mode c.records c.rounds others;
+}
+
+-- a PART
+part_front : (c : Progress) (records : List Record) → IsTable (table_of c) → c.section_id < 2 ^ 32 → is_none c.left ≡ false → is_single c.mode ≡ false ⊎ HasNoFlush records
+    → Follow (table_of c) c.named records
+    → Front (record c { due = TypeByte before.Footer }) (section (table_of c) sections.Part c.section_id records) (after_body (record c { section = sections.Part }) records)
+part_front c records is small begun flushes follow =
+    let d : Progress = record c { section = sections.Part } in
+    Front-append _ _ _ _ _ (type_front c before.Footer (section_type sections.Part) refl refl) (Front-append _ _ _ _ _ (section_front d small) (body_front d records is small begun flushes follow))
+
+-- END and the end byte
+end_front_of : (c : Progress) (records : List Record) → IsTable (table_of c) → c.section_id < 2 ^ 32 → is_none c.left ≡ false → is_single c.mode ≡ false ⊎ HasNoFlush records
+    → Follow (table_of c) c.named records → HasNoTail c.mode (records_behind c.mode c.records (records ∷ []))
+    → Front (record c { due = TypeByte before.Footer }) (section (table_of c) sections.End c.section_id records ++ end_byte ∷ []) (at_end c (records ∷ []))
+end_front_of c records is small begun flushes follow none =
+    let d : Progress = record c { section = sections.End } in
+    let first = Front-append _ _ _ _ _ (type_front c before.Footer (section_type sections.End) refl refl) (Front-append _ _ _ _ _ (section_front d small) (body_front d records is small begun flushes follow)) in
+    Front-append _ _ _ _ _ first (end_front (after_body d records) none)
+
+-- PARTs, END and the end byte
+pub sections_front : (c : Progress) (parts : List (List Record)) (last : List Record) → IsTable (table_of c) → c.section_id < 2 ^ 32 → is_none c.left ≡ false
+    → FlushesFit c.mode (parts ++ last ∷ []) → Follow (table_of c) c.named (all_records parts ++ last) → HasNoTail c.mode (records_behind c.mode c.records (parts ++ last ∷ []))
+    → Front (record c { due = TypeByte before.Footer }) (flat_map (section (table_of c) sections.Part c.section_id) parts ++ (section (table_of c) sections.End c.section_id last ++ end_byte ∷ [])) (at_end c (parts ++ last ∷ []))
+sections_front c [] last is small begun flushes follow none = end_front_of c last is small begun (FlushesFit-first c.mode last [] flushes) follow none
+sections_front c (records ∷ parts) last is small begun flushes follow none =
+    let others : List Record = all_records parts ++ last in
+    let all : all_records (records ∷ parts) ++ last ≡ records ++ others = append_assoc records (all_records parts) last in
+    let f : Follow (table_of c) c.named (records ++ others) = subst (Follow (table_of c) c.named) all follow in
+    let d : Progress = after_body (record c { section = sections.Part }) records in
+    let end : List ℕ = section (table_of c) sections.End c.section_id last ++ end_byte ∷ [] in
+    let one = part_front c records is small begun (FlushesFit-first c.mode records (parts ++ last ∷ []) flushes) (Follow-first (table_of c) c.named records others f) in
+    let rest = sections_front d parts last is small begun (FlushesFit-rest c.mode records (parts ++ last ∷ []) flushes) (Follow-rest (table_of c) c.named records others f) none in
+    let bytes = append_assoc (section (table_of c) sections.Part c.section_id records) (flat_map (section (table_of c) sections.Part c.section_id) parts) end in
+    subst (λ (x : List ℕ). Front (record c { due = TypeByte before.Footer }) x (at_end c ((records ∷ parts) ++ last ∷ []))) (sym bytes) (Front-append _ _ _ _ _ one rest)

@@ -1,0 +1,151 @@
+-- What a writer holds, a page and a part further.
+use Rattle.std.proofs.Common.{◌≡◌, ◌≤◌, ℕ, Bool, true, false, List, [], ◌∷◌, ◌++◌, length, take, Option, Some, None, refl, sym, ap, subst, ◌∙◌, append_assoc, eqb, inl, inr, arith}
+use Rattle.std.specs.Prelude.{◌==◌, ◌↔◌, IsTrue, Result, Ok, Err, OnOk, OnErr}
+use Rattle.std.specs.List.{All, flat_map, list_all}
+use Rattle.std.proofs.lemmas.Bool.{cases_Bool, and_parts, eqb-true, eq-eqb}
+use Rattle.std.proofs.lemmas.List.{append-nil, map-append, length-append, take_at, take-take}
+use Rattle.std.proofs.lemmas.List.Elements.{All-head, All-tail, All-nil, All-cons}
+use Rattle.mig_mem.specs.declared.place.Place.{Place}
+use Rattle.mig_mem.specs.Image.{Page, Image, content_at, pages_of}
+use Rattle.mig_mem.specs.Round.{round_of}
+use Rattle.mig_mem.specs.RamTable.{RamTable}
+use Rattle.mig_stream.specs.declared.item.Section.TheVariants as sections
+use Rattle.mig_stream.specs.Text.{named_after, record_bytes, page_record, section}
+use Rattle.mig_stream.specs.Written.{Part, FlushPart, written_id, is_named, written_record, written_records, part_records, named_after_parts, written_parts, opening, closing, written}
+use Rattle.mig_stream.specs.Writer.{Writer, HasWritten, with_pages, with_part, KeepsFront}
+
+-- ---- clauses about results
+
+pub on_err : {A B : Type 0} (r : Result A B) (P : Type 0) → P → OnErr r P
+on_err (Ok x) P p = tt
+on_err (Err e) P p = p
+
+pub on_ok_so : {A B : Type 0} (r : Result A B) (P Q : Type 0) → OnOk r P → (P → Q) → OnOk r Q
+on_ok_so (Ok x) P Q p f = f p
+on_ok_so (Err e) P Q p f = tt
+
+-- ---- pages of zeros
+
+zeros_from_test : (xs : List ℕ) → list_all (λ x. x == 0) xs ≡ true → All (λ x. x ≡ 0) xs
+zeros_from_test [] h = All-nil (λ x. x ≡ 0)
+zeros_from_test (x ∷ xs) h =
+    let parts = and_parts (eqb x 0) (list_all (λ y. y == 0) xs) h in
+    All-cons (λ y. y ≡ 0) x xs (eqb-true x 0 parts.0) (zeros_from_test xs parts.1)
+
+test_from_zeros : (xs : List ℕ) → All (λ x. x ≡ 0) xs → list_all (λ x. x == 0) xs ≡ true
+test_from_zeros [] h = refl
+test_from_zeros (x ∷ xs) h =
+    let first : eqb x 0 ≡ true = eq-eqb x 0 (All-head (λ y. y ≡ 0) x xs h) in
+    rw first (test_from_zeros xs (All-tail (λ y. y ≡ 0) x xs h))
+
+-- a test for zeros is the test of each byte
+pub zero_test : (xs : List ℕ) (b : Bool) → (IsTrue b ↔ All (λ x. x ≡ 0) xs) → b ≡ list_all (λ x. x == 0) xs
+zero_test xs true h = sym (test_from_zeros xs (h.0 refl))
+zero_test xs false h = elim (cases_Bool (list_all (λ x. x == 0) xs)) [
+  | inl t ↦ let wrong : false ≡ true = h.1 (zeros_from_test xs t) in absurd cc
+  | inr f ↦ sym f
+]
+
+-- ---- a page further
+
+-- the block named last, after some pages and after a part
+abbrev pub named_by_pages : Option ℕ → List Page → Option ℕ
+named_by_pages before pages = named_after before (written_records before pages)
+
+abbrev pub named_by : Option ℕ → Part → Option ℕ
+named_by before part = named_after before (part_records before part)
+
+abbrev pub pages_bytes : RamTable → Option ℕ → List Page → List ℕ
+pages_bytes table before pages = flat_map (record_bytes table) (written_records before pages)
+
+pages_bytes-push : (table : RamTable) (before : Option ℕ) (pages : List Page) (x : Page)
+    → pages_bytes table before (pages ++ x ∷ []) ≡ pages_bytes table before pages ++ pages_bytes table (named_by_pages before pages) (x ∷ [])
+pages_bytes-push table before [] x = refl
+pages_bytes-push table before (y ∷ pages) x =
+    let first : List ℕ = page_record table (is_named before y.place.block) (written_record y) in
+    ap (λ (b : List ℕ). first ++ b) (pages_bytes-push table (Some y.place.block) pages x)
+    ∙ sym (append_assoc first (pages_bytes table (Some y.place.block) pages) (pages_bytes table (named_by_pages (Some y.place.block) pages) (x ∷ [])))
+
+named_by_pages-push : (before : Option ℕ) (pages : List Page) (x : Page) → named_by_pages before (pages ++ x ∷ []) ≡ Some x.place.block
+named_by_pages-push before [] x = refl
+named_by_pages-push before (y ∷ pages) x = named_by_pages-push (Some y.place.block) pages x
+
+pub with_pages-push : (w : Writer) (pages : List Page) (x : Page) → with_pages (with_pages w pages) (x ∷ []) ≡ with_pages w (pages ++ x ∷ [])
+with_pages-push w pages x =
+    let text : (w.text ++ pages_bytes w.table w.named pages) ++ pages_bytes w.table (named_by_pages w.named pages) (x ∷ []) ≡ w.text ++ pages_bytes w.table w.named (pages ++ x ∷ []) =
+    append_assoc w.text (pages_bytes w.table w.named pages) (pages_bytes w.table (named_by_pages w.named pages) (x ∷ []))
+    ∙ ap (λ (b : List ℕ). w.text ++ b) (sym (pages_bytes-push w.table w.named pages x)) in
+    ap (λ (b : List ℕ). record w { text = b; named = Some x.place.block }) text
+    ∙ ap (λ (n : Option ℕ). record w { text = w.text ++ pages_bytes w.table w.named (pages ++ x ∷ []); named = n }) (sym (named_by_pages-push w.named pages x))
+
+pub with_no_pages : (w : Writer) → w ≡ with_pages w []
+with_no_pages w = ap (λ (b : List ℕ). record w { text = b }) (sym (append-nil w.text))
+
+-- the round of one place more
+pub round_of-push : (m : Image) (ps : List Place) (p : Place) → round_of m (ps ++ p ∷ []) ≡ round_of m ps ++ record { place = p; content = content_at m p } ∷ []
+unfolding pages_of
+round_of-push m ps p = map-append (λ (q : Place). record { place = q; content = content_at m q }) ps (p ∷ [])
+
+-- the front of a text that grew, and grew again
+front_of_more : (x more z : List ℕ) → take (length (x ++ more)) z ≡ x ++ more → take (length x) z ≡ x
+front_of_more x more z h =
+    let short : length x ≤ length (x ++ more) = omega (arith, length-append x more) in
+    sym (take-take (length x) (length (x ++ more)) z short) ∙ ap (λ (l : List ℕ). take (length x) l) h ∙ take_at x more (length x) refl
+
+pub KeepsFront-pages : (old mid now : Writer) (pages : List Page) → mid ≡ with_pages old pages → KeepsFront mid now → KeepsFront old now
+KeepsFront-pages old mid now pages is h = record {
+  same_table = h.same_table ∙ ap (λ (w : Writer). w.table) is;
+  same_front = front_of_more old.text (pages_bytes old.table old.named pages) now.text
+      (ap (λ (b : List ℕ). take (length b) now.text) (sym (ap (λ (w : Writer). w.text) is)) ∙ h.same_front ∙ ap (λ (w : Writer). w.text) is);
+}
+
+-- ---- a part further
+
+written_parts-push : (table : RamTable) (before : Option ℕ) (parts : List Part) (last : Part)
+    → written_parts table before (parts ++ last ∷ []) ≡ written_parts table before parts ++ section table sections.Part written_id (part_records (named_after_parts before parts) last)
+written_parts-push table before [] last = append-nil (section table sections.Part written_id (part_records before last))
+written_parts-push table before (part ∷ parts) last =
+    let first : List ℕ = section table sections.Part written_id (part_records before part) in
+    ap (λ (b : List ℕ). first ++ b) (written_parts-push table (named_by before part) parts last)
+    ∙ sym (append_assoc first (written_parts table (named_by before part) parts) (section table sections.Part written_id (part_records (named_after_parts (named_by before part) parts) last)))
+
+named_after_parts-push : (before : Option ℕ) (parts : List Part) (last : Part) → named_after_parts before (parts ++ last ∷ []) ≡ named_by (named_after_parts before parts) last
+named_after_parts-push before [] last = refl
+named_after_parts-push before (part ∷ parts) last = named_after_parts-push (named_by before part) parts last
+
+-- a writer by its parts
+pub same_writer : (a b : Writer) → a.table ≡ b.table → a.text ≡ b.text → a.named ≡ b.named → a ≡ b
+same_writer a b table text named =
+    ap (λ (t : RamTable). record { table = t; text = a.text; named = a.named }) table
+    ∙ ap (λ (t : List ℕ). record { table = b.table; text = t; named = a.named }) text
+    ∙ ap (λ (n : Option ℕ). record { table = b.table; text = b.text; named = n }) named
+
+pub HasWritten-part : (w : Writer) (parts : List Part) (part : Part) → HasWritten w parts → HasWritten (with_part w part) (parts ++ part ∷ [])
+HasWritten-part w parts part h = record {
+  has_text =
+      ap (λ (n : Option ℕ). w.text ++ section w.table sections.Part written_id (part_records n part)) h.has_named
+      ∙ ap (λ (b : List ℕ). b ++ section w.table sections.Part written_id (part_records (named_after_parts None parts) part)) h.has_text
+      ∙ append_assoc (opening w.table) (written_parts w.table None parts) (section w.table sections.Part written_id (part_records (named_after_parts None parts) part))
+      ∙ ap (λ (b : List ℕ). opening w.table ++ b) (sym (written_parts-push w.table None parts part));
+  has_named = ap (λ (n : Option ℕ). named_by n part) h.has_named ∙ sym (named_after_parts-push None parts part);
+}
+
+pub HasWritten-next : (old new : Writer) (parts : List Part) (part : Part) → new ≡ with_part old part → HasWritten old parts → HasWritten new (parts ++ part ∷ [])
+HasWritten-next old new parts part is h = subst (λ (w : Writer). HasWritten w (parts ++ part ∷ [])) (sym is) (HasWritten-part old parts part h)
+
+-- a PART of FLUSH alone
+abbrev pub flush_bytes : List ℕ
+flush_bytes = 2 ∷ 0 ∷ 0 ∷ 0 ∷ 1 ∷ 0 ∷ 0 ∷ 0 ∷ 0 ∷ 0 ∷ 0 ∷ 2 ∷ 0 ∷ 0 ∷ 0 ∷ 0 ∷ 0 ∷ 0 ∷ 0 ∷ 0 ∷ 0x10 ∷ 0x7E ∷ 0 ∷ 0 ∷ 0 ∷ 1 ∷ []
+
+pub flush_part : (old new : Writer) (parts : List Part) → new.table ≡ old.table → new.text ≡ old.text ++ flush_bytes → new.named ≡ old.named
+    → HasWritten old parts → HasWritten new (parts ++ FlushPart ∷ [])
+flush_part old new parts table text named h = HasWritten-next old new parts FlushPart (same_writer new (with_part old FlushPart) table text named) h
+
+-- END and the end byte
+abbrev pub closing_bytes : List ℕ
+closing_bytes = 3 ∷ 0 ∷ 0 ∷ 0 ∷ 1 ∷ 0 ∷ 0 ∷ 0 ∷ 0 ∷ 0 ∷ 0 ∷ 0 ∷ 0x10 ∷ 0x7E ∷ 0 ∷ 0 ∷ 0 ∷ 1 ∷ 0 ∷ []
+
+pub finished : (w : Writer) (parts : List Part) → HasWritten w parts → w.text ++ closing_bytes ≡ written w.table parts
+unfolding closing
+finished w parts h =
+    ap (λ (b : List ℕ). b ++ closing_bytes) h.has_text

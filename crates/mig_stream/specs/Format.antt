@@ -1,0 +1,72 @@
+-- The numbers of QEMU's migration stream, each with its name there. Those of the stream and its sections stand in
+-- `migration/savevm.h`, those of RAM's records in `migration/ram.c` (`ram.h` in newer versions), whose `ram_mig_init` has
+-- the section's name, instance and version.
+use Rattle.std.specs.Prelude.{ℕ, ◌+◌, List, [], ◌∷◌}
+use Rattle.mig_stream.specs.declared.item.Section.{Section}
+use Rattle.mig_stream.specs.declared.item.Section.TheVariants.{Start, Part, End}
+use Rattle.mig_stream.specs.declared.item.Filling.{Filling}
+use Rattle.mig_stream.specs.declared.item.Filling.TheVariants.{Zero, Normal}
+use Rattle.mig_stream.specs.declared.item.RecordKind.{RecordKind}
+use Rattle.mig_stream.specs.declared.item.RecordKind.TheVariants.{SizeList, Named, Continued, EndOfSection, Flush}
+
+-- QEMU_VM_FILE_MAGIC, "QEVM", and QEMU_VM_FILE_VERSION
+abbrev pub magic : ℕ
+magic = 0x5145564D
+
+abbrev pub version : ℕ
+version = 3
+
+-- QEMU_VM_EOF
+abbrev pub end_byte : ℕ
+end_byte = 0x00
+
+-- QEMU_VM_SECTION_START, QEMU_VM_SECTION_PART, QEMU_VM_SECTION_END
+abbrev pub section_type : Section → ℕ
+section_type Start = 0x01
+section_type Part = 0x02
+section_type End = 0x03
+
+-- QEMU_VM_CONFIGURATION
+abbrev pub configuration_type : ℕ
+configuration_type = 0x07
+
+-- QEMU_VM_SECTION_FOOTER
+abbrev pub footer_type : ℕ
+footer_type = 0x7E
+
+-- RAM's section: "ram", its instance, and its version
+abbrev pub ram_name : List ℕ
+ram_name = 0x72 ∷ 0x61 ∷ 0x6D ∷ []
+
+abbrev pub ram_instance : ℕ
+ram_instance = 0
+
+abbrev pub ram_version : ℕ
+ram_version = 4
+
+-- RAM_SAVE_FLAG_ZERO, RAM_SAVE_FLAG_PAGE
+abbrev pub filling_flag : Filling → ℕ
+filling_flag Zero = 0x02
+filling_flag Normal = 0x08
+
+-- RAM_SAVE_FLAG_CONTINUE
+abbrev pub continue_flag : ℕ
+continue_flag = 0x20
+
+-- RAM_SAVE_FLAG_MEM_SIZE, RAM_SAVE_FLAG_EOS, RAM_SAVE_FLAG_MULTIFD_FLUSH, and those of page records
+abbrev pub flags_of : RecordKind → ℕ
+flags_of SizeList = 0x004
+flags_of (Named filling) = filling_flag filling
+flags_of (Continued filling) = filling_flag filling + continue_flag
+flags_of EndOfSection = 0x010
+flags_of Flush = 0x200
+
+abbrev pub record_kinds : List RecordKind
+record_kinds = SizeList ∷ Named Zero ∷ Named Normal ∷ Continued Zero ∷ Continued Normal ∷ EndOfSection ∷ Flush ∷ []
+
+-- Limits of this project: how many blocks a size list has, and how many bytes the name in a configuration.
+abbrev pub most_blocks : ℕ
+most_blocks = 256
+
+abbrev pub most_name_bytes : ℕ
+most_name_bytes = 1024

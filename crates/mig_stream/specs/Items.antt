@@ -1,0 +1,216 @@
+-- The items of a stream: how long each is, what may be wrong with it, and how far the stream has been read after it.
+use Rattle.std.specs.Prelude.{ℕ, ◌+◌, ◌-◌, ◌*◌, ◌/◌, ◌%◌, Bool, true, false, not, ◌&&◌, ◌||◌, nat_lt, nat_le, ◌==◌, if◌then◌else◌, List, [], ◌∷◌, ◌++◌, length, slice_index, slice_range, find, Option, Some, None, is_none, is_some}
+use Rattle.std.specs.Option.{unwrap_or}
+use Rattle.std.specs.Str.{bytes_eq}
+use Rattle.mig_mem.specs.declared.place.Place.{Place}
+use Rattle.mig_mem.specs.Place.{place_at}
+use Rattle.mig_mem.specs.RamTable.{Block, block, block_of, is_id}
+use Rattle.mig_stream.specs.declared.fault.StreamFault.{StreamFault}
+use Rattle.mig_stream.specs.declared.fault.StreamFault.TheVariants as fault
+use Rattle.mig_stream.specs.declared.item.Mode.{Mode}
+use Rattle.mig_stream.specs.declared.item.Mode.TheVariants.{Single, Main}
+use Rattle.mig_stream.specs.declared.item.Section.{Section}
+use Rattle.mig_stream.specs.declared.item.Section.TheVariants as section
+use Rattle.mig_stream.specs.declared.item.Before.{Before}
+use Rattle.mig_stream.specs.declared.item.Before.TheVariants as before
+use Rattle.mig_stream.specs.declared.item.Filling.TheVariants.{Zero, Normal}
+use Rattle.mig_stream.specs.declared.item.RecordKind.{RecordKind}
+use Rattle.mig_stream.specs.declared.item.RecordKind.TheVariants.{SizeList, Named, Continued, EndOfSection, Flush}
+use Rattle.mig_stream.specs.declared.item.Due.{Due}
+use Rattle.mig_stream.specs.declared.item.Due.TheVariants.{FileHeader, TypeByte, ConfigLength, ConfigName, StartHead, SectionHead, RecordHead, ListEntry, BlockName, Content, Footer, Nothing}
+use Rattle.mig_stream.specs.Fields.{be32_at, be64_at}
+use Rattle.mig_stream.specs.Format.{magic, version, end_byte, section_type, configuration_type, footer_type, ram_name, ram_instance, ram_version, flags_of, record_kinds, most_blocks, most_name_bytes}
+use Rattle.mig_stream.specs.PageRecord.{PageRecord}
+use Rattle.mig_stream.specs.Progress.{Progress}
+
+-- ---- how many bytes an item has, as its first bytes say
+
+abbrev pub size : ℕ → Due → List ℕ → ℕ
+size page_size FileHeader bytes = 8
+size page_size (TypeByte before) bytes = 1
+size page_size ConfigLength bytes = 4
+size page_size (ConfigName len) bytes = len
+size page_size StartHead bytes = 13 + slice_index bytes 4
+size page_size SectionHead bytes = 4
+size page_size RecordHead bytes = 8
+size page_size ListEntry bytes = 9 + slice_index bytes 0
+size page_size (BlockName filling page) bytes = 1 + slice_index bytes 0
+size page_size (Content Zero place) bytes = 1
+size page_size (Content Normal place) bytes = page_size
+size page_size Footer bytes = 5
+size page_size Nothing bytes = 0
+
+-- ---- what is found in an item
+
+-- the id after a length byte
+abbrev pub id_in : List ℕ → List ℕ
+id_in item = slice_range item 1 (1 + slice_index item 0)
+
+-- the length that an entry of the size list gives its block
+abbrev pub length_in : List ℕ → ℕ
+length_in item = be64_at (1 + slice_index item 0) item
+
+-- the kind of a record by its flags
+abbrev pub record_kind : ℕ → Option RecordKind
+record_kind flags = find (λ kind. flags == flags_of kind) record_kinds
+
+-- the block, if there is one, has a page of this number
+abbrev pub has_page : List Block → Option ℕ → ℕ → Bool
+has_page blocks None page = false
+has_page blocks (Some b) page = nat_lt page (block blocks b).pages
+
+-- ---- what may be wrong with an item
+
+abbrev pub is_single : Mode → Bool
+is_single Single = true
+is_single Main = false
+
+abbrev pub is_allowed : Before → ℕ → Bool
+is_allowed before.FileHeader byte = byte == configuration_type || byte == section_type section.Start
+is_allowed before.Configuration byte = byte == section_type section.Start
+is_allowed before.Footer byte = byte == section_type section.Part || byte == section_type section.End
+is_allowed before.LastFooter byte = byte == end_byte
+
+-- the fault of the first test that holds
+abbrev pub first_of : List (Bool × StreamFault) → Option StreamFault
+first_of [] = None
+first_of (test ∷ tests) = if test.0 then Some test.1 else first_of tests
+
+-- the tests of a record head with this page number, after that of its flags
+abbrev pub kind_faults : Progress → RecordKind → ℕ → List (Bool × StreamFault)
+kind_faults c SizeList page =
+    (is_some c.left, fault.SizePlace) ∷
+    (page == 0 || nat_lt c.limit (page * c.page_size), fault.Total) ∷ []
+kind_faults c (Named filling) page = (is_none c.left, fault.SizePlace) ∷ []
+kind_faults c (Continued filling) page =
+    (is_none c.left, fault.SizePlace) ∷
+    (is_none c.named, fault.NoBlock) ∷
+    (not (has_page c.blocks c.named page), fault.OffsetOut) ∷ []
+kind_faults c EndOfSection page =
+    (is_none c.left, fault.SizePlace) ∷
+    (not (page == 0), fault.OffsetOut) ∷ []
+kind_faults c Flush page =
+    (is_none c.left, fault.SizePlace) ∷
+    (is_single c.mode, fault.Flush) ∷
+    (not (page == 0), fault.OffsetOut) ∷ []
+
+abbrev pub head_faults : Progress → ℕ → Option RecordKind → ℕ → List (Bool × StreamFault)
+head_faults c flags None page = (true, fault.Flags flags) ∷ []
+head_faults c flags (Some kind) page = kind_faults c kind page
+
+-- Each test of an item, with the fault that it is where the test holds, in the order of judging.
+abbrev pub faults : Progress → Due → List ℕ → List (Bool × StreamFault)
+faults c FileHeader item =
+    (not (be32_at 0 item == magic), fault.Magic) ∷
+    (not (be32_at 4 item == version), fault.Version) ∷ []
+faults c (TypeByte before) item =
+    let byte = slice_index item 0 in
+    (not (is_allowed before byte), fault.SectionType) ∷
+    (byte == end_byte && not (is_single c.mode) && not (length c.records == 0), fault.Tail) ∷ []
+faults c ConfigLength item = (nat_lt most_name_bytes (be32_at 0 item), fault.ConfigLength) ∷ []
+faults c (ConfigName len) item = []
+faults c StartHead item =
+    let len = slice_index item 4 in
+    (not (bytes_eq (slice_range item 5 (5 + len)) ram_name), fault.SectionName) ∷
+    (not (be32_at (5 + len) item == ram_instance), fault.Instance) ∷
+    (not (be32_at (9 + len) item == ram_version), fault.RamVersion) ∷ []
+faults c SectionHead item = (not (be32_at 0 item == c.section_id), fault.SectionId) ∷ []
+faults c RecordHead item =
+    let flags = be64_at 0 item % c.page_size in
+    head_faults c flags (record_kind flags) (be64_at 0 item / c.page_size)
+faults c ListEntry item =
+    (nat_le most_blocks (length c.blocks), fault.TooManyBlocks) ∷
+    (not (is_id (id_in item)), fault.Id) ∷
+    (is_some (block_of c.blocks (id_in item)), fault.IdTwice) ∷
+    (length_in item == 0 || not (length_in item % c.page_size == 0), fault.Length) ∷
+    (nat_lt (unwrap_or c.left 0) (length_in item), fault.SizeSum) ∷ []
+faults c (BlockName filling page) item =
+    let named = block_of c.blocks (id_in item) in
+    (is_none named, fault.UnknownBlock) ∷
+    (not (has_page c.blocks named page), fault.OffsetOut) ∷ []
+faults c (Content Zero place) item = (not (slice_index item 0 == 0), fault.Fill (slice_index item 0)) ∷ []
+faults c (Content Normal place) item = []
+faults c Footer item = (not (slice_index item 0 == footer_type && be32_at 1 item == c.section_id), fault.Footer) ∷ []
+faults c Nothing item = []
+
+abbrev pub first_fault : Progress → List ℕ → Option StreamFault
+first_fault c item = first_of (faults c c.due item)
+
+-- ---- how far the stream has been read after an item without a fault
+
+-- the item after a type byte, and the section that it begins
+abbrev pub after_type : Progress → ℕ → Progress
+after_type c byte =
+    if byte == configuration_type then record c { due = ConfigLength } else
+    if byte == section_type section.Start then record c { due = StartHead; section = section.Start } else
+    if byte == section_type section.Part then record c { due = SectionHead; section = section.Part } else
+    if byte == section_type section.End then record c { due = SectionHead; section = section.End } else
+    record c { due = Nothing }
+
+-- the records so far are a whole round
+abbrev pub end_round : Progress → Progress
+end_round c = record c { records = []; rounds = c.rounds ++ c.records ∷ [] }
+
+abbrev pub after_kind : Progress → RecordKind → ℕ → Progress
+after_kind c SizeList page = record c { due = ListEntry; left = Some (page * c.page_size) }
+after_kind c (Named filling) page = record c { due = BlockName filling page }
+after_kind c (Continued filling) page = record c { due = Content filling (place_at (unwrap_or c.named 0) page) }
+after_kind c EndOfSection page = record c { due = Footer }
+after_kind c Flush page = end_round c
+
+abbrev pub after_head : Progress → Option RecordKind → ℕ → Progress
+after_head c None page = c
+after_head c (Some kind) page = after_kind c kind page
+
+abbrev pub with_record : Progress → Place → Option (List ℕ) → Progress
+with_record c place content = record c { due = RecordHead; records = c.records ++ record { place = place; content = content } ∷ [] }
+
+abbrev pub footer_of : Section → Before
+footer_of section.Start = before.Footer
+footer_of section.Part = before.Footer
+footer_of section.End = before.LastFooter
+
+-- In a single stream a section is a round; in a main stream the round goes on after the footer.
+abbrev pub open_records : Mode → List PageRecord → List PageRecord
+open_records Single records = []
+open_records Main records = records
+
+abbrev pub whole_rounds : Mode → List (List PageRecord) → List PageRecord → List (List PageRecord)
+whole_rounds Single rounds records = rounds ++ records ∷ []
+whole_rounds Main rounds records = rounds
+
+abbrev pub end_section : Progress → Progress
+end_section c = record c {
+  due = TypeByte (footer_of c.section);
+  records = open_records c.mode c.records;
+  rounds = whole_rounds c.mode c.rounds c.records;
+}
+
+abbrev pub after_item : Progress → Due → List ℕ → Progress
+after_item c FileHeader item = record c { due = TypeByte before.FileHeader }
+after_item c (TypeByte before) item = after_type c (slice_index item 0)
+-- a name of no bytes is no item
+after_item c ConfigLength item =
+    let len = be32_at 0 item in
+    record c { due = if len == 0 then TypeByte before.Configuration else ConfigName len }
+after_item c (ConfigName len) item = record c { due = TypeByte before.Configuration }
+after_item c StartHead item = record c { due = RecordHead; section_id = be32_at 0 item }
+after_item c SectionHead item = record c { due = RecordHead }
+after_item c RecordHead item = after_head c (record_kind (be64_at 0 item % c.page_size)) (be64_at 0 item / c.page_size)
+after_item c ListEntry item =
+    let left = unwrap_or c.left 0 - length_in item in
+    record c {
+      due = if left == 0 then RecordHead else ListEntry;
+      left = Some left;
+      blocks = c.blocks ++ record { id = id_in item; pages = length_in item / c.page_size } ∷ [];
+    }
+after_item c (BlockName filling page) item =
+    let named = block_of c.blocks (id_in item) in
+    record c { due = Content filling (place_at (unwrap_or named 0) page); named = named }
+after_item c (Content Zero place) item = with_record c place None
+after_item c (Content Normal place) item = with_record c place (Some item)
+after_item c Footer item = end_section c
+after_item c Nothing item = c
+
+abbrev pub after : Progress → List ℕ → Progress
+after c item = after_item c c.due item

@@ -1,0 +1,64 @@
+-- What holds between the texts of a stream and their readings.
+use Rattle.std.specs.Prelude.{◌≡◌, ◌↔◌, ℕ, ◌≤◌, ◌<◌, ◌^◌, List, [], ◌∷◌, ◌++◌, map, replicate, Some, All}
+use Rattle.mig_mem.specs.PageSize.{IsPageSize}
+use Rattle.mig_mem.specs.RamTable.{RamTable, IsTable}
+use Rattle.mig_mem.specs.Image.{Page}
+use Rattle.mig_mem.specs.Round.{IsRound}
+use Rattle.mig_stream.specs.declared.item.Mode.{Mode}
+use Rattle.mig_stream.specs.declared.item.Mode.TheVariants.{Single, Main}
+use Rattle.mig_stream.specs.declared.item.StreamState.TheVariants.{Closed}
+use Rattle.mig_stream.specs.PageRecord.{PageRecord, page_of}
+use Rattle.mig_stream.specs.Reading.{StreamReading, IsReading}
+use Rattle.mig_stream.specs.Text.{IsText, total_bytes}
+use Rattle.mig_stream.specs.Written.{written_record, single, main}
+
+-- the reading of a text that was read to its end byte
+abbrev pub closed : RamTable → List (List PageRecord) → StreamReading
+closed table rounds = record { table = Some table; rounds = rounds; state = Closed }
+
+-- Each text has exactly one reading.
+abbrev pub HasOneReading : Type 0
+HasOneReading = (mode : Mode) (page_size limit : ℕ) (text : List ℕ) → IsPageSize page_size
+    → (reading : StreamReading) × IsReading mode page_size limit text reading
+    × ((other : StreamReading) → IsReading mode page_size limit text other → other ≡ reading)
+
+-- Whatever is spelled is read so, whatever follows it.
+abbrev pub SpelledIsRead : Type 0
+SpelledIsRead = (mode : Mode) (limit : ℕ) (text rest : List ℕ) (table : RamTable) (rounds : List (List PageRecord))
+    → IsText mode limit text table rounds → IsReading mode table.page_size limit (text ++ rest) (closed table rounds)
+
+-- a prefix of these bytes is a text of this table and these rounds
+abbrev pub HasText : Mode → ℕ → List ℕ → RamTable → List (List PageRecord) → Type 0
+HasText mode limit bytes table rounds = (text rest : List ℕ) × (bytes ≡ text ++ rest) × IsText mode limit text table rounds
+
+-- Whatever is read to its end byte is spelled so.
+abbrev pub ReadIsSpelled : Type 0
+ReadIsSpelled = (mode : Mode) (page_size limit : ℕ) (bytes : List ℕ) (reading : StreamReading)
+    → IsPageSize page_size → limit ≤ 2 ^ 40 → All (λ byte. byte < 2 ^ 8) bytes
+    → IsReading mode page_size limit bytes reading → reading.state ≡ Closed
+    → (table : RamTable) × (table.page_size ≡ page_size) × (reading.table ≡ Some table) × HasText mode limit bytes table reading.rounds
+
+-- So bytes are read to an end byte exactly where a prefix of them is a text of that table and those rounds.
+abbrev pub ClosedIsText : Type 0
+ClosedIsText = (mode : Mode) (limit : ℕ) (bytes : List ℕ) (table : RamTable) (rounds : List (List PageRecord))
+    → IsPageSize table.page_size → limit ≤ 2 ^ 40 → All (λ byte. byte < 2 ^ 8) bytes
+    → IsReading mode table.page_size limit bytes (closed table rounds) ↔ HasText mode limit bytes table rounds
+
+-- And no bytes have two prefixes that are texts.
+abbrev pub HasOneText : Type 0
+HasOneText = (mode : Mode) (limit : ℕ) (a b x y : List ℕ) (s t : RamTable) (p q : List (List PageRecord))
+    → s.page_size ≡ t.page_size → IsText mode limit a s p → IsText mode limit b t q → a ++ x ≡ b ++ y
+    → (a ≡ b) × (s ≡ t) × (p ≡ q)
+
+-- What a writer makes of rounds is a text: a single stream of them, with an empty round for START and for END.
+abbrev pub SinglesAreTexts : Type 0
+SinglesAreTexts = (limit : ℕ) (table : RamTable) (rounds : List (List Page)) → IsTable table → total_bytes table ≤ limit → All (IsRound table) rounds
+    → IsText Single limit (single table rounds) table ([] ∷ map (map written_record) rounds ++ [] ∷ [])
+
+-- And what it makes of FLUSHes alone is a main stream of as many empty rounds.
+abbrev pub MainsAreTexts : Type 0
+MainsAreTexts = (limit : ℕ) (table : RamTable) (n : ℕ) → IsTable table → total_bytes table ≤ limit → IsText Main limit (main table n) table (replicate n [])
+
+-- The records that it makes of a round stand for the pages of that round.
+abbrev pub RecordsStandForPages : Type 0
+RecordsStandForPages = (table : RamTable) (round : List Page) → IsRound table round → map (page_of table.page_size) (map written_record round) ≡ round

@@ -1,0 +1,11 @@
+pub mod Format
+pub mod Fields
+pub mod FaultNumber
+pub mod PageRecord
+pub mod Progress
+pub mod Items
+pub mod Reading
+pub mod Text
+pub mod Written
+pub mod Writer
+pub mod Law

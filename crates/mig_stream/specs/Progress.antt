@@ -1,0 +1,58 @@
+-- How far a stream has been read.
+use Rattle.std.specs.Prelude.{ℕ, Bool, false, ◌==◌, List, [], Option, Some, None}
+use Rattle.std.specs.Bool.{then_some}
+use Rattle.mig_mem.specs.RamTable.{Block, RamTable}
+use Rattle.mig_stream.specs.declared.item.Mode.{Mode}
+use Rattle.mig_stream.specs.declared.item.Section.{Section}
+use Rattle.mig_stream.specs.declared.item.Section.TheVariants as section
+use Rattle.mig_stream.specs.declared.item.Due.{Due}
+use Rattle.mig_stream.specs.declared.item.Due.TheVariants as due
+use Rattle.mig_stream.specs.PageRecord.{PageRecord}
+
+pub record Progress : Type 0 where
+  -- what no text tells: which stream it is, the size of a page, and the limit on the table's total
+  pub mode : Mode
+  pub page_size : ℕ
+  pub limit : ℕ
+  -- the item that comes next
+  pub due : Due
+  -- the section that is being read, and START's section id
+  pub section : Section
+  pub section_id : ℕ
+  -- how many bytes of the size list's total its entries leave: None before the size list
+  pub left : Option ℕ
+  -- the blocks of the entries so far
+  pub blocks : List Block
+  -- the block that a page record named last
+  pub named : Option ℕ
+  -- the page records of the round that isn't whole yet, and the whole rounds
+  pub records : List PageRecord
+  pub rounds : List (List PageRecord)
+
+-- before the first byte
+abbrev pub start : Mode → ℕ → ℕ → Progress
+start mode page_size limit = record {
+  mode = mode;
+  page_size = page_size;
+  limit = limit;
+  due = due.FileHeader;
+  section = section.Start;
+  section_id = 0;
+  left = None;
+  blocks = [];
+  named = None;
+  records = [];
+  rounds = [];
+}
+
+-- the table of the entries so far
+abbrev pub table_of : Progress → RamTable
+table_of c = record { page_size = c.page_size; blocks = c.blocks }
+
+abbrev pub is_used_up : Option ℕ → Bool
+is_used_up None = false
+is_used_up (Some left) = left == 0
+
+-- the table, once the size list is whole
+abbrev pub whole_table : Progress → Option RamTable
+whole_table c = then_some (is_used_up c.left) (table_of c)

@@ -1,0 +1,68 @@
+-- The reading of a stream: its longest front of whole items without a fault, and how it stands after it.
+use Rattle.std.specs.Prelude.{◌≡◌, ◌≢◌, ℕ, Bool, true, false, List, [], ◌∷◌, ◌++◌, length, Option, Some, None, ⊤}
+use Rattle.std.specs.List.{concat}
+use Rattle.mig_mem.specs.RamTable.{RamTable}
+use Rattle.mig_stream.specs.declared.item.Mode.{Mode}
+use Rattle.mig_stream.specs.declared.item.Due.{Due}
+use Rattle.mig_stream.specs.declared.item.Due.TheVariants.{Nothing}
+use Rattle.mig_stream.specs.declared.item.StreamState.{StreamState}
+use Rattle.mig_stream.specs.declared.item.StreamState.TheVariants.{Reading, Closed, Bad}
+use Rattle.mig_stream.specs.declared.fault.StreamFault.TheVariants.{Truncated}
+use Rattle.mig_stream.specs.PageRecord.{PageRecord}
+use Rattle.mig_stream.specs.Progress.{Progress, start, whole_table}
+use Rattle.mig_stream.specs.Items.{size, first_fault, after}
+
+-- these bytes are one whole item
+pub record IsItem (page_size : ℕ) (due : Due) (item : List ℕ) : Type 0 where
+  pub is_due : due ≢ Nothing
+  pub is_whole : length item ≡ size page_size due item
+
+-- each item is whole and without a fault, after the items before it
+abbrev pub AreFaultless : Progress → List (List ℕ) → Type 0
+AreFaultless c [] = ⊤
+AreFaultless c (item ∷ items) = IsItem c.page_size c.due item × (first_fault c item ≡ None) × AreFaultless (after c item) items
+
+abbrev pub after_all : Progress → List (List ℕ) → Progress
+after_all c [] = c
+after_all c (item ∷ items) = after_all (after c item) items
+
+-- these bytes are whole items without a fault, and lead from here to there
+pub record Front (from : Progress) (bytes : List ℕ) (to : Progress) : Type 0 where
+  pub items : List (List ℕ)
+  pub has_bytes : bytes ≡ concat items
+  pub are_faultless : AreFaultless from items
+  pub leads_to : to ≡ after_all from items
+
+-- How a text stands where these bytes follow a front: closed after the end byte, bad where a whole item with a fault
+-- follows, and else not whole.
+abbrev pub Ends : Progress → List ℕ → StreamState → Type 0
+Ends c rest Closed = c.due ≡ Nothing
+Ends c rest (Bad fault) = (item more : List ℕ) × (rest ≡ item ++ more) × IsItem c.page_size c.due item × (first_fault c item ≡ Some fault)
+Ends c rest Reading = (c.due ≢ Nothing) × ((item more : List ℕ) → rest ≡ item ++ more → IsItem c.page_size c.due item → ⊥)
+
+-- a text is read to there, with these bytes left, and stands so
+pub record Reads (from : Progress) (text : List ℕ) (to : Progress) (rest : List ℕ) (state : StreamState) : Type 0 where
+  pub front : List ℕ
+  pub has_text : text ≡ front ++ rest
+  pub leads : Front from front to
+  pub ends : Ends to rest state
+
+-- How a text stands that may be over: where it is over before its end byte, it was cut short.
+abbrev pub state_at : Bool → StreamState → StreamState
+state_at true Reading = Bad Truncated
+state_at true Closed = Closed
+state_at true (Bad fault) = Bad fault
+state_at false state = state
+
+-- what a text tells so far: its table, its whole rounds, and how it stands
+pub record StreamReading : Type 0 where
+  pub table : Option RamTable
+  pub rounds : List (List PageRecord)
+  pub state : StreamState
+
+pub record IsReading (mode : Mode) (page_size limit : ℕ) (text : List ℕ) (reading : StreamReading) : Type 0 where
+  pub to : Progress
+  pub rest : List ℕ
+  pub reads : Reads (start mode page_size limit) text to rest reading.state
+  pub has_table : reading.table ≡ whole_table to
+  pub has_rounds : reading.rounds ≡ to.rounds

@@ -1,0 +1,37 @@
+-- A writer of a stream, and what it has been given.
+use Rattle.std.specs.Prelude.{◌≡◌, ℕ, List, ◌++◌, length, take, Option, None}
+use Rattle.std.specs.List.{flat_map}
+use Rattle.mig_mem.specs.Image.{Page}
+use Rattle.mig_mem.specs.RamTable.{RamTable}
+use Rattle.mig_stream.specs.declared.item.Section.TheVariants as sections
+use Rattle.mig_stream.specs.Text.{record_bytes, named_after, section}
+use Rattle.mig_stream.specs.Written.{Part, written_id, written_records, part_records, named_after_parts, written_parts, opening}
+
+-- what a writer holds: its table, the text so far, and the block named last
+pub record Writer : Type 0 where
+  pub table : RamTable
+  pub text : List ℕ
+  pub named : Option ℕ
+
+-- the writer has been given these parts
+pub record HasWritten (w : Writer) (parts : List Part) : Type 0 where
+  pub has_text : w.text ≡ opening w.table ++ written_parts w.table None parts
+  pub has_named : w.named ≡ named_after_parts None parts
+
+-- the writer after the records of some pages, and after a part
+abbrev pub with_pages : Writer → List Page → Writer
+with_pages w pages = record w {
+  text = w.text ++ flat_map (record_bytes w.table) (written_records w.named pages);
+  named = named_after w.named (written_records w.named pages);
+}
+
+abbrev pub with_part : Writer → Part → Writer
+with_part w part = record w {
+  text = w.text ++ section w.table sections.Part written_id (part_records w.named part);
+  named = named_after w.named (part_records w.named part);
+}
+
+-- what stood before stands in front
+pub record KeepsFront (old new : Writer) : Type 0 where
+  pub same_table : new.table ≡ old.table
+  pub same_front : take (length old.text) new.text ≡ old.text

@@ -1,0 +1,91 @@
+//! Why a stream is refused: names and numbers.
+
+ghost use Rattle.std.specs.Prelude.{◌≡◌};
+ghost use Rattle.mig_stream.specs.FaultNumber.{fault_number};
+
+/// Why a text is no stream of guest memory: the first fault of its first faulty item.
+#[derive(Clone, Copy, Debug, PartialEq, Eq)]
+pub enum StreamFault {
+    /// The text doesn't begin with QEMU's magic, `QEVM`.
+    Magic,
+    /// The version of the stream isn't 3.
+    Version,
+    /// The type byte may not stand there.
+    SectionType,
+    /// The section's name isn't `ram`.
+    SectionName,
+    /// The section's instance isn't 0.
+    Instance,
+    /// The section's version isn't 4.
+    RamVersion,
+    /// The section id of a PART or END isn't START's.
+    SectionId,
+    /// The footer isn't 0x7E with START's section id.
+    Footer,
+    /// The configuration's name is longer than 1,024 bytes.
+    ConfigLength,
+    /// The size list's total is 0, or above the limit handed in.
+    Total,
+    /// The id of an entry isn't 1 to 255 bytes of 0x20 to 0x7E.
+    Id,
+    /// An earlier entry has the id.
+    IdTwice,
+    /// The length of an entry is 0, or no multiple of the page size.
+    Length,
+    /// The size list has a 257th entry.
+    TooManyBlocks,
+    /// The lengths of the entries pass the total.
+    SizeSum,
+    /// START's first record isn't the size list, or a size list stands elsewhere.
+    SizePlace,
+    /// The flags of a record head are none of those that are accepted; it carries them.
+    Flags(u16),
+    /// A page record leaves its block's id out, and none was named before.
+    NoBlock,
+    /// A page record names an id that the table hasn't.
+    UnknownBlock,
+    /// The offset isn't in the block, or isn't 0 at EOS or FLUSH.
+    OffsetOut,
+    /// The byte of a zero page record isn't 0; it carries the byte.
+    Fill(u8),
+    /// A FLUSH in a single stream.
+    Flush,
+    /// The end byte of a main stream, after a page record that no FLUSH follows.
+    Tail,
+    /// The text was over before its end byte.
+    Truncated,
+}
+
+impl StreamFault {
+    /// The fault's number in documents and in the tool's output.
+    pub fn number(self) -> u8
+        ensures { result ≡ fault_number self }
+    {
+        match self {
+            StreamFault::Magic => 11,
+            StreamFault::Version => 12,
+            StreamFault::SectionType => 13,
+            StreamFault::SectionName => 14,
+            StreamFault::Instance => 15,
+            StreamFault::RamVersion => 16,
+            StreamFault::SectionId => 17,
+            StreamFault::Footer => 18,
+            StreamFault::ConfigLength => 19,
+            StreamFault::Total => 20,
+            StreamFault::Id => 21,
+            StreamFault::IdTwice => 22,
+            StreamFault::Length => 23,
+            StreamFault::TooManyBlocks => 24,
+            StreamFault::SizeSum => 25,
+            StreamFault::SizePlace => 26,
+            StreamFault::Flags(_) => 27,
+            StreamFault::NoBlock => 28,
+            StreamFault::UnknownBlock => 29,
+            StreamFault::OffsetOut => 30,
+            StreamFault::Fill(_) => 31,
+            StreamFault::Flush => 32,
+            StreamFault::Tail => 33,
+            StreamFault::Truncated => 34,
+        }
+    }
+}

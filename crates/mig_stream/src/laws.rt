@@ -1,0 +1,40 @@
+//! Laws of the definitions alone: what holds between the texts of a stream and their readings, whatever code writes and
+//! reads them.
+//!
+//! Each law is the clause of a function that does nothing, so that it is proved with the crate and callers can have it.
+
+ghost use Rattle.mig_stream.specs.Law.{HasOneReading, SpelledIsRead, ReadIsSpelled, ClosedIsText, HasOneText, SinglesAreTexts, MainsAreTexts, RecordsStandForPages};
+
+/// Each text has exactly one reading. So whoever reads it, in whatever pieces, finds the same table, the same rounds and
+/// the same first fault.
+pub fn text_has_one_reading()
+    ensures { HasOneReading }
+{}
+
+/// Whatever is spelled as a text is read as that text, whatever bytes follow it.
+pub fn spelled_is_read()
+    ensures { SpelledIsRead }
+{}
+
+/// Whatever is read to its end byte has a prefix that is spelled as that text.
+pub fn read_is_spelled()
+    ensures { ReadIsSpelled }
+{}
+
+/// Bytes are read to an end byte exactly where a prefix of them is a text, of that table and those rounds.
+pub fn closed_is_text()
+    ensures { ClosedIsText }
+{}
+
+/// No bytes have two prefixes that are texts.
+pub fn bytes_have_one_text()
+    ensures { HasOneText }
+{}
+
+/// What a writer makes of rounds is a single stream, with a round for START and one for END around them, and its records
+/// stand for the pages of the rounds. What it makes of FLUSHes is a main stream with as many rounds.
+pub fn written_is_text()
+    ensures single { SinglesAreTexts }
+    ensures main { MainsAreTexts }
+    ensures pages { RecordsStandForPages }
+{}

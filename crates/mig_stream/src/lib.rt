@@ -1,0 +1,21 @@
+//! The migration stream: the RAM section of QEMU's stream version 3, alone or as the main stream of multifd.
+//!
+//! The definitions stand in `specs/`, apart from the code of both directions: what a text of a stream is (`Text`), how any
+//! bytes are read, item by item, with every fault by name (`Items`, `Reading`), and the one text that a writer makes
+//! (`Written`). The laws between them are in `laws`. `StreamWriter` writes; no code reads yet. What travels on the
+//! channels beside a main stream, and what becomes of the pages, is for other crates.
+#![tactic(auto)]
+
+mod fault;
+mod item;
+mod laws;
+mod opening;
+mod writer;
+
+pub use fault::StreamFault;
+pub use item::{Mode, StreamState};
+pub use laws::{
+    bytes_have_one_text, closed_is_text, read_is_spelled, spelled_is_read, text_has_one_reading,
+    written_is_text,
+};
+pub use writer::StreamWriter;

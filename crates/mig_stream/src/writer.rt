@@ -1,0 +1,237 @@
+//! The writer of a stream: of one table and some parts it makes the one text that `specs/Written.antt` says.
+//!
+//! It only appends. Which rounds there are, and which stream a part belongs to, is for its caller.
+
+ghost use Rattle.std.specs.Prelude.{◌≡◌, ◌+◌, ◌*◌, ◌<◌, ◌^◌, ◌++◌, ◌==◌, if◌then◌else◌, ℕ, List, [], ◌∷◌, length, None, Some, IfOk, IfErr, OnOk, OnErr};
+ghost use Rattle.mig_mem.specs.RamTable.{block as block_at};
+ghost use Rattle.mig_mem.specs.Place.{IsPlace};
+ghost use Rattle.mig_mem.specs.Image.{Page};
+ghost use Rattle.mig_mem.specs.Round.{round_of};
+ghost use Rattle.mig_zero.specs.Zero.{is_zero as zero_test};
+ghost use Rattle.mig_stream.specs.Fields.{counted};
+ghost use Rattle.mig_stream.specs.Format.{flags_of};
+ghost use Rattle.mig_stream.specs.PageRecord.{page_kind};
+ghost use Rattle.mig_stream.specs.Written.{Part, RoundPart, FlushPart, is_named, opening, closing, written};
+ghost use Rattle.mig_stream.specs.Writer.{HasWritten, with_pages, with_part, KeepsFront};
+
+use crate::opening::{SECTION_END, opening_of};
+use mig_mem::{Dirty, Memory, NoMemory, Place, Table};
+use mig_zero::is_zero;
+use std::alloc::{Allocator, Global};
+use std::marker::Model;
+
+// A PART's type byte and section id.
+const PART_HEAD: [u8; 5] = [0x02, 0, 0, 0, 1];
+
+// A PART that holds FLUSH alone.
+const FLUSH_PART: [u8; 26] = [
+    0x02, 0, 0, 0, 1, 0, 0, 0, 0, 0, 0, 0x02, 0, 0, 0, 0, 0, 0, 0, 0, 0x10, 0x7E, 0, 0, 0, 1,
+];
+
+// END without a record, and the end byte.
+const CLOSING: [u8; 19] = [
+    0x03, 0, 0, 0, 1, 0, 0, 0, 0, 0, 0, 0, 0x10, 0x7E, 0, 0, 0, 1, 0x00,
+];
+
+/// Writes a stream: the file header and START when it is made, a PART for each part, and END when it is finished.
+#[derive(Drop)]
+pub struct StreamWriter<A: Allocator = Global> {
+    table: Table<A>,
+    text: Vec<u8, A>,
+    named: Option<usize>,
+}
+
+impl<A: Allocator> Model for StreamWriter<A> {
+    ghost use Rattle.mig_stream.specs.Writer.{Writer};
+
+    ghost Value = { Writer };
+
+    ghost view = { λ w. record { table = w.table; text = w.text.items; named = w.named } };
+}
+
+// Whether a page is of zeros.
+fn is_zero_page(content: &[u8]) -> bool
+    ensures { result ≡ zero_test content.now }
+{
+    is_zero(content)
+}
+
+impl<A: Allocator + Copy> StreamWriter<A> {
+    /// A writer that was given no part yet. It keeps a copy of the table.
+    pub fn new<B: Allocator>(alloc: A, table: &Table<B>) -> Result<StreamWriter<A>, NoMemory>
+        ensures table { IfOk result (λ w. w.table ≡ table.now) }
+        ensures none { IfOk result (λ w. HasWritten w []) }
+    {
+        let text = opening_of(alloc, table)?;
+        let table = table.copy_in(alloc)?;
+        Ok(StreamWriter {
+            table,
+            text,
+            named: None,
+        })
+    }
+}
+
+impl<A: Allocator> StreamWriter<A> {
+    /// The table whose pages it writes.
+    pub fn table(&self) -> &Table<A>
+        ensures { result.now ≡ self.now.table }
+    {
+        &self.table
+    }
+
+    /// Writes the round of an image and its dirty pages, as one PART. An `Err` changes nothing.
+    pub fn part<B: Allocator, C: Allocator>(
+        &mut self,
+        image: &Memory<B>,
+        dirty: &Dirty<C>,
+    ) -> Result<(), NoMemory>
+        requires image { image.now.table ≡ self.old.table }
+        requires dirty { dirty.now.table ≡ self.old.table }
+        ensures table { self.new.table ≡ self.old.table }
+        ensures ok { OnOk result ((parts : List Part) → HasWritten self.old parts
+            → HasWritten self.new (parts ++ RoundPart (round_of image.now dirty.now.marked) ∷ [])) }
+        ensures err { OnErr result (self.new ≡ self.old) }
+    {
+        let len = self.text.len();
+        let named = self.named;
+        let put = self.put_part(image, dirty);
+        if put.is_err() {
+            self.text.truncate(len);
+            self.named = named;
+        }
+        put
+    }
+
+    // Writes a PART; after an `Err` a part of it may stand.
+    fn put_part<B: Allocator, C: Allocator>(
+        &mut self,
+        image: &Memory<B>,
+        dirty: &Dirty<C>,
+    ) -> Result<(), NoMemory>
+        requires image { image.now.table ≡ self.old.table }
+        requires dirty { dirty.now.table ≡ self.old.table }
+        ensures ok { OnOk result (self.new ≡ with_part self.old (RoundPart (round_of image.now dirty.now.marked))) }
+        ensures err { OnErr result (KeepsFront self.old self.new) }
+    {
+        self.text.extend_from_slice(&PART_HEAD)?;
+        self.put_pages(image, dirty)?;
+        self.text.extend_from_slice(&SECTION_END)?;
+        Ok(())
+    }
+
+    // Writes the records of the dirty pages, in the order of their places; after an `Err` some of them may stand.
+    fn put_pages<B: Allocator, C: Allocator>(
+        &mut self,
+        image: &Memory<B>,
+        dirty: &Dirty<C>,
+    ) -> Result<(), NoMemory>
+        requires image { image.now.table ≡ self.old.table }
+        requires dirty { dirty.now.table ≡ self.old.table }
+        ensures ok { OnOk result (self.new ≡ with_pages self.old (round_of image.now dirty.now.marked)) }
+        ensures err { OnErr result (KeepsFront self.old self.new) }
+    {
+        let mut from = Place { block: 0, page: 0 };
+        for _ in 0..dirty.count() {
+            let Some(place) = dirty.first_from(from) else {
+                break;
+            };
+            if let Some(content) = image.page(place) {
+                self.put_page(place, content)?;
+            }
+            from = Place {
+                block: place.block,
+                page: place.page + 1,
+            };
+        }
+        Ok(())
+    }
+
+    // Writes the record of a page; after an `Err` a part of it may stand.
+    fn put_page(&mut self, place: Place, content: &[u8]) -> Result<(), NoMemory>
+        requires { IsPlace self.old.table place }
+        ensures ok { OnOk result (self.new ≡ with_pages self.old (record { place = place; content = content.now } ∷ [])) }
+        ensures err { OnErr result (KeepsFront self.old self.new) }
+    {
+        let is_named = self.is_named(place.block);
+        let is_zero = is_zero_page(content);
+        let head = self.head(place, is_named, is_zero);
+        self.text.extend_from_slice(&head.to_be_bytes())?;
+        if !is_named {
+            self.put_name(place.block)?;
+        }
+        if is_zero {
+            self.text.push(0)?;
+        } else {
+            self.text.extend_from_slice(content)?;
+        }
+        self.named = Some(place.block);
+        Ok(())
+    }
+
+    // The head of a page record.
+    fn head(&self, place: Place, is_named: bool, is_zero: bool) -> u64
+        requires { IsPlace self.now.table place }
+        ensures { (bytes : List ℕ) → let kind = page_kind is_named (if is_zero then None else Some bytes) in
+            result ≡ place.page * self.now.table.page_size + flags_of kind }
+    {
+        let _pages = self.table.pages(place.block);
+        let flags = match (is_named, is_zero) {
+            (false, true) => 0x002,
+            (false, false) => 0x008,
+            (true, true) => 0x022,
+            (true, false) => 0x028,
+        };
+        place.page * self.table.page_size() + flags
+    }
+
+    // Writes the id of a block with its length.
+    fn put_name(&mut self, block: usize) -> Result<(), NoMemory>
+        requires { block < length self.old.table.blocks }
+        ensures ok { OnOk result (self.new ≡ record self.old { text = self.old.text ++ counted (block_at self.old.table.blocks block).id }) }
+        ensures err { OnErr result (KeepsFront self.old self.new) }
+    {
+        let id = self.table.id(block);
+        self.text.push(id.len() as u8)?;
+        self.text.extend_from_slice(id)?;
+        Ok(())
+    }
+
+    // Whether the last page record was of this block.
+    fn is_named(&self, block: usize) -> bool
+        ensures { result ≡ is_named self.now.named block }
+    {
+        match self.named {
+            Some(named) => named == block,
+            None => false,
+        }
+    }
+
+    /// Writes a FLUSH, as one PART. An `Err` changes nothing.
+    pub fn flush_part(&mut self) -> Result<(), NoMemory>
+        ensures table { self.new.table ≡ self.old.table }
+        ensures ok { OnOk result ((parts : List Part) → HasWritten self.old parts → HasWritten self.new (parts ++ FlushPart ∷ [])) }
+        ensures err { OnErr result (self.new ≡ self.old) }
+    {
+        self.text.extend_from_slice(&FLUSH_PART)?;
+        Ok(())
+    }
+
+    /// Ends the stream and gives its text; an `Err` gives the writer back as it was.
+    pub fn finish(mut self) -> Result<Vec<u8, A>, StreamWriter<A>>
+        ensures ok { IfOk result (λ text. (parts : List Part) → HasWritten self parts → text.items ≡ written self.table parts) }
+        ensures err { IfErr result (λ w. w ≡ self) }
+    {
+        match self.text.extend_from_slice(&CLOSING) {
+            Ok(()) => {
+                let StreamWriter {
+                    table: _,
+                    text,
+                    named: _,
+                } = self;
+                Ok(text)
+            }
+            Err(_) => Err(self),
+        }
+    }
+}
