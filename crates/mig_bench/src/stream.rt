@@ -1,10 +1,10 @@
-//! The writing of a round into a stream.
-ghost use Rattle.std.specs.Prelude.{◌≤◌, ◌*◌, ◌^◌};
+//! The writing of a round into a stream, and the reading of it.
+ghost use Rattle.std.specs.Prelude.{◌<◌, ◌≤◌, ◌*◌, ◌^◌};
 
 use crate::measure::best_of_five;
 use crate::yardstick::{PAGE_SIZE, Yardstick};
-use mig_mem::{Dirty, Memory, NoMemory, PAGE_SIZE_4K, Place, Table, TableFault};
-use mig_stream::StreamWriter;
+use mig_mem::{Dirty, MAX_TOTAL, Memory, NoMemory, PAGE_SIZE_4K, Place, Table, TableFault};
+use mig_stream::{Mode, StreamReader, StreamWriter};
 use std::alloc::Global;
 use std::io;
 use std::rt::Clock;
@@ -35,7 +35,53 @@ pub fn run(rt: &(impl Clock + Print), alloc: Global, pages: u64) -> io::Result<(
             measured.answer
         )?;
     }
+    fill(&mut image, pages, 0);
+    report_reading(rt, alloc, &image, &dirty, &copies)
+}
+
+// Reads the stream of that guest without zeros, in one piece and in pieces of 64 KiB.
+fn report_reading(
+    rt: &(impl Clock + Print),
+    alloc: Global,
+    image: &Memory,
+    dirty: &Dirty,
+    copies: &Yardstick,
+) -> io::Result<()> {
+    let Some(text) = written(alloc, image, dirty) else {
+        return println!(rt; "no memory for the stream");
+    };
+    println!(rt; "reading its stream without zeros")?;
+    for len in [text.len().max(1), 1 << 16] {
+        let measured = best_of_five(rt, || records_in(alloc, &text, len))?;
+        println!(rt;
+            "pieces of {len}  {} by pages, {} at once; {} records",
+            measured.ratio_to(&copies.by_pages),
+            measured.ratio_to(&copies.at_once),
+            measured.answer
+        )?;
+    }
     Ok(())
+}
+
+// The number of records in the rounds of a stream that is fed in pieces; 0 where memory is refused.
+fn records_in(alloc: Global, text: &[u8], len: usize) -> usize
+    requires { 0 < len }
+{
+    let mut reader = StreamReader::new(alloc, Mode::Single, PAGE_SIZE_4K, MAX_TOTAL);
+    for piece in text.chunks(len) {
+        let has_room = reader.fed().checked_add(piece.len() as u64).is_some();
+        if reader.ended() || !has_room || reader.feed(piece).is_err() {
+            return 0;
+        }
+    }
+    let mut records = 0usize;
+    for _ in 0..1000 {
+        match reader.take_round() {
+            Ok(Some(round)) => records = records.saturating_add(round.len()),
+            _ => break,
+        }
+    }
+    records
 }
 
 // A guest of one block, and the set of all its pages.
@@ -68,16 +114,17 @@ fn fill(image: &mut Memory, pages: u64, zero_tenths: u64) {
     }
 }
 
-// The length of the stream of one round; 0 where memory is refused.
+// The stream of one round; None where memory is refused.
+fn written(alloc: Global, image: &Memory, dirty: &Dirty) -> Option<Vec<u8>> {
+    let mut writer = StreamWriter::new(alloc, image.table()).ok()?;
+    if !dirty.table().same(writer.table()) {
+        return None;
+    }
+    writer.part(image, dirty).ok()?;
+    writer.finish().ok()
+}
+
+// Its length.
 fn written_len(alloc: Global, image: &Memory, dirty: &Dirty) -> usize {
-    let Ok(mut writer) = StreamWriter::new(alloc, image.table()) else {
-        return 0;
-    };
-    if !dirty.table().same(writer.table()) || writer.part(image, dirty).is_err() {
-        return 0;
-    }
-    match writer.finish() {
-        Ok(text) => text.len(),
-        Err(_) => 0,
-    }
+    written(alloc, image, dirty).map_or(0, |text| text.len())
 }

@@ -27,3 +27,11 @@ pub mod Closed
 pub mod Writing
 pub mod Walking
 mod Examples
+pub mod Entering
+pub mod Later
+pub mod Steps
+pub mod Undoing
+pub mod Feeding
+pub mod Placing
+pub mod Standing
+pub mod Keeping

@@ -9,3 +9,9 @@ pub mod Text
 pub mod Written
 pub mod Writer
 pub mod Law
+pub mod Taking
+pub mod Entries
+pub mod Round
+pub mod Later
+pub mod Reader
+pub mod Kept

@@ -2,14 +2,23 @@
 //!
 //! The definitions stand in `specs/`, apart from the code of both directions: what a text of a stream is (`Text`), how any
 //! bytes are read, item by item, with every fault by name (`Items`, `Reading`), and the one text that a writer makes
-//! (`Written`). The laws between them are in `laws`. `StreamWriter` writes; no code reads yet. What travels on the
-//! channels beside a main stream, and what becomes of the pages, is for other crates.
+//! (`Written`). The laws between them are in `laws`. `StreamWriter` writes, and `StreamReader` reads. What travels on
+//! the channels beside a main stream, and what becomes of the pages, is for other crates.
 #![tactic(auto)]
 
+mod bytes;
+mod chunks;
+mod entries;
 mod fault;
+mod fields;
 mod item;
+mod items;
 mod laws;
 mod opening;
+mod progress;
+mod reader;
+mod round;
+mod stop;
 mod writer;
 
 pub use fault::StreamFault;
@@ -18,4 +27,6 @@ pub use laws::{
     bytes_have_one_text, closed_is_text, read_is_spelled, spelled_is_read, text_has_one_reading,
     written_is_text,
 };
+pub use reader::StreamReader;
+pub use round::StreamRound;
 pub use writer::StreamWriter;

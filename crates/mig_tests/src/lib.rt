@@ -11,6 +11,10 @@ mod dirty;
 #[cfg(test)]
 mod memory;
 #[cfg(test)]
+mod reader;
+#[cfg(test)]
+mod reading;
+#[cfg(test)]
 mod refused;
 #[cfg(test)]
 mod table;

@@ -4,9 +4,10 @@
 use crate::common::{
     Step, at, has_byte, is_full, list, mark, marked, part, set, set_first, table, written, zeroed,
 };
+use crate::reading::{SINGLE, feed, has_no_round, has_round, reader};
 use mig_mem::{Dirty, Memory, PAGE_SIZE_4K, Table, TableFault};
 use mig_refusing::Refusing;
-use mig_stream::StreamWriter;
+use mig_stream::{StreamState, StreamWriter};
 use std::alloc::Allocator;
 use std::test::Fail;
 
@@ -223,4 +224,52 @@ fn writer_finish(rt: HostRuntime) {
         }
     }
     panic!(rt; "no text was full");
+}
+
+// A refused piece leaves the reader as it was, also where many items of the piece were taken before the growth; fed again
+// with memory, it is read as ever.
+#[test]
+fn reader_feed(rt: HostRuntime) {
+    let heap = Refusing::new(rt.alloc(), 0);
+    let steps = [
+        Step::Set(at(0, 1), 7),
+        Step::Round(&[at(0, 0), at(0, 1), at(1, 64)]),
+        Step::Round(&[at(1, 64)]),
+    ];
+    let text = written(rt.alloc(), PAGE_SIZE_4K, &BLOCKS, &steps).expect(&rt, "a text");
+    let (front, rest) = text.split_at_checked(40).expect(&rt, "two pieces");
+    let mut reader = reader(&heap, SINGLE).expect(&rt, "a reader");
+    assert!(rt;
+        feed(&mut reader, front)
+            .expect(&rt, "it isn't over")
+            .is_ok()
+    );
+    for nth in 1..1000u64 {
+        heap.refuse(nth);
+        let run = feed(&mut reader, rest).expect(&rt, "it isn't over");
+        let is_waiting = heap.is_waiting();
+        heap.refuse(0);
+        if run.is_ok() {
+            assert!(rt; is_waiting);
+            assert!(rt; nth > 1);
+            assert!(rt; reader.state() == StreamState::Closed);
+            assert!(rt; has_round(&mut reader, &[]));
+            assert!(rt;
+                has_round(
+                    &mut reader,
+                    &[(at(0, 0), None), (at(0, 1), Some(7)), (at(1, 64), None)]
+                )
+            );
+            assert!(rt; has_round(&mut reader, &[(at(1, 64), None)]));
+            assert!(rt; has_round(&mut reader, &[]));
+            assert!(rt; has_no_round(&mut reader));
+            return;
+        }
+        assert!(rt; !is_waiting);
+        assert!(rt; reader.fed() == 40);
+        assert!(rt; reader.state() == StreamState::Reading);
+        assert!(rt; reader.table().is_none());
+        assert!(rt; has_no_round(&mut reader));
+    }
+    panic!(rt; "each run had a refusal");
 }

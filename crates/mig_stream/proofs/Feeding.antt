@@ -1,0 +1,133 @@
+-- Reading a piece behind the bytes of an item that wasn't whole.
+use Rattle.std.proofs.Common.{◌≡◌, ◌≢◌, ℕ, ◌<◌, ◌≤◌, List, [], ◌++◌, length, get_or, take, drop, Option, Some, None, refl, sym, ap, subst, ◌∙◌, append_assoc, inl, inr, arith}
+use Rattle.std.specs.Prelude.{IfSome, IfNone}
+use Rattle.std.proofs.lemmas.List.{take-append-drop, get_or_append_left, get_or_past}
+use Rattle.std.proofs.lemmas.Bool.{cases_lt}
+use Rattle.mig_stream.specs.declared.item.Filling.TheVariants.{Zero, Normal}
+use Rattle.mig_stream.specs.declared.item.Due.{Due}
+use Rattle.mig_stream.specs.declared.item.Due.TheVariants.{FileHeader, TypeByte, ConfigLength, ConfigName, StartHead, SectionHead, RecordHead, ListEntry, BlockName, Content, Footer, Nothing}
+use Rattle.mig_stream.specs.declared.item.StreamState.{StreamState}
+use Rattle.mig_stream.specs.declared.item.StreamState.TheVariants.{Reading, Bad}
+use Rattle.mig_stream.specs.declared.fault.StreamFault.{StreamFault}
+use Rattle.mig_stream.specs.Progress.{Progress}
+use Rattle.mig_stream.specs.Items.{size, first_fault, after}
+use Rattle.mig_stream.specs.Reading.{IsItem, Front, Reads}
+use Rattle.mig_stream.specs.Taking.{HasTaken}
+use Rattle.mig_stream.specs.Reader.{IsUnfinished, ReadsOn}
+use Rattle.mig_stream.proofs.Fronts.{item_at, no_item, Front-none, Front-push, Front-append}
+
+-- ---- an item that isn't whole
+
+pub is_due : (p : ℕ) (d : Due) (bytes : List ℕ) → length bytes < size p d bytes → d ≢ Nothing
+is_due p d bytes lt none = absurd (omega (arith, lt, ap (λ (x : Due). size p x bytes) none))
+
+-- the bytes that a reading leaves are no whole item
+pub unfinished : (from : Progress) (text : List ℕ) (to : Progress) (rest : List ℕ) → Reads from text to rest Reading → IsUnfinished to rest
+unfinished from text to rest r =
+    elim (cases_lt (length rest) (size to.page_size to.due rest)) [
+      | inl lt ↦ lt
+      | inr le ↦ absurd (r.ends.1 (take (size to.page_size to.due rest) rest) (drop (size to.page_size to.due rest) rest) (sym (take-append-drop (size to.page_size to.due rest) rest))
+          (item_at to.page_size to.due rest r.ends.0 le))
+    ]
+
+byte_grows : (bytes more : List ℕ) (i : ℕ) → get_or bytes i 0 ≤ get_or (bytes ++ more) i 0
+byte_grows bytes more i =
+    elim (cases_lt i (length bytes)) [
+      | inl lt ↦ omega (arith, get_or_append_left bytes more 0 i lt)
+      | inr le ↦ omega (arith, get_or_past bytes i 0 le)
+    ]
+
+-- more bytes may tell that an item is longer, and never that it is shorter
+pub size_grows : (p : ℕ) (d : Due) (bytes more : List ℕ) → size p d bytes ≤ size p d (bytes ++ more)
+size_grows p FileHeader bytes more = omega arith
+size_grows p (TypeByte b) bytes more = omega arith
+size_grows p ConfigLength bytes more = omega arith
+size_grows p (ConfigName n) bytes more = omega arith
+size_grows p StartHead bytes more = omega (arith, byte_grows bytes more 4)
+size_grows p SectionHead bytes more = omega arith
+size_grows p RecordHead bytes more = omega arith
+size_grows p ListEntry bytes more = omega (arith, byte_grows bytes more 0)
+size_grows p (BlockName f page) bytes more = omega (arith, byte_grows bytes more 0)
+size_grows p (Content Zero place) bytes more = omega arith
+size_grows p (Content Normal place) bytes more = omega arith
+size_grows p Footer bytes more = omega arith
+size_grows p Nothing bytes more = omega arith
+
+-- ---- what is read
+
+-- bytes that are no whole item are left
+pub reads_short : (c : Progress) (bytes : List ℕ) → IsUnfinished c bytes → Reads c bytes c bytes Reading
+reads_short c bytes lt = record {
+  front = [];
+  has_text = refl;
+  leads = Front-none c;
+  ends = (is_due c.page_size c.due bytes lt, no_item c.page_size c.due bytes lt);
+}
+
+pub reads_fault : (c : Progress) (item rest : List ℕ) (f : StreamFault) → IsItem c.page_size c.due item → first_fault c item ≡ Some f → Reads c (item ++ rest) c (item ++ rest) (Bad f)
+reads_fault c item rest f is fault = record {
+  front = [];
+  has_text = refl;
+  leads = Front-none c;
+  ends = (item, rest, refl, is, fault);
+}
+
+-- one item, and what is read behind it
+pub front_item : (c : Progress) (item : List ℕ) → IsItem c.page_size c.due item → first_fault c item ≡ None → Front c item (after c item)
+front_item c item is none = Front-push c c [] item (Front-none c) is none
+
+pub reads_behind : (c d to : Progress) (item rest pending : List ℕ) (s : StreamState) → IsItem c.page_size c.due item → first_fault c item ≡ None → d ≡ after c item → ReadsOn d rest to pending s → ReadsOn c (item ++ rest) to pending s
+reads_behind c d to item rest pending s is none d_is r = record {
+  rest = r.rest;
+  reads = record {
+    front = item ++ r.reads.front;
+    has_text = ap (λ (x : List ℕ). item ++ x) r.reads.has_text ∙ sym (append_assoc item r.reads.front r.rest);
+    leads = Front-append c d to item r.reads.front (subst (λ (x : Progress). Front c item x) (sym d_is) (front_item c item is none)) r.reads.leads;
+    ends = r.reads.ends;
+  };
+  has_rest = r.has_rest;
+}
+
+-- ---- what is taken where memory runs out
+
+pub taken_none : (c : Progress) (bytes : List ℕ) → HasTaken c bytes c
+taken_none c bytes = record { front = []; rest = bytes; has_bytes = refl; leads = Front-none c }
+
+-- a run that was through, before more was refused
+pub taken_all : (c : Progress) (bytes : List ℕ) (to : Progress) (rest : List ℕ) (s : StreamState) → Reads c bytes to rest s → HasTaken c bytes to
+taken_all c bytes to rest s r = record { front = r.front; rest = rest; has_bytes = r.has_text; leads = r.leads }
+
+pub taken_behind : (c d to : Progress) (item rest : List ℕ) → IsItem c.page_size c.due item → first_fault c item ≡ None → d ≡ after c item → HasTaken d rest to → HasTaken c (item ++ rest) to
+taken_behind c d to item rest is none d_is t = record {
+  front = item ++ t.front;
+  rest = t.rest;
+  has_bytes = ap (λ (x : List ℕ). item ++ x) t.has_bytes ∙ sym (append_assoc item t.front t.rest);
+  leads = Front-append c d to item t.front (subst (λ (x : Progress). Front c item x) (sym d_is) (front_item c item is none)) t.leads;
+}
+
+-- ---- what filling the pending item up leads to
+
+-- the piece was too short
+pub still_short : {X : Type 0} (o : Option X) (c : Progress) (old piece new : List ℕ) → o ≡ None → IfNone o ((new ≡ old ++ piece) × IsUnfinished c new) → ReadsOn c (old ++ piece) c new Reading
+still_short {X} (Some x) c old piece new none h = absurd cc
+still_short {X} None c old piece new none h = record {
+  rest = new;
+  reads = subst (λ (x : List ℕ). Reads c x c new Reading) h.0 (reads_short c new h.1);
+  has_rest = λ _. refl;
+}
+
+-- the bytes that fill an item up
+pub text_at : {X : Type 0} (o : Option X) (x : X) (P : X → Type 0) → o ≡ Some x → IfSome o P → P x
+text_at {X} o x P e h = subst (λ (y : Option X). IfSome y P) e h
+
+pub whole_fault : (c d : Progress) (old piece item rest pending : List ℕ) (f : StreamFault) → item ++ rest ≡ old ++ piece → IsItem c.page_size c.due item → first_fault c item ≡ Some f → d ≡ c → ReadsOn c (old ++ piece) d pending (Bad f)
+whole_fault c d old piece item rest pending f e is fault same = record {
+  rest = item ++ rest;
+  reads = subst (λ (x : List ℕ). Reads c x d (item ++ rest) (Bad f)) e (subst (λ (x : Progress). Reads c (item ++ rest) x (item ++ rest) (Bad f)) (sym same) (reads_fault c item rest f is fault));
+  has_rest = λ reading. absurd cc;
+}
+
+-- what a reading keeps is no whole item
+pub unfinished_behind : (from : Progress) (bytes : List ℕ) (to : Progress) (pending : List ℕ) (s : StreamState) → ReadsOn from bytes to pending s → s ≡ Reading → IsUnfinished to pending
+unfinished_behind from bytes to pending s r reading =
+    subst (IsUnfinished to) (r.has_rest reading) (unfinished from bytes to r.rest (subst (λ (x : StreamState). Reads from bytes to r.rest x) reading r.reads))

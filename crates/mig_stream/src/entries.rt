@@ -1,0 +1,234 @@
+//! The entries of a size list, and the table that they make.
+
+ghost use Rattle.std.specs.Prelude.{◌≡◌, ◌+◌, ◌*◌, ◌<◌, ◌≤◌, ◌^◌, length, take, None, Some, [], IfOk, OnOk, OnErr, IsTrue, IfSome, nat_lt};
+ghost use Rattle.std.specs.Option.{option_copied, unwrap_or};
+ghost use Rattle.std.specs.List.{list_all};
+ghost use Rattle.mig_mem.specs.declared.fault.TableFault.TheVariants as fault;
+ghost use Rattle.mig_mem.specs.PageSize.{IsPageSize};
+ghost use Rattle.mig_mem.specs.RamTable.{block, block_of, is_id, is_printable, IsTable};
+ghost use Rattle.mig_stream.specs.Progress.{is_used_up};
+ghost use Rattle.mig_stream.specs.Entries.{listed_table, AreListed, WereListed, IsNext, with_entry};
+
+use crate::bytes::Bytes;
+use mig_mem::{NoMemory, Table, TableFault};
+use std::alloc::Allocator;
+use std::marker::Model;
+
+/// A block that an entry tells.
+#[derive(Drop)]
+pub(crate) struct Block<A: Allocator> {
+    id: Bytes<A>,
+    pages: u64,
+}
+
+impl<A: Allocator> Model for Block<A> {
+    ghost use Rattle.mig_mem.specs.RamTable.{Block as ListedBlock};
+
+    ghost Value = { ListedBlock };
+
+    ghost view = { λ b. record { id = b.id; pages = b.pages } };
+}
+
+/// The entries of a size list so far. Its blocks stay beside the table that they make, so that it can go back.
+#[derive(Drop)]
+pub(crate) struct Entries<A: Allocator> {
+    page_size: u64,
+    limit: u64,
+    // how many bytes of the total no entry has: None before the size list
+    left: Option<u64>,
+    blocks: Vec<Block<A>, A>,
+    table: Option<Table<A>>,
+}
+
+impl<A: Allocator> Model for Entries<A> {
+    ghost use Rattle.std.specs.Prelude.{◌≡◌};
+    ghost use Rattle.mig_stream.specs.Entries.{Listed, AreListed, listed_table};
+
+    ghost Value = { Listed };
+
+    ghost view = { λ e. record { page_size = e.page_size; limit = e.limit; left = e.left; blocks = e.blocks.items } };
+
+    ghost invariant = { λ e. AreListed e.page_size e.limit e.left e.blocks.items
+        × (e.table ≡ listed_table e.page_size e.left e.blocks.items) };
+}
+
+// All that a lawful table is refused for.
+fn no_memory(_fault: TableFault) -> NoMemory
+    requires { _fault ≡ fault.NoMemory }
+{
+    NoMemory
+}
+
+// The table of these blocks.
+fn table_of<A: Allocator + Copy>(
+    alloc: A,
+    page_size: u64,
+    blocks: &[Block<A>],
+) -> Result<Table<A>, NoMemory>
+    requires { IsTable (record { page_size = page_size; blocks = blocks.now }) }
+    ensures { IfOk result (λ t. t ≡ record { page_size = page_size; blocks = blocks.now }) }
+{
+    let mut list = Vec::with_capacity(alloc, blocks.len())?;
+    for block in blocks {
+        list.push((Vec::from_slice(alloc, block.id.as_slice())?, block.pages))?;
+    }
+    match Table::new(alloc, page_size, list) {
+        Ok(table) => Ok(table),
+        Err(fault) => Err(no_memory(fault)),
+    }
+}
+
+// The table of these blocks, where no byte is left.
+fn whole_table<A: Allocator + Copy>(
+    alloc: A,
+    page_size: u64,
+    left: u64,
+    blocks: &[Block<A>],
+) -> Result<Option<Table<A>>, NoMemory>
+    requires { IsTable (record { page_size = page_size; blocks = blocks.now }) }
+    ensures { IfOk result (λ t. t ≡ listed_table page_size (Some left) blocks.now) }
+{
+    if left != 0 {
+        return Ok(None);
+    }
+    Ok(Some(table_of(alloc, page_size, blocks)?))
+}
+
+// Whether each byte is one of 0x20 to 0x7E.
+fn is_printable(bytes: &[u8]) -> bool
+    ensures { result ≡ list_all is_printable bytes.now }
+{
+    bytes.iter().all(|byte| 0x20 <= *byte && *byte <= 0x7E)
+}
+
+/// Whether these bytes may be a block's id.
+#[tactic(auto, unfolding(mig_mem::specs::RamTable::is_id))]
+pub(crate) fn is_id(id: &[u8]) -> bool
+    ensures { result ≡ is_id id.now }
+{
+    if id.is_empty() || id.len() > 255 {
+        return false;
+    }
+    is_printable(id)
+}
+
+impl<A: Allocator> Entries<A> {
+    /// Before the size list.
+    pub(crate) fn new(alloc: A, page_size: u64, limit: u64) -> Entries<A>
+        requires page_size { IsPageSize page_size }
+        requires limit { limit ≤ 2 ^ 40 }
+        ensures { result ≡ record { page_size = page_size; limit = limit; left = None; blocks = [] } }
+    {
+        Entries {
+            page_size,
+            limit,
+            left: None,
+            blocks: Vec::new(alloc),
+            table: None,
+        }
+    }
+
+    pub(crate) fn page_size(&self) -> u64
+        ensures value { result ≡ self.now.page_size }
+        ensures size { IsPageSize result }
+        ensures range { (4096 ≤ result) × (result ≤ 8192) }
+    {
+        self.page_size
+    }
+
+    pub(crate) fn limit(&self) -> u64
+        ensures { result ≡ self.now.limit }
+    {
+        self.limit
+    }
+
+    /// How many bytes of the total no entry has.
+    pub(crate) fn left(&self) -> Option<u64>
+        ensures { result ≡ self.now.left }
+    {
+        self.left
+    }
+
+    /// The number of entries. It also says what is kept of them.
+    pub(crate) fn len(&self) -> usize
+        ensures value { result ≡ length self.now.blocks }
+        ensures listed { AreListed self.now.page_size self.now.limit self.now.left self.now.blocks }
+    {
+        self.blocks.len()
+    }
+
+    /// The number of pages of a block, 0 where there is no such block.
+    pub(crate) fn pages(&self, i: usize) -> u64
+        ensures { result ≡ (block self.now.blocks i).pages }
+    {
+        match self.blocks.get(i) {
+            Some(block) => block.pages,
+            None => 0,
+        }
+    }
+
+    /// The number of the block with an id.
+    pub(crate) fn find(&self, id: &[u8]) -> Option<usize>
+        ensures { result ≡ block_of self.now.blocks id.now }
+    {
+        self.blocks
+            .iter()
+            .position(|block| block.id.as_slice() == id)
+    }
+
+    /// The table, once the list is whole.
+    pub(crate) fn table(&self) -> Option<&Table<A>>
+        ensures { option_copied result ≡ listed_table self.now.page_size self.now.left self.now.blocks }
+    {
+        self.table.as_ref()
+    }
+
+    /// Begins the list, with a total of this many bytes.
+    pub(crate) fn begin(&mut self, total: u64)
+        requires first { self.old.left ≡ None }
+        requires some { 0 < total }
+        requires limit { total ≤ self.old.limit }
+        ensures { self.new ≡ record self.old { left = Some total } }
+    {
+        self.left = Some(total);
+    }
+
+    /// Goes back to where this many bytes were left and this many entries read.
+    pub(crate) fn go_back(&mut self, left: Option<u64>, count: usize)
+        requires { WereListed self.old left count }
+        ensures { self.new ≡ record self.old { left = left; blocks = take count self.old.blocks } }
+    {
+        self.blocks.truncate(count);
+        self.left = left;
+        if left != Some(0) {
+            self.table = None;
+        }
+    }
+}
+
+impl<A: Allocator + Copy> Entries<A> {
+    /// Adds an entry. An `Err` changes nothing.
+    pub(crate) fn push(&mut self, id: &[u8], len: u64) -> Result<(), NoMemory>
+        requires { IsNext self.old id.now len }
+        ensures ok { OnOk result (self.new ≡ with_entry self.old id.now len) }
+        ensures err { OnErr result (self.new ≡ self.old) }
+    {
+        let alloc = *self.blocks.allocator();
+        let count = self.blocks.len();
+        let left = self.left.unwrap_or(0) - len;
+        let id = Bytes::copied(alloc, id)?;
+        let pages = len / self.page_size;
+        self.blocks.push(Block { id, pages })?;
+        match whole_table(alloc, self.page_size, left, &self.blocks) {
+            Ok(table) => {
+                self.left = Some(left);
+                self.table = table;
+                Ok(())
+            }
+            Err(error) => {
+                self.blocks.truncate(count);
+                Err(error)
+            }
+        }
+    }
+}

@@ -1,0 +1,230 @@
+//! How far a stream has been read.
+
+ghost use Rattle.std.specs.Prelude.{◌≡◌, ◌≢◌, ◌≤◌, ◌^◌, OnErr, IfOk, IfSome, IfNone, [], ◌∷◌, IsTrue, IsFalse};
+ghost use Rattle.std.specs.Option.{option_copied};
+ghost use Rattle.mig_mem.specs.PageSize.{IsPageSize};
+ghost use Rattle.mig_stream.specs.declared.item.Due.TheVariants as due;
+ghost use Rattle.mig_stream.specs.Progress.{Progress as Read, start, whole_table};
+ghost use Rattle.mig_stream.specs.Items.{size};
+ghost use Rattle.mig_stream.specs.Reading.{IsItem, Reads};
+ghost use Rattle.mig_stream.specs.Taking.{TakesAs, HasTaken};
+ghost use Rattle.mig_stream.specs.Entries.{AreListed};
+ghost use Rattle.mig_stream.specs.Later.{mark_of, IsLater, WasMarked};
+ghost use Rattle.mig_stream.specs.Reader.{with_taken};
+
+use crate::entries::Entries;
+use crate::item::{Due, Filling, Mode, Section, StreamState};
+use crate::round::{Records, StreamRound};
+use crate::stop::Stop;
+use mig_mem::{NoMemory, Table};
+use std::alloc::Allocator;
+use std::collections::VecDeque;
+use std::marker::Model;
+
+/// How far a stream has been read.
+#[derive(Drop)]
+pub(crate) struct Progress<A: Allocator> {
+    pub(crate) mode: Mode,
+    pub(crate) entries: Entries<A>,
+    pub(crate) due: Due,
+    pub(crate) section: Section,
+    pub(crate) section_id: u32,
+    pub(crate) named: Option<usize>,
+    // the records of the round that isn't whole yet, and the whole rounds that were not given away
+    pub(crate) records: Records<A>,
+    pub(crate) rounds: VecDeque<Records<A>, A>,
+}
+
+impl<A: Allocator> Model for Progress<A> {
+    ghost use Rattle.std.specs.Prelude.{All};
+    ghost use Rattle.mig_stream.specs.Progress.{Progress as Read};
+    ghost use Rattle.mig_stream.specs.Round.{AreWhole};
+
+    ghost Value = { Read };
+
+    ghost view = { λ c. record {
+      mode = c.mode;
+      page_size = c.entries.page_size;
+      limit = c.entries.limit;
+      due = c.due;
+      section = c.section;
+      section_id = c.section_id;
+      left = c.entries.left;
+      blocks = c.entries.blocks;
+      named = c.named;
+      records = c.records;
+      rounds = c.rounds.items;
+    } };
+
+    ghost invariant = { λ c. AreWhole c.entries.page_size c.records × All (AreWhole c.entries.page_size) c.rounds.items };
+}
+
+/// How far a stream had been read, to go back to: its lists only grow.
+#[derive(Clone, Copy)]
+pub(crate) struct Mark {
+    due: Due,
+    section: Section,
+    section_id: u32,
+    left: Option<u64>,
+    blocks: usize,
+    named: Option<usize>,
+    records: usize,
+    rounds: usize,
+}
+
+impl<A: Allocator + Copy> Progress<A> {
+    /// Before the first byte.
+    pub(crate) fn new(alloc: A, mode: Mode, page_size: u64, limit: u64) -> Progress<A>
+        requires page_size { IsPageSize page_size }
+        requires limit { limit ≤ 2 ^ 40 }
+        ensures { result ≡ start mode page_size limit }
+    {
+        Progress {
+            mode,
+            entries: Entries::new(alloc, page_size, limit),
+            due: Due::FileHeader,
+            section: Section::Start,
+            section_id: 0,
+            named: None,
+            records: Records::new(alloc),
+            rounds: VecDeque::new(alloc),
+        }
+    }
+}
+
+impl<A: Allocator + Copy> Progress<A> {
+    /// Takes the item that is due. An `Err` changes nothing.
+    pub(crate) fn take(&mut self, item: &[u8]) -> Result<(), Stop>
+        requires { IsItem self.old.page_size self.old.due item.now }
+        ensures { TakesAs self.old self.old.due item.now self.new result }
+    {
+        match self.due {
+            Due::FileHeader => self.file_header(item),
+            Due::TypeByte(before) => self.type_byte(before, item),
+            Due::ConfigLength => self.config_length(item),
+            Due::ConfigName(len) => self.config_name(len, item),
+            Due::StartHead => self.start_head(item),
+            Due::SectionHead => self.section_head(item),
+            Due::RecordHead => self.record_head(item),
+            Due::ListEntry => self.list_entry(item),
+            Due::BlockName(filling, page) => self.block_name(filling, page, item),
+            Due::Content(Filling::Zero, place) => self.fill_byte(place, item),
+            Due::Content(Filling::Normal, place) => self.page(place, item),
+            Due::Footer => self.footer(item),
+            Due::Nothing => Ok(()),
+        }
+    }
+
+    /// Takes items from the front of the bytes, as far as they are whole and without a fault. Gives the bytes that are left,
+    /// and how they stand. After an `Err` some items were taken.
+    pub(crate) fn run<'a>(&mut self, bytes: &'a [u8]) -> Result<(&'a [u8], StreamState), NoMemory>
+        ensures ok { IfOk result (λ r. Reads self.old bytes.now self.new r.0.now r.1) }
+        ensures err { OnErr result (HasTaken self.old bytes.now self.new) }
+    {
+        let mut rest = bytes;
+        'items: while !self.is_closed() {
+            let size = self.size(rest);
+            if rest.len() < size {
+                return Ok((rest, StreamState::Reading));
+            }
+            let (item, behind) = rest.split_at(size);
+            match self.take(item) {
+                Ok(()) => rest = behind,
+                Err(Stop::Fault(fault)) => return Ok((rest, StreamState::Bad(fault))),
+                Err(Stop::Memory) => return Err(NoMemory),
+            }
+        }
+        Ok((rest, StreamState::Closed))
+    }
+}
+
+impl<A: Allocator> Progress<A> {
+    /// How many bytes the item has that is due, as its first bytes say.
+    pub(crate) fn size(&self, bytes: &[u8]) -> usize
+        ensures size { result ≡ size self.now.page_size self.now.due bytes.now }
+        ensures page_size { IsPageSize self.now.page_size }
+    {
+        let page_size = self.entries.page_size() as usize;
+        let byte = |at: usize| match bytes.get(at) {
+            Some(byte) => *byte as usize,
+            None => 0,
+        };
+        match self.due {
+            Due::FileHeader | Due::RecordHead => 8,
+            Due::TypeByte(_) => 1,
+            Due::ConfigLength | Due::SectionHead => 4,
+            Due::ConfigName(len) => len as usize,
+            Due::StartHead => 13 + byte(4),
+            Due::ListEntry => 9 + byte(0),
+            Due::BlockName(_, _) => 1 + byte(0),
+            Due::Content(Filling::Zero, _) => 1,
+            Due::Content(Filling::Normal, _) => page_size,
+            Due::Footer => 5,
+            Due::Nothing => 0,
+        }
+    }
+
+    // Nothing comes after the end byte.
+    fn is_closed(&self) -> bool
+        ensures closed { IsTrue result → self.now.due ≡ due.Nothing }
+        ensures open { IsFalse result → self.now.due ≢ due.Nothing }
+    {
+        match self.due {
+            Due::Nothing => true,
+            _ => false,
+        }
+    }
+
+    /// The table, once the size list is whole.
+    pub(crate) fn table(&self) -> Option<&Table<A>>
+        ensures { option_copied result ≡ whole_table self.now }
+    {
+        self.entries.table()
+    }
+
+    /// The first whole round that was not given away.
+    pub(crate) fn take_round(&mut self) -> Option<StreamRound<A>>
+        ensures none { IfNone result ((self.old.rounds ≡ []) × (self.new ≡ self.old)) }
+        ensures some { IfSome result (λ r. self.old ≡ with_taken (r.records ∷ []) self.new) }
+        ensures page_size { IfSome result (λ r. r.page_size ≡ self.old.page_size) }
+    {
+        match self.rounds.pop_front() {
+            Some(records) => Some(StreamRound::new(self.entries.page_size(), records)),
+            None => None,
+        }
+    }
+
+    /// The mark of this place.
+    pub(crate) fn mark(&self) -> Mark
+        ensures value { result ≡ mark_of self.now }
+        ensures listed { AreListed self.now.page_size self.now.limit self.now.left self.now.blocks }
+    {
+        Mark {
+            due: self.due,
+            section: self.section,
+            section_id: self.section_id,
+            left: self.entries.left(),
+            blocks: self.entries.len(),
+            named: self.named,
+            records: self.records.len(),
+            rounds: self.rounds.len(),
+        }
+    }
+
+    /// Goes back to where the mark was made.
+    pub(crate) fn undo(&mut self, mark: Mark)
+        requires { WasMarked mark self.old }
+        ensures { (c : Read) → mark ≡ mark_of c → IsLater c self.old → self.new ≡ c }
+    {
+        self.due = mark.due;
+        self.section = mark.section;
+        self.section_id = mark.section_id;
+        self.named = mark.named;
+        self.entries.go_back(mark.left, mark.blocks);
+        if let Some(records) = self.rounds.remove(mark.rounds) {
+            self.records = records;
+            self.rounds.truncate(mark.rounds);
+        }
+        self.records.truncate(mark.records);
+    }
+}

@@ -1,0 +1,275 @@
+//! The reader of a stream that comes in pieces.
+//!
+//! It keeps what was read as a `Progress`, and of the text only the bytes of an item that isn't whole yet. A piece is read in
+//! place, but for what such an item needs of its front.
+
+ghost use Rattle.std.specs.Prelude.{◌≡◌, ◌≢◌, ◌+◌, ◌<◌, ◌≤◌, ◌^◌, ◌++◌, ◌↔◌, ℕ, Bool, List, [], length, take, true, false, IsTrue, IsFalse, IsOk, Some, All, IfOk, IfSome, IfNone, OnOk, OnErr};
+ghost use Rattle.std.specs.Option.{option_copied};
+ghost use Rattle.mig_mem.specs.PageSize.{IsPageSize};
+ghost use Rattle.mig_mem.specs.RamTable.{RamTable};
+ghost use Rattle.mig_mem.specs.Place.{IsPlace};
+ghost use Rattle.mig_stream.specs.declared.item.Mode.{Mode as StreamMode};
+ghost use Rattle.mig_stream.specs.declared.item.StreamState.TheVariants as state;
+ghost use Rattle.mig_stream.specs.PageRecord.{PageRecord};
+ghost use Rattle.mig_stream.specs.Progress.{whole_table};
+ghost use Rattle.mig_stream.specs.Items.{size};
+ghost use Rattle.mig_stream.specs.Taking.{HasTaken};
+ghost use Rattle.mig_stream.specs.Reading.{state_at};
+ghost use Rattle.mig_stream.specs.Reader.{IsUnfinished, ReadsOn, Stands, HasState, HasTable, HasRound};
+
+use crate::StreamFault;
+use crate::item::{Mode, StreamState};
+use crate::progress::Progress;
+use crate::round::StreamRound;
+use crate::stop::Stop;
+use mig_mem::{NoMemory, Table};
+use std::alloc::{Allocator, Global};
+use std::marker::Model;
+
+/// Reads a stream from pieces of its text. What it tells is the reading of all bytes fed, however they were cut.
+#[derive(Drop)]
+pub struct StreamReader<A: Allocator = Global> {
+    progress: Progress<A>,
+    // the bytes of the item that isn't whole yet
+    pending: Vec<u8, A>,
+    // how the bytes fed stand
+    found: StreamState,
+    fed: u64,
+    ended: bool,
+}
+
+impl<A: Allocator> Model for StreamReader<A> {
+    ghost use Rattle.std.specs.Prelude.{◌≡◌};
+    ghost use Rattle.mig_stream.specs.declared.item.StreamState.TheVariants as state;
+    ghost use Rattle.mig_stream.specs.Reader.{Reader, IsUnfinished};
+
+    ghost Value = { Reader };
+
+    ghost view = { λ r. record { progress = r.progress; pending = r.pending.items; found = r.found; fed = r.fed; ended = r.ended } };
+
+    ghost invariant = { λ r. r.found ≡ state.Reading → IsUnfinished r.progress r.pending.items };
+}
+
+// How a text stands that may be over.
+fn state_at(ended: bool, found: StreamState) -> StreamState
+    ensures { result ≡ state_at ended found }
+{
+    match (ended, found) {
+        (true, StreamState::Reading) => StreamState::Bad(StreamFault::Truncated),
+        _ => found,
+    }
+}
+
+// Fills the pending item up from the front of a piece. Gives what is left of the piece, or None where the item isn't whole
+// with all of it.
+fn complete<'a, A: Allocator>(
+    progress: &Progress<A>,
+    pending: &mut Vec<u8, A>,
+    piece: &'a [u8],
+) -> Result<Option<&'a [u8]>, NoMemory>
+    requires { IsUnfinished progress.now pending.old.items }
+    ensures text { IfOk result (λ o. IfSome o (λ rest. pending.new.items ++ rest.now ≡ pending.old.items ++ piece.now)) }
+    ensures whole { IfOk result (λ o. IfSome o (λ rest. length pending.new.items ≡ size progress.now.page_size progress.now.due pending.new.items)) }
+    ensures short { IfOk result (λ o. IfNone o ((pending.new.items ≡ pending.old.items ++ piece.now) × IsUnfinished progress.now pending.new.items)) }
+    ensures front { take (length pending.old.items) pending.new.items ≡ pending.old.items }
+{
+    let mut rest = piece;
+    'bytes: while pending.len() < progress.size(pending) {
+        if rest.is_empty() {
+            return Ok(None);
+        }
+        let missing = progress.size(pending) - pending.len();
+        let (front, behind) = rest.split_at(missing.min(rest.len()));
+        pending.extend_from_slice(front)?;
+        rest = behind;
+    }
+    Ok(Some(rest))
+}
+
+// Puts these bytes in place of others. An `Err` changes nothing.
+fn keep<A: Allocator>(kept: &mut Vec<u8, A>, bytes: &[u8]) -> Result<(), NoMemory>
+    ensures ok { OnOk result (kept.new.items ≡ bytes.now) }
+    ensures err { OnErr result (kept.new.items ≡ kept.old.items) }
+{
+    let len = kept.len();
+    if len < bytes.len() {
+        kept.extend_from_slice(&bytes[len..])?;
+    }
+    kept.truncate(bytes.len());
+    kept.copy_from_slice(bytes);
+    Ok(())
+}
+
+// Reads bytes in place, and keeps those of an item that isn't whole. After an `Err` some items were taken.
+fn read_in_place<A: Allocator + Copy>(
+    progress: &mut Progress<A>,
+    pending: &mut Vec<u8, A>,
+    bytes: &[u8],
+) -> Result<StreamState, NoMemory>
+    ensures ok { IfOk result (λ found. ReadsOn progress.old bytes.now progress.new pending.new.items found) }
+    ensures err { OnErr result (HasTaken progress.old bytes.now progress.new) }
+    ensures kept { OnErr result (pending.new.items ≡ pending.old.items) }
+{
+    let (rest, found) = progress.run(bytes)?;
+    match found {
+        StreamState::Reading => keep(pending, rest)?,
+        _ => pending.clear(),
+    }
+    Ok(found)
+}
+
+// Reads a piece that follows the pending bytes. After an `Err` some items were taken, and the pending bytes have others after
+// them.
+fn read<A: Allocator + Copy>(
+    progress: &mut Progress<A>,
+    pending: &mut Vec<u8, A>,
+    piece: &[u8],
+) -> Result<StreamState, NoMemory>
+    requires { IsUnfinished progress.old pending.old.items }
+    ensures ok { IfOk result (λ found. ReadsOn progress.old (pending.old.items ++ piece.now) progress.new pending.new.items found) }
+    ensures err { OnErr result (HasTaken progress.old (pending.old.items ++ piece.now) progress.new) }
+    ensures kept { OnErr result (take (length pending.old.items) pending.new.items ≡ pending.old.items) }
+{
+    if pending.is_empty() {
+        return read_in_place(progress, pending, piece);
+    }
+    let Some(rest) = complete(progress, pending, piece)? else {
+        return Ok(StreamState::Reading);
+    };
+    match progress.take(pending) {
+        Ok(()) => read_in_place(progress, pending, rest),
+        Err(Stop::Fault(fault)) => Ok(StreamState::Bad(fault)),
+        Err(Stop::Memory) => Err(NoMemory),
+    }
+}
+
+impl<A: Allocator + Copy> StreamReader<A> {
+    /// A reader that was fed nothing, of a stream of this mode and page size whose size list has at most `limit` bytes.
+    pub fn new(alloc: A, mode: Mode, page_size: u64, limit: u64) -> StreamReader<A>
+        requires page_size { IsPageSize page_size }
+        requires limit { limit ≤ 2 ^ 40 }
+        ensures stands { Stands mode page_size limit result [] false 0 }
+        ensures open { IsFalse result.ended }
+        ensures fed { result.fed ≡ 0 }
+    {
+        StreamReader {
+            progress: Progress::new(alloc, mode, page_size, limit),
+            pending: Vec::new(alloc),
+            found: StreamState::Reading,
+            fed: 0,
+            ended: false,
+        }
+    }
+
+    /// Takes the next piece of the text. After the end byte, or a fault, its bytes are only counted. An `Err` changes nothing.
+    pub fn feed(&mut self, piece: &[u8]) -> Result<(), NoMemory>
+        requires open { IsFalse self.old.ended }
+        requires room { self.old.fed + length piece.now < 2 ^ 64 }
+        ensures stands { OnOk result ((mode : StreamMode) (page_size limit : ℕ) (text : List ℕ) (count : ℕ) →
+            Stands mode page_size limit self.old text false count → Stands mode page_size limit self.new (text ++ piece.now) false count) }
+        ensures stays { OnOk result (self.old.found ≢ state.Reading → self.new ≡ record self.old { fed = self.old.fed + length piece.now }) }
+        ensures fed { OnOk result (self.new.fed ≡ self.old.fed + length piece.now) }
+        ensures open { IsFalse self.new.ended }
+        ensures err { OnErr result (self.new ≡ self.old) }
+    {
+        if !self.is_reading() {
+            self.fed += piece.len() as u64;
+            return Ok(());
+        }
+        self.read_on(piece)?;
+        self.fed += piece.len() as u64;
+        Ok(())
+    }
+
+    // Reads on. An `Err` changes nothing.
+    fn read_on(&mut self, piece: &[u8]) -> Result<(), NoMemory>
+        requires { self.old.found ≡ state.Reading }
+        ensures ok { OnOk result (ReadsOn self.old.progress (self.old.pending ++ piece.now) self.new.progress self.new.pending self.new.found) }
+        ensures same { OnOk result ((self.new.fed ≡ self.old.fed) × (self.new.ended ≡ self.old.ended)) }
+        ensures err { OnErr result (self.new ≡ self.old) }
+    {
+        let mark = self.progress.mark();
+        let len = self.pending.len();
+        match read(&mut self.progress, &mut self.pending, piece) {
+            Ok(found) => {
+                self.found = found;
+                Ok(())
+            }
+            Err(error) => {
+                self.progress.undo(mark);
+                self.pending.truncate(len);
+                Err(error)
+            }
+        }
+    }
+}
+
+impl<A: Allocator> StreamReader<A> {
+    fn is_reading(&self) -> bool
+        ensures reading { IsTrue result → self.now.found ≡ state.Reading }
+        ensures other { IsFalse result → self.now.found ≢ state.Reading }
+    {
+        match self.found {
+            StreamState::Reading => true,
+            _ => false,
+        }
+    }
+
+    /// The text is over: a reader that isn't closed or bad is bad from now on, with `Truncated`. A second call changes nothing.
+    pub fn end(&mut self)
+        ensures value { self.new ≡ record self.old { ended = true } }
+        ensures stands { (mode : StreamMode) (page_size limit : ℕ) (text : List ℕ) (ended : Bool) (count : ℕ) →
+            Stands mode page_size limit self.old text ended count → Stands mode page_size limit self.new text true count }
+    {
+        self.ended = true;
+    }
+
+    /// Whether the reader was told that the text is over.
+    pub fn ended(&self) -> bool
+        ensures { result ≡ self.now.ended }
+    {
+        self.ended
+    }
+
+    /// How many bytes were fed.
+    pub fn fed(&self) -> u64
+        ensures { result ≡ self.now.fed }
+    {
+        self.fed
+    }
+
+    /// How the text stands that was fed: still to be read on, closed, or bad.
+    pub fn state(&self) -> StreamState
+        ensures value { result ≡ state_at self.now.ended self.now.found }
+        ensures reading { (mode : StreamMode) (page_size limit : ℕ) (text : List ℕ) (ended : Bool) (count : ℕ) →
+            Stands mode page_size limit self.now text ended count → HasState mode page_size limit text ended result }
+    {
+        state_at(self.ended, self.found)
+    }
+
+    /// The table, as soon as the size list is whole. It stays, also where a fault follows.
+    pub fn table(&self) -> Option<&Table<A>>
+        ensures value { option_copied result ≡ whole_table self.now.progress }
+        ensures reading { (mode : StreamMode) (page_size limit : ℕ) (text : List ℕ) (ended : Bool) (count : ℕ) →
+            Stands mode page_size limit self.now text ended count → HasTable mode page_size limit text (option_copied result) }
+    {
+        self.progress.table()
+    }
+
+    /// The next whole round that was not taken, in the order of the text. It takes no memory, and is always `Ok`.
+    pub fn take_round(&mut self) -> Result<Option<StreamRound<A>>, NoMemory>
+        ensures ok { IsOk result }
+        ensures none { IfOk result (λ o. IfNone o (self.new ≡ self.old)) }
+        ensures last { IfOk result (λ o. IfNone o ((mode : StreamMode) (page_size limit : ℕ) (text : List ℕ) (ended : Bool) (count i : ℕ) (round : List PageRecord) →
+            Stands mode page_size limit self.old text ended count → HasRound mode page_size limit text i round → i < count)) }
+        ensures round { IfOk result (λ o. IfSome o (λ r. (mode : StreamMode) (page_size limit : ℕ) (text : List ℕ) (ended : Bool) (count : ℕ) →
+            Stands mode page_size limit self.old text ended count → (r.page_size ≡ page_size) × HasRound mode page_size limit text count r.records)) }
+        ensures places { IfOk result (λ o. IfSome o (λ r. (mode : StreamMode) (page_size limit : ℕ) (text : List ℕ) (ended : Bool) (count : ℕ) (table : RamTable) →
+            Stands mode page_size limit self.old text ended count → HasTable mode page_size limit text (Some table) → All (λ x. IsPlace table x.place) r.records)) }
+        ensures stands { IfOk result (λ o. IfSome o (λ r. (mode : StreamMode) (page_size limit : ℕ) (text : List ℕ) (ended : Bool) (count : ℕ) →
+            Stands mode page_size limit self.old text ended count → Stands mode page_size limit self.new text ended (count + 1))) }
+        ensures same { (self.new.fed ≡ self.old.fed) × (self.new.ended ≡ self.old.ended) × (self.new.found ≡ self.old.found) }
+    {
+        Ok(self.progress.take_round())
+    }
+}
