@@ -1,5 +1,8 @@
 # `make test` is the gate: every proof from nothing, the must-fail edits, the tests and the programs.
-# `make run` runs the tool on its stored scenario.
+# `make run` proves and builds the tool where that isn't done yet, and runs it on its stored scenario; `make run SCENARIO=FILE`
+# runs it on another.
+
+SCENARIO ?= crates/mig_tool/stdin
 
 .PHONY: run test
 
@@ -7,5 +10,4 @@ test:
 	rt ci
 
 run:
-	@echo "the tool is not there yet" >&2
-	@exit 1
+	@cd crates/mig_tool && rt run < "$(abspath $(SCENARIO))"

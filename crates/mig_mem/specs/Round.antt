@@ -30,6 +30,10 @@ pub record IsRound (table : RamTable) (round : List Page) : Type 0 where
   pub has_places : All (λ x. IsPlace table x.place) round
   pub has_sizes : All (λ x. length x.content ≡ table.page_size) round
 
+-- The memory with a round in it has at each place the content of the last page of the round there, or else what it had.
+abbrev pub with_round : Image → List Page → Image
+with_round m round = image_of m.table (λ p. option_map_or (λ x. x.content) (last_at p round) (content_at m p))
+
 -- What rounds leave is a memory.
 abbrev pub RoundsMakeMemory : Type 0
 RoundsMakeMemory = (table : RamTable) (rounds : List (List Page)) → All (IsRound table) rounds → IsImage (after table rounds)
@@ -37,3 +41,7 @@ RoundsMakeMemory = (table : RamTable) (rounds : List (List Page)) → All (IsRou
 -- A round of one page changes the memory at its place alone.
 abbrev pub OnePageMore : Type 0
 OnePageMore = (table : RamTable) (rounds : List (List Page)) (x : Page) → after table (rounds ++ (x ∷ []) ∷ []) ≡ with_page (after table rounds) x.place x.content
+
+-- And a round more puts that round into it.
+abbrev pub OneRoundMore : Type 0
+OneRoundMore = (table : RamTable) (rounds : List (List Page)) (round : List Page) → after table (rounds ++ round ∷ []) ≡ with_round (after table rounds) round

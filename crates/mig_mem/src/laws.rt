@@ -3,7 +3,7 @@
 //! Each law is the clause of a function that does nothing, so that it is proved with the crate and callers can have it.
 
 ghost use Rattle.mig_mem.specs.Refusal.{TableIsLawful};
-ghost use Rattle.mig_mem.specs.Round.{RoundsMakeMemory, OnePageMore};
+ghost use Rattle.mig_mem.specs.Round.{RoundsMakeMemory, OnePageMore, OneRoundMore};
 ghost use Rattle.mig_mem.specs.Tracking.{TrackingGivesLastImage};
 
 /// A list of blocks is refused for no reason exactly where it makes a lawful table. So blocks that keep the limits are
@@ -20,6 +20,12 @@ pub fn rounds_make_memory()
 /// After a round of one page, the memory has that page's content at its place, and is as before elsewhere.
 pub fn one_page_more()
     ensures { OnePageMore }
+{}
+
+/// After a round more, the memory has at each place the content of the last page of that round there, and is as before
+/// elsewhere.
+pub fn one_round_more()
+    ensures { OneRoundMore }
 {}
 
 /// With faithful tracking from zeros on, the memory after the rounds is the last image: so a sender whose dirty pages

@@ -19,7 +19,9 @@ mod table;
 pub use difference::first_difference;
 pub use dirty::Dirty;
 pub use fault::{NoMemory, TableFault};
-pub use laws::{one_page_more, rounds_make_memory, table_is_lawful, tracking_gives_last_image};
+pub use laws::{
+    one_page_more, one_round_more, rounds_make_memory, table_is_lawful, tracking_gives_last_image,
+};
 pub use memory::Memory;
 pub use page_size::{PAGE_SIZE_4K, PAGE_SIZE_8K, is_page_size};
 pub use place::Place;

@@ -35,3 +35,4 @@ pub mod Feeding
 pub mod Placing
 pub mod Standing
 pub mod Keeping
+pub mod Limits

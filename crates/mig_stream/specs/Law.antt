@@ -1,5 +1,5 @@
 -- What holds between the texts of a stream and their readings.
-use Rattle.std.specs.Prelude.{◌≡◌, ◌↔◌, ℕ, ◌≤◌, ◌<◌, ◌^◌, List, [], ◌∷◌, ◌++◌, map, replicate, Some, All}
+use Rattle.std.specs.Prelude.{◌≡◌, ◌↔◌, ℕ, ◌≤◌, ◌<◌, ◌^◌, List, [], ◌∷◌, ◌++◌, length, map, replicate, Some, None, All}
 use Rattle.mig_mem.specs.PageSize.{IsPageSize}
 use Rattle.mig_mem.specs.RamTable.{RamTable, IsTable}
 use Rattle.mig_mem.specs.Image.{Page}
@@ -62,3 +62,13 @@ MainsAreTexts = (limit : ℕ) (table : RamTable) (n : ℕ) → IsTable table →
 -- The records that it makes of a round stand for the pages of that round.
 abbrev pub RecordsStandForPages : Type 0
 RecordsStandForPages = (table : RamTable) (round : List Page) → IsRound table round → map (page_of table.page_size) (map written_record round) ≡ round
+
+-- A text has no more whole rounds than bytes, none before its table is known, and a table of the page size that was handed in.
+pub record KeepsLimits (page_size : ℕ) (text : List ℕ) (reading : StreamReading) : Type 0 where
+  pub has_few : length reading.rounds ≤ length text
+  pub has_table_first : reading.table ≡ None → reading.rounds ≡ []
+  pub has_page_size : (table : RamTable) → reading.table ≡ Some table → table.page_size ≡ page_size
+
+abbrev pub ReadingsKeepLimits : Type 0
+ReadingsKeepLimits = (mode : Mode) (page_size limit : ℕ) (text : List ℕ) (reading : StreamReading) → IsPageSize page_size
+    → IsReading mode page_size limit text reading → KeepsLimits page_size text reading

@@ -3,7 +3,7 @@
 //!
 //! Each law is the clause of a function that does nothing, so that it is proved with the crate and callers can have it.
 
-ghost use Rattle.mig_stream.specs.Law.{HasOneReading, SpelledIsRead, ReadIsSpelled, ClosedIsText, HasOneText, SinglesAreTexts, MainsAreTexts, RecordsStandForPages};
+ghost use Rattle.mig_stream.specs.Law.{HasOneReading, SpelledIsRead, ReadIsSpelled, ClosedIsText, HasOneText, SinglesAreTexts, MainsAreTexts, RecordsStandForPages, ReadingsKeepLimits};
 
 /// Each text has exactly one reading. So whoever reads it, in whatever pieces, finds the same table, the same rounds and
 /// the same first fault.
@@ -37,4 +37,10 @@ pub fn written_is_text()
     ensures single { SinglesAreTexts }
     ensures main { MainsAreTexts }
     ensures pages { RecordsStandForPages }
+{}
+
+/// A text has no more whole rounds than bytes, and none before its table is known; and its table has the page size that was
+/// handed in.
+pub fn readings_keep_limits()
+    ensures { ReadingsKeepLimits }
 {}

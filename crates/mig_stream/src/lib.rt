@@ -24,8 +24,8 @@ mod writer;
 pub use fault::StreamFault;
 pub use item::{Mode, StreamState};
 pub use laws::{
-    bytes_have_one_text, closed_is_text, read_is_spelled, spelled_is_read, text_has_one_reading,
-    written_is_text,
+    bytes_have_one_text, closed_is_text, read_is_spelled, readings_keep_limits, spelled_is_read,
+    text_has_one_reading, written_is_text,
 };
 pub use reader::StreamReader;
 pub use round::StreamRound;

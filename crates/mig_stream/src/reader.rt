@@ -3,7 +3,7 @@
 //! It keeps what was read as a `Progress`, and of the text only the bytes of an item that isn't whole yet. A piece is read in
 //! place, but for what such an item needs of its front.
 
-ghost use Rattle.std.specs.Prelude.{◌≡◌, ◌≢◌, ◌+◌, ◌<◌, ◌≤◌, ◌^◌, ◌++◌, ◌↔◌, ℕ, Bool, List, [], length, take, true, false, IsTrue, IsFalse, IsOk, Some, All, IfOk, IfSome, IfNone, OnOk, OnErr};
+ghost use Rattle.std.specs.Prelude.{◌≡◌, ◌≢◌, ◌+◌, ◌<◌, ◌≤◌, ◌^◌, ◌++◌, ◌↔◌, ℕ, Bool, List, [], ◌∷◌, length, take, true, false, IsTrue, IsFalse, IsOk, Some, All, IfOk, IfSome, IfNone, OnOk, OnErr};
 ghost use Rattle.std.specs.Option.{option_copied};
 ghost use Rattle.mig_mem.specs.PageSize.{IsPageSize};
 ghost use Rattle.mig_mem.specs.RamTable.{RamTable};
@@ -266,6 +266,7 @@ impl<A: Allocator> StreamReader<A> {
             Stands mode page_size limit self.old text ended count → (r.page_size ≡ page_size) × HasRound mode page_size limit text count r.records)) }
         ensures places { IfOk result (λ o. IfSome o (λ r. (mode : StreamMode) (page_size limit : ℕ) (text : List ℕ) (ended : Bool) (count : ℕ) (table : RamTable) →
             Stands mode page_size limit self.old text ended count → HasTable mode page_size limit text (Some table) → All (λ x. IsPlace table x.place) r.records)) }
+        ensures rest { IfOk result (λ o. IfSome o (λ r. self.old.progress.rounds ≡ r.records ∷ self.new.progress.rounds)) }
         ensures stands { IfOk result (λ o. IfSome o (λ r. (mode : StreamMode) (page_size limit : ℕ) (text : List ℕ) (ended : Bool) (count : ℕ) →
             Stands mode page_size limit self.old text ended count → Stands mode page_size limit self.new text ended (count + 1))) }
         ensures same { (self.new.fed ≡ self.old.fed) × (self.new.ended ≡ self.old.ended) × (self.new.found ≡ self.old.found) }

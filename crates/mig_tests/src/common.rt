@@ -1,8 +1,10 @@
 //! What several tests build, and what they ask of it. A test that builds all by itself takes the prover ten times as long.
 
-use mig_mem::{Dirty, Memory, NoMemory, PAGE_SIZE_4K, Place, Table, is_page_size};
+use mig_mem::{
+    Dirty, Memory, NoMemory, PAGE_SIZE_4K, Place, Table, first_difference, is_page_size,
+};
 use mig_stream::StreamWriter;
-use std::alloc::{AllocError, Allocator, Global};
+use std::alloc::{AllocError, Allocator};
 
 /// The place of a page.
 pub(crate) fn at(block: usize, page: u64) -> Place {
@@ -40,6 +42,11 @@ pub(crate) fn table_at<A: Allocator + Copy>(
     Table::new(alloc, page_size, list).ok()
 }
 
+/// Whether two memories are of one table and have the same pages.
+pub(crate) fn is_same<A: Allocator, B: Allocator>(one: &Memory<A>, other: &Memory<B>) -> bool {
+    one.table().same(other.table()) && first_difference(one, other) == None
+}
+
 /// A memory of zeros of such a table.
 pub(crate) fn zeroed<A: Allocator + Copy>(alloc: A, entries: &[(&str, u64)]) -> Option<Memory<A>> {
     let table = table(alloc, entries)?;
@@ -47,9 +54,9 @@ pub(crate) fn zeroed<A: Allocator + Copy>(alloc: A, entries: &[(&str, u64)]) -> 
 }
 
 /// Writes a page of one byte; None where the table lacks it.
-pub(crate) fn fill<A: Allocator>(
+pub(crate) fn fill<A: Allocator, B: Allocator>(
     memory: &mut Memory<A>,
-    alloc: Global,
+    alloc: B,
     place: Place,
     byte: u8,
 ) -> Option<()> {
@@ -129,6 +136,8 @@ pub(crate) fn has_exactly<A: Allocator + Copy>(dirty: &Dirty<A>, places: &[Place
 pub(crate) enum Step<'a> {
     /// Sets the first byte of a page of the image.
     Set(Place, u8),
+    /// Sets each byte of a page of the image.
+    Fill(Place, u8),
     /// Writes the pages of these places as one PART.
     Round(&'a [Place]),
     /// Writes a PART of FLUSH.
@@ -174,6 +183,7 @@ fn take_step<A: Allocator + Copy>(
 ) -> Option<()> {
     match step {
         Step::Set(place, byte) => set_first(image, *place, *byte),
+        Step::Fill(place, byte) => fill(image, alloc, *place, *byte),
         Step::Round(places) => {
             let dirty = places_of(alloc, image.table(), places)?;
             part(writer, image, &dirty)?.ok()

@@ -9,6 +9,10 @@ mod common;
 #[cfg(test)]
 mod dirty;
 #[cfg(test)]
+mod load;
+#[cfg(test)]
+mod loading;
+#[cfg(test)]
 mod memory;
 #[cfg(test)]
 mod reader;
@@ -17,6 +21,12 @@ mod reading;
 #[cfg(test)]
 mod refused;
 #[cfg(test)]
+mod sender;
+#[cfg(test)]
 mod table;
+#[cfg(test)]
+mod target;
+#[cfg(test)]
+mod texts;
 #[cfg(test)]
 mod writer;

@@ -5,47 +5,9 @@ use crate::reading::{
     How, MAIN, SINGLE, count_rounds, feed, has_block, has_no_round, has_round, number_of, read,
     reader, state_of,
 };
+use crate::texts::{empty, one_flush, one_page, two_pages, with_bytes, with_put_in};
 use mig_mem::{PAGE_SIZE_4K, PAGE_SIZE_8K};
-use mig_stream::{Mode, StreamFault, StreamState};
-use std::alloc::Global;
-
-// A stream of one block `a` of one page, whose round has the page with the first byte 7.
-fn one_page(alloc: Global, page_size: u64) -> Option<Vec<u8>> {
-    let steps = [Step::Set(at(0, 0), 7), Step::Round(&[at(0, 0)])];
-    written(alloc, page_size, &[("a", 1)], &steps)
-}
-
-// A stream of one block `a` of two pages, whose round has zeros and a page with the first byte 9.
-fn two_pages(alloc: Global) -> Option<Vec<u8>> {
-    let steps = [Step::Set(at(0, 1), 9), Step::Round(&[at(0, 0), at(0, 1)])];
-    written(alloc, PAGE_SIZE_4K, &[("a", 2)], &steps)
-}
-
-// The empty stream of that block of one page, and the main stream of one FLUSH.
-fn empty(alloc: Global, page_size: u64) -> Option<Vec<u8>> {
-    written(alloc, page_size, &[("a", 1)], &[])
-}
-
-fn one_flush(alloc: Global) -> Option<Vec<u8>> {
-    written(alloc, PAGE_SIZE_4K, &[("a", 2)], &[Step::Flush])
-}
-
-// A text with bytes written over those at a place.
-fn with_bytes(alloc: Global, text: &[u8], place: usize, bytes: &[u8]) -> Option<Vec<u8>> {
-    let mut changed = Vec::from_slice(alloc, text.get(..place)?).ok()?;
-    changed.extend_from_slice(bytes).ok()?;
-    let rest = text.get(changed.len()..)?;
-    changed.extend_from_slice(rest).ok()?;
-    Some(changed)
-}
-
-// A text with bytes put in at a place.
-fn with_put_in(alloc: Global, text: &[u8], place: usize, bytes: &[u8]) -> Option<Vec<u8>> {
-    let mut changed = Vec::from_slice(alloc, text.get(..place)?).ok()?;
-    changed.extend_from_slice(bytes).ok()?;
-    changed.extend_from_slice(text.get(place..)?).ok()?;
-    Some(changed)
-}
+use mig_stream::{StreamFault, StreamState};
 
 #[test]
 fn an_empty_stream(rt: HostRuntime) {
@@ -96,10 +58,14 @@ fn a_page_and_then_zeros(rt: HostRuntime) {
     let text = one_page(rt.alloc(), PAGE_SIZE_4K).expect(&rt, "a text");
     let again = text.get(61..4167).expect(&rt, "its record");
     let twice = with_put_in(rt.alloc(), &text, 4167, again).expect(&rt, "a text");
+    let twice = with_bytes(rt.alloc(), &twice, 4177, &[8]).expect(&rt, "a text");
+    assert!(rt; twice.len() == 8305);
     let mut reader = read(rt.alloc(), SINGLE, &twice, 1000).expect(&rt, "a reader");
-    assert!(rt; reader.state() == StreamState::Closed);
     assert!(rt; has_round(&mut reader, &[]));
-    assert!(rt; has_round(&mut reader, &[(at(0, 0), Some(7)), (at(0, 0), Some(7))]));
+    assert!(rt; has_round(&mut reader, &[(at(0, 0), Some(7)), (at(0, 0), Some(8))]));
+    assert!(rt; has_round(&mut reader, &[]));
+    assert!(rt; has_no_round(&mut reader));
+    assert!(rt; reader.state() == StreamState::Closed);
 }
 
 // Each fault of a single stream, by one byte of the stream of one page.
@@ -122,9 +88,13 @@ fn faults_by_one_byte(rt: HostRuntime) {
         (32, 0x08, 26),
         (68, 0x40, 27),
         (68, 0x28, 28),
+        (69, 0x00, 29),
         (70, 0x62, 29),
         (67, 0x10, 30),
+        (56, 0x00, 13),
+        (4180, 0x00, 13),
         (4198, 0x01, 13),
+        (4198, 0x03, 13),
     ];
     for (place, byte, number) in cases {
         let damaged = with_bytes(rt.alloc(), &text, place, &[byte]).expect(&rt, "a text");
@@ -202,7 +172,8 @@ fn bytes_after_the_end(rt: HostRuntime) {
     assert_eq!(rt; number_of(rt.alloc(), SINGLE, &longer), Some(0));
 }
 
-// A configuration with a name, the longest one, one byte more, and no name; another section id throughout.
+// A configuration with a name, the longest one, one byte more, and no name; a second configuration and a subsection after
+// the one with no name; another section id throughout.
 #[test]
 fn choices_of_the_sender(rt: HostRuntime) {
     let text = empty(rt.alloc(), PAGE_SIZE_4K).expect(&rt, "a text");
@@ -222,6 +193,8 @@ fn choices_of_the_sender(rt: HostRuntime) {
     assert_eq!(rt; number_of(rt.alloc(), SINGLE, &longer), Some(19));
     let twice = with_put_in(rt.alloc(), &none, 13, &[7, 0, 0, 0, 0]).expect(&rt, "a text");
     assert_eq!(rt; number_of(rt.alloc(), SINGLE, &twice), Some(13));
+    let subsection = with_put_in(rt.alloc(), &none, 13, &[5]).expect(&rt, "a text");
+    assert_eq!(rt; number_of(rt.alloc(), SINGLE, &subsection), Some(13));
     let mut other = one_page(rt.alloc(), PAGE_SIZE_4K).expect(&rt, "a text");
     for place in [12, 55, 60, 4179, 4184, 4197] {
         other = with_bytes(rt.alloc(), &other, place, &[2]).expect(&rt, "a text");
@@ -296,7 +269,10 @@ fn many_entries(rt: HostRuntime) {
     }
     let reader = read(rt.alloc(), SINGLE, &many, 1000).expect(&rt, "a reader");
     assert!(rt; reader.state() == StreamState::Bad(StreamFault::Truncated));
-    assert!(rt; many.extend_from_slice(&[0, 0, 0, 0, 0, 0, 0, 0, 0]).is_ok());
+    assert!(rt;
+        many.extend_from_slice(&[1, 0x61, 0, 0, 0, 0, 0, 0, 0x10, 0])
+            .is_ok()
+    );
     assert_eq!(rt; number_of(rt.alloc(), SINGLE, &many), Some(24));
 }
 

@@ -4,10 +4,14 @@
 use crate::common::{
     Step, at, has_byte, is_full, list, mark, marked, part, set, set_first, table, written, zeroed,
 };
+use crate::loading::{is_told, load};
 use crate::reading::{SINGLE, feed, has_no_round, has_round, reader};
+use mig_assemble::Target;
+use mig_load::{Fault, LoadFault, Loaded, Origin};
 use mig_mem::{Dirty, Memory, PAGE_SIZE_4K, Table, TableFault};
 use mig_refusing::Refusing;
-use mig_stream::{StreamState, StreamWriter};
+use mig_send::SingleSender;
+use mig_stream::{StreamReader, StreamState, StreamWriter};
 use std::alloc::Allocator;
 use std::test::Fail;
 
@@ -226,6 +230,25 @@ fn writer_finish(rt: HostRuntime) {
     panic!(rt; "no text was full");
 }
 
+// Whether a reader was fed 40 bytes, is reading, and has no table and no round.
+fn has_read_40_bytes<A: Allocator + Copy>(reader: &mut StreamReader<A>) -> bool {
+    reader.fed() == 40
+        && reader.state() == StreamState::Reading
+        && reader.table().is_none()
+        && has_no_round(reader)
+}
+
+// Whether a reader is closed and has the two rounds of `reader_feed`, between START's and END's, and no other.
+fn has_both_rounds<A: Allocator + Copy>(reader: &mut StreamReader<A>) -> bool {
+    let first = [(at(0, 0), None), (at(0, 1), Some(7)), (at(1, 64), None)];
+    reader.state() == StreamState::Closed
+        && has_round(reader, &[])
+        && has_round(reader, &first)
+        && has_round(reader, &[(at(1, 64), None)])
+        && has_round(reader, &[])
+        && has_no_round(reader)
+}
+
 // A refused piece leaves the reader as it was, also where many items of the piece were taken before the growth; fed again
 // with memory, it is read as ever.
 #[test]
@@ -252,24 +275,141 @@ fn reader_feed(rt: HostRuntime) {
         if run.is_ok() {
             assert!(rt; is_waiting);
             assert!(rt; nth > 1);
-            assert!(rt; reader.state() == StreamState::Closed);
-            assert!(rt; has_round(&mut reader, &[]));
-            assert!(rt;
-                has_round(
-                    &mut reader,
-                    &[(at(0, 0), None), (at(0, 1), Some(7)), (at(1, 64), None)]
-                )
-            );
-            assert!(rt; has_round(&mut reader, &[(at(1, 64), None)]));
-            assert!(rt; has_round(&mut reader, &[]));
-            assert!(rt; has_no_round(&mut reader));
+            assert!(rt; has_both_rounds(&mut reader));
             return;
         }
         assert!(rt; !is_waiting);
-        assert!(rt; reader.fed() == 40);
-        assert!(rt; reader.state() == StreamState::Reading);
-        assert!(rt; reader.table().is_none());
-        assert!(rt; has_no_round(&mut reader));
+        assert!(rt; has_read_40_bytes(&mut reader));
     }
     panic!(rt; "each run had a refusal");
+}
+
+// The text of a sender that was given nothing.
+fn is_empty_sending<A: Allocator + Copy>(alloc: A, sender: SingleSender<A>) -> bool {
+    match (sender.finish(), written(alloc, PAGE_SIZE_4K, &BLOCKS, &[])) {
+        (Ok(text), Some(wanted)) => text.as_slice() == wanted.as_slice(),
+        _ => false,
+    }
+}
+
+#[test]
+fn sender_new(rt: HostRuntime) -> Result<(), Fail> {
+    let heap = Refusing::new(rt.alloc(), 0);
+    let table = table(&heap, &BLOCKS).expect(&rt, "a table");
+    with_each_growth_refused!(rt, heap, SingleSender::new(&heap, &table), sender => {
+        assert!(rt; is_empty_sending(&heap, sender));
+    });
+}
+
+// A refused round can be sent again: the text is as if it had been sent once.
+#[test]
+fn sender_round(rt: HostRuntime) -> Result<(), Fail> {
+    let heap = Refusing::new(rt.alloc(), 0);
+    let others = rt.alloc();
+    let table = table(&heap, &BLOCKS).expect(&rt, "a table");
+    let mut sender = SingleSender::new(&heap, &table).expect(&rt, "a sender");
+    let mut image = zeroed(others, &BLOCKS).expect(&rt, "a memory");
+    assert!(rt; set_first(&mut image, at(1, 64), 7).is_some());
+    let dirty = marked(others, &BLOCKS, &[at(0, 1), at(1, 64)]).expect(&rt, "a set");
+    with_each_growth_refused!(rt, heap, sender.round(&image, &dirty), _done => {
+        let text = sender.finish().ok().expect(&rt, "its text");
+        let steps = [Step::Set(at(1, 64), 7), Step::Round(&[at(0, 1), at(1, 64)])];
+        let wanted = written(others, PAGE_SIZE_4K, &BLOCKS, &steps).expect(&rt, "a text");
+        assert!(rt; text.as_slice() == wanted.as_slice());
+    });
+}
+
+// A sender of so many rounds without a page.
+fn sent_empty<'a>(heap: &'a Refusing, count: usize) -> Option<SingleSender<&'a Refusing>> {
+    let image = zeroed(heap, &BLOCKS)?;
+    let dirty = marked(heap, &BLOCKS, &[])?;
+    let mut sender = SingleSender::new(heap, image.table()).ok()?;
+    for _ in 0..count {
+        sender.round(&image, &dirty).ok()?;
+    }
+    Some(sender)
+}
+
+// Whether a sender finishes the text of so many rounds without a page.
+fn has_empty_rounds<A: Allocator>(rt: &HostRuntime, sender: SingleSender<A>, count: usize) -> bool {
+    let Ok(steps) = vec![in rt.alloc(); Step::Round(&[]); count] else {
+        return false;
+    };
+    match (
+        sender.finish(),
+        written(rt.alloc(), PAGE_SIZE_4K, &BLOCKS, &steps),
+    ) {
+        (Ok(text), Some(wanted)) => text.as_slice() == wanted.as_slice(),
+        _ => false,
+    }
+}
+
+// Of some texts one is full to its capacity. Its sender is given back, and finishes when there is memory.
+#[test]
+fn sender_finish(rt: HostRuntime) {
+    let heap = Refusing::new(rt.alloc(), 0);
+    for count in 0..100 {
+        let sender = sent_empty(&heap, count).expect(&rt, "a sender");
+        heap.refuse(1);
+        let run = sender.finish();
+        heap.refuse(0);
+        if let Err(sender) = run {
+            assert!(rt; has_empty_rounds(&rt, sender, count));
+            return;
+        }
+    }
+    panic!(rt; "no text was full");
+}
+
+#[test]
+fn target_new(rt: HostRuntime) -> Result<(), Fail> {
+    let heap = Refusing::new(rt.alloc(), 0);
+    let table = table(&heap, &BLOCKS).expect(&rt, "a table");
+    with_each_growth_refused!(rt, heap, Target::new(&heap, &table), target => {
+        assert!(rt; target.rounds() == 0);
+        assert!(rt; target.base() == 0);
+        assert!(rt; target.memory().table().same(&table));
+        assert!(rt; is_full(target.memory(), at(1, 64), 0));
+    });
+}
+
+// A load's answer, or its fault where that is want of memory, found in putting rounds into memory, with no memory and no
+// round.
+fn load_or_fault<'a>(
+    heap: &'a Refusing,
+    text: &[u8],
+) -> Option<Result<Loaded<&'a Refusing>, Fault>> {
+    let loaded = load(heap, PAGE_SIZE_4K, text)?;
+    let refused = LoadFault {
+        round: 0,
+        source: Origin::Round,
+        fault: Fault::NoMemory,
+    };
+    if loaded.verdict == Err(refused) && loaded.memory.is_none() && loaded.rounds == 0 {
+        return Some(Err(refused.fault));
+    }
+    Some(Ok(loaded))
+}
+
+// Whether the memory of an answer has the page that `loads` sends.
+fn has_sent_page<A: Allocator>(loaded: &Loaded<A>) -> bool {
+    match &loaded.memory {
+        Some(memory) => has_byte(memory, at(0, 1), 0, 7) && is_full(memory, at(1, 64), 0),
+        None => false,
+    }
+}
+
+#[test]
+fn loads(rt: HostRuntime) -> Result<(), Fail> {
+    let heap = Refusing::new(rt.alloc(), 0);
+    let steps = [
+        Step::Set(at(0, 1), 7),
+        Step::Round(&[at(0, 0), at(0, 1), at(1, 64)]),
+        Step::Round(&[at(1, 64)]),
+    ];
+    let text = written(rt.alloc(), PAGE_SIZE_4K, &BLOCKS, &steps).expect(&rt, "a text");
+    with_each_growth_refused!(rt, heap, load_or_fault(&heap, &text).expect(&rt, "an answer"), loaded => {
+        assert!(rt; is_told(&loaded, 4, 0));
+        assert!(rt; has_sent_page(&loaded));
+    });
 }

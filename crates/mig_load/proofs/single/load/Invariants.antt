@@ -1,0 +1,9 @@
+use Rattle.std.proofs.Common.{length}
+use Rattle.mig_load.proofs.Sections.{HasPut}
+use Rattle.mig_load.proofs.single.load.Given as goal
+
+abbrev pub invariant-sections : goal.invariant-sections
+invariant-sections g l = HasPut l.page_size l.limit l.text l.reader l.target
+
+abbrev pub decreases-sections : goal.decreases-sections
+decreases-sections g l = length l.reader.progress.rounds

@@ -1,0 +1,2 @@
+pub mod LoadFaultNumber
+pub mod SingleLoad

@@ -1,0 +1,48 @@
+//! Why a load didn't come to its end: names and numbers, and where.
+
+ghost use Rattle.std.specs.Prelude.{◌≡◌};
+ghost use Rattle.mig_load.specs.LoadFaultNumber.{fault_number};
+
+use mig_mem::NoMemory;
+use mig_stream::StreamFault;
+
+/// Where a load found a fault.
+#[derive(Clone, Copy, Debug, PartialEq, Eq)]
+pub enum Origin {
+    /// In the stream: the single stream, or the main stream of multifd.
+    Main,
+    /// In no text: in putting a round into memory.
+    Round,
+}
+
+/// What a load found.
+#[derive(Clone, Copy, Debug, PartialEq, Eq)]
+pub enum Fault {
+    /// The stream's fault.
+    Stream(StreamFault),
+    /// A growth was refused.
+    NoMemory,
+}
+
+impl Fault {
+    /// The fault's number in documents and in the tool's output.
+    pub fn number(self) -> u8
+        ensures { result ≡ fault_number self }
+    {
+        match self {
+            Fault::Stream(fault) => fault.number(),
+            Fault::NoMemory => NoMemory.number(),
+        }
+    }
+}
+
+/// Why a load ended before its texts did.
+#[derive(Clone, Copy, Debug, PartialEq, Eq)]
+pub struct LoadFault {
+    /// How many rounds were whole before it: the number of the round that isn't, from 0.
+    pub round: u64,
+    /// Where the fault is.
+    pub source: Origin,
+    /// What it is.
+    pub fault: Fault,
+}

@@ -1,0 +1,14 @@
+//! The loaders: they make a guest's memory from the texts of its migration.
+//!
+//! What a loader answers is a function of the texts alone: the memory after the rounds that they have whole, how many these
+//! are, and the first fault after them (`specs/SingleLoad.antt`). The text of a stream is `mig_stream`'s, and how a round goes
+//! into memory `mig_assemble`'s.
+#![tactic(auto)]
+
+mod fault;
+mod loaded;
+mod single;
+
+pub use fault::{Fault, LoadFault, Origin};
+pub use loaded::Loaded;
+pub use single::load_single;

@@ -1,0 +1,15 @@
+-- What a sender of a single stream has sent.
+use Rattle.std.specs.Prelude.{◌≡◌, List, map}
+use Rattle.mig_mem.specs.RamTable.{RamTable}
+use Rattle.mig_mem.specs.Image.{Page, Image}
+use Rattle.mig_mem.specs.PlaceSet.{PlaceSet}
+use Rattle.mig_stream.specs.Written.{RoundPart}
+use Rattle.mig_stream.specs.Writer.{Writer, HasWritten}
+
+-- the sender has sent these rounds
+abbrev pub HasSent : Writer → List (List Page) → Type 0
+HasSent sender rounds = HasWritten sender (map RoundPart rounds)
+
+-- an image and its dirty pages are of a table
+abbrev pub AreOf : RamTable → Image → PlaceSet → Type 0
+AreOf table image dirty = (image.table ≡ table) × (dirty.table ≡ table)

@@ -1,0 +1,198 @@
+-- What a reading keeps to: few rounds, none before the table, and the page size.
+use Rattle.std.proofs.Common.{◌≡◌, eqb, ℕ, ◌+◌, ◌-◌, ◌≤◌, ◌==◌, Bool, true, false, cond, List, [], ◌∷◌, length, Option, Some, None, refl, sym, ap, subst, ◌∙◌, arith}
+use Rattle.std.specs.Prelude.{is_none, is_some, slice_index, ⊤}
+use Rattle.std.specs.Bool.{then_some}
+use Rattle.std.specs.List.{concat}
+use Rattle.std.specs.Option.{unwrap_or}
+use Rattle.std.proofs.lemmas.List.{length-append}
+use Rattle.std.proofs.lemmas.Bool.{cond_both, eqb-false, eqb-true, false_from_ne_true}
+use Rattle.mig_mem.specs.RamTable.{RamTable}
+use Rattle.mig_stream.specs.declared.item.Mode.{Mode}
+use Rattle.mig_stream.specs.declared.item.Mode.TheVariants.{Single, Main}
+use Rattle.mig_stream.specs.declared.item.Filling.TheVariants.{Zero, Normal}
+use Rattle.mig_stream.specs.declared.item.Due.{Due}
+use Rattle.mig_stream.specs.declared.item.Due.TheVariants.{FileHeader, TypeByte, ConfigLength, ConfigName, StartHead, SectionHead, RecordHead, ListEntry, BlockName, Content, Footer, Nothing}
+use Rattle.mig_stream.specs.declared.item.RecordKind.{RecordKind}
+use Rattle.mig_stream.specs.declared.item.RecordKind.TheVariants.{SizeList, Named, Continued, EndOfSection, Flush}
+use Rattle.mig_stream.specs.declared.fault.StreamFault.{StreamFault}
+use Rattle.mig_stream.specs.Fields.{be32_at}
+use Rattle.mig_stream.specs.PageRecord.{PageRecord}
+use Rattle.mig_stream.specs.Progress.{Progress, start, is_used_up, table_of}
+use Rattle.mig_stream.specs.Items.{size, length_in, kind_faults, head_faults, faults, first_of, after_type, after_kind, after_head, whole_rounds, after_item, after}
+use Rattle.mig_stream.specs.Reading.{AreFaultless, after_all, Front}
+use Rattle.mig_stream.specs.Law.{ReadingsKeepLimits}
+use Rattle.mig_stream.proofs.Steps.{passed, IsLater-front}
+
+-- ---- no more rounds than bytes
+
+-- at most so many rounds more
+abbrev HasFew : List (List PageRecord) → ℕ → Progress → Type 0
+HasFew rounds n c = length c.rounds ≤ length rounds + n
+
+few_type : (c : Progress) (byte n : ℕ) → HasFew c.rounds n (after_type c byte)
+few_type c byte n =
+    cond_both (eqb byte 7) _ _ (HasFew c.rounds n) (λ _. omega arith) (λ _.
+    cond_both (eqb byte 1) _ _ (HasFew c.rounds n) (λ _. omega arith) (λ _.
+    cond_both (eqb byte 2) _ _ (HasFew c.rounds n) (λ _. omega arith) (λ _.
+    cond_both (eqb byte 3) _ _ (HasFew c.rounds n) (λ _. omega arith) (λ _. omega arith))))
+
+few_head : (c : Progress) (kind : Option RecordKind) (page n : ℕ) → 1 ≤ n → HasFew c.rounds n (after_head c kind page)
+few_head c None page n some = omega arith
+few_head c (Some SizeList) page n some = omega arith
+few_head c (Some (Named filling)) page n some = omega arith
+few_head c (Some (Continued filling)) page n some = omega arith
+few_head c (Some EndOfSection) page n some = omega arith
+few_head c (Some Flush) page n some = omega (arith, length-append c.rounds (c.records ∷ []))
+
+few_whole : (mode : Mode) (rounds : List (List PageRecord)) (records : List PageRecord) → length (whole_rounds mode rounds records) ≤ length rounds + 1
+few_whole Single rounds records = omega (arith, length-append rounds (records ∷ []))
+few_whole Main rounds records = omega arith
+
+-- an item makes one round whole at most, and none where it is empty
+few_item : (c : Progress) (d : Due) (item : List ℕ) → length item ≡ size c.page_size d item → HasFew c.rounds (length item) (after_item c d item)
+few_item c FileHeader item whole = omega arith
+few_item c (TypeByte before) item whole = few_type c (slice_index item 0) (length item)
+few_item c ConfigLength item whole = omega arith
+few_item c (ConfigName len) item whole = omega arith
+few_item c StartHead item whole = omega arith
+few_item c SectionHead item whole = omega arith
+few_item c RecordHead item whole = few_head c _ _ (length item) (omega arith)
+few_item c ListEntry item whole = omega arith
+few_item c (BlockName filling page) item whole = omega arith
+few_item c (Content Zero place) item whole = omega arith
+few_item c (Content Normal place) item whole = omega arith
+few_item c Footer item whole = omega (arith, few_whole c.mode c.rounds c.records)
+few_item c Nothing item whole = omega arith
+
+few_all : (c : Progress) (items : List (List ℕ)) → AreFaultless c items → HasFew c.rounds (length (concat items)) (after_all c items)
+few_all c [] free = omega arith
+few_all c (item ∷ items) free =
+    omega (arith, few_item c c.due item free.0.is_whole, few_all (after c item) items free.2, length-append item (concat items))
+
+-- ---- no round before the table
+
+-- Before the size list a footer isn't due, and in it each item is an entry.
+abbrev IsNoFooter : Due → Type 0
+IsNoFooter Footer = ⊥
+IsNoFooter d = ⊤
+
+abbrev IsEntry : Due → Type 0
+IsEntry ListEntry = ⊤
+IsEntry d = ⊥
+
+abbrev MayBeDue : Option ℕ → Due → Type 0
+MayBeDue None d = IsNoFooter d
+MayBeDue (Some left) d = IsEntry d
+
+-- no round is whole before the size list is used up
+abbrev Waits : Progress → Due → Type 0
+Waits c d = is_used_up c.left ≡ false → (c.rounds ≡ []) × MayBeDue c.left d
+
+abbrev IsWaiting : Progress → Type 0
+IsWaiting c = Waits c c.due
+
+-- what follows an item that is no entry
+moved : (left : Option ℕ) (d e : Due) → (IsEntry d → ⊥) → IsNoFooter e → MayBeDue left d → MayBeDue left e
+moved None d e other next h = next
+moved (Some n) d e other next h = absurd (other h)
+
+waits_on : (c : Progress) (d e : Due) → (IsEntry d → ⊥) → IsNoFooter e → Waits c d → Waits c e
+waits_on c d e other next w = λ open_. let h = w open_ in (h.0, moved c.left d e other next h.1)
+
+waits_type : (c : Progress) (d : Due) (byte : ℕ) → (IsEntry d → ⊥) → Waits c d → IsWaiting (after_type c byte)
+waits_type c d byte other w =
+    cond_both (eqb byte 7) _ _ IsWaiting (λ _. waits_on c d ConfigLength other tt w) (λ _.
+    cond_both (eqb byte 1) _ _ IsWaiting (λ _. waits_on c d StartHead other tt w) (λ _.
+    cond_both (eqb byte 2) _ _ IsWaiting (λ _. waits_on c d SectionHead other tt w) (λ _.
+    cond_both (eqb byte 3) _ _ IsWaiting (λ _. waits_on c d SectionHead other tt w) (λ _.
+    waits_on c d Nothing other tt w))))
+
+-- behind the size list's head no record head is due before the list is used up
+no_head : (left : Option ℕ) → is_none left ≡ false → MayBeDue left RecordHead → ⊥
+no_head None some h = absurd cc
+no_head (Some n) some h = h
+
+not_begun : (left : Option ℕ) → is_some left ≡ false → is_used_up left ≡ false
+not_begun None none = refl
+not_begun (Some n) none = absurd cc
+
+no_record : {X : Type 0} (c : Progress) → Waits c RecordHead → is_none c.left ≡ false → is_used_up c.left ≡ false → X
+no_record {X} c w begun open_ = absurd (no_head c.left begun (w open_).1)
+
+-- the first of these tests doesn't hold
+abbrev PassesFirst : List (Bool × StreamFault) → Type 0
+PassesFirst [] = ⊤
+PassesFirst (test ∷ tests) = test.0 ≡ false
+
+passes_first : (tests : List (Bool × StreamFault)) → first_of tests ≡ None → PassesFirst tests
+passes_first [] free = tt
+passes_first (test ∷ tests) free = (passed test.0 test.1 tests free).0
+
+waits_kind : (c : Progress) (kind : RecordKind) (page : ℕ) → Waits c RecordHead → PassesFirst (kind_faults c kind page) → IsWaiting (after_kind c kind page)
+waits_kind c SizeList page w none = λ _. ((w (not_begun c.left none)).0, tt)
+waits_kind c (Named filling) page w begun = λ open_. no_record c w begun open_
+waits_kind c (Continued filling) page w begun = λ open_. no_record c w begun open_
+waits_kind c EndOfSection page w begun = λ open_. no_record c w begun open_
+waits_kind c Flush page w begun = λ open_. no_record c w begun open_
+
+waits_head : (c : Progress) (flags : ℕ) (kind : Option RecordKind) (page : ℕ) → Waits c RecordHead → first_of (head_faults c flags kind page) ≡ None → IsWaiting (after_head c kind page)
+waits_head c flags None page w free = absurd (let clash = passes_first (head_faults c flags None page) free in cc)
+waits_head c flags (Some kind) page w free = waits_kind c kind page w (passes_first (kind_faults c kind page) free)
+
+-- where an entry leaves some bytes, some were left before it, and an entry follows
+left_before : (left : Option ℕ) (n : ℕ) → (unwrap_or left 0 - n == 0) ≡ false → is_used_up left ≡ false
+left_before None n open_ = refl
+left_before (Some k) n open_ = false_from_ne_true (eqb k 0) (λ e. eqb-false (k - n) 0 open_ (omega (arith, eqb-true k 0 e)))
+
+entry_follows : (b : Bool) → b ≡ false → IsEntry (cond b RecordHead ListEntry)
+entry_follows true open_ = absurd cc
+entry_follows false open_ = tt
+
+no_footer : (left : Option ℕ) → MayBeDue left Footer → ⊥
+no_footer None h = h
+no_footer (Some n) h = h
+
+waits_item : (c : Progress) (d : Due) (item : List ℕ) → IsWaiting c → Waits c d → first_of (faults c d item) ≡ None → IsWaiting (after_item c d item)
+waits_item c FileHeader item v w free = waits_on c FileHeader _ (λ h. h) tt w
+waits_item c (TypeByte before) item v w free = waits_type c (TypeByte before) (slice_index item 0) (λ h. h) w
+waits_item c ConfigLength item v w free = waits_on c ConfigLength _ (λ h. h) (cond_both (eqb (be32_at 0 item) 0) _ _ IsNoFooter (λ _. tt) (λ _. tt)) w
+waits_item c (ConfigName len) item v w free = waits_on c (ConfigName len) _ (λ h. h) tt w
+waits_item c StartHead item v w free = waits_on c StartHead RecordHead (λ h. h) tt w
+waits_item c SectionHead item v w free = waits_on c SectionHead RecordHead (λ h. h) tt w
+waits_item c RecordHead item v w free = waits_head c _ _ _ w free
+waits_item c ListEntry item v w free =
+    λ open_. ((w (left_before c.left (length_in item) open_)).0, entry_follows (unwrap_or c.left 0 - length_in item == 0) open_)
+waits_item c (BlockName filling page) item v w free = waits_on c (BlockName filling page) _ (λ h. h) tt w
+waits_item c (Content Zero place) item v w free = waits_on c (Content Zero place) RecordHead (λ h. h) tt w
+waits_item c (Content Normal place) item v w free = waits_on c (Content Normal place) RecordHead (λ h. h) tt w
+waits_item c Footer item v w free = λ open_. absurd (no_footer c.left (w open_).1)
+waits_item c Nothing item v w free = v
+
+waits_all : (c : Progress) (items : List (List ℕ)) → IsWaiting c → AreFaultless c items → IsWaiting (after_all c items)
+waits_all c [] v free = v
+waits_all c (item ∷ items) v free = waits_all (after c item) items (waits_item c c.due item v v free.1) free.2
+
+-- ---- the law
+
+no_table : (b : Bool) (t : RamTable) → then_some b t ≡ None → b ≡ false
+no_table true t e = absurd cc
+no_table false t e = refl
+
+the_table : (b : Bool) (t u : RamTable) → then_some b t ≡ Some u → u ≡ t
+the_table true t u e = let back : Some u ≡ Some t = sym e in cc
+the_table false t u e = absurd cc
+
+-- A text has few rounds, none before its table, and the page size that was handed in.
+pub limits_law : ReadingsKeepLimits
+limits_law = λ mode page_size limit text reading size_is is.
+    let from : Progress = start mode page_size limit in
+    let f : Front from is.reads.front is.to = is.reads.leads in
+    let few : HasFew [] (length (concat f.items)) is.to = subst (HasFew [] (length (concat f.items))) (sym f.leads_to) (few_all from f.items f.are_faultless) in
+    let waits : IsWaiting is.to = subst IsWaiting (sym f.leads_to) (waits_all from f.items (λ open_. (refl, tt)) f.are_faultless) in
+    record {
+      has_few = omega (arith, few, ap length is.has_rounds, ap length is.reads.has_text, ap length f.has_bytes, length-append is.reads.front is.rest);
+      has_table_first = λ none. is.has_rounds ∙ (waits (no_table (is_used_up is.to.left) (table_of is.to) (sym is.has_table ∙ none))).0;
+      has_page_size = λ table some.
+          ap (λ (t : RamTable). t.page_size) (the_table (is_used_up is.to.left) (table_of is.to) table (sym is.has_table ∙ some))
+          ∙ (IsLater-front from is.to is.reads.front f).same_page_size;
+    }

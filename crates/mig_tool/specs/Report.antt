@@ -1,0 +1,66 @@
+-- What the tool answers: the text that it writes, and its status.
+use Rattle.std.specs.Prelude.{◌≡◌, ◌⊎◌, ℕ, ◌+◌, List, [], ◌++◌, length, Option, None, Some, codes, decimal}
+use Rattle.mig_mem.specs.Refusal.{no_memory_number, fault_number as table_fault_number}
+use Rattle.mig_mem.specs.RamTable.{RamTable}
+use Rattle.mig_mem.specs.Image.{Page}
+use Rattle.mig_stream.specs.Written.{single}
+use Rattle.mig_tool.specs.declared.fault.ScenarioFault.{ScenarioFault}
+use Rattle.mig_tool.specs.declared.fault.ScenarioFault.TheVariants as fault
+use Rattle.mig_tool.specs.Line.{Line}
+use Rattle.mig_tool.specs.Scenario.{lines_of, table_of, refusal}
+use Rattle.mig_tool.specs.Guest.{rounds_from}
+
+pub record Report : Type 0 where
+  pub text : List ℕ
+  pub status : ℕ
+
+-- `fault N`, and more about it
+abbrev pub fault_line : ℕ → List ℕ → List ℕ
+fault_line number more = codes "fault " ++ decimal number ++ more ++ codes "\n"
+
+abbrev pub at_line : ℕ → List ℕ
+at_line line = codes " line " ++ decimal line
+
+abbrev pub scenario_number : ScenarioFault → ℕ
+scenario_number (fault.Unsent line) = 80
+scenario_number (fault.Syntax line) = 81
+scenario_number (fault.Table t) = 82
+scenario_number (fault.Range line) = 83
+scenario_number (fault.Order line) = 84
+scenario_number fault.NoMemory = no_memory_number
+
+-- where a scenario has its fault
+abbrev pub scenario_place : ScenarioFault → List ℕ
+scenario_place (fault.Unsent line) = at_line line
+scenario_place (fault.Syntax line) = at_line line
+scenario_place (fault.Table t) = codes " table " ++ decimal (table_fault_number t)
+scenario_place (fault.Range line) = at_line line
+scenario_place (fault.Order line) = at_line line
+scenario_place fault.NoMemory = []
+
+abbrev pub refused : ScenarioFault → List ℕ
+refused f = fault_line (scenario_number f) (scenario_place f)
+
+-- the length of a single stream and the number of its sections; and that what was loaded is what was sent
+abbrev pub single_line : ℕ → ℕ → List ℕ
+single_line len sections = codes "single " ++ decimal len ++ codes " sections " ++ decimal sections ++ codes "\n"
+
+abbrev pub same_line : List ℕ
+same_line = codes "same\n"
+
+-- what is written of the stream of some rounds
+abbrev pub checked : RamTable → List (List Page) → List ℕ
+checked table rounds = single_line (length (single table rounds)) (length rounds + 2) ++ same_line
+
+abbrev pub report_as : List Line → Option ScenarioFault → Report
+report_as ls (Some f) = record { text = refused f; status = 1 }
+report_as ls None = record { text = checked (table_of ls) (rounds_from ls); status = 0 }
+
+-- The report of a scenario: its refusal, or the stream of its rounds, which loads to the last image.
+abbrev pub report : List ℕ → Report
+report text = report_as (lines_of text) (refusal text)
+
+-- the answers for want of memory: outside of a load, and in it, after so many rounds
+abbrev pub IsWantOfMemory : Report → Type 0
+IsWantOfMemory r = (r.status ≡ 1)
+    × ((r.text ≡ fault_line no_memory_number []) ⊎ ((rounds : ℕ) × (r.text ≡ fault_line no_memory_number (codes " round " ++ decimal rounds ++ codes " in round"))))

@@ -1,0 +1,87 @@
+-- What a scenario is refused for.
+use Rattle.std.specs.Prelude.{ℕ, suc, ◌+◌, ◌-◌, ◌*◌, ◌&&◌, nat_lt, not, List, [], ◌∷◌, length, map, drop, position, Bool, true, false, Option, None, Some, is_none}
+use Rattle.std.specs.List.{after_last}
+use Rattle.std.specs.Option.{option_map, option_and_then}
+use Rattle.mig_mem.specs.First.{first_some}
+use Rattle.mig_mem.specs.RamTable.{Block, RamTable, block}
+use Rattle.mig_mem.specs.Refusal.{refusal as table_refusal}
+use Rattle.mig_tool.specs.declared.line.Step.{Step}
+use Rattle.mig_tool.specs.declared.line.Step.TheVariants.{Set, Fill, Touch, Round}
+use Rattle.mig_tool.specs.declared.fault.ScenarioFault.{ScenarioFault}
+use Rattle.mig_tool.specs.declared.fault.ScenarioFault.TheVariants as fault
+use Rattle.mig_tool.specs.Line.{Line, EmptyLine, BlockLine, StepLine, lines, line_of}
+
+-- the size of a scenario's pages
+abbrev pub page_size : ℕ
+page_size = 4096
+
+-- the lines that have a form
+abbrev pub known : List (Option Line) → List Line
+known [] = []
+known (None ∷ rest) = known rest
+known (Some line ∷ rest) = line ∷ known rest
+
+-- what the lines of a text say
+abbrev pub forms : List ℕ → List (Option Line)
+forms text = map line_of (lines text)
+
+abbrev pub lines_of : List ℕ → List Line
+lines_of text = known (forms text)
+
+abbrev pub is_block : Line → Bool
+is_block (BlockLine pages id) = true
+is_block other = false
+
+abbrev pub is_step : Line → Bool
+is_step (StepLine step) = true
+is_step other = false
+
+abbrev pub is_round : Line → Bool
+is_round (StepLine Round) = true
+is_round other = false
+
+-- the blocks of some lines, in their order
+abbrev pub blocks_of : List Line → List Block
+blocks_of [] = []
+blocks_of (BlockLine pages id ∷ rest) = record { id = id; pages = pages } ∷ blocks_of rest
+blocks_of (EmptyLine ∷ rest) = blocks_of rest
+blocks_of (StepLine step ∷ rest) = blocks_of rest
+
+abbrev pub table_of : List Line → RamTable
+table_of ls = record { page_size = page_size; blocks = blocks_of ls }
+
+-- ---- faults, by the number of a line; lines count from 1
+
+-- the first line that passes a test
+abbrev pub first_line : {A : Type 0} → (A → Bool) → List A → Option ℕ
+first_line test ls = option_map suc (position test ls)
+
+-- the first block after the first step
+abbrev pub late_block : List Line → Option ℕ
+late_block ls = option_and_then (λ i. option_map (λ j. i + suc j) (position is_block (drop i ls))) (position is_step ls)
+
+-- a step is within the table, and writes a byte
+abbrev pub is_step_within : RamTable → Step → Bool
+is_step_within table (Set b offset byte) =
+    nat_lt b (length table.blocks) && nat_lt offset ((block table.blocks b).pages * table.page_size) && nat_lt byte 256
+is_step_within table (Fill b page byte) = nat_lt b (length table.blocks) && nat_lt page (block table.blocks b).pages && nat_lt byte 256
+is_step_within table (Touch b page) = nat_lt b (length table.blocks) && nat_lt page (block table.blocks b).pages
+is_step_within table Round = true
+
+abbrev pub is_within : RamTable → Line → Bool
+is_within table (StepLine step) = is_step_within table step
+is_within table other = true
+
+-- the first step after the last round, or of all where there is no round
+abbrev pub unsent : List Line → Option ℕ
+unsent ls = let rest = after_last is_round ls in option_map (λ i. length ls - length rest + suc i) (position is_step rest)
+
+-- Why a text is no scenario: the first that applies.
+abbrev pub refusal : List ℕ → Option ScenarioFault
+refusal text = let ls = lines_of text in first_some (
+    option_map fault.Syntax (first_line is_none (forms text))
+    ∷ (option_map fault.Order (late_block ls)
+    ∷ (option_map fault.Table (table_refusal (table_of ls))
+    ∷ (option_map fault.Range (first_line (λ l. not (is_within (table_of ls) l)) ls)
+    ∷ (option_map fault.Unsent (unsent ls)
+    ∷ [])))))
