@@ -5,6 +5,8 @@
 //! the copies in `yardstick`. Nothing here is part of the library, and no test compares a figure.
 #![tactic(auto)]
 
+mod guest;
+mod load;
 mod measure;
 mod stream;
 mod yardstick;
@@ -17,6 +19,7 @@ fn main(rt: HostRuntime) -> io::Result<()> {
     match word.as_ref().map(|word| word.as_str()) {
         Some("zero") => zero::run(&rt, rt.alloc(), 1 << 28, 1 << 17),
         Some("stream") => stream::run(&rt, rt.alloc(), 1 << 16),
-        _ => println!(rt; "usage: mig_bench zero|stream"),
+        Some("load") => load::run(&rt, rt.alloc(), 1 << 18),
+        _ => println!(rt; "usage: mig_bench zero|stream|load"),
     }
 }

@@ -1,9 +1,10 @@
 //! The writing of a round into a stream, and the reading of it.
 ghost use Rattle.std.specs.Prelude.{◌<◌, ◌≤◌, ◌*◌, ◌^◌};
 
+use crate::guest::{fill, guest};
 use crate::measure::best_of_five;
 use crate::yardstick::{PAGE_SIZE, Yardstick};
-use mig_mem::{Dirty, MAX_TOTAL, Memory, NoMemory, PAGE_SIZE_4K, Place, Table, TableFault};
+use mig_mem::{Dirty, MAX_TOTAL, Memory, PAGE_SIZE_4K};
 use mig_stream::{Mode, StreamReader, StreamWriter};
 use std::alloc::Global;
 use std::io;
@@ -16,12 +17,7 @@ pub fn run(rt: &(impl Clock + Print), alloc: Global, pages: u64) -> io::Result<(
     let Ok((mut image, dirty)) = guest(alloc, pages) else {
         return println!(rt; "no memory for the guest");
     };
-    let len = pages as usize * PAGE_SIZE;
-    let from = vec![in alloc; 1u8; len]?;
-    let mut to = vec![in alloc; 1u8; len]?;
-    let copies = Yardstick::new(rt, &from, &mut to, 1)?;
-    drop(from);
-    drop(to);
+    let copies = Yardstick::in_buffers(rt, alloc, pages as usize * PAGE_SIZE)?;
     println!(rt;
         "writing {pages} dirty pages of {PAGE_SIZE} bytes: the least time of five runs, as a ratio to a copy of them"
     )?;
@@ -82,36 +78,6 @@ fn records_in(alloc: Global, text: &[u8], len: usize) -> usize
         }
     }
     records
-}
-
-// A guest of one block, and the set of all its pages.
-fn guest(alloc: Global, pages: u64) -> Result<(Memory, Dirty), TableFault> {
-    let mut list = Vec::new(alloc);
-    let id = Vec::from_slice(alloc, b"pc.ram").map_err(NoMemory::from)?;
-    list.push((id, pages)).map_err(NoMemory::from)?;
-    let table = Table::new(alloc, PAGE_SIZE_4K, list)?;
-    let image = Memory::zeroed(alloc, &table)?;
-    let mut dirty = Dirty::none(alloc, &table)?;
-    for page in 0..pages {
-        let place = Place { block: 0, page };
-        if dirty.table().holds(place) {
-            dirty.mark(place)?;
-        }
-    }
-    Ok((image, dirty))
-}
-
-// Of each ten pages some are zeros and the others full of ones.
-fn fill(image: &mut Memory, pages: u64, zero_tenths: u64) {
-    for page in 0..pages {
-        let place = Place { block: 0, page };
-        let byte = u8::from(page % 10 >= zero_tenths);
-        let content = [byte; PAGE_SIZE];
-        let table = image.table();
-        if table.holds(place) && table.page_size() == PAGE_SIZE as u64 {
-            image.put_page(place, &content);
-        }
-    }
 }
 
 // The stream of one round; None where memory is refused.

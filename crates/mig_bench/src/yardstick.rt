@@ -1,5 +1,6 @@
 //! What the works are measured against: copies of memory into other memory that is in use.
 use crate::measure::{Measured, best_of_five};
+use std::alloc::Global;
 use std::io;
 use std::rt::Clock;
 
@@ -19,6 +20,13 @@ impl Yardstick {
             by_pages: best_of_five(rt, || copy_by_pages(from, to, times))?,
             at_once: best_of_five(rt, || copy_at_once(from, to, times))?,
         })
+    }
+
+    /// Copies so many bytes once in each run, in memory that it gives back.
+    pub fn in_buffers(rt: &impl Clock, alloc: Global, len: usize) -> io::Result<Yardstick> {
+        let from = vec![in alloc; 1u8; len]?;
+        let mut to = vec![in alloc; 1u8; len]?;
+        Yardstick::new(rt, &from, &mut to, 1)
     }
 }
 

@@ -11,7 +11,7 @@ use mig_stream::StreamFault;
 pub enum Origin {
     /// In the stream: the single stream, or the main stream of multifd.
     Main,
-    /// In no text: in putting a round into memory.
+    /// In no text: want of memory is told there.
     Round,
 }
 
@@ -39,7 +39,7 @@ impl Fault {
 /// Why a load ended before its texts did.
 #[derive(Clone, Copy, Debug, PartialEq, Eq)]
 pub struct LoadFault {
-    /// How many rounds were whole before it: the number of the round that isn't, from 0.
+    /// How many rounds were counted before it: the number of the round that it is in, from 0.
     pub round: u64,
     /// Where the fault is.
     pub source: Origin,

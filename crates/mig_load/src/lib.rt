@@ -1,8 +1,8 @@
 //! The loaders: they make a guest's memory from the texts of its migration.
 //!
-//! What a loader answers is a function of the texts alone: the memory after the rounds that they have whole, how many these
-//! are, and the first fault after them (`specs/SingleLoad.antt`). The text of a stream is `mig_stream`'s, and how a round goes
-//! into memory `mig_assemble`'s.
+//! What a loader answers is a function of the texts, the page size and the limit, want of memory aside: the memory after the
+//! rounds that they have whole, how many these are, and the first fault after them (`specs/SingleLoad.antt`). The text of a
+//! stream is `mig_stream`'s, and how a round goes into memory `mig_assemble`'s.
 #![tactic(auto)]
 
 mod fault;

@@ -7,7 +7,7 @@ use std::alloc::{Allocator, Global};
 /// The answer of a load. Whatever the verdict, the memory is that after the rounds counted.
 #[derive(Drop)]
 pub struct Loaded<A: Allocator = Global> {
-    /// The guest's memory after the rounds counted; None where the size list wasn't whole, or no memory was found for it.
+    /// The guest's memory after the rounds counted; None where the size list wasn't read whole, or no memory was found for it.
     pub memory: Option<Memory<A>>,
     /// How many rounds were put into the memory. In a single stream each section is one, START and END too.
     pub rounds: u64,

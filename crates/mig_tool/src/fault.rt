@@ -17,7 +17,7 @@ pub enum ScenarioFault {
     Table(TableFault),
     /// A line names a block, a page, an offset or a byte that there isn't.
     Range(usize),
-    /// No round follows a line.
+    /// A step stands after the last round.
     Unsent(usize),
     /// A growth was refused.
     NoMemory,

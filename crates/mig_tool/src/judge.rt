@@ -92,7 +92,7 @@ fn out_of_range<A: Allocator>(table: &Table<A>, lines: &[Line]) -> Option<usize>
     None
 }
 
-// The number of the first step that no round follows.
+// The number of the first step after the last round.
 fn unsent(lines: &[Line]) -> Option<usize>
     ensures { result ≡ unsent (map seen lines.now) }
 {

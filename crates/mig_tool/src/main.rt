@@ -12,6 +12,8 @@ mod judge;
 mod line;
 mod print;
 mod run;
+#[cfg(test)]
+mod tests;
 
 use crate::check::Answer;
 use crate::fault::{ScenarioFault, ToolFault};

@@ -1,0 +1,35 @@
+//! The guest that the works send and load.
+
+use crate::yardstick::PAGE_SIZE;
+use mig_mem::{Dirty, Memory, NoMemory, PAGE_SIZE_4K, Place, Table, TableFault};
+use std::alloc::Global;
+
+/// A guest of one block, and the set of all its pages.
+pub fn guest(alloc: Global, pages: u64) -> Result<(Memory, Dirty), TableFault> {
+    let mut list = Vec::new(alloc);
+    let id = Vec::from_slice(alloc, b"pc.ram").map_err(NoMemory::from)?;
+    list.push((id, pages)).map_err(NoMemory::from)?;
+    let table = Table::new(alloc, PAGE_SIZE_4K, list)?;
+    let image = Memory::zeroed(alloc, &table)?;
+    let mut dirty = Dirty::none(alloc, &table)?;
+    for page in 0..pages {
+        let place = Place { block: 0, page };
+        if dirty.table().holds(place) {
+            dirty.mark(place)?;
+        }
+    }
+    Ok((image, dirty))
+}
+
+/// Of each ten pages some are zeros and the others full of ones.
+pub fn fill(image: &mut Memory, pages: u64, zero_tenths: u64) {
+    for page in 0..pages {
+        let place = Place { block: 0, page };
+        let byte = u8::from(page % 10 >= zero_tenths);
+        let content = [byte; PAGE_SIZE];
+        let table = image.table();
+        if table.holds(place) && table.page_size() == PAGE_SIZE as u64 {
+            image.put_page(place, &content);
+        }
+    }
+}

@@ -1,0 +1,84 @@
+//! Inputs that come in pieces, that don't end, and that fail.
+
+use crate::run::run;
+use crate::tests::{SCENARIO, SCENARIO_ANSWER, answer_of, assert_answer};
+use std::alloc::{AllocError, AllocGlobal, Global};
+use std::io::{self, Read};
+use std::test::Fail;
+
+// Gives one byte a read, and fails where so many reads were made.
+#[derive(Drop)]
+struct Slow<'a> {
+    rest: &'a [u8],
+    good: usize,
+}
+
+impl Read for Slow<'_> {
+    fn read(&mut self, buf: &mut [u8]) -> io::Result<usize> {
+        if self.good == 0 {
+            return Err(io::Error::from(io::ErrorKind::Other));
+        }
+        self.good -= 1;
+        match (self.rest.split_first(), buf.first_mut()) {
+            (Some((byte, rest)), Some(place)) => {
+                *place = *byte;
+                self.rest = rest;
+                Ok(1)
+            }
+            _ => Ok(0),
+        }
+    }
+}
+
+// Runs the tool without words on a text that comes byte by byte, with so many reads that don't fail.
+fn slow_answer_of<H: AllocGlobal>(rt: &H, text: &[u8], good: usize) -> (u8, Vec<u8>) {
+    let mut input = Slow { rest: text, good };
+    let mut output = Vec::new(rt.alloc());
+    let status = run(rt, &[], &mut input, &mut output);
+    (status, output)
+}
+
+// A block, and empty lines up to a length.
+fn with_empty_lines(alloc: Global, len: usize) -> Result<Vec<u8>, AllocError> {
+    let mut text = Vec::from_slice(alloc, b"block 1 a")?;
+    text.resize(len, b'\n')?;
+    Ok(text)
+}
+
+#[test]
+fn most_reads(rt: HostRuntime) -> Result<(), Fail> {
+    let text = with_empty_lines(rt.alloc(), 65_535)?;
+    let wanted: &[u8] = b"single 75 sections 2\nsame\n";
+    assert_answer(&rt, slow_answer_of(&rt, &text, usize::MAX), (0, wanted));
+    assert_answer(&rt, slow_answer_of(&rt, &text, 65_536), (0, wanted));
+    Ok(())
+}
+
+#[test]
+fn one_read_too_many(rt: HostRuntime) -> Result<(), Fail> {
+    let text = with_empty_lines(rt.alloc(), 65_536)?;
+    let answer = slow_answer_of(&rt, &text, usize::MAX);
+    assert_answer(&rt, answer, (3, b"fault 71\n"));
+    Ok(())
+}
+
+// The scenario has 26 bytes. Up to the read that finds its end, each one fails in turn.
+#[test]
+fn each_read_failing(rt: HostRuntime) {
+    for good in 0..27 {
+        let answer = slow_answer_of(&rt, SCENARIO, good);
+        assert_answer(&rt, answer, (3, b"fault 90\n"));
+    }
+    let answer = slow_answer_of(&rt, SCENARIO, 27);
+    assert_answer(&rt, answer, (0, SCENARIO_ANSWER));
+}
+
+// An input of several whole reads.
+#[test]
+fn long_input(rt: HostRuntime) -> Result<(), Fail> {
+    let mut text = with_empty_lines(rt.alloc(), 200_000)?;
+    text.extend_from_slice(b"touch 0 0\nround\n")?;
+    let wanted: &[u8] = b"single 104 sections 3\nsame\n";
+    assert_answer(&rt, answer_of(&rt, &text), (0, wanted));
+    Ok(())
+}
