@@ -17,7 +17,7 @@ fn printed(alloc: Global, fault: LoadFault) -> Option<(u8, Vec<u8>)> {
 
 #[test]
 fn faults_of_a_load(rt: HostRuntime) {
-    let cases: [(u64, Origin, Fault, &[u8]); 5] = [
+    let cases: [(u64, Origin, Fault, &[u8]); 4] = [
         (
             1,
             Origin::Main,
@@ -35,12 +35,6 @@ fn faults_of_a_load(rt: HostRuntime) {
             Origin::Round,
             Fault::NoMemory,
             b"fault 60 round 0 in round\n",
-        ),
-        (
-            12,
-            Origin::Main,
-            Fault::NoMemory,
-            b"fault 60 round 12 in main\n",
         ),
         (
             u64::MAX,

@@ -54,11 +54,14 @@ fn most_reads(rt: HostRuntime) -> Result<(), Fail> {
     Ok(())
 }
 
+// One read too many, and two.
 #[test]
 fn one_read_too_many(rt: HostRuntime) -> Result<(), Fail> {
-    let text = with_empty_lines(rt.alloc(), 65_536)?;
-    let answer = slow_answer_of(&rt, &text, usize::MAX);
-    assert_answer(&rt, answer, (3, b"fault 71\n"));
+    for len in [65_536, 65_537] {
+        let text = with_empty_lines(rt.alloc(), len)?;
+        let answer = slow_answer_of(&rt, &text, usize::MAX);
+        assert_answer(&rt, answer, (3, b"fault 71\n"));
+    }
     Ok(())
 }
 
