@@ -1,10 +1,14 @@
 -- The memory that a load builds, and the rounds that go into it.
-use Rattle.std.specs.Prelude.{ℕ, ◌≡◌, List, map, All}
+use Rattle.std.specs.Prelude.{ℕ, ◌≡◌, ◌+◌, List, [], length, map, All}
 use Rattle.mig_mem.specs.RamTable.{RamTable}
 use Rattle.mig_mem.specs.Place.{IsPlace}
 use Rattle.mig_mem.specs.Image.{Page, Image, zero_image}
+use Rattle.mig_mem.specs.PlaceSet.{PlaceSet}
+use Rattle.mig_mem.specs.Round.{with_round}
 use Rattle.mig_stream.specs.PageRecord.{page_of}
 use Rattle.mig_stream.specs.Round.{StreamRound}
+use Rattle.mig_packet.specs.Packet.{Fields}
+use Rattle.mig_assemble.specs.Judging.{all_round_pages}
 
 -- the memory so far, how many rounds it has, and the number that the next round's first packet has
 pub record Target : Type 0 where
@@ -24,3 +28,15 @@ pages_of_round round = map (page_of round.page_size) round.records
 pub record Fits (table : RamTable) (round : StreamRound) : Type 0 where
   pub has_page_size : round.page_size ≡ table.page_size
   pub has_places : All (λ r. IsPlace table r.place) round.records
+
+-- what a lawful round of records and packets leaves
+abbrev pub after_round : Target → StreamRound → List Fields → Target
+after_round target round packets = record {
+  memory = with_round target.memory (all_round_pages target.memory.table (pages_of_round round) packets);
+  rounds = target.rounds + 1;
+  base = target.base + length packets;
+}
+
+-- what a target has beside, to mark the places of a round in: the set of no place of its table
+abbrev pub IsUnmarked : Image → PlaceSet → Type 0
+IsUnmarked memory seen = seen ≡ record { table = memory.table; marked = [] }

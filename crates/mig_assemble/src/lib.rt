@@ -1,9 +1,22 @@
 //! The memory that a load builds: rounds are put into it one after another, each as a whole.
 //!
-//! A `Target` takes rounds as readers give them. Which texts they come from, and what is answered of a whole load, is for the
-//! crates above.
+//! A `Target` takes rounds as readers give them. A round of a single stream is a section, put in as it comes. A round of multifd
+//! is the page records of the main stream and the packets of all channels, `Gathered` in any order: it is judged as a whole
+//! (`specs/Judging`), and a round that isn't lawful leaves nothing behind. Which texts rounds come from, and what is answered of
+//! a whole load, is for the crates above.
 #![tactic(auto)]
 
+mod doubles;
+mod fault;
+mod gathered;
+mod judge;
+mod laws;
+mod numbers;
+mod places;
+mod put;
 mod target;
 
+pub use fault::RoundFault;
+pub use gathered::Gathered;
+pub use laws::{lawful_rounds_lie_in_the_table, packets_come_in_any_order};
 pub use target::Target;

@@ -1,12 +1,16 @@
 //! The memory of a guest that is being loaded.
 
-ghost use Rattle.std.specs.Prelude.{◌≡◌, ◌+◌, ◌<◌, ◌≤◌, ◌^◌, ◌↔◌, IsTrue, IfOk, length};
-ghost use Rattle.mig_mem.specs.Place.{IsPlace};
-ghost use Rattle.mig_mem.specs.Image.{with_page, zero_page};
+ghost use Rattle.std.specs.Prelude.{◌≡◌, ◌+◌, ◌<◌, ◌≤◌, ◌^◌, ◌↔◌, ◌⊎◌, IsTrue, IfOk, IfErr, OnOk, OnErr, None, Some, All, length, map};
 ghost use Rattle.mig_mem.specs.Round.{with_round};
-ghost use Rattle.mig_assemble.specs.Target.{new_target, pages_of_round, Fits};
+ghost use Rattle.mig_packet.specs.Lent.{fields};
+ghost use Rattle.mig_assemble.specs.declared.fault.RoundFault.TheVariants.{NoMemory as fault_no_memory};
+ghost use Rattle.mig_assemble.specs.Judging.{refusal};
+ghost use Rattle.mig_assemble.specs.Target.{new_target, pages_of_round, Fits, after_round};
 
-use mig_mem::{Memory, NoMemory, PAGE_SIZE_8K, Table};
+use crate::judge::judge;
+use crate::put::{put_packets, put_records};
+use crate::{Gathered, RoundFault};
+use mig_mem::{Dirty, Memory, NoMemory, Table};
 use mig_stream::StreamRound;
 use std::alloc::{Allocator, Global};
 use std::marker::Model;
@@ -15,6 +19,9 @@ use std::marker::Model;
 #[derive(Drop)]
 pub struct Target<A: Allocator = Global> {
     memory: Memory<A>,
+    // marks the places of a round while it is judged
+    seen: Dirty<A>,
+    alloc: A,
     rounds: u64,
     base: u64,
 }
@@ -25,19 +32,50 @@ impl<A: Allocator> Model for Target<A> {
     ghost Value = { LoadTarget };
 
     ghost view = { λ t. record { memory = t.memory; rounds = t.rounds; base = t.base } };
+
+    ghost use Rattle.mig_assemble.specs.Target.{IsUnmarked};
+
+    ghost invariant = { λ t. IsUnmarked t.memory t.seen };
 }
 
 impl<A: Allocator + Copy> Target<A> {
-    /// A memory of zeros, without a round. It takes the whole guest's memory at once.
+    /// A memory of zeros, without a round. It takes the whole guest's memory at once, and a bit for each page.
     pub fn new<B: Allocator>(alloc: A, table: &Table<B>) -> Result<Target<A>, NoMemory>
         ensures { IfOk result (λ t. t ≡ new_target table.now) }
     {
         let memory = Memory::zeroed(alloc, table)?;
+        let seen = Dirty::none(alloc, table)?;
         Ok(Target {
             memory,
+            seen,
+            alloc,
             rounds: 0,
             base: 0,
         })
+    }
+
+    /// Judges a round of page records and packets, and puts it into the memory. The packets may have been gathered in any
+    /// order. `fits` is the test of the records. A refusal changes nothing, and `NoMemory` may come in place of any.
+    pub fn round<B: Allocator, C: Allocator>(
+        &mut self,
+        round: &StreamRound<B>,
+        gathered: &Gathered<'_, C>,
+    ) -> Result<(), RoundFault>
+        requires fits { Fits self.old.memory.table round.now }
+        requires page_sizes { All (λ p. p.page_size ≡ self.old.memory.table.page_size) gathered.now }
+        requires room { self.old.base + length gathered.now ≤ 2 ^ 63 }
+        requires rounds { self.old.rounds < 2 ^ 63 }
+        ensures lawful { OnOk result (refusal self.old.memory.table self.old.base (pages_of_round round.now) (map fields gathered.now) ≡ None) }
+        ensures ok { OnOk result (self.new ≡ after_round self.old round.now (map fields gathered.now)) }
+        ensures refused { IfErr result (λ fault. (fault ≡ fault_no_memory) ⊎ (refusal self.old.memory.table self.old.base (pages_of_round round.now) (map fields gathered.now) ≡ Some fault)) }
+        ensures err { OnErr result (self.new ≡ self.old) }
+    {
+        let packets = gathered.packets();
+        judge(self.alloc, &mut self.seen, self.base, round, packets)?;
+        self.section(round);
+        put_packets(&mut self.memory, packets);
+        self.base += packets.len() as u64;
+        Ok(())
     }
 }
 
@@ -97,21 +135,5 @@ impl<A: Allocator> Target<A> {
     {
         put_records(&mut self.memory, round);
         self.rounds += 1;
-    }
-}
-
-// Writes the pages of a round, each over what was there.
-fn put_records<A: Allocator, B: Allocator>(memory: &mut Memory<A>, round: &StreamRound<B>)
-    requires { Fits memory.old.table round.now }
-    ensures { memory.new ≡ with_round memory.old (pages_of_round round.now) }
-{
-    // only for what it says of the table and of the memory: a page has at most 8192 bytes
-    let _blocks = memory.table().len();
-    let zeros = [0u8; PAGE_SIZE_8K as usize];
-    let zero_page = &zeros[..round.page_size() as usize];
-    let count = round.len();
-    for i in 0..count {
-        let content = round.content(i).unwrap_or(zero_page);
-        memory.put_page(round.place(i), content);
     }
 }

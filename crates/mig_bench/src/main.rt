@@ -1,13 +1,18 @@
 //! Benchmarks of the migration crates. Each figure is the time of a work as a ratio to that of a copy of the same bytes
-//! in the same run, since times alone say nothing from one machine to another.
+//! in the same run, since times alone say nothing from one machine to another. A draw from a deal is compared with the bare
+//! step on a shared word.
 //!
 //! The first argument names the benchmark, and each is a module: what is measured stands there, how in `measure`, and
 //! the copies in `yardstick`. Nothing here is part of the library, and no test compares a figure.
 #![tactic(auto)]
 
+mod deal;
 mod guest;
 mod load;
 mod measure;
+mod pack;
+mod packet;
+mod round;
 mod stream;
 mod yardstick;
 mod zero;
@@ -20,6 +25,10 @@ fn main(rt: HostRuntime) -> io::Result<()> {
         Some("zero") => zero::run(&rt, rt.alloc(), 1 << 28, 1 << 17),
         Some("stream") => stream::run(&rt, rt.alloc(), 1 << 16),
         Some("load") => load::run(&rt, rt.alloc(), 1 << 18),
-        _ => println!(rt; "usage: mig_bench zero|stream|load"),
+        Some("packet") => packet::run(&rt, rt.alloc(), 1 << 9),
+        Some("pack") => pack::run(&rt, rt.alloc(), 1 << 17),
+        Some("round") => round::run(&rt, rt.alloc(), 1 << 9),
+        Some("deal") => deal::run(&rt, rt.alloc(), 1 << 24),
+        _ => println!(rt; "usage: mig_bench zero|stream|load|packet|pack|round|deal"),
     }
 }

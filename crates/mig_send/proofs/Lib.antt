@@ -1,0 +1,3 @@
+pub mod PlacesFrom
+pub mod Cutting
+pub mod Packing

@@ -1,2 +1,4 @@
 pub mod Sending
 pub mod SendFaultNumber
+pub mod Batches
+pub mod Packing

@@ -1,0 +1,8 @@
+use Rattle.std.proofs.Common.{◌≡◌, map}
+use Rattle.std.specs.List.{range_with_len}
+use Rattle.mig_mem.specs.Round.{with_round}
+use Rattle.mig_assemble.proofs.PacketParts.{zero_page_at}
+use Rattle.mig_assemble.proofs.put.put_zeros.Given as goal
+
+abbrev pub invariant-loop-i : goal.invariant-loop-i
+invariant-loop-i g l = l.memory ≡ with_round l.fn.memory (map (zero_page_at l.fn.memory.table l.block l.packet.bytes.now) (range_with_len l.normal_count l.i))

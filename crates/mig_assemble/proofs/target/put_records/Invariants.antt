@@ -1,7 +1,0 @@
-use Rattle.std.proofs.Common.{◌≡◌, map, take}
-use Rattle.mig_mem.specs.Round.{with_round}
-use Rattle.mig_stream.specs.PageRecord.{page_of}
-use Rattle.mig_assemble.proofs.target.put_records.Given as goal
-
-abbrev pub invariant-loop-i : goal.invariant-loop-i
-invariant-loop-i g l = l.memory ≡ with_round l.fn.memory (map (page_of l.round.page_size) (take l.i l.round.records))

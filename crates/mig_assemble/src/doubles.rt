@@ -1,0 +1,116 @@
+//! Looking for places that a round brings twice, by marking each that it brings.
+
+ghost use Rattle.std.specs.Prelude.{◌≡◌, ◌<◌, ◌++◌, ◌∷◌, [], List, map, length, All, None, false};
+ghost use Rattle.mig_mem.specs.declared.place.Place.{Place as AnyPlace};
+ghost use Rattle.mig_mem.specs.RamTable.{block};
+ghost use Rattle.mig_mem.specs.Place.{IsPlace, place_eq, place_lt};
+ghost use Rattle.mig_packet.specs.Lent.{fields};
+ghost use Rattle.mig_assemble.specs.Judging.{offsets, is_outside, place_fault, pages_in, packet_pages, all_round_pages, places_of, least, lesser, twice};
+ghost use Rattle.mig_assemble.specs.Seen.{HasSeen};
+ghost use Rattle.mig_assemble.specs.Target.{Fits, pages_of_round};
+
+use crate::places::{offset, page_count};
+use mig_mem::{Dirty, Place};
+use mig_packet::Packet;
+use mig_stream::StreamRound;
+use std::alloc::Allocator;
+
+/// The least place that comes twice, among the records of a round and the pages of its packets together. `seen` has no mark
+/// before and after.
+pub(crate) fn double_place<A: Allocator, B: Allocator>(
+    seen: &mut Dirty<A>,
+    round: &StreamRound<B>,
+    packets: &[Packet<'_>],
+) -> Option<Place>
+    requires seen { seen.old.marked ≡ [] }
+    requires fits { Fits seen.old.table round.now }
+    requires page_sizes { All (λ p. p.page_size ≡ seen.old.table.page_size) packets.now }
+    requires lawful { All (λ p. place_fault seen.old.table p ≡ None) (map fields packets.now) }
+    ensures double { result ≡ least place_lt (twice place_eq (places_of (all_round_pages seen.old.table (pages_of_round round.now) (map fields packets.now)))) }
+    ensures seen { seen.new ≡ seen.old }
+{
+    let mut double = mark_records(seen, round);
+    for packet in packets {
+        double = mark_packet(seen, double, packet);
+    }
+    seen.clear();
+    double
+}
+
+// Marks the places of records. The least that comes twice is the answer.
+fn mark_records<A: Allocator, B: Allocator>(
+    seen: &mut Dirty<A>,
+    round: &StreamRound<B>,
+) -> Option<Place>
+    requires seen { seen.old.marked ≡ [] }
+    requires fits { Fits seen.old.table round.now }
+    ensures { HasSeen seen.old.table (places_of (pages_of_round round.now)) seen.new result }
+{
+    let mut double = None;
+    for i in 0..round.len() {
+        double = mark(seen, double, round.place(i));
+    }
+    double
+}
+
+// Marks the places of a packet's pages. The least that comes twice so far is handed in and answered.
+fn mark_packet<A: Allocator>(
+    seen: &mut Dirty<A>,
+    double: Option<Place>,
+    packet: &Packet<'_>,
+) -> Option<Place>
+    requires page_size { packet.now.page_size ≡ seen.old.table.page_size }
+    requires lawful { place_fault seen.old.table (fields packet.now) ≡ None }
+    ensures table { seen.new.table ≡ seen.old.table }
+    ensures seen { (places : List AnyPlace) → HasSeen seen.old.table places seen.old double → HasSeen seen.old.table (places ++ places_of (packet_pages seen.old.table (fields packet.now))) seen.new result }
+{
+    // a lawful packet names a block, or has no pages
+    match seen.table().find(packet.id()) {
+        Some(at) => mark_pages(seen, double, packet, at),
+        None => double,
+    }
+}
+
+// Marks the places of a packet's pages in the block of a number.
+fn mark_pages<A: Allocator>(
+    seen: &mut Dirty<A>,
+    double: Option<Place>,
+    packet: &Packet<'_>,
+    at: usize,
+) -> Option<Place>
+    requires page_size { packet.now.page_size ≡ seen.old.table.page_size }
+    requires block { at < length seen.old.table.blocks }
+    requires lawful { All (λ offset. is_outside seen.old.table.page_size (block seen.old.table.blocks at).pages offset ≡ false) (offsets (fields packet.now)) }
+    ensures table { seen.new.table ≡ seen.old.table }
+    ensures seen { (places : List AnyPlace) → HasSeen seen.old.table places seen.old double → HasSeen seen.old.table (places ++ places_of (pages_in seen.old.table (fields packet.now) at)) seen.new result }
+{
+    let mut double = double;
+    for i in 0..page_count(packet) {
+        let page = offset(packet, i) / packet.page_size();
+        double = mark(seen, double, Place { block: at, page });
+    }
+    double
+}
+
+// Marks a place. The least that comes twice so far is handed in and answered.
+fn mark<A: Allocator>(seen: &mut Dirty<A>, double: Option<Place>, place: Place) -> Option<Place>
+    requires { IsPlace seen.old.table place }
+    ensures table { seen.new.table ≡ seen.old.table }
+    ensures seen { (places : List AnyPlace) → HasSeen seen.old.table places seen.old double → HasSeen seen.old.table (places ++ place ∷ []) seen.new result }
+{
+    match seen.mark(place) {
+        Ok(true) => double,
+        Ok(false) => Some(lesser(place, double)),
+        Err(_) => unreachable!(),
+    }
+}
+
+// The lesser of a place and the one beside it, if there is one.
+fn lesser(place: Place, beside: Option<Place>) -> Place
+    ensures { result ≡ lesser place_lt place beside }
+{
+    match beside {
+        Some(other) if other < place => other,
+        _ => place,
+    }
+}

@@ -1,0 +1,53 @@
+//! Why a round was refused: names and numbers.
+
+ghost use Rattle.std.specs.Prelude.{◌≡◌};
+ghost use Rattle.mig_assemble.specs.RoundFaultNumber.{fault_number};
+
+use mig_mem::{NoMemory, Place};
+
+/// Why a round is not lawful: the first that applies, in this order.
+#[derive(Clone, Copy, Debug, PartialEq, Eq)]
+pub enum RoundFault {
+    /// The least packet number below the round's base.
+    Foreign(u64),
+    /// The least packet number that comes twice.
+    Doubled(u64),
+    /// The least packet number that is missing: as many numbers as packets, from the base on, are each to come once.
+    Missing(u64),
+    /// Of the packets whose pages lie wrong, the one of this number, which is the least, names no block of the table.
+    UnknownBlock(u64),
+    /// Of those packets the one of this number, which is the least, names a block, and offset `i` of it, the first such one, is
+    /// not of a page of that block. The normal pages count first.
+    Offset(u64, usize),
+    /// The least place that comes twice, among the page records and the packets' pages together.
+    DoublePage(Place),
+    /// A growth was refused.
+    NoMemory,
+}
+
+impl RoundFault {
+    /// The fault's number in documents and in the tool's output.
+    pub fn number(self) -> u8
+        ensures { result ≡ fault_number self }
+    {
+        match self {
+            RoundFault::Foreign(_) => 54,
+            RoundFault::Doubled(_) => 55,
+            RoundFault::Missing(_) => 56,
+            RoundFault::UnknownBlock(_) => 57,
+            RoundFault::Offset(_, _) => 58,
+            RoundFault::DoublePage(_) => 59,
+            RoundFault::NoMemory => NoMemory.number(),
+        }
+    }
+}
+
+impl From<NoMemory> for RoundFault {
+    ghost use Rattle.mig_assemble.specs.declared.fault.RoundFault.TheVariants.{NoMemory as fault_no_memory};
+
+    ghost from_gives = { λ _ e. e ≡ fault_no_memory };
+
+    fn from(_: NoMemory) -> RoundFault {
+        RoundFault::NoMemory
+    }
+}

@@ -1,0 +1,57 @@
+//! The packets of one round, gathered from the channels.
+
+ghost use Rattle.std.specs.Prelude.{◌≡◌, ◌++◌, [], ◌∷◌, length, OnOk, OnErr};
+
+use mig_mem::NoMemory;
+use mig_packet::Packet;
+use std::alloc::{Allocator, Global};
+use std::marker::Model;
+
+/// The packets of one round, from whatever texts, in the order in which they were pushed. It borrows them.
+#[derive(Drop)]
+pub struct Gathered<'a, A: Allocator = Global> {
+    packets: Vec<Packet<'a>, A>,
+}
+
+impl<'a, A: Allocator> Model for Gathered<'a, A> {
+    ghost use Rattle.std.specs.Prelude.{List};
+    ghost use Rattle.mig_packet.specs.declared.packet.Packet.{Packet as Lent};
+
+    ghost Value = { List Lent };
+
+    ghost view = { λ g. g.packets.items };
+}
+
+impl<'a, A: Allocator> Gathered<'a, A> {
+    /// No packets yet.
+    pub fn new(alloc: A) -> Gathered<'a, A>
+        ensures { result ≡ [] }
+    {
+        Gathered {
+            packets: Vec::new(alloc),
+        }
+    }
+
+    /// Adds a packet. An `Err` changes nothing.
+    pub fn push(&mut self, packet: Packet<'a>) -> Result<(), NoMemory>
+        ensures ok { OnOk result (self.new ≡ self.old ++ packet.entry ∷ []) }
+        ensures err { OnErr result (self.new ≡ self.old) }
+    {
+        self.packets.push(packet)?;
+        Ok(())
+    }
+
+    /// The number of packets. It may be 0.
+    #[allow(clippy::len_without_is_empty)]
+    pub fn len(&self) -> usize
+        ensures { result ≡ length self.now }
+    {
+        self.packets.len()
+    }
+
+    pub(crate) fn packets(&self) -> &[Packet<'a>]
+        ensures { result.now ≡ self.now }
+    {
+        self.packets.as_slice()
+    }
+}

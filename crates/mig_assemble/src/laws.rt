@@ -1,0 +1,16 @@
+//! Laws of the definitions alone: what holds of rounds, whatever code judges them.
+//!
+//! Each law is the clause of a function that does nothing, so that it is proved with the crate and callers can have it.
+
+ghost use Rattle.mig_assemble.specs.Law.{PacketsComeInAnyOrder, LawfulRoundsLieInTheTable};
+
+/// The order of a round's packets changes neither whether it is refused, and why, nor the memory that it leaves. So it makes no
+/// difference on which channels they came, and when.
+pub fn packets_come_in_any_order()
+    ensures { PacketsComeInAnyOrder }
+{}
+
+/// The pages of a lawful round lie in the table.
+pub fn lawful_rounds_lie_in_the_table()
+    ensures { LawfulRoundsLieInTheTable }
+{}

@@ -1,0 +1,96 @@
+//! Judging the numbers of a round's packets.
+
+ghost use Rattle.std.specs.Prelude.{◌≡◌, ◌+◌, ◌≤◌, ◌^◌, map, length, IfOk, IsPermutation};
+ghost use Rattle.mig_packet.specs.Lent.{fields};
+ghost use Rattle.mig_assemble.specs.Judging.{numbers};
+ghost use Rattle.mig_assemble.specs.Sorted.{first_pair, first_gap, number_refusal, sorted_refusal};
+
+use crate::RoundFault;
+use mig_mem::NoMemory;
+use mig_packet::Packet;
+use std::alloc::Allocator;
+
+/// Why the numbers of packets, in any order, aren't a run from the base on.
+pub(crate) fn number_fault<A: Allocator>(
+    alloc: A,
+    base: u64,
+    packets: &[Packet<'_>],
+) -> Result<Option<RoundFault>, NoMemory>
+    requires { base + length packets.now ≤ 2 ^ 63 }
+    ensures { IfOk result (λ fault. fault ≡ number_refusal base (numbers (map fields packets.now))) }
+{
+    let mut numbers = numbers_of(alloc, packets)?;
+    Ok(unsorted_fault(&mut numbers, base))
+}
+
+// The numbers of packets, in their order.
+fn numbers_of<A: Allocator>(alloc: A, packets: &[Packet<'_>]) -> Result<Vec<u64, A>, NoMemory>
+    ensures { IfOk result (λ v. v.items ≡ numbers (map fields packets.now)) }
+{
+    let mut numbers = Vec::with_capacity(alloc, packets.len())?;
+    for packet in packets {
+        numbers.push(packet.number())?;
+    }
+    Ok(numbers)
+}
+
+// Why numbers in any order aren't a run from the base on. It sorts them.
+#[tactic(auto, using(crate::proofs::Rising::judged_sorted))]
+fn unsorted_fault(numbers: &mut [u64], base: u64) -> Option<RoundFault>
+    requires { base + length numbers.old ≤ 2 ^ 63 }
+    ensures fault { result ≡ number_refusal base numbers.old }
+    ensures permutation { IsPermutation numbers.old numbers.new }
+{
+    numbers.sort_unstable();
+    sorted_fault(numbers, base)
+}
+
+// Why numbers in ascending order aren't a run from the base on.
+fn sorted_fault(numbers: &[u64], base: u64) -> Option<RoundFault>
+    requires { base + length numbers.now ≤ 2 ^ 63 }
+    ensures { result ≡ sorted_refusal base numbers.now }
+{
+    let first = *numbers.first()?;
+    if first < base {
+        return Some(RoundFault::Foreign(first));
+    }
+    if let Some(number) = first_pair(numbers) {
+        return Some(RoundFault::Doubled(number));
+    }
+    if let Some(number) = first_gap(base, numbers) {
+        return Some(RoundFault::Missing(number));
+    }
+    None
+}
+
+// The first of two neighbours that are equal.
+#[tactic(auto, using(crate::proofs::Rising::pair_step))]
+fn first_pair(numbers: &[u64]) -> Option<u64>
+    ensures { result ≡ first_pair numbers.now }
+{
+    let (first, rest) = numbers.split_first()?;
+    let mut last = *first;
+    for number in rest {
+        if last == *number {
+            return Some(last);
+        }
+        last = *number;
+    }
+    None
+}
+
+// The number that should stand where the numbers first leave the run from the base on.
+#[tactic(auto, using(crate::proofs::Rising::gap_step))]
+fn first_gap(base: u64, numbers: &[u64]) -> Option<u64>
+    requires { base + length numbers.now ≤ 2 ^ 63 }
+    ensures { result ≡ first_gap base numbers.now }
+{
+    let mut next = base;
+    for number in numbers {
+        if *number != next {
+            return Some(next);
+        }
+        next += 1;
+    }
+    None
+}

@@ -1,0 +1,99 @@
+//! Writing pages into a memory, each over what was there. It takes no memory and can't fail: whoever calls has judged.
+
+ghost use Rattle.std.specs.Prelude.{◌≡◌, None, All, map};
+ghost use Rattle.std.specs.List.{flat_map};
+ghost use Rattle.mig_mem.specs.Image.{zero_page};
+ghost use Rattle.mig_mem.specs.Round.{with_round};
+ghost use Rattle.mig_packet.specs.Lent.{fields};
+ghost use Rattle.mig_assemble.specs.Judging.{place_fault, packet_pages, pages_in};
+ghost use Rattle.mig_assemble.specs.Target.{pages_of_round, Fits};
+ghost use Rattle.mig_assemble.specs.PacketPages.{normal_pages, zero_pages, LiesIn};
+
+use mig_mem::{Memory, PAGE_SIZE_8K, Place};
+use mig_packet::Packet;
+use mig_stream::StreamRound;
+use std::alloc::Allocator;
+
+/// Writes the pages of a round's records, in their order.
+pub(crate) fn put_records<A: Allocator, B: Allocator>(
+    memory: &mut Memory<A>,
+    round: &StreamRound<B>,
+)
+    requires { Fits memory.old.table round.now }
+    ensures { memory.new ≡ with_round memory.old (pages_of_round round.now) }
+{
+    // only for what it says of the table and of the memory: a page has at most 8192 bytes
+    let _blocks = memory.table().len();
+    let zeros = [0u8; PAGE_SIZE_8K as usize];
+    let zero_page = &zeros[..round.page_size() as usize];
+    let count = round.len();
+    for i in 0..count {
+        let content = round.content(i).unwrap_or(zero_page);
+        memory.put_page(round.place(i), content);
+    }
+}
+
+/// Writes the pages of packets, packet after packet.
+pub(crate) fn put_packets<A: Allocator>(memory: &mut Memory<A>, packets: &[Packet<'_>])
+    requires page_sizes { All (λ p. p.page_size ≡ memory.old.table.page_size) packets.now }
+    requires lawful { All (λ p. place_fault memory.old.table (fields p) ≡ None) packets.now }
+    ensures { memory.new ≡ with_round memory.old (flat_map (packet_pages memory.old.table) (map fields packets.now)) }
+{
+    // only for what it says of the table and of the memory: a page has at most 8192 bytes
+    let _blocks = memory.table().len();
+    let page = [0u8; PAGE_SIZE_8K as usize];
+    let zeros = &page[..memory.table().page_size() as usize];
+    for packet in packets {
+        put_packet(memory, packet, zeros);
+    }
+}
+
+// Writes the pages of a packet into the block that it names. Where there is no such block it has no pages.
+fn put_packet<A: Allocator>(memory: &mut Memory<A>, packet: &Packet<'_>, zeros: &[u8])
+    requires page_size { packet.now.page_size ≡ memory.old.table.page_size }
+    requires lawful { place_fault memory.old.table (fields packet.now) ≡ None }
+    requires zeros { zeros.now ≡ zero_page memory.old.table.page_size }
+    ensures { memory.new ≡ with_round memory.old (packet_pages memory.old.table (fields packet.now)) }
+{
+    let Some(block) = memory.table().find(packet.id()) else {
+        return;
+    };
+    put_normal(memory, block, packet);
+    put_zeros(memory, block, packet, zeros);
+}
+
+// Writes the pages that a packet brings with their contents.
+fn put_normal<A: Allocator>(memory: &mut Memory<A>, block: usize, packet: &Packet<'_>)
+    requires page_size { packet.now.page_size ≡ memory.old.table.page_size }
+    requires lies { LiesIn memory.old.table block packet.now.bytes.now }
+    ensures { memory.new ≡ with_round memory.old (normal_pages memory.old.table block (fields packet.now)) }
+{
+    let page_size = memory.table().page_size();
+    let normal_count = packet.normal_len();
+    for i in 0..normal_count {
+        let place = Place {
+            block,
+            page: packet.offset(i) / page_size,
+        };
+        memory.put_page(place, packet.page(i));
+    }
+}
+
+// Writes the pages that a packet says to be zeros.
+fn put_zeros<A: Allocator>(memory: &mut Memory<A>, block: usize, packet: &Packet<'_>, zeros: &[u8])
+    requires page_size { packet.now.page_size ≡ memory.old.table.page_size }
+    requires lies { LiesIn memory.old.table block packet.now.bytes.now }
+    requires zeros { zeros.now ≡ zero_page memory.old.table.page_size }
+    ensures { memory.new ≡ with_round memory.old (zero_pages memory.old.table block (fields packet.now)) }
+{
+    let page_size = memory.table().page_size();
+    let normal_count = packet.normal_len();
+    let zero_count = packet.zero_len();
+    for i in 0..zero_count {
+        let place = Place {
+            block,
+            page: packet.offset(normal_count + i) / page_size,
+        };
+        memory.put_page(place, zeros);
+    }
+}

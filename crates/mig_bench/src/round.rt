@@ -1,0 +1,160 @@
+//! The judging of a round of packets, and the putting of it into a memory.
+ghost use Rattle.std.specs.Prelude.{◌≡◌, ◌≤◌, All, IfSome};
+
+use crate::guest::guest;
+use crate::measure::best_of_five;
+use crate::yardstick::{PAGE_SIZE, Yardstick};
+use mig_assemble::{Gathered, RoundFault, Target};
+use mig_mem::{MAX_TOTAL, PAGE_SIZE_4K, Table};
+use mig_packet::{PacketRead, put_packet, read_packet};
+use mig_stream::{Mode, StreamReader, StreamRound, StreamWriter};
+use std::alloc::Global;
+use std::io;
+use std::rt::Clock;
+
+/// The most pages that a packet may have.
+const PAGES: usize = 128;
+
+/// The bytes of a packet of so many normal pages.
+const PACKET_LEN: usize = 1344 + PAGES * PAGE_SIZE;
+
+/// Where the number of a packet lies in it, and the offset of its last page.
+const NUMBER: usize = 24;
+
+const LAST_OFFSET: usize = 320 + 8 * (PAGES - 1);
+
+/// Puts a round of so many packets of 128 normal pages into a memory that is in use. Then it judges one that is refused for the
+/// last offset of its last packet, which shows what the judging alone takes.
+pub fn run(rt: &(impl Clock + Print), alloc: Global, packets: usize) -> io::Result<()>
+    requires { packets ≤ 65536 }
+{
+    let copies = Yardstick::in_buffers(rt, alloc, packets * PAGES * PAGE_SIZE)?;
+    let pages = (packets * PAGES) as u64;
+    let Some((mut target, records, mut text)) = prepared(alloc, pages) else {
+        return println!(rt; "no memory for the guest");
+    };
+    println!(rt;
+        "a round of {pages} pages of {PAGE_SIZE} bytes: the least time of five runs, as a ratio to a copy of them"
+    )?;
+    let put = best_of_five(rt, || answer_of(alloc, &mut target, &records, &mut text))?;
+    println!(rt;
+        "lawful   {} by pages, {} at once; {} packets put",
+        put.ratio_to(&copies.by_pages),
+        put.ratio_to(&copies.at_once),
+        put.answer
+    )?;
+    if !repeat_last_page(&mut text) {
+        return println!(rt; "no packet");
+    }
+    let judged = best_of_five(rt, || answer_of(alloc, &mut target, &records, &mut text))?;
+    println!(rt;
+        "refused  {} by pages, {} at once; page {} comes twice",
+        judged.ratio_to(&copies.by_pages),
+        judged.ratio_to(&copies.at_once),
+        judged.answer
+    )
+}
+
+// A memory of one block, a round without page records, and the packets of all its pages.
+fn prepared(alloc: Global, pages: u64) -> Option<(Target, StreamRound, Vec<u8>)> {
+    let (image, _) = guest(alloc, pages).ok()?;
+    let target = Target::new(alloc, image.table()).ok()?;
+    let records = no_records(alloc, image.table())?;
+    let text = packets(alloc, pages)?;
+    Some((target, records, text))
+}
+
+// The round of a stream's start.
+fn no_records(alloc: Global, table: &Table) -> Option<StreamRound> {
+    let text = StreamWriter::new(alloc, table).ok()?.finish().ok()?;
+    let mut reader = StreamReader::new(alloc, Mode::Single, PAGE_SIZE_4K, MAX_TOTAL);
+    reader.feed(&text).ok()?;
+    reader.take_round().ok()?
+}
+
+// The text of packets of all pages of the block, each full of ones, 128 in each packet.
+fn packets(alloc: Global, pages: u64) -> Option<Vec<u8>> {
+    let contents = vec![in alloc; 1u8; PAGES * PAGE_SIZE].ok()?;
+    let mut text = Vec::new(alloc);
+    let mut offsets = [0u64; PAGES];
+    for first in (0..pages).step_by(PAGES) {
+        for (i, offset) in offsets.iter_mut().enumerate() {
+            *offset = first.checked_add(i as u64)?.checked_mul(PAGE_SIZE as u64)?;
+        }
+        put_packet(
+            PAGE_SIZE_4K,
+            &mut text,
+            0,
+            false,
+            b"pc.ram",
+            &offsets,
+            &contents,
+            &[],
+        )
+        .ok()?;
+    }
+    Some(text)
+}
+
+// Puts a round whose packets are numbered on from the memory's base. Gives how many packets it has, or the page that comes
+// twice; 0 where anything else is the matter.
+fn answer_of(alloc: Global, target: &mut Target, records: &StreamRound, text: &mut [u8]) -> usize {
+    number_from(text, target.base());
+    let Some(gathered) = gathered(alloc, text) else {
+        return 0;
+    };
+    if target.memory().table().page_size() != PAGE_SIZE_4K || !target.fits(records) {
+        return 0;
+    }
+    if target.base() > 1 << 40 || gathered.len() > 1 << 40 || target.rounds() > 1 << 40 {
+        return 0;
+    }
+    match target.round(records, &gathered) {
+        Ok(()) => gathered.len(),
+        Err(RoundFault::DoublePage(place)) => place.page as usize,
+        Err(_) => 0,
+    }
+}
+
+// Numbers the packets of a text from a number on.
+fn number_from(text: &mut [u8], base: u64) {
+    let mut number = base;
+    for packet in text.chunks_exact_mut(PACKET_LEN) {
+        write_number(packet, NUMBER, number);
+        number = number.wrapping_add(1);
+    }
+}
+
+// Writes a number over the eight bytes at a place.
+fn write_number(bytes: &mut [u8], at: usize, number: u64) {
+    for (byte, new) in bytes.iter_mut().skip(at).zip(number.to_be_bytes()) {
+        *byte = new;
+    }
+}
+
+// Makes the last page of the last packet the first page of the block. Says whether there is a packet.
+fn repeat_last_page(text: &mut [u8]) -> bool {
+    match text.chunks_exact_mut(PACKET_LEN).last() {
+        Some(packet) => {
+            write_number(packet, LAST_OFFSET, 0);
+            true
+        }
+        None => false,
+    }
+}
+
+// The packets of a text, the last ones first.
+fn gathered<'a>(alloc: Global, text: &'a [u8]) -> Option<Gathered<'a>>
+    ensures { IfSome result (λ g. All (λ p. p.page_size ≡ PAGE_SIZE) g) }
+{
+    let mut gathered = Gathered::new(alloc);
+    for bytes in text.chunks_exact(PACKET_LEN).rev() {
+        match read_packet(PAGE_SIZE_4K, bytes) {
+            PacketRead::Whole(packet, _) if packet.page_size() == PAGE_SIZE_4K => {
+                gathered.push(packet).ok()?;
+            }
+            _ => return None,
+        }
+    }
+    Some(gathered)
+}

@@ -1,0 +1,4 @@
+pub mod Deal
+pub mod Drawn
+pub mod Rule
+pub mod History

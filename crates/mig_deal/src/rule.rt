@@ -1,0 +1,72 @@
+//! The rule of a deal's word, and the kinds of steps that are made under it.
+//!
+//! Nothing here runs. `atomic_table` asks at each step that it keeps the rule, whatever the word and all seats are by then, and
+//! answers what the step tells. The steps are: the making of the word with one seat, that one seat is split in two, a draw,
+//! that one seat is joined into another, and the end.
+
+use atomic_table::{Join, Play, Split, TableRule};
+use std::collections::LinkedList;
+
+/// The first number, how many batches there are, and how many seats.
+#[derive(Clone, Copy)]
+pub struct Terms {
+    pub base: u64,
+    pub batches: u64,
+    pub seats: usize,
+}
+
+/// What a seat stands for. No value of this type is made: it is known to proofs alone.
+pub struct Holding {
+    /// The terms of the seat's deal.
+    pub terms: Terms,
+    /// How many of the deal's seats it stands for: one, but for the first seat until it is split, and for the seats that are
+    /// joined at the end.
+    pub seats: usize,
+    /// The numbers that it drew, in order.
+    pub drawn: LinkedList<u64>,
+    /// The numbers of the seats that were joined into it.
+    pub joined: LinkedList<u64>,
+}
+
+/// What holds of a deal's word and of all seats between any two steps.
+pub struct DealRule;
+
+impl TableRule<(), Holding, Terms> for DealRule {
+    ghost use Rattle.std.specs.Prelude.{[]};
+    ghost use Rattle.mig_deal.specs.Rule.{IsDealt, holding};
+
+    ghost holds = { λ terms table. IsDealt terms table };
+
+    ghost first = { λ terms. holding terms terms.seats [] [] };
+}
+
+/// The step of a draw: the seat has the word's number, and the word goes on by one.
+pub struct DrawNumber;
+
+impl Play<(), Holding> for DrawNumber {
+    ghost use Rattle.mig_deal.specs.Rule.{TellsNumber};
+
+    ghost then = { TellsNumber };
+}
+
+/// The step that makes a new seat out of one that stands for several.
+pub struct SplitSeat;
+
+impl Split<Holding> for SplitSeat {
+    ghost use Rattle.mig_deal.specs.Rule.{without_one_seat, one_new_seat};
+
+    ghost left = { without_one_seat };
+
+    ghost right = { one_new_seat };
+}
+
+/// The step by which a seat takes in another with its numbers.
+pub struct JoinSeats;
+
+impl Join<Holding> for JoinSeats {
+    ghost use Rattle.mig_deal.specs.Rule.{together, nothing_held};
+
+    ghost both = { together };
+
+    ghost spent = { nothing_held };
+}

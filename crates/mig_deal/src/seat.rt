@@ -1,0 +1,63 @@
+//! The seats of a deal, and what a draw answers.
+
+ghost use Rattle.std.specs.Prelude.{◌≡◌, []};
+ghost use Rattle.mig_deal.specs.Rule.{holding, terms_of, last_count};
+
+use crate::rule::Holding;
+use atomic_table::Seat as TableSeat;
+use std::marker::Model;
+
+/// One worker's right to draw. It has no bytes, and it can be neither copied nor dropped: its worker draws until the last
+/// number.
+pub struct Seat {
+    pub(crate) inner: TableSeat<(), Holding>,
+}
+
+impl Model for Seat {
+    ghost use Rattle.std.specs.Prelude.{◌≡◌, []};
+    ghost use Rattle.mig_deal.specs.Deal.{SeatView};
+
+    ghost Value = { SeatView };
+
+    ghost use Rattle.mig_deal.specs.Rule.{seat_view, IsSeatWithLasts};
+
+    ghost view = { λ s. seat_view s.inner.table_id s.inner.me.0 };
+
+    ghost invariant = { λ s. (s.inner.me.1 ≡ []) × IsSeatWithLasts 0 s.inner.me.0 };
+}
+
+/// What is left of a seat that has drawn its last number: `close` takes one for each seat of the deal. It can be neither copied
+/// nor dropped.
+pub struct Spent {
+    pub(crate) inner: TableSeat<(), Holding>,
+}
+
+impl Model for Spent {
+    ghost use Rattle.std.specs.Prelude.{◌≡◌, []};
+    ghost use Rattle.mig_deal.specs.Deal.{SeatView};
+
+    ghost Value = { SeatView };
+
+    ghost use Rattle.mig_deal.specs.Rule.{seat_view, IsSeatWithLasts};
+
+    ghost view = { λ s. seat_view s.inner.table_id s.inner.me.0 };
+
+    ghost invariant = { λ s. (s.inner.me.1 ≡ []) × IsSeatWithLasts 1 s.inner.me.0 };
+}
+
+impl Spent {
+    pub(crate) fn into_inner(self) -> TableSeat<(), Holding>
+        ensures deal { result.table_id ≡ self.deal.id }
+        ensures drawn { result.me ≡ (holding (terms_of self.deal) 1 self.drawn [], []) }
+        ensures last { last_count (terms_of self.deal) self.drawn ≡ 1 }
+    {
+        let Spent { inner } = self;
+        inner
+    }
+}
+
+/// What a draw answers: a number that claims a batch, and the seat to go on with, or the seat's last number, which claims none.
+pub enum Drawn {
+    Work(u64, Seat),
+    Last(u64, Spent),
+}

@@ -1,0 +1,145 @@
+//! The deal: numbers drawn in turn by one thread, by 255 threads at once, and its growths refused.
+
+ghost use Rattle.std.specs.Prelude.{◌≡◌, All, vec_len};
+
+use crate::workers::{Hall, gather, put, seat_all, work_all};
+use mig_deal::{Deal, Drawn, NoMemory, Seat, Spent};
+use mig_refusing::Refusing;
+use std::alloc::{Allocator, Global};
+use std::process::Abort;
+use std::sync::atomic::{AtomicU64, Ordering};
+use std::test::Fail;
+
+// Draws a number that has to be this one, and work.
+fn draw_work<A: Allocator>(rt: &impl Abort, deal: &Deal<A>, seat: Seat, number: u64) -> Seat
+    requires { seat.deal ≡ deal.now }
+    ensures { result.deal ≡ deal.now }
+{
+    match deal.draw(seat) {
+        Drawn::Work(drawn, seat) => {
+            assert_eq!(rt; drawn, number);
+            seat
+        }
+        Drawn::Last(drawn, _spent) => panic!(rt; "{drawn} is no work"),
+    }
+}
+
+// Draws a number that has to be this one, and the seat's last.
+fn draw_last<A: Allocator>(rt: &impl Abort, deal: &Deal<A>, seat: Seat, number: u64) -> Spent
+    requires { seat.deal ≡ deal.now }
+    ensures { result.deal ≡ deal.now }
+{
+    match deal.draw(seat) {
+        Drawn::Last(drawn, spent) => {
+            assert_eq!(rt; drawn, number);
+            spent
+        }
+        Drawn::Work(drawn, _seat) => panic!(rt; "{drawn} is work"),
+    }
+}
+
+// Seat a draws 5 as work, seat b draws 6 as its last number, and seat a 7. Answers what comes next.
+fn play<A: Allocator>(rt: &impl Abort, alloc: Global, deal: Deal<A>, mut seats: Vec<Seat, A>) -> u64
+    requires own { All (λ seat. seat.deal ≡ deal) seats.items }
+    requires both { (vec_len seats ≡ 2) × (deal.seats ≡ 2) }
+{
+    let Ok(mut spents) = Vec::with_capacity(alloc, 2) else {
+        panic!(rt; "memory")
+    };
+    let Some(b) = seats.pop() else {
+        panic!(rt; "a seat")
+    };
+    let Some(a) = seats.pop() else {
+        panic!(rt; "a seat")
+    };
+    seats.destroy_empty();
+    let a = draw_work(rt, &deal, a, 5);
+    put(&mut spents, draw_last(rt, &deal, b, 6));
+    put(&mut spents, draw_last(rt, &deal, a, 7));
+    deal.close(spents)
+}
+
+#[test]
+fn two_seats_and_one_batch(rt: HostRuntime) {
+    let Ok((deal, seats)) = Deal::new(rt.alloc(), 5, 1, 2) else {
+        panic!(rt; "memory")
+    };
+    assert_eq!(rt; deal.base(), 5);
+    let next = play(&rt, rt.alloc(), deal, seats);
+    assert_eq!(rt; next, 8);
+}
+
+// The seats draw in another order than they were made in.
+#[test]
+fn three_seats_and_no_batch(rt: HostRuntime) {
+    let Ok(mut spents) = Vec::with_capacity(rt.alloc(), 3) else {
+        panic!(rt; "memory")
+    };
+    let Ok((deal, mut seats)) = Deal::new(rt.alloc(), 0, 0, 3) else {
+        panic!(rt; "memory")
+    };
+    let Some(c) = seats.pop() else {
+        panic!(rt; "a seat")
+    };
+    let Some(b) = seats.pop() else {
+        panic!(rt; "a seat")
+    };
+    let Some(a) = seats.pop() else {
+        panic!(rt; "a seat")
+    };
+    seats.destroy_empty();
+    put(&mut spents, draw_last(&rt, &deal, b, 0));
+    put(&mut spents, draw_last(&rt, &deal, c, 1));
+    put(&mut spents, draw_last(&rt, &deal, a, 2));
+    let next = deal.close(spents);
+    assert_eq!(rt; next, 3);
+}
+
+// How many numbers weren't drawn exactly once.
+fn wrong(times: &[AtomicU64]) -> usize {
+    let once = |count: &&AtomicU64| count.load(Ordering::SeqCst) == 1;
+    times.len() - times.iter().filter(once).count()
+}
+
+#[test]
+fn many_seats_on_threads(rt: HostRuntime) -> Result<(), Fail> {
+    let hall = Hall::new(rt.alloc(), 1255)?;
+    let Ok(mut slots) = Vec::with_capacity(rt.alloc(), 255) else {
+        panic!(rt; "memory")
+    };
+    let Ok(mut spents) = Vec::with_capacity(rt.alloc(), 255) else {
+        panic!(rt; "memory")
+    };
+    let Ok((deal, seats)) = Deal::new(rt.alloc(), 7, 1000, 255) else {
+        panic!(rt; "memory")
+    };
+    seat_all(&deal, seats, &mut slots);
+    work_all(&rt, &deal, &hall, slots.as_mut_slice());
+    gather(&deal, slots, &mut spents);
+    let next = deal.close(spents);
+    assert_eq!(rt; next, 1262);
+    assert_eq!(rt; hall.alone.load(Ordering::SeqCst), 0);
+    assert_eq!(rt; wrong(&hall.times), 0);
+    Ok(())
+}
+
+// A deal's first growth refused, then its second, until a run has no refusal. There are three: the list of the seats, the block of
+// the word, and the block of the table's slots, which is empty. Drawing and closing take no memory.
+#[test]
+fn growths_refused(rt: HostRuntime) {
+    let heap = Refusing::new(rt.alloc(), 0);
+    for nth in 1..1000u64 {
+        heap.refuse(nth);
+        match Deal::new(&heap, 5, 1, 2) {
+            Err(NoMemory) => assert!(rt; !heap.is_waiting()),
+            Ok((deal, seats)) => {
+                assert_eq!(rt; nth, 4);
+                let next = play(&rt, rt.alloc(), deal, seats);
+                assert_eq!(rt; next, 8);
+                assert!(rt; heap.is_waiting());
+                return;
+            }
+        }
+    }
+    panic!(rt; "each run had a refusal");
+}

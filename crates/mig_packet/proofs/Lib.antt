@@ -1,0 +1,16 @@
+pub mod Appends
+pub mod Places
+pub mod Judging
+pub mod Finding
+pub mod Parts
+pub mod ReadBack
+pub mod Judged
+pub mod Fronts
+pub mod Unique
+pub mod Rounds
+pub mod Later
+pub mod Feeding
+pub mod Filling
+pub mod Standing
+pub mod Exists
+pub mod Limits

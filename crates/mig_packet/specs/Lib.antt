@@ -1,0 +1,17 @@
+pub mod PageSize
+pub mod Fields
+pub mod FaultNumber
+pub mod Faults
+pub mod Hello
+pub mod Packet
+pub mod Written
+pub mod Lent
+pub mod FrontRead
+pub mod Progress
+pub mod Reading
+pub mod Taking
+pub mod Later
+pub mod Reader
+pub mod Filling
+pub mod Pieces
+pub mod Law

@@ -1,0 +1,71 @@
+-- The reading of a channel's text: its longest front of a hello and packets, and how it stands after it.
+use Rattle.std.specs.Prelude.{◌≡◌, ℕ, Bool, true, false, List, [], ◌∷◌, ◌++◌, length, Option, Some, None, ⊤}
+use Rattle.std.specs.List.{concat}
+use Rattle.mig_packet.specs.declared.state.ChannelState.{ChannelState}
+use Rattle.mig_packet.specs.declared.state.ChannelState.TheVariants.{Reading, Closed, Bad}
+use Rattle.mig_packet.specs.declared.fault.ChannelFault.TheVariants.{Truncated, Unsynced}
+use Rattle.mig_packet.specs.Progress.{Progress, start, item_len, first_fault, due_fault, after}
+
+-- these bytes are one whole item
+abbrev pub IsItem : ℕ → Option ℕ → List ℕ → Type 0
+IsItem page_size hello item = length item ≡ item_len page_size hello item
+
+-- each item is whole and without a fault, after the items before it
+abbrev pub AreFaultless : Progress → List (List ℕ) → Type 0
+AreFaultless c [] = ⊤
+AreFaultless c (item ∷ items) = IsItem c.page_size c.hello item × (first_fault c item ≡ None) × AreFaultless (after c item) items
+
+abbrev pub after_all : Progress → List (List ℕ) → Progress
+after_all c [] = c
+after_all c (item ∷ items) = after_all (after c item) items
+
+-- these bytes are whole items without a fault, and lead from here to there
+pub record Front (from : Progress) (bytes : List ℕ) (to : Progress) : Type 0 where
+  pub items : List (List ℕ)
+  pub has_bytes : bytes ≡ concat items
+  pub are_faultless : AreFaultless from items
+  pub leads_to : to ≡ after_all from items
+
+-- How a text stands where these bytes follow a front: bad where a fault is due, and else to be read on, where no whole item
+-- follows. No byte closes it.
+abbrev pub Ends : Progress → List ℕ → ChannelState → Type 0
+Ends c rest Reading = (due_fault c rest ≡ None) × ((item more : List ℕ) → rest ≡ item ++ more → IsItem c.page_size c.hello item → ⊥)
+Ends c rest Closed = ⊥
+Ends c rest (Bad fault) = due_fault c rest ≡ Some fault
+
+-- A text is read from there on to here, with these bytes left, and stands so. A text that is bad is left from its faulty item
+-- on.
+pub record Reads (from : Progress) (text : List ℕ) (to : Progress) (rest : List ℕ) (state : ChannelState) : Type 0 where
+  pub front : List ℕ
+  pub has_text : text ≡ front ++ rest
+  pub leads : Front from front to
+  pub ends : Ends to rest state
+
+-- How a text without a fault stands once it is over: closed where it has a hello and whole rounds, and nothing more.
+abbrev pub state_at_end : Option ℕ → List ℕ → List (List ℕ) → ChannelState
+state_at_end None rest packets = Bad Truncated
+state_at_end (Some id) (byte ∷ rest) packets = Bad Truncated
+state_at_end (Some id) [] (packet ∷ packets) = Bad Unsynced
+state_at_end (Some id) [] [] = Closed
+
+-- how a text stands that is read to there, and may be over
+abbrev pub state_at : Bool → Progress → List ℕ → ChannelState → ChannelState
+state_at true to rest Reading = state_at_end to.hello rest to.packets
+state_at true to rest Closed = Closed
+state_at true to rest (Bad fault) = Bad fault
+state_at false to rest state = state
+
+-- what a text tells so far: the id that its hello names, its whole rounds, each as its packets' texts, and how it stands
+pub record ChannelReading : Type 0 where
+  pub hello : Option ℕ
+  pub rounds : List (List (List ℕ))
+  pub state : ChannelState
+
+pub record IsReading (page_size : ℕ) (uuid : List ℕ) (channels : ℕ) (text : List ℕ) (ended : Bool) (reading : ChannelReading) : Type 0 where
+  pub to : Progress
+  pub rest : List ℕ
+  pub found : ChannelState
+  pub reads : Reads (start page_size uuid channels) text to rest found
+  pub has_hello : reading.hello ≡ to.hello
+  pub has_rounds : reading.rounds ≡ to.rounds
+  pub has_state : reading.state ≡ state_at ended to rest found

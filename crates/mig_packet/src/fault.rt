@@ -1,0 +1,79 @@
+//! Why a channel is refused: names and numbers.
+
+ghost use Rattle.std.specs.Prelude.{◌≡◌};
+ghost use Rattle.mig_packet.specs.FaultNumber.{fault_number, no_memory_number};
+
+use std::alloc::{AllocError, AllocFailed};
+
+/// Why a text is no channel of packets: the first fault of its first faulty item, or how it was cut.
+#[derive(Clone, Copy, Debug, PartialEq, Eq)]
+pub enum ChannelFault {
+    /// The hello doesn't begin with 0x11223344, QEMU's `MULTIFD_MAGIC`.
+    HelloMagic,
+    /// The version of the hello isn't 1, QEMU's `MULTIFD_VERSION`.
+    HelloVersion,
+    /// The hello's UUID isn't the one handed in.
+    HelloUuid,
+    /// The hello's channel id isn't below the number of channels.
+    HelloId,
+    /// The packet doesn't begin with 0x11223344.
+    PacketMagic,
+    /// The version of the packet isn't 1.
+    PacketVersion,
+    /// The flags of the packet are neither none nor `MULTIFD_FLAG_SYNC`; it carries them.
+    PacketFlags(u32),
+    /// The packet has more normal and zero pages than a packet may have.
+    PageCount,
+    /// The packet has normal pages, and its next_packet_size isn't their number times the page size.
+    PacketSize,
+    /// The text was over inside the hello or a packet.
+    Truncated,
+    /// The text was over after a packet without SYNC.
+    Unsynced,
+}
+
+impl ChannelFault {
+    /// The fault's number in documents and in the tool's output.
+    pub fn number(self) -> u8
+        ensures { result ≡ fault_number self }
+    {
+        match self {
+            ChannelFault::HelloMagic => 35,
+            ChannelFault::HelloVersion => 36,
+            ChannelFault::HelloUuid => 37,
+            ChannelFault::HelloId => 38,
+            ChannelFault::PacketMagic => 39,
+            ChannelFault::PacketVersion => 40,
+            ChannelFault::PacketFlags(_) => 41,
+            ChannelFault::PageCount => 42,
+            ChannelFault::PacketSize => 43,
+            ChannelFault::Truncated => 44,
+            ChannelFault::Unsynced => 45,
+        }
+    }
+}
+
+/// A growth was refused.
+#[derive(Clone, Copy, Debug, PartialEq, Eq)]
+pub struct NoMemory;
+
+impl NoMemory {
+    /// The fault's number in documents and in the tool's output.
+    pub fn number(self) -> u8
+        ensures { result ≡ no_memory_number }
+    {
+        60
+    }
+}
+
+impl From<AllocError> for NoMemory {
+    fn from(_: AllocError) -> NoMemory {
+        NoMemory
+    }
+}
+
+impl<T: Drop> From<AllocFailed<T>> for NoMemory {
+    fn from(_: AllocFailed<T>) -> NoMemory {
+        NoMemory
+    }
+}

@@ -1,0 +1,134 @@
+//! Reading what lies at the front of bytes: a hello, or a packet.
+
+ghost use Rattle.std.specs.Prelude.{◌≡◌, ◌+◌, ◌*◌, ◌<◌, ◌≤◌, ◌++◌, ℕ, List, length};
+ghost use Rattle.mig_packet.specs.declared.front.HelloRead.TheVariants as hello_read;
+ghost use Rattle.mig_packet.specs.PageSize.{IsPageSize, head_len};
+ghost use Rattle.mig_packet.specs.Faults.{first_of};
+ghost use Rattle.mig_packet.specs.Hello.{IsHello, hello_len, hello_faults};
+ghost use Rattle.mig_packet.specs.Packet.{Fields, IsPacket, packet_faults, normal_count};
+ghost use Rattle.mig_packet.specs.FrontRead.{ReadsHello, ReadsPacket, FindsPacket};
+
+use crate::ChannelFault;
+use crate::fields::be32;
+use crate::packet::{Packet, head_len, page_limit};
+use uuid::Uuid;
+
+/// What stands at the front of bytes, where a hello is expected.
+#[derive(Clone, Copy, Debug, PartialEq, Eq)]
+pub enum HelloRead {
+    /// A hello, with its channel id.
+    Whole(u8),
+    /// Fewer than 64 bytes, which aren't judged yet.
+    Cut,
+    /// The first fault of it.
+    Bad(ChannelFault),
+}
+
+/// What stands at the front of bytes, where a packet is expected.
+#[derive(Clone, Copy)]
+pub enum PacketRead<'a> {
+    /// A packet, and how many bytes it has.
+    Whole(Packet<'a>, usize),
+    /// The head isn't there yet, or it has no fault and pages are missing.
+    Cut,
+    /// The first fault of its head. It is told as soon as the head is there, though pages may be missing.
+    Bad(ChannelFault),
+}
+
+/// Reads the hello at the front of these bytes, where so many channels are expected under this UUID.
+pub fn read_hello(bytes: &[u8], uuid: &Uuid, channels: usize) -> HelloRead
+    ensures reads { ReadsHello uuid.now channels bytes.now result }
+    ensures found { (front more : List ℕ) (id : ℕ) → bytes.now ≡ front ++ more → IsHello uuid.now id front → id < channels → result ≡ hello_read.Whole id }
+{
+    if bytes.len() < 64 {
+        return HelloRead::Cut;
+    }
+    match hello_fault(bytes, uuid, channels) {
+        None => HelloRead::Whole(bytes[24]),
+        Some(fault) => HelloRead::Bad(fault),
+    }
+}
+
+/// The first fault of a hello, where there is one.
+pub(crate) fn hello_fault(bytes: &[u8], uuid: &Uuid, channels: usize) -> Option<ChannelFault>
+    requires { hello_len ≤ length bytes.now }
+    ensures { result ≡ first_of (hello_faults uuid.now channels bytes.now) }
+{
+    if be32(bytes, 0) != 0x1122_3344 {
+        return Some(ChannelFault::HelloMagic);
+    }
+    if be32(bytes, 4) != 1 {
+        return Some(ChannelFault::HelloVersion);
+    }
+    let theirs = &bytes[8..24];
+    if theirs != uuid.as_bytes().as_slice() {
+        return Some(ChannelFault::HelloUuid);
+    }
+    if bytes[24] as usize >= channels {
+        return Some(ChannelFault::HelloId);
+    }
+    None
+}
+
+/// Reads the packet at the front of these bytes, of pages of this size, in bytes.
+pub fn read_packet<'a>(page_size: u64, bytes: &'a [u8]) -> PacketRead<'a>
+    requires { IsPageSize page_size }
+    ensures reads { ReadsPacket page_size bytes.now result }
+    ensures found { (front more : List ℕ) (said : Fields) → bytes.now ≡ front ++ more → IsPacket page_size front said → FindsPacket front said result }
+{
+    read_front(page_size, bytes)
+}
+
+fn read_front<'a>(page_size: u64, bytes: &'a [u8]) -> PacketRead<'a>
+    requires { IsPageSize page_size }
+    ensures { ReadsPacket page_size bytes.now result }
+{
+    if bytes.len() < head_len(page_size) {
+        return PacketRead::Cut;
+    }
+    if let Some(fault) = head_fault(page_size, bytes) {
+        return PacketRead::Bad(fault);
+    }
+    let len = packet_len(page_size, bytes);
+    if bytes.len() < len {
+        return PacketRead::Cut;
+    }
+    let bytes = &bytes[..len];
+    PacketRead::Whole(Packet { page_size, bytes }, len)
+}
+
+/// The first fault of a packet's head, where there is one.
+pub(crate) fn head_fault(page_size: u64, bytes: &[u8]) -> Option<ChannelFault>
+    requires page_size { IsPageSize page_size }
+    requires head { head_len page_size ≤ length bytes.now }
+    ensures { result ≡ first_of (packet_faults page_size bytes.now) }
+{
+    if be32(bytes, 0) != 0x1122_3344 {
+        return Some(ChannelFault::PacketMagic);
+    }
+    if be32(bytes, 4) != 1 {
+        return Some(ChannelFault::PacketVersion);
+    }
+    let flags = be32(bytes, 8);
+    if flags > 1 {
+        return Some(ChannelFault::PacketFlags(flags));
+    }
+    let normal = u64::from(be32(bytes, 16));
+    let zero = u64::from(be32(bytes, 32));
+    if normal + zero > page_limit(page_size) as u64 {
+        return Some(ChannelFault::PageCount);
+    }
+    if normal != 0 && u64::from(be32(bytes, 20)) != normal * page_size {
+        return Some(ChannelFault::PacketSize);
+    }
+    None
+}
+
+/// How many bytes a packet has, as its head says.
+pub(crate) fn packet_len(page_size: u64, bytes: &[u8]) -> usize
+    requires page_size { IsPageSize page_size }
+    requires head { head_len page_size ≤ length bytes.now }
+    ensures { result ≡ head_len page_size + normal_count bytes.now * page_size }
+{
+    head_len(page_size) + be32(bytes, 16) as usize * page_size as usize
+}

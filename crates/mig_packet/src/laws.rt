@@ -1,0 +1,37 @@
+//! Laws of the definitions alone: what holds of hellos, packets and channels, whatever code writes and reads them.
+//!
+//! Each law is the clause of a function that does nothing, so that it is proved with the crate and callers can have it.
+
+ghost use Rattle.mig_packet.specs.Law.{WrittenHellosAreHellos, WrittenPacketsArePackets, NoPacketBeginsAnother, HasOneReading, HasOneListOfPieces, ReadingsKeepLimits};
+
+/// What is written for a UUID and an id is a hello of them. So `read_hello` finds it, whatever follows.
+pub fn written_hellos_are_hellos()
+    ensures { WrittenHellosAreHellos }
+{}
+
+/// What is written for some fields is a packet that says these fields. So `read_packet` gives them back, whatever follows.
+pub fn written_packets_are_packets()
+    ensures { WrittenPacketsArePackets }
+{}
+
+/// No packet is a proper prefix of another.
+pub fn no_packet_begins_another()
+    ensures { NoPacketBeginsAnother }
+{}
+
+/// Each text of a channel, over or not, has exactly one reading. So whoever reads it, in whatever pieces, finds the same
+/// hello, the same rounds and the same first fault.
+pub fn text_has_one_reading()
+    ensures { HasOneReading }
+{}
+
+/// Each text of a channel that is over has exactly one list of pieces.
+pub fn text_has_one_list_of_pieces()
+    ensures { HasOneListOfPieces }
+{}
+
+/// Each whole round of a text is packets, of which the last one alone has SYNC. None is whole before the hello is, and a
+/// text is closed by its end alone.
+pub fn readings_keep_limits()
+    ensures { ReadingsKeepLimits }
+{}

@@ -1,0 +1,34 @@
+//! The channels of multifd: the hello that each begins with, and the packets that carry the pages.
+//!
+//! The definitions stand in `specs/`, apart from the code of both directions: the layout of a hello and of a packet (`Hello`,
+//! `Packet`), the one text that is written for some fields (`Written`), how any bytes of a channel are read, with every
+//! fault by name (`Progress`, `Reading`), and the pieces of a text that is over (`Pieces`). The laws between them are in
+//! `laws`. `hello` and `put_packet` write; `read_hello` and `read_packet` read what lies at the front of bytes; a
+//! `ChannelReader` reads a channel that comes in pieces. Whether the packets of a round fit together, and what becomes of
+//! their pages, is for other crates, and so are the threads that send and load.
+#![tactic(auto)]
+
+mod fault;
+mod fields;
+mod front;
+mod gate;
+mod laws;
+mod packet;
+mod progress;
+mod put;
+mod reader;
+mod round;
+mod state;
+
+pub use fault::{ChannelFault, NoMemory};
+pub use front::{HelloRead, PacketRead, read_hello, read_packet};
+pub use gate::{Gate, OpenGate, Step};
+pub use laws::{
+    no_packet_begins_another, readings_keep_limits, text_has_one_list_of_pieces,
+    text_has_one_reading, written_hellos_are_hellos, written_packets_are_packets,
+};
+pub use packet::{Packet, head_len};
+pub use put::{hello, put_packet, put_packet_head};
+pub use reader::ChannelReader;
+pub use round::PacketRound;
+pub use state::ChannelState;

@@ -1,0 +1,113 @@
+//! A packet, as it lies in bytes that somebody else holds.
+
+ghost use Rattle.std.specs.Prelude.{◌≡◌, ◌+◌, ◌<◌, ◌==◌, length};
+ghost use Rattle.std.specs.List.{before_first, position};
+ghost use Rattle.mig_packet.specs.PageSize.{IsPageSize, IsPageSize-prop, page_limit, head_len};
+ghost use Rattle.mig_packet.specs.Packet.{IsPacketText, number_in, is_sync, id_in, normal_count, zero_count, offset_at, content_at};
+
+use crate::fields::{be32, be64};
+
+/// One packet: QEMU's `MultiFDPacket_t` with its pages behind it. It borrows its bytes, and copies none of them.
+#[derive(Clone, Copy)]
+pub struct Packet<'a> {
+    pub(crate) page_size: u64,
+    pub(crate) bytes: &'a [u8],
+    pub ghost has_page_size: { IsPageSize page_size } by { IsPageSize-prop page_size },
+    pub ghost is_packet: { IsPacketText page_size bytes.now },
+}
+
+impl<'a> Packet<'a> {
+    /// The number of bytes of a page.
+    pub fn page_size(&self) -> u64
+        ensures value { result ≡ self.now.page_size }
+        ensures page_size { IsPageSize result }
+    {
+        self.page_size
+    }
+
+    /// The packet's number. One counter numbers the packets of all channels.
+    pub fn number(&self) -> u64
+        ensures { result ≡ number_in self.now.bytes.now }
+    {
+        be64(self.bytes, 24)
+    }
+
+    /// Whether the packet ends its channel's round: `MULTIFD_FLAG_SYNC`.
+    pub fn sync(&self) -> bool
+        ensures { result ≡ is_sync self.now.bytes.now }
+    {
+        be32(self.bytes, 8) == 1
+    }
+
+    /// The id of the block that its pages are of. It may be any bytes but 0, and of a packet without pages it says nothing.
+    pub fn id(&self) -> &'a [u8]
+        ensures { result.now ≡ id_in self.now.bytes.now }
+    {
+        up_to_zero(&self.bytes[64..319])
+    }
+
+    /// How many of its pages come with their contents.
+    pub fn normal_len(&self) -> usize
+        ensures { result ≡ normal_count self.now.bytes.now }
+    {
+        be32(self.bytes, 16) as usize
+    }
+
+    /// How many of its pages are zeros.
+    pub fn zero_len(&self) -> usize
+        ensures { result ≡ zero_count self.now.bytes.now }
+    {
+        be32(self.bytes, 32) as usize
+    }
+
+    /// Where in its block, in bytes, page `i` is: the normal pages come first, then the zero pages. It may be any number.
+    pub fn offset(&self, i: usize) -> u64
+        requires { i < normal_count self.now.bytes.now + zero_count self.now.bytes.now }
+        ensures { result ≡ offset_at self.now.bytes.now i }
+    {
+        be64(self.bytes, 320 + 8 * i)
+    }
+
+    /// The content of normal page `i`.
+    pub fn page(&self, i: usize) -> &'a [u8]
+        requires { i < normal_count self.now.bytes.now }
+        ensures content { result.now ≡ content_at self.now.page_size self.now.bytes.now i }
+        ensures size { length result.now ≡ self.now.page_size }
+    {
+        let size = self.page_size as usize;
+        let from = head_len(self.page_size) + i * size;
+        &self.bytes[from..from + size]
+    }
+}
+
+// The bytes before the first byte 0, or all.
+fn up_to_zero(name: &[u8]) -> &[u8]
+    ensures { result.now ≡ before_first (λ byte. byte == 0) name.now }
+{
+    match zero_at(name) {
+        Some(len) => &name[..len],
+        None => name,
+    }
+}
+
+fn zero_at(name: &[u8]) -> Option<usize>
+    ensures { result ≡ position (λ byte. byte == 0) name.now }
+{
+    name.iter().position(|byte| *byte == 0)
+}
+
+/// How many pages a packet may have, and how many offsets it always has.
+pub(crate) fn page_limit(page_size: u64) -> usize
+    requires { IsPageSize page_size }
+    ensures { result ≡ page_limit page_size }
+{
+    (524_288 / page_size) as usize
+}
+
+/// How many bytes of a packet stand before its pages.
+pub fn head_len(page_size: u64) -> usize
+    requires { IsPageSize page_size }
+    ensures { result ≡ head_len page_size }
+{
+    320 + 8 * page_limit(page_size)
+}

@@ -1,0 +1,249 @@
+//! How far a channel has been read: what its items leave, and how one is taken after another.
+
+ghost use Rattle.std.specs.Prelude.{◌≡◌, ◌≢◌, ◌≤◌, ◌<◌, [], ◌∷◌, List, ℕ, None, slice_get, length, IsTrue, IsFalse, IfOk, IfErr, IfSome, IfNone, OnOk, OnErr};
+ghost use Rattle.mig_packet.specs.PageSize.{IsPageSize};
+ghost use Rattle.mig_packet.specs.Packet.{IsPacketText};
+ghost use Rattle.mig_packet.specs.Progress.{Progress as Read, start, judged_len, item_len, first_fault, after, after_packet};
+ghost use Rattle.mig_packet.specs.Reading.{IsItem, Reads};
+ghost use Rattle.mig_packet.specs.Taking.{HasTaken};
+ghost use Rattle.mig_packet.specs.Later.{mark_of, IsLater, reopened};
+ghost use Rattle.mig_packet.specs.Reader.{with_taken};
+
+use crate::fields::be32;
+use crate::front::{head_fault, hello_fault, packet_len};
+use crate::packet::head_len;
+use crate::round::{PacketRound, PacketText, Packets};
+use crate::{ChannelFault, ChannelState, NoMemory};
+use std::alloc::Allocator;
+use std::collections::VecDeque;
+use std::marker::Model;
+use std::mem;
+use uuid::Uuid;
+
+/// How far a channel has been read.
+#[derive(Drop)]
+pub(crate) struct Progress<A: Allocator> {
+    alloc: A,
+    page_size: u64,
+    uuid: Uuid,
+    channels: usize,
+    hello: Option<u8>,
+    // the packets of the round that isn't whole yet, and the whole rounds that were not given away
+    packets: Packets<A>,
+    rounds: VecDeque<Packets<A>, A>,
+}
+
+impl<A: Allocator> Model for Progress<A> {
+    ghost use Rattle.mig_packet.specs.Progress.{Progress as Read, ArePackets};
+
+    ghost Value = { Read };
+
+    ghost view = { λ c. record {
+      page_size = c.page_size;
+      uuid = c.uuid;
+      channels = c.channels;
+      hello = c.hello;
+      packets = c.packets;
+      rounds = c.rounds.items;
+    } };
+
+    ghost invariant = { λ c. ArePackets c.page_size c.packets c.rounds.items };
+}
+
+/// How far a channel had been read, to go back to: its lists only grow.
+#[derive(Clone, Copy)]
+pub(crate) struct Mark {
+    hello: Option<u8>,
+    packets: usize,
+    rounds: usize,
+}
+
+impl<A: Allocator + Copy> Progress<A> {
+    /// Before the first byte.
+    pub(crate) fn new(alloc: A, page_size: u64, uuid: Uuid, channels: usize) -> Progress<A>
+        requires { IsPageSize page_size }
+        ensures { result ≡ start page_size uuid channels }
+    {
+        Progress {
+            alloc,
+            page_size,
+            uuid,
+            channels,
+            hello: None,
+            packets: Packets::new(alloc),
+            rounds: VecDeque::new(alloc),
+        }
+    }
+
+    /// An empty buffer for bytes of this channel.
+    pub(crate) fn buffer(&self) -> Vec<u8, A>
+        ensures { result.items ≡ [] }
+    {
+        Vec::new(self.alloc)
+    }
+
+    /// Takes the item that comes next, and copies what it keeps of it. An `Err` changes nothing.
+    pub(crate) fn take(&mut self, item: &[u8]) -> Result<(), NoMemory>
+        requires whole { IsItem self.old.page_size self.old.hello item.now }
+        requires faultless { first_fault self.old item.now ≡ None }
+        ensures ok { OnOk result (self.new ≡ after self.old item.now) }
+        ensures err { OnErr result (self.new ≡ self.old) }
+    {
+        if self.hello.is_none() {
+            self.hello = Some(item[24]);
+            return Ok(());
+        }
+        let packet = PacketText::copied(self.alloc, item)?;
+        match self.take_packet(packet) {
+            Ok(()) => Ok(()),
+            Err(_) => Err(NoMemory),
+        }
+    }
+
+    /// Takes the packet that comes next, whose bytes it keeps where they are. An `Err` changes nothing, and gives it back.
+    pub(crate) fn take_packet(&mut self, packet: PacketText<A>) -> Result<(), PacketText<A>>
+        requires { IsPacketText self.old.page_size packet }
+        ensures ok { OnOk result (self.new ≡ after_packet self.old packet) }
+        ensures err { OnErr result (self.new ≡ self.old) }
+        ensures back { IfErr result (λ p. p ≡ packet) }
+    {
+        if be32(packet.as_slice(), 8) != 1 {
+            return self.packets.push(packet);
+        }
+        if self.rounds.reserve(1).is_err() {
+            return Err(packet);
+        }
+        self.packets.push(packet)?;
+        let round = mem::replace(&mut self.packets, Packets::new(self.alloc));
+        self.rounds.push_back(round).unwrap();
+        Ok(())
+    }
+
+    /// Takes items from the front of the bytes, as far as they are whole and without a fault. Gives the bytes that are left,
+    /// and how they stand. After an `Err` some items were taken.
+    pub(crate) fn run<'a>(&mut self, bytes: &'a [u8]) -> Result<(&'a [u8], ChannelState), NoMemory>
+        ensures ok { IfOk result (λ r. Reads self.old bytes.now self.new r.0.now r.1) }
+        ensures err { OnErr result (HasTaken self.old bytes.now self.new) }
+    {
+        let mut rest = bytes;
+        'items: while rest.len() >= self.judged_len() {
+            if let Some(fault) = self.fault(rest) {
+                return Ok((rest, ChannelState::Bad(fault)));
+            }
+            let len = self.item_len(rest);
+            if rest.len() < len {
+                return Ok((rest, ChannelState::Reading));
+            }
+            let (item, behind) = rest.split_at(len);
+            self.take(item)?;
+            rest = behind;
+        }
+        Ok((rest, ChannelState::Reading))
+    }
+}
+
+impl<A: Allocator> Progress<A> {
+    /// The id that the hello named.
+    pub(crate) fn hello(&self) -> Option<u8>
+        ensures { result ≡ self.now.hello }
+    {
+        self.hello
+    }
+
+    /// Whether the round that isn't whole yet has packets.
+    pub(crate) fn has_packets(&self) -> bool
+        ensures none { IsFalse result → self.now.packets ≡ [] }
+        ensures some { IsTrue result → self.now.packets ≢ [] }
+    {
+        self.packets.len() != 0
+    }
+
+    /// At how many bytes the next item is judged.
+    pub(crate) fn judged_len(&self) -> usize
+        ensures len { result ≡ judged_len self.now.page_size self.now.hello }
+        ensures page_size { IsPageSize self.now.page_size }
+    {
+        match self.hello {
+            None => 64,
+            Some(_) => head_len(self.page_size),
+        }
+    }
+
+    /// The first fault of the next item, where it has one.
+    pub(crate) fn fault(&self, bytes: &[u8]) -> Option<ChannelFault>
+        requires { judged_len self.now.page_size self.now.hello ≤ length bytes.now }
+        ensures { result ≡ first_fault self.now bytes.now }
+    {
+        match self.hello {
+            None => hello_fault(bytes, &self.uuid, self.channels),
+            Some(_) => head_fault(self.page_size, bytes),
+        }
+    }
+
+    /// How many bytes the next item has, as its first bytes say.
+    pub(crate) fn item_len(&self, bytes: &[u8]) -> usize
+        requires { judged_len self.now.page_size self.now.hello ≤ length bytes.now }
+        ensures { result ≡ item_len self.now.page_size self.now.hello bytes.now }
+    {
+        match self.hello {
+            None => 64,
+            Some(_) => packet_len(self.page_size, bytes),
+        }
+    }
+
+    /// How many bytes to make room for, of an item that isn't whole: all that it has, where it tells.
+    pub(crate) fn room(&self, bytes: &[u8]) -> usize
+        ensures judged { length bytes.now < judged_len self.now.page_size self.now.hello → result ≡ judged_len self.now.page_size self.now.hello }
+        ensures whole { judged_len self.now.page_size self.now.hello ≤ length bytes.now → result ≡ item_len self.now.page_size self.now.hello bytes.now }
+    {
+        let judged = self.judged_len();
+        if bytes.len() < judged {
+            return judged;
+        }
+        self.item_len(bytes)
+    }
+
+    /// The first whole round that was not given away.
+    pub(crate) fn take_round(&mut self) -> Option<PacketRound<A>>
+        ensures none { IfNone result ((self.old.rounds ≡ []) × (self.new ≡ self.old)) }
+        ensures some { IfSome result (λ r. self.old ≡ with_taken (r.packets ∷ []) self.new) }
+        ensures page_size { IfSome result (λ r. r.page_size ≡ self.old.page_size) }
+    {
+        match self.rounds.pop_front() {
+            Some(packets) => Some(PacketRound::new(self.page_size, packets)),
+            None => None,
+        }
+    }
+
+    /// The mark of this place.
+    pub(crate) fn mark(&self) -> Mark
+        ensures { result ≡ mark_of self.now }
+    {
+        Mark {
+            hello: self.hello,
+            packets: self.packets.len(),
+            rounds: self.rounds.len(),
+        }
+    }
+
+    /// Goes back to where the mark was made. Gives the first of the packets that had followed.
+    pub(crate) fn undo(&mut self, mark: Mark) -> Option<PacketText<A>>
+        ensures back { (c : Read) (more : List (List ℕ)) → mark ≡ mark_of c → IsLater c more self.old → self.new ≡ c }
+        ensures first { (c : Read) (more : List (List ℕ)) → mark ≡ mark_of c → IsLater c more self.old → result ≡ slice_get more 0 }
+    {
+        self.hello = mark.hello;
+        self.reopen(mark.rounds);
+        self.packets.cut(mark.packets)
+    }
+
+    // Drops the rounds from a place on; the first of them is open again.
+    fn reopen(&mut self, n: usize)
+        ensures whole { n < length self.old.rounds → self.new ≡ reopened self.old n }
+        ensures open { length self.old.rounds ≤ n → self.new ≡ self.old }
+    {
+        if let Some(round) = self.rounds.remove(n) {
+            self.packets = round;
+            self.rounds.truncate(n);
+        }
+    }
+}

@@ -1,0 +1,356 @@
+//! The reader of a channel that comes in pieces.
+//!
+//! It keeps what was read as a `Progress`, and of the text only the bytes of an item that isn't whole yet. A piece is read in
+//! place, but for what such an item needs of its front; and a packet that comes in pieces is kept where its bytes were
+//! gathered. So each byte of a packet is copied once.
+
+ghost use Rattle.std.specs.Prelude.{◌≡◌, ◌≢◌, ◌+◌, ◌<◌, ◌≤◌, ◌^◌, ◌++◌, ◌⊎◌, ℕ, Bool, List, [], ◌∷◌, length, take, drop, true, false, IsTrue, IsFalse, IsOk, Some, None, All, IfOk, IfSome, IfNone, OnOk, OnErr};
+ghost use Rattle.mig_packet.specs.PageSize.{IsPageSize};
+ghost use Rattle.mig_packet.specs.declared.state.ChannelState.TheVariants as state;
+ghost use Rattle.mig_packet.specs.Progress.{judged_len, item_len, first_fault, after};
+ghost use Rattle.mig_packet.specs.Reading.{IsItem, state_at, state_at_end};
+ghost use Rattle.mig_packet.specs.Taking.{HasTaken};
+ghost use Rattle.mig_packet.specs.Filling.{Fills};
+ghost use Rattle.mig_packet.specs.Reader.{IsUnfinished, ReadsOn, Stands, HasState, HasHello, HasRound};
+
+use crate::progress::Progress;
+use crate::round::{PacketRound, PacketText};
+use crate::{ChannelFault, ChannelState, NoMemory};
+use std::alloc::{Allocator, Global};
+use std::marker::Model;
+use std::mem;
+use uuid::Uuid;
+
+/// Reads a channel from pieces of its text. What it tells is the reading of all bytes fed, however they were cut.
+#[derive(Drop)]
+pub struct ChannelReader<A: Allocator = Global> {
+    progress: Progress<A>,
+    // the bytes of the item that isn't whole yet
+    pending: Vec<u8, A>,
+    // how the bytes fed stand, whether or not the text is over
+    found: ChannelState,
+    fed: u64,
+    ended: bool,
+}
+
+impl<A: Allocator> Model for ChannelReader<A> {
+    ghost use Rattle.std.specs.Prelude.{◌≡◌};
+    ghost use Rattle.mig_packet.specs.declared.state.ChannelState.TheVariants as state;
+    ghost use Rattle.mig_packet.specs.Reader.{Reader, IsUnfinished};
+
+    ghost Value = { Reader };
+
+    ghost view = { λ r. record { progress = r.progress; pending = r.pending.items; found = r.found; fed = r.fed; ended = r.ended } };
+
+    ghost invariant = { λ r. r.found ≡ state.Reading → IsUnfinished r.progress r.pending.items };
+}
+
+/// What a piece made of the item that wasn't whole.
+pub(crate) enum Filled<'a> {
+    /// The item is whole and without a fault. This is left of the piece.
+    Whole(&'a [u8]),
+    /// It isn't whole yet.
+    Unfinished,
+    Faulty(ChannelFault),
+}
+
+// Appends the front of a piece until there are `len` bytes, or the piece is used up. Gives what is left of the piece.
+fn append_up_to<'a, A: Allocator>(
+    pending: &mut Vec<u8, A>,
+    len: usize,
+    piece: &'a [u8],
+) -> Result<&'a [u8], NoMemory>
+    ensures text { IfOk result (λ rest. pending.new.items ++ rest.now ≡ pending.old.items ++ piece.now) }
+    ensures short { IfOk result (λ rest. length pending.new.items < len → rest.now ≡ []) }
+    ensures full { IfOk result (λ rest. length pending.old.items ≤ len → length pending.new.items ≤ len) }
+    ensures same { IfOk result (λ rest. len ≤ length pending.old.items → pending.new.items ≡ pending.old.items) }
+    ensures kept { take (length pending.old.items) pending.new.items ≡ pending.old.items }
+    ensures err { OnErr result (pending.new.items ≡ pending.old.items) }
+{
+    if pending.len() >= len {
+        return Ok(piece);
+    }
+    let missing = len - pending.len();
+    pending.reserve(missing)?;
+    let (front, rest) = piece.split_at(missing.min(piece.len()));
+    pending.extend_from_slice(front)?;
+    Ok(rest)
+}
+
+// Fills the pending item up from the front of a piece.
+fn fill_up<'a, A: Allocator>(
+    progress: &Progress<A>,
+    pending: &mut Vec<u8, A>,
+    piece: &'a [u8],
+) -> Result<Filled<'a>, NoMemory>
+    requires { IsUnfinished progress.now pending.old.items }
+    ensures ok { IfOk result (λ filled. Fills progress.now (pending.old.items ++ piece.now) pending.new.items filled) }
+    ensures kept { take (length pending.old.items) pending.new.items ≡ pending.old.items }
+{
+    let judged = progress.judged_len();
+    let behind = append_up_to(pending, judged, piece)?;
+    if pending.len() < judged {
+        return Ok(Filled::Unfinished);
+    }
+    if let Some(fault) = progress.fault(pending) {
+        return Ok(Filled::Faulty(fault));
+    }
+    let len = progress.item_len(pending);
+    let rest = append_up_to(pending, len, behind)?;
+    if pending.len() < len {
+        return Ok(Filled::Unfinished);
+    }
+    Ok(Filled::Whole(rest))
+}
+
+// Puts these bytes in place of others, with room for `room` bytes in all. An `Err` changes nothing.
+fn keep<A: Allocator>(kept: &mut Vec<u8, A>, bytes: &[u8], room: usize) -> Result<(), NoMemory>
+    ensures ok { OnOk result (kept.new.items ≡ bytes.now) }
+    ensures err { OnErr result (kept.new.items ≡ kept.old.items) }
+{
+    let len = kept.len();
+    kept.reserve(room.saturating_sub(len))?;
+    if len < bytes.len() {
+        kept.extend_from_slice(&bytes[len..])?;
+    }
+    kept.truncate(bytes.len());
+    kept.copy_from_slice(bytes);
+    Ok(())
+}
+
+// Reads bytes in place, and keeps those of an item that isn't whole. After an `Err` some items were taken.
+fn read_in_place<A: Allocator + Copy>(
+    progress: &mut Progress<A>,
+    pending: &mut Vec<u8, A>,
+    bytes: &[u8],
+) -> Result<ChannelState, NoMemory>
+    ensures ok { IfOk result (λ found. ReadsOn progress.old bytes.now progress.new pending.new.items found) }
+    ensures err { OnErr result (HasTaken progress.old bytes.now progress.new) }
+    ensures kept { OnErr result (pending.new.items ≡ pending.old.items) }
+{
+    let (rest, found) = progress.run(bytes)?;
+    match found {
+        ChannelState::Reading => keep(pending, rest, progress.room(rest))?,
+        _ => pending.clear(),
+    }
+    Ok(found)
+}
+
+// Takes the pending packet, whose bytes stay where they are, and reads what follows it. An `Err` changes nothing.
+fn read_behind_packet<A: Allocator + Copy>(
+    progress: &mut Progress<A>,
+    pending: &mut Vec<u8, A>,
+    rest: &[u8],
+) -> Result<ChannelState, NoMemory>
+    requires hello { progress.old.hello ≢ None }
+    requires whole { IsItem progress.old.page_size progress.old.hello pending.old.items }
+    requires faultless { first_fault progress.old pending.old.items ≡ None }
+    ensures ok { IfOk result (λ found. ReadsOn progress.old (pending.old.items ++ rest.now) progress.new pending.new.items found) }
+    ensures err { OnErr result ((progress.new ≡ progress.old) × (pending.new.items ≡ pending.old.items)) }
+{
+    let mark = progress.mark();
+    let buffer = progress.buffer();
+    let packet = PacketText::of(mem::replace(pending, buffer));
+    if let Err(packet) = progress.take_packet(packet) {
+        *pending = packet.into_bytes();
+        return Err(NoMemory);
+    }
+    match read_in_place(progress, pending, rest) {
+        Ok(found) => Ok(found),
+        Err(error) => {
+            if let Some(packet) = progress.undo(mark) {
+                *pending = packet.into_bytes();
+            }
+            Err(error)
+        }
+    }
+}
+
+// Takes the pending item, and reads what follows it. After an `Err` some items were taken.
+fn read_behind<A: Allocator + Copy>(
+    progress: &mut Progress<A>,
+    pending: &mut Vec<u8, A>,
+    rest: &[u8],
+) -> Result<ChannelState, NoMemory>
+    requires whole { IsItem progress.old.page_size progress.old.hello pending.old.items }
+    requires faultless { first_fault progress.old pending.old.items ≡ None }
+    ensures ok { IfOk result (λ found. ReadsOn progress.old (pending.old.items ++ rest.now) progress.new pending.new.items found) }
+    ensures err { OnErr result (HasTaken progress.old (pending.old.items ++ rest.now) progress.new) }
+    ensures kept { OnErr result (pending.new.items ≡ pending.old.items) }
+{
+    if progress.hello().is_some() {
+        return read_behind_packet(progress, pending, rest);
+    }
+    progress.take(pending)?;
+    read_in_place(progress, pending, rest)
+}
+
+// Reads a piece that follows the pending bytes. After an `Err` some items were taken, and the pending bytes may have others
+// after them.
+fn read<A: Allocator + Copy>(
+    progress: &mut Progress<A>,
+    pending: &mut Vec<u8, A>,
+    piece: &[u8],
+) -> Result<ChannelState, NoMemory>
+    requires { IsUnfinished progress.old pending.old.items }
+    ensures ok { IfOk result (λ found. ReadsOn progress.old (pending.old.items ++ piece.now) progress.new pending.new.items found) }
+    ensures err { OnErr result (HasTaken progress.old (pending.old.items ++ piece.now) progress.new) }
+    ensures kept { OnErr result (take (length pending.old.items) pending.new.items ≡ pending.old.items) }
+{
+    if pending.is_empty() {
+        return read_in_place(progress, pending, piece);
+    }
+    match fill_up(progress, pending, piece)? {
+        Filled::Whole(rest) => read_behind(progress, pending, rest),
+        Filled::Unfinished => Ok(ChannelState::Reading),
+        Filled::Faulty(fault) => Ok(ChannelState::Bad(fault)),
+    }
+}
+
+impl<A: Allocator + Copy> ChannelReader<A> {
+    /// A reader that was fed nothing, of one of so many channels under this UUID, with pages of this size in bytes.
+    pub fn new(alloc: A, page_size: u64, uuid: Uuid, channels: usize) -> ChannelReader<A>
+        requires page_size { IsPageSize page_size }
+        requires channels { (0 < channels) × (channels ≤ 255) }
+        ensures stands { Stands page_size uuid channels result [] false 0 }
+        ensures open { IsFalse result.ended }
+        ensures fed { result.fed ≡ 0 }
+    {
+        ChannelReader {
+            progress: Progress::new(alloc, page_size, uuid, channels),
+            pending: Vec::new(alloc),
+            found: ChannelState::Reading,
+            fed: 0,
+            ended: false,
+        }
+    }
+
+    /// Takes the next piece of the text. After a fault its bytes are only counted. An `Err` changes nothing.
+    pub fn feed(&mut self, piece: &[u8]) -> Result<(), NoMemory>
+        requires open { IsFalse self.old.ended }
+        requires room { self.old.fed + length piece.now < 2 ^ 64 }
+        ensures stands { OnOk result ((page_size : ℕ) (uuid : List ℕ) (channels : ℕ) (text : List ℕ) (count : ℕ) →
+            Stands page_size uuid channels self.old text false count → Stands page_size uuid channels self.new (text ++ piece.now) false count) }
+        ensures stays { self.old.found ≢ state.Reading → IsOk result × (self.new ≡ record self.old { fed = self.old.fed + length piece.now }) }
+        ensures fed { OnOk result (self.new.fed ≡ self.old.fed + length piece.now) }
+        ensures open { IsFalse self.new.ended }
+        ensures err { OnErr result (self.new ≡ self.old) }
+    {
+        if !self.is_reading() {
+            self.fed += piece.len() as u64;
+            return Ok(());
+        }
+        self.read_on(piece)?;
+        self.fed += piece.len() as u64;
+        Ok(())
+    }
+
+    // Reads on. An `Err` changes nothing.
+    fn read_on(&mut self, piece: &[u8]) -> Result<(), NoMemory>
+        requires { self.old.found ≡ state.Reading }
+        ensures ok { OnOk result (ReadsOn self.old.progress (self.old.pending ++ piece.now) self.new.progress self.new.pending self.new.found) }
+        ensures same { OnOk result ((self.new.fed ≡ self.old.fed) × (self.new.ended ≡ self.old.ended)) }
+        ensures err { OnErr result (self.new ≡ self.old) }
+    {
+        let mark = self.progress.mark();
+        let len = self.pending.len();
+        match read(&mut self.progress, &mut self.pending, piece) {
+            Ok(found) => {
+                self.found = found;
+                Ok(())
+            }
+            Err(error) => {
+                drop(self.progress.undo(mark));
+                self.pending.truncate(len);
+                Err(error)
+            }
+        }
+    }
+}
+
+impl<A: Allocator> ChannelReader<A> {
+    fn is_reading(&self) -> bool
+        ensures reading { IsTrue result → self.now.found ≡ state.Reading }
+        ensures other { IsFalse result → self.now.found ≢ state.Reading }
+    {
+        match self.found {
+            ChannelState::Reading => true,
+            _ => false,
+        }
+    }
+
+    /// The text is over: a reader without a fault is closed from now on where it has a hello and whole rounds and nothing
+    /// more, and else bad. A second call changes nothing.
+    pub fn end(&mut self)
+        ensures value { self.new ≡ record self.old { ended = true } }
+        ensures stands { (page_size : ℕ) (uuid : List ℕ) (channels : ℕ) (text : List ℕ) (ended : Bool) (count : ℕ) →
+            Stands page_size uuid channels self.old text ended count → Stands page_size uuid channels self.new text true count }
+    {
+        self.ended = true;
+    }
+
+    /// Whether the reader was told that the text is over.
+    pub fn ended(&self) -> bool
+        ensures { result ≡ self.now.ended }
+    {
+        self.ended
+    }
+
+    /// How many bytes were fed.
+    pub fn fed(&self) -> u64
+        ensures { result ≡ self.now.fed }
+    {
+        self.fed
+    }
+
+    /// How the text stands that was fed: still to be read on, closed, or bad.
+    pub fn state(&self) -> ChannelState
+        ensures value { result ≡ state_at self.now.ended self.now.progress self.now.pending self.now.found }
+        ensures reading { (page_size : ℕ) (uuid : List ℕ) (channels : ℕ) (text : List ℕ) (ended : Bool) (count : ℕ) →
+            Stands page_size uuid channels self.now text ended count → HasState page_size uuid channels text ended result }
+    {
+        if self.ended && self.is_reading() {
+            self.state_at_end()
+        } else {
+            self.found
+        }
+    }
+
+    // How a text without a fault stands once it is over.
+    fn state_at_end(&self) -> ChannelState
+        ensures { result ≡ state_at_end self.now.progress.hello self.now.pending self.now.progress.packets }
+    {
+        if self.progress.hello().is_none() || !self.pending.is_empty() {
+            return ChannelState::Bad(ChannelFault::Truncated);
+        }
+        if self.progress.has_packets() {
+            return ChannelState::Bad(ChannelFault::Unsynced);
+        }
+        ChannelState::Closed
+    }
+
+    /// The channel id that the hello named. None before the hello is whole, and where it has a fault.
+    pub fn hello_id(&self) -> Option<u8>
+        ensures value { result ≡ self.now.progress.hello }
+        ensures reading { (page_size : ℕ) (uuid : List ℕ) (channels : ℕ) (text : List ℕ) (ended : Bool) (count : ℕ) →
+            Stands page_size uuid channels self.now text ended count → HasHello page_size uuid channels text result }
+    {
+        self.progress.hello()
+    }
+
+    /// The next whole round that was not taken, in the order of the text. It takes no memory, and is always `Ok`.
+    pub fn take_round(&mut self) -> Result<Option<PacketRound<A>>, NoMemory>
+        ensures ok { IsOk result }
+        ensures none { IfOk result (λ o. IfNone o (self.new ≡ self.old)) }
+        ensures last { IfOk result (λ o. IfNone o ((page_size : ℕ) (uuid : List ℕ) (channels : ℕ) (text : List ℕ) (ended : Bool) (count i : ℕ) (round : List (List ℕ)) →
+            Stands page_size uuid channels self.old text ended count → HasRound page_size uuid channels text i round → i < count)) }
+        ensures round { IfOk result (λ o. IfSome o (λ r. (page_size : ℕ) (uuid : List ℕ) (channels : ℕ) (text : List ℕ) (ended : Bool) (count : ℕ) →
+            Stands page_size uuid channels self.old text ended count → (r.page_size ≡ page_size) × HasRound page_size uuid channels text count r.packets)) }
+        ensures rest { IfOk result (λ o. IfSome o (λ r. self.old.progress.rounds ≡ r.packets ∷ self.new.progress.rounds)) }
+        ensures stands { IfOk result (λ o. IfSome o (λ r. (page_size : ℕ) (uuid : List ℕ) (channels : ℕ) (text : List ℕ) (ended : Bool) (count : ℕ) →
+            Stands page_size uuid channels self.old text ended count → Stands page_size uuid channels self.new text ended (count + 1))) }
+        ensures same { (self.new.fed ≡ self.old.fed) × (self.new.ended ≡ self.old.ended) × (self.new.found ≡ self.old.found) }
+    {
+        Ok(self.progress.take_round())
+    }
+}

@@ -1,0 +1,162 @@
+//! The rounds of a channel: their packets.
+
+ghost use Rattle.std.specs.Prelude.{◌≡◌, ◌++◌, [], ◌∷◌, length, take, map, All, slice_get, IfOk, IfErr, OnOk, OnErr};
+ghost use Rattle.mig_packet.specs.Reader.{IsPacketRound};
+
+use crate::NoMemory;
+use crate::packet::Packet;
+use std::alloc::{AllocFailed, Allocator, Global};
+use std::marker::Model;
+
+/// The text of a packet, in memory of its own.
+#[derive(Drop)]
+pub(crate) struct PacketText<A: Allocator> {
+    pub(crate) bytes: Vec<u8, A>,
+}
+
+impl<A: Allocator> Model for PacketText<A> {
+    ghost use Rattle.std.specs.Prelude.{ℕ, List};
+
+    ghost Value = { List ℕ };
+
+    ghost view = { λ p. p.bytes.items };
+}
+
+impl<A: Allocator> PacketText<A> {
+    /// A copy of these bytes.
+    pub(crate) fn copied(alloc: A, bytes: &[u8]) -> Result<PacketText<A>, NoMemory>
+        ensures { IfOk result (λ p. p ≡ bytes.now) }
+    {
+        Ok(PacketText {
+            bytes: Vec::from_slice(alloc, bytes)?,
+        })
+    }
+
+    /// The bytes themselves, which aren't copied.
+    pub(crate) fn of(bytes: Vec<u8, A>) -> PacketText<A>
+        ensures { result ≡ bytes.items }
+    {
+        PacketText { bytes }
+    }
+
+    pub(crate) fn into_bytes(self) -> Vec<u8, A>
+        ensures { result.items ≡ self }
+    {
+        let PacketText { bytes } = self;
+        bytes
+    }
+
+    pub(crate) fn as_slice(&self) -> &[u8]
+        ensures { result.now ≡ self.now }
+    {
+        self.bytes.as_slice()
+    }
+}
+
+/// Packets, one after another.
+#[derive(Drop)]
+pub(crate) struct Packets<A: Allocator> {
+    items: Vec<PacketText<A>, A>,
+}
+
+impl<A: Allocator> Model for Packets<A> {
+    ghost use Rattle.std.specs.Prelude.{ℕ, List};
+
+    ghost Value = { List (List ℕ) };
+
+    ghost view = { λ p. p.items.items };
+}
+
+impl<A: Allocator> Packets<A> {
+    pub(crate) fn new(alloc: A) -> Packets<A>
+        ensures { result ≡ [] }
+    {
+        Packets {
+            items: Vec::new(alloc),
+        }
+    }
+
+    pub(crate) fn len(&self) -> usize
+        ensures { result ≡ length self.now }
+    {
+        self.items.len()
+    }
+
+    /// Adds a packet, whose bytes it keeps where they are. An `Err` changes nothing, and gives the packet back.
+    pub(crate) fn push(&mut self, packet: PacketText<A>) -> Result<(), PacketText<A>>
+        ensures ok { OnOk result (self.new ≡ self.old ++ packet ∷ []) }
+        ensures err { OnErr result (self.new ≡ self.old) }
+        ensures back { IfErr result (λ p. p ≡ packet) }
+    {
+        match self.items.push(packet) {
+            Ok(()) => Ok(()),
+            Err(AllocFailed { value }) => Err(value),
+        }
+    }
+
+    /// Keeps the first packets alone, and gives the first one behind them.
+    pub(crate) fn cut(&mut self, n: usize) -> Option<PacketText<A>>
+        ensures kept { self.new ≡ take n self.old }
+        ensures first { result ≡ slice_get self.old n }
+    {
+        if n >= self.items.len() {
+            return None;
+        }
+        self.items.truncate(n + 1);
+        self.items.pop()
+    }
+}
+
+impl<A: Allocator + Copy> Packets<A> {
+    // The packets, which lend these bytes.
+    fn lend(&self, page_size: u64) -> Result<Vec<Packet<'_>, A>, NoMemory>
+        requires { IsPacketRound page_size self.now }
+        ensures texts { IfOk result (λ v. map (λ p. p.bytes.now) v.items ≡ self.now) }
+        ensures page_sizes { IfOk result (λ v. All (λ p. p.page_size ≡ page_size) v.items) }
+    {
+        let mut packets = Vec::with_capacity(*self.items.allocator(), self.items.len())?;
+        for text in &self.items {
+            packets.push(Packet {
+                page_size,
+                bytes: text.as_slice(),
+            })?;
+        }
+        Ok(packets)
+    }
+}
+
+/// A whole round of a channel: the packets up to and with a SYNC packet, in the order of the text.
+#[derive(Drop)]
+pub struct PacketRound<A: Allocator = Global> {
+    page_size: u64,
+    packets: Packets<A>,
+}
+
+impl<A: Allocator> Model for PacketRound<A> {
+    ghost use Rattle.mig_packet.specs.Reader.{PacketRound as Round, IsPacketRound};
+
+    ghost Value = { Round };
+
+    ghost view = { λ r. record { page_size = r.page_size; packets = r.packets } };
+
+    ghost invariant = { λ r. IsPacketRound r.page_size r.packets };
+}
+
+impl<A: Allocator> PacketRound<A> {
+    pub(crate) fn new(page_size: u64, packets: Packets<A>) -> PacketRound<A>
+        requires { IsPacketRound page_size packets }
+        ensures { result ≡ record { page_size = page_size; packets = packets } }
+    {
+        PacketRound { page_size, packets }
+    }
+}
+
+impl<A: Allocator + Copy> PacketRound<A> {
+    /// The packets. They lend the round's bytes, and copy none.
+    pub fn packets(&self) -> Result<Vec<Packet<'_>, A>, NoMemory>
+        ensures texts { IfOk result (λ v. map (λ p. p.bytes.now) v.items ≡ self.now.packets) }
+        ensures page_sizes { IfOk result (λ v. All (λ p. p.page_size ≡ self.now.page_size) v.items) }
+    {
+        self.packets.lend(self.page_size)
+    }
+}

@@ -1,0 +1,99 @@
+//! Batches: the dirty pages of a round in groups, each for one packet.
+
+ghost use Rattle.std.specs.Prelude.{◌≡◌, ◌<◌, ◌≤◌, ◌∷◌, All, IfOk, Some};
+ghost use Rattle.mig_mem.specs.PlaceSet.{IsPlaceSet};
+ghost use Rattle.mig_packet.specs.PageSize.{page_limit};
+ghost use Rattle.mig_send.specs.Batches.{IsCut, IsBatch, IsFirstBatch, IsInSet, places_from, HasOneCut};
+
+use mig_mem::{Dirty, NoMemory, Place, Table};
+use std::alloc::{Allocator, Global};
+use std::marker::Model;
+
+/// Some pages of one block, by their numbers in it, ascending.
+#[derive(Drop)]
+pub struct Batch<A: Allocator = Global> {
+    pub block: usize,
+    pub pages: Vec<u64, A>,
+}
+
+impl<A: Allocator> Model for Batch<A> {
+    ghost use Rattle.mig_send.specs.Batches.{Batch as Pages};
+
+    ghost Value = { Pages };
+
+    ghost view = { λ b. record { block = b.block; pages = b.pages.items } };
+}
+
+/// The dirty pages of a round in batches of at most `limit` pages: all of them in ascending order, each batch of one block, and
+/// all but a block's last one full. It walks the bitmap, and makes no list of all places.
+pub fn cut<A: Allocator + Copy, B: Allocator, C: Allocator>(
+    alloc: A,
+    table: &Table<B>,
+    dirty: &Dirty<C>,
+    limit: usize,
+) -> Result<Vec<Batch<A>, A>, NoMemory>
+    requires limit { (0 < limit) × (limit ≤ page_limit table.now.page_size) }
+    requires table { dirty.now.table ≡ table.now }
+    ensures cut { IfOk result (λ v. IsCut limit dirty.now.marked v.items) }
+    ensures batches { IfOk result (λ v. All (IsBatch table.now) v.items) }
+{
+    let count = dirty.count() as usize;
+    let most = (count / limit).saturating_add(table.len());
+    let mut batches = Vec::with_capacity(alloc, count.min(most))?;
+    let mut next = dirty.first_from(Place { block: 0, page: 0 });
+    'batches: while let Some(first) = next {
+        let (batch, behind) = batch_from(alloc, dirty, first, limit)?;
+        batches.push(batch)?;
+        next = behind;
+    }
+    Ok(batches)
+}
+
+// The batch that begins with a dirty place, and the first dirty place behind it.
+fn batch_from<A: Allocator, C: Allocator>(
+    alloc: A,
+    dirty: &Dirty<C>,
+    first: Place,
+    limit: usize,
+) -> Result<(Batch<A>, Option<Place>), NoMemory>
+    requires limit { 0 < limit }
+    requires set { IsPlaceSet dirty.now }
+    requires first { IsInSet dirty.now.marked (Some first) }
+    ensures batch { IfOk result (λ r. IsFirstBatch limit (places_from dirty.now.marked (Some first)) r.0 (places_from dirty.now.marked r.1)) }
+    ensures behind { IfOk result (λ r. IsInSet dirty.now.marked r.1) }
+{
+    let mut pages = Vec::with_capacity(alloc, limit)?;
+    let mut next = Some(first);
+    'pages: while let Some(place) = next {
+        if place.block != first.block || pages.len() == limit {
+            break;
+        }
+        pages.push(place.page)?;
+        next = first_behind(dirty, place);
+    }
+    Ok((
+        Batch {
+            block: first.block,
+            pages,
+        },
+        next,
+    ))
+}
+
+// The first dirty place behind another one.
+fn first_behind<C: Allocator>(dirty: &Dirty<C>, place: Place) -> Option<Place>
+    requires set { IsPlaceSet dirty.now }
+    requires place { IsInSet dirty.now.marked (Some place) }
+    ensures behind { places_from dirty.now.marked (Some place) ≡ place ∷ places_from dirty.now.marked result }
+    ensures dirty { IsInSet dirty.now.marked result }
+{
+    dirty.first_from(Place {
+        block: place.block,
+        page: place.page + 1,
+    })
+}
+
+/// There is one list of batches that `cut` can give.
+pub fn pages_have_one_cut()
+    ensures { HasOneCut }
+{}

@@ -1,0 +1,156 @@
+//! Packing: the packet of a batch.
+
+ghost use Rattle.std.specs.Prelude.{◌≡◌, ◌+◌, ◌<◌, ◌≤◌, ◌++◌, length, map, All, IfOk, OnOk};
+ghost use Rattle.mig_mem.specs.RamTable.{IsTable};
+ghost use Rattle.mig_mem.specs.Place.{IsPlace, place_at};
+ghost use Rattle.mig_mem.specs.Image.{content_at};
+ghost use Rattle.mig_zero.specs.Zero.{is_zero as zero_test};
+ghost use Rattle.mig_send.specs.Batches.{IsBatch};
+ghost use Rattle.mig_packet.specs.PageSize.{page_limit};
+ghost use Rattle.mig_send.specs.Packing.{IsPacked, packed_of, normal_offsets, zero_offsets, contents_at, packet_at};
+
+use crate::Batch;
+use mig_mem::{Memory, NoMemory, Place};
+use mig_packet::{head_len, put_packet_head};
+use mig_zero::is_zero;
+use std::alloc::{Allocator, Global};
+use std::marker::Model;
+
+/// The packet of a batch. The type keeps what its bytes show, so that nobody who sends it on has to test it again.
+#[derive(Drop)]
+pub struct Packed<A: Allocator = Global> {
+    page_size: u64,
+    number: u64,
+    bytes: Vec<u8, A>,
+}
+
+impl<A: Allocator> Model for Packed<A> {
+    ghost use Rattle.mig_send.specs.Packing.{Packed as Packet, IsPacked};
+
+    ghost Value = { Packet };
+
+    ghost view = { λ p. record { page_size = p.page_size; number = p.number; bytes = p.bytes.items } };
+
+    ghost invariant = { λ p. IsPacked (record { page_size = p.page_size; number = p.number; bytes = p.bytes.items }) };
+}
+
+impl<A: Allocator> Packed<A> {
+    /// The packet's number.
+    pub fn number(&self) -> u64
+        ensures { result ≡ self.now.number }
+    {
+        self.number
+    }
+
+    /// The packet's text. It also says what such a packet keeps.
+    pub fn bytes(&self) -> &[u8]
+        ensures bytes { result.now ≡ self.now.bytes }
+        ensures packed { IsPacked self.now }
+    {
+        &self.bytes
+    }
+}
+
+/// Packs the pages of a batch into the packet of a number: those that aren't zeros with their contents, the others by their
+/// offsets alone. Each page is tested once, and copied at most once.
+pub fn pack<A: Allocator + Copy, B: Allocator, C: Allocator>(
+    alloc: A,
+    memory: &Memory<B>,
+    batch: &Batch<C>,
+    number: u64,
+) -> Result<Packed<A>, NoMemory>
+    requires { IsBatch memory.now.table batch.now }
+    ensures { IfOk result (λ packed. packed ≡ packed_of memory.now batch.now number) }
+{
+    let _blocks = memory.table().len();
+    let (normal, zero) = offsets(alloc, memory, batch.block, &batch.pages)?;
+    let bytes = packet_text(alloc, memory, batch.block, number, &normal, &zero)?;
+    Ok(Packed {
+        page_size: memory.table().page_size(),
+        number,
+        bytes,
+    })
+}
+
+// The offsets of some pages of a block, in bytes: of those that aren't zeros, and of those that are.
+fn offsets<A: Allocator + Copy, B: Allocator>(
+    alloc: A,
+    memory: &Memory<B>,
+    block: usize,
+    pages: &[u64],
+) -> Result<(Vec<u64, A>, Vec<u64, A>), NoMemory>
+    requires table { IsTable memory.now.table }
+    requires places { All (IsPlace memory.now.table) (map (place_at block) pages.now) }
+    ensures normal { IfOk result (λ lists. lists.0.items ≡ normal_offsets memory.now (map (place_at block) pages.now)) }
+    ensures zero { IfOk result (λ lists. lists.1.items ≡ zero_offsets memory.now (map (place_at block) pages.now)) }
+{
+    let page_size = memory.table().page_size();
+    let mut normal = Vec::with_capacity(alloc, pages.len())?;
+    let mut zero = Vec::with_capacity(alloc, pages.len())?;
+    for page in pages {
+        let offset = *page * page_size;
+        let place = Place { block, page: *page };
+        if is_zero_page(memory, place) {
+            zero.push(offset)?;
+            continue;
+        }
+        normal.push(offset)?;
+    }
+    Ok((normal, zero))
+}
+
+// Whether a page is of zeros; a place that the memory lacks is one of no bytes at all.
+fn is_zero_page<B: Allocator>(memory: &Memory<B>, place: Place) -> bool
+    ensures { result ≡ zero_test (content_at memory.now place) }
+{
+    match memory.page(place) {
+        Some(content) => is_zero(content),
+        None => true,
+    }
+}
+
+// The packet of a number with pages of a block: the normal pages and the zero pages by their offsets.
+fn packet_text<A: Allocator, B: Allocator>(
+    alloc: A,
+    memory: &Memory<B>,
+    block: usize,
+    number: u64,
+    normal: &[u64],
+    zero: &[u64],
+) -> Result<Vec<u8, A>, NoMemory>
+    requires table { IsTable memory.now.table }
+    requires block { block < length memory.now.table.blocks }
+    requires few { length normal.now + length zero.now ≤ page_limit memory.now.table.page_size }
+    ensures { IfOk result (λ bytes. bytes.items ≡ packet_at memory.now block number normal.now zero.now) }
+{
+    let table = memory.table();
+    let page_size = table.page_size();
+    let len = head_len(page_size) + normal.len() * page_size as usize;
+    let mut bytes = Vec::with_capacity(alloc, len)?;
+    let id = table.id(block);
+    let Ok(()) = put_packet_head(page_size, &mut bytes, number, false, id, normal, zero) else {
+        return Err(NoMemory);
+    };
+    append_contents(&mut bytes, memory, block, normal)?;
+    Ok(bytes)
+}
+
+// Appends the contents of the pages of a block that are at these offsets. After an `Err` some of them may have been appended.
+fn append_contents<A: Allocator, B: Allocator>(
+    bytes: &mut Vec<u8, A>,
+    memory: &Memory<B>,
+    block: usize,
+    offsets: &[u64],
+) -> Result<(), NoMemory>
+    requires { IsTable memory.now.table }
+    ensures { OnOk result (bytes.new.items ≡ bytes.old.items ++ contents_at memory.now block offsets.now) }
+{
+    let page_size = memory.table().page_size();
+    for offset in offsets {
+        let page = *offset / page_size;
+        if let Some(content) = memory.page(Place { block, page }) {
+            bytes.extend_from_slice(content)?;
+        }
+    }
+    Ok(())
+}
