@@ -18,5 +18,7 @@ mod packet;
 #[cfg(test)]
 mod refused;
 #[cfg(test)]
+mod round;
+#[cfg(test)]
 mod texts;
 pub mod workers;
