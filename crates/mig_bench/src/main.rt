@@ -17,6 +17,7 @@ mod stream;
 mod yardstick;
 mod zero;
 
+use crate::round::Carried;
 use std::{env, io};
 
 fn main(rt: HostRuntime) -> io::Result<()> {
@@ -27,8 +28,9 @@ fn main(rt: HostRuntime) -> io::Result<()> {
         Some("load") => load::run(&rt, rt.alloc(), 1 << 18),
         Some("packet") => packet::run(&rt, rt.alloc(), 1 << 9),
         Some("pack") => pack::run(&rt, rt.alloc(), 1 << 17),
-        Some("round") => round::run(&rt, rt.alloc(), 1 << 9),
+        Some("round") => round::run(&rt, rt.alloc(), 1 << 9, Carried::Normal),
+        Some("judge") => round::run(&rt, rt.alloc(), 1 << 13, Carried::Zero),
         Some("deal") => deal::run(&rt, rt.alloc(), 1 << 24),
-        _ => println!(rt; "usage: mig_bench zero|stream|load|packet|pack|round|deal"),
+        _ => println!(rt; "usage: mig_bench zero|stream|load|packet|pack|round|judge|deal"),
     }
 }

@@ -15,38 +15,70 @@ use std::rt::Clock;
 /// The most pages that a packet may have.
 const PAGES: usize = 128;
 
-/// The bytes of a packet of so many normal pages.
-const PACKET_LEN: usize = 1344 + PAGES * PAGE_SIZE;
+/// The bytes of a packet of so many pages, without their contents.
+const HEAD_LEN: usize = 1344;
 
 /// Where the number of a packet lies in it, and the offset of its last page.
 const NUMBER: usize = 24;
 
 const LAST_OFFSET: usize = 320 + 8 * (PAGES - 1);
 
-/// Puts a round of so many packets of 128 normal pages into a memory that is in use. Then it judges one that is refused for the
+/// How the packets of a round carry their pages.
+#[derive(Clone, Copy)]
+pub enum Carried {
+    /// With their contents.
+    Normal,
+    /// As marks of zeros.
+    Zero,
+}
+
+impl Carried {
+    // The bytes of a packet of 128 pages.
+    fn packet_len(self) -> usize
+        ensures { 1344 ≤ result }
+    {
+        match self {
+            Carried::Normal => HEAD_LEN + PAGES * PAGE_SIZE,
+            Carried::Zero => HEAD_LEN,
+        }
+    }
+}
+
+/// Puts a round of so many packets of 128 pages into a memory that is in use. Then it judges one that is refused for the
 /// last offset of its last packet, which shows what the judging alone takes.
-pub fn run(rt: &(impl Clock + Print), alloc: Global, packets: usize) -> io::Result<()>
+pub fn run(
+    rt: &(impl Clock + Print),
+    alloc: Global,
+    packets: usize,
+    carried: Carried,
+) -> io::Result<()>
     requires { packets ≤ 65536 }
 {
     let copies = Yardstick::in_buffers(rt, alloc, packets * PAGES * PAGE_SIZE)?;
     let pages = (packets * PAGES) as u64;
-    let Some((mut target, records, mut text)) = prepared(alloc, pages) else {
+    let Some((mut target, records, mut text)) = prepared(alloc, pages, carried) else {
         return println!(rt; "no memory for the guest");
     };
     println!(rt;
         "a round of {pages} pages of {PAGE_SIZE} bytes: the least time of five runs, as a ratio to a copy of them"
     )?;
-    let put = best_of_five(rt, || answer_of(alloc, &mut target, &records, &mut text))?;
+    let put = best_of_five(
+        rt,
+        || answer_of(alloc, &mut target, &records, &mut text, carried),
+    )?;
     println!(rt;
         "lawful   {} by pages, {} at once; {} packets put",
         put.ratio_to(&copies.by_pages),
         put.ratio_to(&copies.at_once),
         put.answer
     )?;
-    if !repeat_last_page(&mut text) {
+    if !repeat_last_page(&mut text, carried) {
         return println!(rt; "no packet");
     }
-    let judged = best_of_five(rt, || answer_of(alloc, &mut target, &records, &mut text))?;
+    let judged = best_of_five(
+        rt,
+        || answer_of(alloc, &mut target, &records, &mut text, carried),
+    )?;
     println!(rt;
         "refused  {} by pages, {} at once; page {} comes twice",
         judged.ratio_to(&copies.by_pages),
@@ -56,11 +88,11 @@ pub fn run(rt: &(impl Clock + Print), alloc: Global, packets: usize) -> io::Resu
 }
 
 // A memory of one block, a round without page records, and the packets of all its pages.
-fn prepared(alloc: Global, pages: u64) -> Option<(Target, StreamRound, Vec<u8>)> {
+fn prepared(alloc: Global, pages: u64, carried: Carried) -> Option<(Target, StreamRound, Vec<u8>)> {
     let (image, _) = guest(alloc, pages).ok()?;
     let target = Target::new(alloc, image.table()).ok()?;
     let records = no_records(alloc, image.table())?;
-    let text = packets(alloc, pages)?;
+    let text = packets(alloc, pages, carried)?;
     Some((target, records, text))
 }
 
@@ -72,24 +104,28 @@ fn no_records(alloc: Global, table: &Table) -> Option<StreamRound> {
     reader.take_round().ok()?
 }
 
-// The text of packets of all pages of the block, each full of ones, 128 in each packet.
-fn packets(alloc: Global, pages: u64) -> Option<Vec<u8>> {
-    let contents = vec![in alloc; 1u8; PAGES * PAGE_SIZE].ok()?;
+// The text of packets of all pages of the block, each full of ones or a mark of zeros, 128 in each packet.
+fn packets(alloc: Global, pages: u64, carried: Carried) -> Option<Vec<u8>> {
+    let ones = vec![in alloc; 1u8; PAGES * PAGE_SIZE].ok()?;
     let mut text = Vec::new(alloc);
     let mut offsets = [0u64; PAGES];
     for first in (0..pages).step_by(PAGES) {
         for (i, offset) in offsets.iter_mut().enumerate() {
             *offset = first.checked_add(i as u64)?.checked_mul(PAGE_SIZE as u64)?;
         }
+        let (normal, contents, zero) = match carried {
+            Carried::Normal => (&offsets[..], &ones[..], &offsets[..0]),
+            Carried::Zero => (&offsets[..0], &ones[..0], &offsets[..]),
+        };
         put_packet(
             PAGE_SIZE_4K,
             &mut text,
             0,
             false,
             b"pc.ram",
-            &offsets,
-            &contents,
-            &[],
+            normal,
+            contents,
+            zero,
         )
         .ok()?;
     }
@@ -98,9 +134,15 @@ fn packets(alloc: Global, pages: u64) -> Option<Vec<u8>> {
 
 // Puts a round whose packets are numbered on from the memory's base. Gives how many packets it has, or the page that comes
 // twice; 0 where anything else is the matter.
-fn answer_of(alloc: Global, target: &mut Target, records: &StreamRound, text: &mut [u8]) -> usize {
-    number_from(text, target.base());
-    let Some(gathered) = gathered(alloc, text) else {
+fn answer_of(
+    alloc: Global,
+    target: &mut Target,
+    records: &StreamRound,
+    text: &mut [u8],
+    carried: Carried,
+) -> usize {
+    number_from(text, carried, target.base());
+    let Some(gathered) = gathered(alloc, text, carried) else {
         return 0;
     };
     if target.memory().table().page_size() != PAGE_SIZE_4K || !target.fits(records) {
@@ -117,9 +159,9 @@ fn answer_of(alloc: Global, target: &mut Target, records: &StreamRound, text: &m
 }
 
 // Numbers the packets of a text from a number on.
-fn number_from(text: &mut [u8], base: u64) {
+fn number_from(text: &mut [u8], carried: Carried, base: u64) {
     let mut number = base;
-    for packet in text.chunks_exact_mut(PACKET_LEN) {
+    for packet in text.chunks_exact_mut(carried.packet_len()) {
         write_number(packet, NUMBER, number);
         number = number.wrapping_add(1);
     }
@@ -133,8 +175,8 @@ fn write_number(bytes: &mut [u8], at: usize, number: u64) {
 }
 
 // Makes the last page of the last packet the first page of the block. Says whether there is a packet.
-fn repeat_last_page(text: &mut [u8]) -> bool {
-    match text.chunks_exact_mut(PACKET_LEN).last() {
+fn repeat_last_page(text: &mut [u8], carried: Carried) -> bool {
+    match text.chunks_exact_mut(carried.packet_len()).last() {
         Some(packet) => {
             write_number(packet, LAST_OFFSET, 0);
             true
@@ -144,11 +186,11 @@ fn repeat_last_page(text: &mut [u8]) -> bool {
 }
 
 // The packets of a text, the last ones first.
-fn gathered<'a>(alloc: Global, text: &'a [u8]) -> Option<Gathered<'a>>
+fn gathered<'a>(alloc: Global, text: &'a [u8], carried: Carried) -> Option<Gathered<'a>>
     ensures { IfSome result (λ g. All (λ p. p.page_size ≡ PAGE_SIZE) g) }
 {
     let mut gathered = Gathered::new(alloc);
-    for bytes in text.chunks_exact(PACKET_LEN).rev() {
+    for bytes in text.chunks_exact(carried.packet_len()).rev() {
         match read_packet(PAGE_SIZE_4K, bytes) {
             PacketRead::Whole(packet, _) if packet.page_size() == PAGE_SIZE_4K => {
                 gathered.push(packet).ok()?;

@@ -2,14 +2,14 @@
 ghost use Rattle.std.specs.Prelude.{◌≡◌, All, IfOk, IfSome};
 ghost use Rattle.mig_send.specs.Batches.{IsBatch};
 
-use crate::common::{at, block_of, places_of, set_first, table_at};
+use mig_examples::{at, block_of, places_of, set_first, table_at};
 use mig_mem::{Dirty, Memory, NoMemory, PAGE_SIZE_4K, PAGE_SIZE_8K, Place, Table};
 use mig_refusing::Refusing;
 use mig_send::{Batch, Packed, cut, pack};
 use std::alloc::{Allocator, Global};
 
-// Cuts a set; None where it is of another table, or the limit isn't one.
-fn cut_at<A: Allocator + Copy, B: Allocator>(
+/// Cuts a set; None where it is of another table, or the limit isn't one.
+pub(crate) fn cut_at<A: Allocator + Copy, B: Allocator>(
     alloc: A,
     table: &Table<B>,
     dirty: &Dirty<B>,

@@ -4,13 +4,12 @@
 //! what stands after a refused growth. What the contracts say isn't tested again.
 #![tactic(auto)]
 
+pub mod alone;
 pub mod assembling;
 #[cfg(test)]
 mod batch;
 #[cfg(test)]
 mod channel;
-#[cfg(test)]
-mod common;
 #[cfg(test)]
 mod deal;
 #[cfg(test)]
@@ -22,3 +21,5 @@ mod round;
 #[cfg(test)]
 mod texts;
 pub mod workers;
+#[cfg(test)]
+mod working;

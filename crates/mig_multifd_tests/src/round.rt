@@ -1,9 +1,9 @@
 //! Rounds that are judged and put into a memory as a whole, their packets in one order after another.
 
 use crate::assembling::put_round;
-use crate::common::{Step, at, is_same, table_at, written};
 use crate::texts::{PAGE_AND_ZEROS, PAGE_SIZE_4K, PAGE_SIZE_8K, SYNC, Said, add};
 use mig_assemble::{Gathered, RoundFault, Target};
+use mig_examples::{Step, at, is_same, table_at, written};
 use mig_mem::{MAX_TOTAL, Memory, NoMemory, Place, is_page_size};
 use mig_packet::{Packet, PacketRead, read_packet};
 use mig_refusing::Refusing;

@@ -14,6 +14,8 @@
 //! let answer = Table::new(&heap, list);       // no growth was refused if heap.is_waiting() is still true
 //! ```
 //!
+//! [`with_each_growth_refused!`] is that loop, for a test that ends with its last run.
+//!
 //! Threads may share it. They share one count, so one growth among all of theirs is refused, and the schedule decides
 //! whose it is.
 //!
@@ -75,4 +77,31 @@ unsafe impl<A: Allocator> Allocator for Refusing<A> {
     unsafe fn deallocate(&self, ptr: *mut u8, size: usize, align: usize) {
         self.inner.deallocate(ptr, size, align);
     }
+}
+
+/// Runs a call with growth 1 refused, then with growth 2, and so on, up to the first run that has no refusal, whose answer
+/// is handed to the block. A run with a refusal has to answer fault 60, and there has to be one.
+#[macro_export]
+macro_rules! with_each_growth_refused {
+    ($rt:expr, $heap:expr, $call:expr, $answer:ident => $checks:block) => {
+        for nth in 1..1000u64 {
+            $heap.refuse(nth);
+            let run = $call;
+            let is_waiting = $heap.is_waiting();
+            $heap.refuse(0);
+            match run {
+                Ok($answer) => {
+                    assert!($rt; is_waiting);
+                    assert!($rt; nth > 1);
+                    $checks
+                    return Ok(());
+                }
+                Err(fault) => {
+                    assert!($rt; !is_waiting);
+                    assert_eq!($rt; fault.number(), 60);
+                }
+            }
+        }
+        panic!($rt; "each run had a refusal");
+    };
 }

@@ -1,3 +1,5 @@
 pub mod PlacesFrom
 pub mod Cutting
 pub mod Packing
+pub mod Working
+pub mod Dealings

@@ -1,7 +1,7 @@
 //! Senders of guest memory: they make the texts of a migration from images of a guest and its dirty pages.
 //!
 //! `SingleSender` writes all rounds into one stream. `cut` puts the dirty pages of a round into batches, and `pack` makes the
-//! packet of one: what a sender on several channels is made of. What a text looks like is `mig_stream`'s and `mig_packet`'s;
+//! packet of one; `work` is one worker of several, which does that for the batches that it draws. What a text looks like is `mig_stream`'s and `mig_packet`'s;
 //! which pages are dirty, and when a round is sent, is for the caller.
 #![tactic(auto)]
 
@@ -9,8 +9,10 @@ mod batch;
 mod fault;
 mod packed;
 mod single;
+mod worker;
 
 pub use batch::{Batch, cut, pages_have_one_cut};
 pub use fault::SendFault;
 pub use packed::{Packed, pack};
 pub use single::SingleSender;
+pub use worker::{Worked, work, workers_make_a_dealing};

@@ -1,6 +1,6 @@
 //! Dirty sets: what they have, how many, and in which order.
 
-use crate::common::{at, has_exactly, mark, marked};
+use mig_examples::{at, has_exactly, mark, marked};
 
 #[test]
 fn marks(rt: HostRuntime) {

@@ -5,8 +5,6 @@
 #![tactic(auto)]
 
 #[cfg(test)]
-mod common;
-#[cfg(test)]
 mod dirty;
 #[cfg(test)]
 mod load;
@@ -14,10 +12,6 @@ mod load;
 mod loading;
 #[cfg(test)]
 mod memory;
-#[cfg(test)]
-mod reader;
-#[cfg(test)]
-mod reading;
 #[cfg(test)]
 mod refused;
 #[cfg(test)]
@@ -28,5 +22,3 @@ mod table;
 mod target;
 #[cfg(test)]
 mod texts;
-#[cfg(test)]
-mod writer;

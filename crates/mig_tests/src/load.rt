@@ -1,8 +1,11 @@
 //! What loads make of texts: a sender's, damaged ones, and each prefix of one.
 
-use crate::common::{Step, at, fill, set_first, table_at, zeroed};
 use crate::loading::{has_memory, is_told, load, load_within};
-use crate::texts::{empty, one_flush, one_page, sent, two_pages, with_bytes, with_put_in};
+use crate::texts::sent;
+use mig_examples::{
+    Step, at, empty, fill, one_flush, one_page, set_first, table_at, two_pages, with_bytes,
+    with_put_in, zeroed,
+};
 use mig_load::{Fault, LoadFault, Origin};
 use mig_mem::{Memory, PAGE_SIZE_4K, PAGE_SIZE_8K, Place};
 use mig_stream::StreamFault;

@@ -1,6 +1,6 @@
 //! Memories: their pages, and where two of them differ.
 
-use crate::common::{at, fill, has_byte, is_full, set, zeroed};
+use mig_examples::{at, fill, has_byte, is_full, set, zeroed};
 use mig_mem::{Memory, Place, first_difference};
 
 #[test]

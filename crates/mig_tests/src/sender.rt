@@ -1,7 +1,9 @@
 //! The texts that a sender makes, and the rounds that it refuses.
 
-use crate::common::{Step, at, is_joined, marked, page_of, set_first, table, written, zeroed};
-use crate::texts::{sent, two_pages};
+use crate::texts::sent;
+use mig_examples::{
+    Step, at, is_joined, marked, page_of, set_first, table, two_pages, written, zeroed,
+};
 use mig_mem::{PAGE_SIZE_4K, PAGE_SIZE_8K};
 use mig_send::{SendFault, SingleSender};
 

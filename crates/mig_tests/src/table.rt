@@ -1,6 +1,6 @@
 //! Tables: which lists make one, and what it says of itself.
 
-use crate::common::{at, list, table};
+use mig_examples::{at, list, table};
 use mig_mem::{NoMemory, PAGE_SIZE_4K, PAGE_SIZE_8K, Table, TableFault, is_page_size};
 use std::alloc::{AllocError, Allocator, Global};
 use std::test::Fail;

@@ -1,9 +1,7 @@
 //! Memories that are loaded round by round.
 
-use crate::common::{at, has_byte, is_full, table};
-use crate::reading::{How, SINGLE, read};
-use crate::texts::{one_page, two_pages};
 use mig_assemble::Target;
+use mig_examples::{How, SINGLE, at, has_byte, is_full, one_page, read, table, two_pages};
 use mig_mem::PAGE_SIZE_8K;
 use mig_stream::StreamReader;
 

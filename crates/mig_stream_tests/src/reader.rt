@@ -1,11 +1,10 @@
 //! What a reader makes of texts: the worked examples, damaged ones, and each prefix of one.
 
-use crate::common::{Step, at, written};
-use crate::reading::{
-    How, MAIN, SINGLE, count_rounds, feed, has_block, has_no_round, has_round, number_of, read,
-    reader, state_of,
+use mig_examples::{
+    How, MAIN, SINGLE, Step, at, count_rounds, empty, feed, has_block, has_no_round, has_round,
+    number_of, one_flush, one_page, read, reader, state_of, two_pages, with_bytes, with_put_in,
+    written,
 };
-use crate::texts::{empty, one_flush, one_page, two_pages, with_bytes, with_put_in};
 use mig_mem::{PAGE_SIZE_4K, PAGE_SIZE_8K};
 use mig_stream::{StreamFault, StreamState};
 

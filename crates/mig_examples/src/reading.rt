@@ -1,4 +1,4 @@
-//! What the tests of readers share.
+//! Readers that are fed a text, and what they found in it.
 
 use mig_mem::{MAX_TOTAL, NoMemory, PAGE_SIZE_4K, Place, is_page_size};
 use mig_stream::{Mode, StreamReader, StreamState};
@@ -6,26 +6,26 @@ use std::alloc::Allocator;
 
 /// What a reader is told of a text before it reads.
 #[derive(Clone, Copy)]
-pub(crate) struct How {
-    pub(crate) mode: Mode,
-    pub(crate) page_size: u64,
-    pub(crate) limit: u64,
+pub struct How {
+    pub mode: Mode,
+    pub page_size: u64,
+    pub limit: u64,
 }
 
-pub(crate) const SINGLE: How = How {
+pub const SINGLE: How = How {
     mode: Mode::Single,
     page_size: PAGE_SIZE_4K,
     limit: MAX_TOTAL,
 };
 
-pub(crate) const MAIN: How = How {
+pub const MAIN: How = How {
     mode: Mode::Main,
     page_size: PAGE_SIZE_4K,
     limit: MAX_TOTAL,
 };
 
 /// A reader; None where the page size isn't one or the limit is too large.
-pub(crate) fn reader<A: Allocator + Copy>(alloc: A, how: How) -> Option<StreamReader<A>> {
+pub fn reader<A: Allocator + Copy>(alloc: A, how: How) -> Option<StreamReader<A>> {
     if !is_page_size(how.page_size) || how.limit > MAX_TOTAL {
         return None;
     }
@@ -33,7 +33,7 @@ pub(crate) fn reader<A: Allocator + Copy>(alloc: A, how: How) -> Option<StreamRe
 }
 
 /// Feeds a piece; None where the text is over or too long.
-pub(crate) fn feed<A: Allocator + Copy>(
+pub fn feed<A: Allocator + Copy>(
     reader: &mut StreamReader<A>,
     piece: &[u8],
 ) -> Option<Result<(), NoMemory>> {
@@ -45,7 +45,7 @@ pub(crate) fn feed<A: Allocator + Copy>(
 }
 
 /// A reader that was fed a text in pieces of a length, and told that the text is over.
-pub(crate) fn read<A: Allocator + Copy>(
+pub fn read<A: Allocator + Copy>(
     alloc: A,
     how: How,
     text: &[u8],
@@ -60,18 +60,14 @@ pub(crate) fn read<A: Allocator + Copy>(
 }
 
 /// How a text stands that is over, fed whole and byte by byte; None where the two differ.
-pub(crate) fn state_of<A: Allocator + Copy>(
-    alloc: A,
-    how: How,
-    text: &[u8],
-) -> Option<StreamState> {
+pub fn state_of<A: Allocator + Copy>(alloc: A, how: How, text: &[u8]) -> Option<StreamState> {
     let whole = read(alloc, how, text, text.len())?.state();
     let bytes = read(alloc, how, text, 1)?.state();
     if whole == bytes { Some(whole) } else { None }
 }
 
 /// The number of its fault, or 0 where it is closed.
-pub(crate) fn number_of<A: Allocator + Copy>(alloc: A, how: How, text: &[u8]) -> Option<u8> {
+pub fn number_of<A: Allocator + Copy>(alloc: A, how: How, text: &[u8]) -> Option<u8> {
     match state_of(alloc, how, text)? {
         StreamState::Reading => None,
         StreamState::Closed => Some(0),
@@ -80,7 +76,7 @@ pub(crate) fn number_of<A: Allocator + Copy>(alloc: A, how: How, text: &[u8]) ->
 }
 
 /// Whether the next round has these pages: each a place and the first byte of its content, None where it is a mark of zeros.
-pub(crate) fn has_round<A: Allocator + Copy>(
+pub fn has_round<A: Allocator + Copy>(
     reader: &mut StreamReader<A>,
     pages: &[(Place, Option<u8>)],
 ) -> bool {
@@ -103,7 +99,7 @@ fn first_byte(content: Option<&[u8]>) -> Option<u8> {
 }
 
 /// Whether there is no further round.
-pub(crate) fn has_no_round<A: Allocator + Copy>(reader: &mut StreamReader<A>) -> bool {
+pub fn has_no_round<A: Allocator + Copy>(reader: &mut StreamReader<A>) -> bool {
     match reader.take_round() {
         Ok(None) => true,
         _ => false,
@@ -111,7 +107,7 @@ pub(crate) fn has_no_round<A: Allocator + Copy>(reader: &mut StreamReader<A>) ->
 }
 
 /// The number of whole rounds; it takes them all.
-pub(crate) fn count_rounds<A: Allocator + Copy>(reader: &mut StreamReader<A>) -> u64 {
+pub fn count_rounds<A: Allocator + Copy>(reader: &mut StreamReader<A>) -> u64 {
     for count in 0..1000 {
         if has_no_round(reader) {
             return count;
@@ -121,7 +117,7 @@ pub(crate) fn count_rounds<A: Allocator + Copy>(reader: &mut StreamReader<A>) ->
 }
 
 /// Whether a reader has the table of one block with this id and so many pages.
-pub(crate) fn has_block<A: Allocator>(reader: &StreamReader<A>, id: &str, pages: u64) -> bool {
+pub fn has_block<A: Allocator>(reader: &StreamReader<A>, id: &str, pages: u64) -> bool {
     let Some(table) = reader.table() else {
         return false;
     };

@@ -1,6 +1,6 @@
 //! The texts that a writer makes, byte for byte.
 
-use crate::common::{Step, at, is_joined, page_of, written};
+use mig_examples::{Step, at, is_joined, page_of, written};
 use mig_mem::{PAGE_SIZE_4K, PAGE_SIZE_8K};
 use std::test::Fail;
 
