@@ -16,11 +16,7 @@ pub fn run(rt: &(impl Clock + Print), alloc: Global, batches: u64) -> io::Result
     let additions = best_of_five(rt, || added(&word, batches))?;
     let draws = best_of_five(rt, || next_after(alloc, batches))?;
     println!(rt;
-        "{} draws: the least time of five runs, as a ratio to as many of `AtomicU64::fetch_add`",
-        batches + 1
-    )?;
-    println!(rt;
-        "draw  {}; the next number is {}",
+        "a draw, as a ratio to `AtomicU64::fetch_add`, by the least time of five runs: {}; the next number is {}",
         draws.ratio_to(&additions),
         draws.answer
     )

@@ -21,6 +21,13 @@ pub fn guest(alloc: Global, pages: u64) -> Result<(Memory, Dirty), TableFault> {
     Ok((image, dirty))
 }
 
+/// How many of each ten pages are zeros, in the order in which works are measured, with a name for each.
+pub const ZERO_TENTHS: [(u64, &str); 3] = [
+    (0, "no zeros"),
+    (5, "half zeros"),
+    (9, "nine tenths zeros"),
+];
+
 /// Of each ten pages some are zeros and the others full of ones.
 pub fn fill(image: &mut Memory, pages: u64, zero_tenths: u64) {
     for page in 0..pages {

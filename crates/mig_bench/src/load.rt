@@ -1,9 +1,9 @@
 //! The sending of a guest as a single stream, and the loading of that stream.
 ghost use Rattle.std.specs.Prelude.{◌≤◌, ◌*◌, ◌^◌};
 
-use crate::guest::{fill, guest};
+use crate::guest::{ZERO_TENTHS, fill, guest};
 use crate::measure::best_of_five;
-use crate::yardstick::{PAGE_SIZE, Yardstick};
+use crate::yardstick::{PAGE_SIZE, Yardstick, put_row, put_title};
 use mig_load::load_single;
 use mig_mem::{Dirty, MAX_TOTAL, Memory, PAGE_SIZE_4K, Place};
 use mig_send::SingleSender;
@@ -19,14 +19,11 @@ pub fn run(rt: &(impl Clock + Print), alloc: Global, pages: u64) -> io::Result<(
         return println!(rt; "no memory for the guest");
     };
     let copies = Yardstick::in_buffers(rt, alloc, pages as usize * PAGE_SIZE)?;
-    println!(rt;
-        "a guest of {pages} pages of {PAGE_SIZE} bytes: the least time of five runs, as a ratio to a copy of them"
-    )?;
-    for tenths in [0, 5, 9] {
+    put_title(rt, "a guest sent and loaded", pages)?;
+    for (tenths, name) in ZERO_TENTHS {
         fill(&mut image, pages, tenths);
-        println!(rt; "{tenths} tenths of zeros")?;
-        report_sending(rt, alloc, &image, &dirty, &copies)?;
-        report_loading(rt, alloc, &image, &dirty, &copies)?;
+        report_sending(rt, alloc, name, (&image, &dirty), &copies)?;
+        report_loading(rt, alloc, name, (&image, &dirty), &copies)?;
     }
     Ok(())
 }
@@ -34,28 +31,28 @@ pub fn run(rt: &(impl Clock + Print), alloc: Global, pages: u64) -> io::Result<(
 fn report_sending(
     rt: &(impl Clock + Print),
     alloc: Global,
-    image: &Memory,
-    dirty: &Dirty,
+    name: &str,
+    guest: (&Memory, &Dirty),
     copies: &Yardstick,
 ) -> io::Result<()> {
-    let measured = best_of_five(rt, || {
-        sent(alloc, image, dirty).map_or(0, |text| text.len())
-    })?;
-    println!(rt;
-        "send  {} by pages, {} at once; {} bytes sent",
-        measured.ratio_to(&copies.by_pages),
-        measured.ratio_to(&copies.at_once),
-        measured.answer
-    )
+    let (image, dirty) = guest;
+    let measured = best_of_five(rt, || sent_len(alloc, image, dirty))?;
+    put_row(rt, name, &measured, copies, "bytes sent")
+}
+
+// The length of the stream of one round; 0 where memory is refused.
+fn sent_len(alloc: Global, image: &Memory, dirty: &Dirty) -> usize {
+    sent(alloc, image, dirty).map_or(0, |text| text.len())
 }
 
 fn report_loading(
     rt: &(impl Clock + Print),
     alloc: Global,
-    image: &Memory,
-    dirty: &Dirty,
+    name: &str,
+    guest: (&Memory, &Dirty),
     copies: &Yardstick,
 ) -> io::Result<()> {
+    let (image, dirty) = guest;
     let Some(text) = sent(alloc, image, dirty) else {
         return println!(rt; "no memory for the stream");
     };
@@ -64,12 +61,7 @@ fn report_loading(
         page: dirty.count().saturating_sub(1),
     };
     let measured = best_of_five(rt, || rounds_loaded(alloc, &text, image, last))?;
-    println!(rt;
-        "load  {} by pages, {} at once; {} rounds loaded",
-        measured.ratio_to(&copies.by_pages),
-        measured.ratio_to(&copies.at_once),
-        measured.answer
-    )
+    put_row(rt, name, &measured, copies, "rounds loaded")
 }
 
 // The stream of one round; None where memory is refused.

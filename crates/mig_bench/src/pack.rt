@@ -1,9 +1,9 @@
 //! The packing of a round: its dirty pages in batches, and the packet of each batch.
 ghost use Rattle.std.specs.Prelude.{◌≤◌, ◌*◌, ◌^◌};
 
-use crate::guest::{fill, guest};
+use crate::guest::{ZERO_TENTHS, fill, guest};
 use crate::measure::best_of_five;
-use crate::yardstick::{PAGE_SIZE, Yardstick};
+use crate::yardstick::{PAGE_SIZE, Yardstick, put_row, put_title};
 use mig_mem::{Dirty, Memory};
 use mig_send::{cut, pack};
 use std::alloc::Global;
@@ -22,25 +22,13 @@ pub fn run(rt: &(impl Clock + Print), alloc: Global, pages: u64) -> io::Result<(
         return println!(rt; "no memory for the guest");
     };
     let copies = Yardstick::in_buffers(rt, alloc, pages as usize * PAGE_SIZE)?;
-    println!(rt;
-        "packing {pages} dirty pages of {PAGE_SIZE} bytes: the least time of five runs, as a ratio to a copy of them"
-    )?;
+    put_title(rt, "packing dirty pages", pages)?;
     let measured = best_of_five(rt, || batches_in(alloc, &image, &dirty))?;
-    println!(rt;
-        "cut alone  {} by pages, {} at once; {} batches",
-        measured.ratio_to(&copies.by_pages),
-        measured.ratio_to(&copies.at_once),
-        measured.answer
-    )?;
-    for tenths in [0, 5, 9] {
+    put_row(rt, "cut alone", &measured, &copies, "batches")?;
+    for (tenths, name) in ZERO_TENTHS {
         fill(&mut image, pages, tenths);
         let measured = best_of_five(rt, || packed_len(alloc, &image, &dirty))?;
-        println!(rt;
-            "{tenths} tenths of zeros  {} by pages, {} at once; {} bytes packed",
-            measured.ratio_to(&copies.by_pages),
-            measured.ratio_to(&copies.at_once),
-            measured.answer
-        )?;
+        put_row(rt, name, &measured, &copies, "bytes packed")?;
     }
     Ok(())
 }

@@ -2,7 +2,7 @@
 ghost use Rattle.std.specs.Prelude.{◌≤◌};
 
 use crate::measure::best_of_five;
-use crate::yardstick::{PAGE_SIZE, Yardstick};
+use crate::yardstick::{PAGE_SIZE, Yardstick, put_row, put_title};
 use mig_packet::put_packet;
 use std::alloc::Global;
 use std::io;
@@ -22,15 +22,14 @@ pub fn run(rt: &(impl Clock + Print), alloc: Global, packets: usize) -> io::Resu
     let contents = vec![in alloc; 1u8; len]?;
     let mut text = vec![in alloc; 1u8; len + packets * HEAD_LEN]?;
     let copies = Yardstick::in_buffers(rt, alloc, len)?;
-    println!(rt;
-        "writing {packets} packets of {PAGES} pages of {PAGE_SIZE} bytes: the least time of five runs, as a ratio to a copy of the pages"
-    )?;
+    put_title(rt, "writing packets", (packets * PAGES) as u64)?;
     let measured = best_of_five(rt, || written_len(&mut text, &contents))?;
-    println!(rt;
-        "{} by pages, {} at once; {} bytes written",
-        measured.ratio_to(&copies.by_pages),
-        measured.ratio_to(&copies.at_once),
-        measured.answer
+    put_row(
+        rt,
+        "packets of 128 pages",
+        &measured,
+        &copies,
+        "bytes written",
     )
 }
 

@@ -3,7 +3,7 @@ ghost use Rattle.std.specs.Prelude.{◌≡◌, ◌≤◌, All, IfSome};
 
 use crate::guest::guest;
 use crate::measure::best_of_five;
-use crate::yardstick::{PAGE_SIZE, Yardstick};
+use crate::yardstick::{PAGE_SIZE, Yardstick, put_row, put_title};
 use mig_assemble::{Gathered, RoundFault, Target};
 use mig_mem::{MAX_TOTAL, PAGE_SIZE_4K, Table};
 use mig_packet::{PacketRead, put_packet, read_packet};
@@ -59,19 +59,12 @@ pub fn run(
     let Some((mut target, records, mut text)) = prepared(alloc, pages, carried) else {
         return println!(rt; "no memory for the guest");
     };
-    println!(rt;
-        "a round of {pages} pages of {PAGE_SIZE} bytes: the least time of five runs, as a ratio to a copy of them"
-    )?;
+    put_title(rt, "a round judged and put", pages)?;
     let put = best_of_five(
         rt,
         || answer_of(alloc, &mut target, &records, &mut text, carried),
     )?;
-    println!(rt;
-        "lawful   {} by pages, {} at once; {} packets put",
-        put.ratio_to(&copies.by_pages),
-        put.ratio_to(&copies.at_once),
-        put.answer
-    )?;
+    put_row(rt, "lawful", &put, &copies, "packets put")?;
     if !repeat_last_page(&mut text, carried) {
         return println!(rt; "no packet");
     }
@@ -79,11 +72,12 @@ pub fn run(
         rt,
         || answer_of(alloc, &mut target, &records, &mut text, carried),
     )?;
-    println!(rt;
-        "refused  {} by pages, {} at once; page {} comes twice",
-        judged.ratio_to(&copies.by_pages),
-        judged.ratio_to(&copies.at_once),
-        judged.answer
+    put_row(
+        rt,
+        "refused",
+        &judged,
+        &copies,
+        "is the page that comes twice",
     )
 }
 

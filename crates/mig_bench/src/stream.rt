@@ -1,9 +1,9 @@
 //! The writing of a round into a stream, and the reading of it.
 ghost use Rattle.std.specs.Prelude.{◌<◌, ◌≤◌, ◌*◌, ◌^◌};
 
-use crate::guest::{fill, guest};
+use crate::guest::{ZERO_TENTHS, fill, guest};
 use crate::measure::best_of_five;
-use crate::yardstick::{PAGE_SIZE, Yardstick};
+use crate::yardstick::{PAGE_SIZE, Yardstick, put_row, put_title};
 use mig_mem::{Dirty, MAX_TOTAL, Memory, PAGE_SIZE_4K};
 use mig_stream::{Mode, StreamReader, StreamWriter};
 use std::alloc::Global;
@@ -18,18 +18,11 @@ pub fn run(rt: &(impl Clock + Print), alloc: Global, pages: u64) -> io::Result<(
         return println!(rt; "no memory for the guest");
     };
     let copies = Yardstick::in_buffers(rt, alloc, pages as usize * PAGE_SIZE)?;
-    println!(rt;
-        "writing {pages} dirty pages of {PAGE_SIZE} bytes: the least time of five runs, as a ratio to a copy of them"
-    )?;
-    for tenths in [0, 5, 9] {
+    put_title(rt, "writing dirty pages, and reading them", pages)?;
+    for (tenths, name) in ZERO_TENTHS {
         fill(&mut image, pages, tenths);
         let measured = best_of_five(rt, || written_len(alloc, &image, &dirty))?;
-        println!(rt;
-            "{tenths} tenths of zeros  {} by pages, {} at once; {} bytes written",
-            measured.ratio_to(&copies.by_pages),
-            measured.ratio_to(&copies.at_once),
-            measured.answer
-        )?;
+        put_row(rt, name, &measured, &copies, "bytes written")?;
     }
     fill(&mut image, pages, 0);
     report_reading(rt, alloc, &image, &dirty, &copies)
@@ -46,15 +39,12 @@ fn report_reading(
     let Some(text) = written(alloc, image, dirty) else {
         return println!(rt; "no memory for the stream");
     };
-    println!(rt; "reading its stream without zeros")?;
-    for len in [text.len().max(1), 1 << 16] {
+    for (len, name) in [
+        (text.len().max(1), "in one piece"),
+        (1 << 16, "in pieces of 64 KiB"),
+    ] {
         let measured = best_of_five(rt, || records_in(alloc, &text, len))?;
-        println!(rt;
-            "pieces of {len}  {} by pages, {} at once; {} records",
-            measured.ratio_to(&copies.by_pages),
-            measured.ratio_to(&copies.at_once),
-            measured.answer
-        )?;
+        put_row(rt, name, &measured, copies, "records read")?;
     }
     Ok(())
 }

@@ -30,6 +30,29 @@ impl Yardstick {
     }
 }
 
+/// Prints what is measured, on how many pages.
+pub fn put_title(rt: &impl Print, title: &str, pages: u64) -> io::Result<()> {
+    println!(rt;
+        "{title}, {pages} pages of {PAGE_SIZE} bytes: the least time of five runs, as a ratio to a copy of them"
+    )
+}
+
+/// Prints the time of a work beside those of the copies, and what the work returned.
+pub fn put_row(
+    rt: &impl Print,
+    name: &str,
+    measured: &Measured,
+    copies: &Yardstick,
+    unit: &str,
+) -> io::Result<()> {
+    println!(rt;
+        "{name:<22}{} by pages, {} at once; {} {unit}",
+        measured.ratio_to(&copies.by_pages),
+        measured.ratio_to(&copies.at_once),
+        measured.answer
+    )
+}
+
 fn copy_by_pages(from: &[u8], to: &mut [u8], times: usize) -> usize {
     for _ in 0..times {
         for (from, to) in from

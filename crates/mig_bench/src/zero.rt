@@ -2,7 +2,7 @@
 ghost use Rattle.std.specs.Prelude.{◌<◌, ◌≤◌};
 
 use crate::measure::best_of_five;
-use crate::yardstick::{PAGE_SIZE, Yardstick};
+use crate::yardstick::{PAGE_SIZE, Yardstick, put_row, put_title};
 use mig_zero::is_zero;
 use std::alloc::Global;
 use std::io;
@@ -22,10 +22,7 @@ pub fn run(
     let mut memory = vec![in alloc; 0u8; len]?;
     let mut other = vec![in alloc; 0u8; len]?;
     let copies = Yardstick::new(rt, &memory, &mut other, 1)?;
-    println!(rt;
-        "is_zero of {} pages of {PAGE_SIZE} bytes: the least time of five runs, as a ratio to a copy of them",
-        len / PAGE_SIZE
-    )?;
+    put_title(rt, "the zero test", (len / PAGE_SIZE) as u64)?;
     report(rt, "pages of zeros", &memory, 1, &copies)?;
     set_in_each_page(&mut memory, 0, 1);
     report(rt, "first byte set", &memory, 1, &copies)?;
@@ -48,12 +45,7 @@ fn report(
     copies: &Yardstick,
 ) -> io::Result<()> {
     let measured = best_of_five(rt, || zero_pages(memory, times))?;
-    println!(rt;
-        "{name:<18}{} by pages, {} at once; {} found zero",
-        measured.ratio_to(&copies.by_pages),
-        measured.ratio_to(&copies.at_once),
-        measured.answer
-    )
+    put_row(rt, name, &measured, copies, "found zero")
 }
 
 fn zero_pages(memory: &[u8], times: usize) -> usize {

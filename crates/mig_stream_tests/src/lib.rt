@@ -1,12 +1,7 @@
-//! Tests of the stream's writer and reader: the worked examples, and each call that takes memory with each of its growths refused.
+//! Tests of the stream's writer and reader: each call that takes memory with its growths refused.
 //!
-//! They show what no contract says: that a call succeeds where there is memory, what its answers look like in numbers,
-//! and what stands after a refused growth. What the contracts say isn't tested again.
+//! The worked examples are cases of `mig_rows`.
 #![tactic(auto)]
 
 #[cfg(test)]
-mod reader;
-#[cfg(test)]
 mod refused;
-#[cfg(test)]
-mod writer;

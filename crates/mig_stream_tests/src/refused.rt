@@ -1,7 +1,7 @@
 //! Each call on streams that takes memory, with its first growth refused, then its second, until a run has no refusal. A refused
 //! run answers want of memory and leaves what it was handed as it was; the run with memory answers as ever.
 
-use mig_examples::{
+use mig_fixtures::{
     SINGLE, Step, at, feed, has_no_round, has_round, marked, part, reader, set_first, table,
     written, zeroed,
 };

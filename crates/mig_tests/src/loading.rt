@@ -1,6 +1,6 @@
 //! What the tests of loads share.
 
-use mig_examples::is_same;
+use mig_fixtures::is_same;
 use mig_load::{LoadFault, Loaded, Origin, load_single};
 use mig_mem::{MAX_TOTAL, Memory, is_page_size};
 use std::alloc::Allocator;

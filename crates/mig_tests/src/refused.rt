@@ -1,110 +1,20 @@
-//! Each call that takes memory, with its first growth refused, then its second, until a run has no refusal. A refused run
-//! answers want of memory and leaves what it was handed as it was; the run with memory answers as ever.
+//! Each call on senders, targets and loads that takes memory, with its first growth refused, then its second, until a run has no
+//! refusal. A refused run answers want of memory and leaves what it was handed as it was; the run with memory answers as ever.
 
 use crate::loading::{is_told, load};
-use mig_assemble::Target;
-use mig_examples::{
-    Step, at, has_byte, is_full, list, mark, marked, set, set_first, table, written, zeroed,
+use crate::rounds::{packets_of, records, text_of_packets};
+use mig_assemble::{Gathered, RoundFault, Target};
+use mig_fixtures::{
+    Step, at, has_byte, is_full, marked, put_round, set, set_first, table, written, zeroed,
 };
 use mig_load::{Fault, LoadFault, Loaded, Origin};
-use mig_mem::{Dirty, Memory, PAGE_SIZE_4K, Table, TableFault};
+use mig_mem::{NoMemory, PAGE_SIZE_4K};
 use mig_refusing::{Refusing, with_each_growth_refused};
 use mig_send::SingleSender;
 use std::alloc::Allocator;
 use std::test::Fail;
 
 const BLOCKS: [(&str, u64); 2] = [("a", 2), ("pc.ram", 65)];
-
-fn has_blocks<A: Allocator>(table: &Table<A>) -> bool {
-    table.len() == 2
-        && table.find(b"pc.ram") == Some(1)
-        && table.holds(at(1, 64))
-        && !table.holds(at(1, 65))
-}
-
-// A table in memory of one allocator, of a list in memory of another.
-fn new_table<'a>(
-    others: &'a Refusing,
-    heap: &'a Refusing,
-) -> Result<Table<&'a Refusing>, TableFault> {
-    match list(others, &BLOCKS) {
-        Ok(list) => Table::new(heap, PAGE_SIZE_4K, list),
-        Err(_) => Err(TableFault::NoMemory),
-    }
-}
-
-#[test]
-fn table_new(rt: HostRuntime) -> Result<(), Fail> {
-    let heap = Refusing::new(rt.alloc(), 0);
-    let others = Refusing::new(rt.alloc(), 0);
-    with_each_growth_refused!(rt, heap, new_table(&others, &heap), made => {
-        assert!(rt; has_blocks(&made));
-    });
-}
-
-#[test]
-fn table_copy(rt: HostRuntime) -> Result<(), Fail> {
-    let heap = Refusing::new(rt.alloc(), 0);
-    let made = table(&heap, &BLOCKS).expect(&rt, "a table");
-    with_each_growth_refused!(rt, heap, made.try_copy(), copy => {
-        assert!(rt; has_blocks(&made));
-        assert!(rt; copy.same(&made));
-    });
-}
-
-#[test]
-fn memory_zeroed(rt: HostRuntime) -> Result<(), Fail> {
-    let heap = Refusing::new(rt.alloc(), 0);
-    let table = table(&heap, &BLOCKS).expect(&rt, "a table");
-    with_each_growth_refused!(rt, heap, Memory::zeroed(&heap, &table), memory => {
-        assert!(rt; memory.table().same(&table));
-        assert!(rt; is_full(&memory, at(1, 64), 0));
-    });
-}
-
-#[test]
-fn memory_copy(rt: HostRuntime) -> Result<(), Fail> {
-    let heap = Refusing::new(rt.alloc(), 0);
-    let mut memory = zeroed(&heap, &BLOCKS).expect(&rt, "a memory");
-    assert!(rt; set(&mut memory, 1, 5, 7).is_some());
-    with_each_growth_refused!(rt, heap, memory.try_copy(), copy => {
-        assert!(rt; has_byte(&memory, at(1, 0), 5, 7));
-        assert!(rt; has_byte(&copy, at(1, 0), 5, 7));
-        assert!(rt; copy.table().same(memory.table()));
-    });
-}
-
-#[test]
-fn dirty_none(rt: HostRuntime) -> Result<(), Fail> {
-    let heap = Refusing::new(rt.alloc(), 0);
-    let table = table(&heap, &BLOCKS).expect(&rt, "a table");
-    with_each_growth_refused!(rt, heap, Dirty::none(&heap, &table), dirty => {
-        assert!(rt; dirty.table().same(&table));
-        assert!(rt; dirty.count() == 0);
-    });
-}
-
-#[test]
-fn dirty_pages(rt: HostRuntime) -> Result<(), Fail> {
-    let heap = Refusing::new(rt.alloc(), 0);
-    let dirty = marked(&heap, &BLOCKS, &[at(1, 64), at(0, 1), at(1, 0)]).expect(&rt, "a set");
-    with_each_growth_refused!(rt, heap, dirty.pages(), pages => {
-        assert!(rt; pages.as_slice() == [at(0, 1), at(1, 0), at(1, 64)].as_slice());
-        assert!(rt; dirty.count() == 3);
-    });
-}
-
-// It takes no memory: the growth that is to be refused doesn't come.
-#[test]
-fn dirty_mark(rt: HostRuntime) {
-    let heap = Refusing::new(rt.alloc(), 0);
-    let mut dirty = marked(&heap, &BLOCKS, &[]).expect(&rt, "a set");
-    heap.refuse(1);
-    for place in [at(0, 1), at(1, 0), at(1, 64)] {
-        assert!(rt; mark(&mut dirty, place) == Some(true));
-    }
-    assert!(rt; heap.is_waiting());
-}
 
 // The text of a sender that was given nothing.
 fn is_empty_sending<A: Allocator + Copy>(alloc: A, sender: SingleSender<A>) -> bool {
@@ -234,4 +144,51 @@ fn loads(rt: HostRuntime) -> Result<(), Fail> {
         assert!(rt; is_told(&loaded, 4, 0));
         assert!(rt; has_sent_page(&loaded));
     });
+}
+
+// A packet gathered takes one growth at first; after a refused one the list is as it was.
+#[test]
+fn gathered_push(rt: HostRuntime) {
+    let heap = Refusing::new(rt.alloc(), 0);
+    let text = text_of_packets(rt.alloc()).expect(&rt, "a text");
+    let packets = packets_of(rt.alloc(), &text).expect(&rt, "packets");
+    let packet = *packets.first().expect(&rt, "a packet");
+    let mut gathered = Gathered::new(&heap);
+    assert!(rt; gathered.len() == 0);
+    heap.refuse(1);
+    assert!(rt; gathered.push(packet) == Err(NoMemory));
+    assert!(rt; !heap.is_waiting());
+    assert!(rt; gathered.len() == 0);
+    heap.refuse(2);
+    assert!(rt; gathered.push(packet) == Ok(()));
+    assert!(rt; heap.is_waiting());
+    assert!(rt; gathered.len() == 1);
+}
+
+#[test]
+fn target_round(rt: HostRuntime) -> Result<(), Fail> {
+    let heap = Refusing::new(rt.alloc(), 0);
+    let round = records(rt.alloc()).expect(&rt, "a round");
+    let text = text_of_packets(rt.alloc()).expect(&rt, "a text");
+    let packets = packets_of(rt.alloc(), &text).expect(&rt, "packets");
+    let table = table(&heap, &[("a", 2)]).expect(&rt, "a table");
+    let mut target = Target::new(&heap, &table).expect(&rt, "a memory");
+    for nth in 1..100u64 {
+        heap.refuse(nth);
+        let run = put_round(rt.alloc(), &mut target, &round, &packets).expect(&rt, "a run");
+        let is_waiting = heap.is_waiting();
+        heap.refuse(0);
+        let is_whole = run == Ok(());
+        assert!(rt; is_waiting == is_whole);
+        assert!(rt; target.rounds() == u64::from(is_whole));
+        assert!(rt; target.base() == 2 * u64::from(is_whole));
+        assert!(rt; has_byte(target.memory(), at(0, 1), 0, 9) == is_whole);
+        if is_whole {
+            assert!(rt; nth > 1);
+            return Ok(());
+        }
+        assert!(rt; run == Err(RoundFault::NoMemory));
+        assert!(rt; is_full(target.memory(), at(0, 1), 0));
+    }
+    panic!(rt; "each run had a refusal");
 }

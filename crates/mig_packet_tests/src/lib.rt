@@ -1,0 +1,7 @@
+//! Tests of packets and channels: each call that takes memory with its growths refused, and the gate that does nothing.
+//!
+//! The worked examples are cases of `mig_rows`.
+#![tactic(auto)]
+
+#[cfg(test)]
+mod refused;

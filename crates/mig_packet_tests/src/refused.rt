@@ -1,0 +1,139 @@
+//! Each call on packets and channels that takes memory, with its first growth refused, then its second, until a run has no
+//! refusal. A refused run answers want of memory and leaves what it was handed as it was; the run with memory answers as ever.
+
+use mig_fixtures::{channel_reader, feed_channel, put_page_and_zeros, two_page_channel};
+use mig_packet::{ChannelReader, ChannelState, Gate, NoMemory, OpenGate, Step, put_packet_head};
+use mig_refusing::Refusing;
+use std::alloc::Allocator;
+use uuid::Uuid;
+
+// A text of three bytes in a buffer without room for more.
+fn three<'a>(heap: &'a Refusing) -> Option<Vec<u8, &'a Refusing>> {
+    Vec::from_slice(heap, &[5, 6, 7]).ok()
+}
+
+#[test]
+fn packets(rt: HostRuntime) {
+    let heap = Refusing::new(rt.alloc(), 0);
+    let mut wanted = three(&heap).expect(&rt, "a text");
+    assert!(rt; put_page_and_zeros(&mut wanted).is_ok());
+    let mut text = three(&heap).expect(&rt, "a text");
+    heap.refuse(1);
+    assert!(rt; put_page_and_zeros(&mut text) == Err(NoMemory));
+    assert!(rt; !heap.is_waiting());
+    assert!(rt; text.as_slice() == [5u8, 6, 7].as_slice());
+    heap.refuse(2);
+    assert!(rt; put_page_and_zeros(&mut text) == Ok(()));
+    assert!(rt; heap.is_waiting());
+    assert!(rt; text.as_slice() == wanted.as_slice());
+}
+
+// A head takes one growth. Its page appended by the caller, it is the whole packet.
+#[test]
+fn heads(rt: HostRuntime) {
+    let heap = Refusing::new(rt.alloc(), 0);
+    let mut text = three(&heap).expect(&rt, "a text");
+    heap.refuse(1);
+    let run = put_packet_head(4096, &mut text, 0, false, b"a", &[4096], &[0]);
+    assert!(rt; run == Err(NoMemory));
+    assert!(rt; text.as_slice() == [5u8, 6, 7].as_slice());
+    heap.refuse(2);
+    let run = put_packet_head(4096, &mut text, 0, false, b"a", &[4096], &[0]);
+    assert!(rt; run == Ok(()));
+    assert!(rt; heap.is_waiting());
+    heap.refuse(0);
+    assert!(rt; text.len() == 1347);
+    let mut page = [0u8; 4096];
+    page[0] = 9;
+    assert!(rt; text.extend_from_slice(&page).is_ok());
+    let mut wanted = three(&heap).expect(&rt, "a text");
+    assert!(rt; put_page_and_zeros(&mut wanted).is_ok());
+    assert!(rt; text.as_slice() == wanted.as_slice());
+}
+
+// Whether there is no further round.
+fn has_no_round<A: Allocator + Copy>(reader: &mut ChannelReader<A>) -> bool {
+    match reader.take_round() {
+        Ok(None) => true,
+        _ => false,
+    }
+}
+
+// Whether the next round has the two packets of that channel.
+fn has_round<A: Allocator + Copy>(reader: &mut ChannelReader<A>) -> bool {
+    let Ok(Some(round)) = reader.take_round() else {
+        return false;
+    };
+    match round.packets() {
+        Ok(packets) => packets.iter().map(|packet| packet.number()).eq(0..2),
+        Err(_) => false,
+    }
+}
+
+// Whether a reader has read so many bytes of the channel of two pages, and no round is whole.
+fn has_read<A: Allocator + Copy>(reader: &mut ChannelReader<A>, len: u64) -> bool {
+    reader.state() == ChannelState::Reading
+        && reader.fed() == len
+        && reader.hello_id().is_some() == (len >= 64)
+        && has_no_round(reader)
+}
+
+// A refused piece leaves the reader as it was, also where the packet that it makes whole was taken before the growth; fed
+// again with memory, it is read as ever.
+#[test]
+fn pieces(rt: HostRuntime) {
+    let heap = Refusing::new(rt.alloc(), 0);
+    let text = two_page_channel(rt.alloc()).expect(&rt, "a text");
+    for len in [0usize, 10, 64, 70, 1408, 5000, 5504, 5600] {
+        let (front, rest) = text.split_at_checked(len).expect(&rt, "two pieces");
+        let mut reader = channel_reader(&heap, 4096, Uuid::nil(), 1).expect(&rt, "a reader");
+        assert!(rt; feed_channel(&mut reader, front).is_some_and(|fed| fed.is_ok()));
+        let mut refused = 0u64;
+        for nth in 1..100u64 {
+            heap.refuse(nth);
+            let run = feed_channel(&mut reader, rest).expect(&rt, "it isn't over");
+            let is_waiting = heap.is_waiting();
+            heap.refuse(0);
+            if run.is_ok() {
+                assert!(rt; is_waiting);
+                break;
+            }
+            assert!(rt; !is_waiting);
+            assert!(rt; has_read(&mut reader, len as u64));
+            refused = nth;
+        }
+        assert!(rt; refused > 0);
+        assert!(rt; has_round(&mut reader));
+        reader.end();
+        assert!(rt; reader.state() == ChannelState::Closed);
+    }
+}
+
+// A round's packets are lent, in a list that is the only growth; to take a round takes none.
+#[test]
+fn rounds(rt: HostRuntime) {
+    let heap = Refusing::new(rt.alloc(), 0);
+    let text = two_page_channel(rt.alloc()).expect(&rt, "a text");
+    let mut reader = channel_reader(&heap, 4096, Uuid::nil(), 1).expect(&rt, "a reader");
+    assert!(rt; feed_channel(&mut reader, &text).is_some_and(|fed| fed.is_ok()));
+    heap.refuse(1);
+    let Ok(Some(round)) = reader.take_round() else {
+        panic!(rt; "no round")
+    };
+    assert!(rt; heap.is_waiting());
+    assert!(rt; round.packets().is_err());
+    assert!(rt; !heap.is_waiting());
+    heap.refuse(2);
+    let packets = round.packets().ok().expect(&rt, "its packets");
+    assert!(rt; heap.is_waiting());
+    assert!(rt; packets.len() == 2);
+    assert!(rt; packets[0].number() == 0 && packets[1].sync());
+}
+
+// It returns, and does nothing that can be seen.
+#[test]
+fn the_open_gate(rt: HostRuntime) {
+    OpenGate.pass(0, Step::Drawn(1));
+    OpenGate.pass(254, Step::Pushed(u64::MAX));
+    assert!(rt; NoMemory.number() == 60);
+}

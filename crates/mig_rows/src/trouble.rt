@@ -1,0 +1,48 @@
+//! Why a line of a case can't be followed.
+
+use mig_mem::NoMemory;
+use std::alloc::{AllocError, AllocFailed};
+use std::fmt;
+
+/// Why a line can't be followed.
+#[derive(Clone, Copy, Debug, PartialEq, Eq)]
+pub enum Trouble {
+    /// Its words aren't those of any line, or a call's conditions aren't met.
+    Line,
+    NoMemory,
+}
+
+pub type Done = Result<(), Trouble>;
+
+impl fmt::Display for Trouble {
+    fn fmt<W: fmt::Write>(&self, f: &mut fmt::Formatter<W>) -> fmt::Result {
+        match self {
+            Trouble::Line => f.write_str("the line can't be followed"),
+            Trouble::NoMemory => f.write_str("no memory"),
+        }
+    }
+}
+
+impl From<AllocError> for Trouble {
+    fn from(_: AllocError) -> Trouble {
+        Trouble::NoMemory
+    }
+}
+
+impl<T: Drop> From<AllocFailed<T>> for Trouble {
+    fn from(_: AllocFailed<T>) -> Trouble {
+        Trouble::NoMemory
+    }
+}
+
+impl From<NoMemory> for Trouble {
+    fn from(_: NoMemory) -> Trouble {
+        Trouble::NoMemory
+    }
+}
+
+impl From<mig_packet::NoMemory> for Trouble {
+    fn from(_: mig_packet::NoMemory) -> Trouble {
+        Trouble::NoMemory
+    }
+}
