@@ -14,14 +14,15 @@ use Rattle.mig_mem.specs.Place.{IsPlace, place_at, place_lt, place_eq}
 use Rattle.mig_mem.specs.Image.{Page, Image, zero_page}
 use Rattle.mig_mem.specs.Round.{with_round}
 use Rattle.mig_mem.proofs.Members.{All-flat_map, map-map}
-use Rattle.mig_stream.specs.Round.{StreamRound}
+use Rattle.mig_stream.specs.Round.{RoundOfRecords}
 use Rattle.mig_packet.specs.declared.packet.Packet.{Packet}
 use Rattle.mig_packet.specs.Packet.{NormalPage, Fields}
 use Rattle.mig_packet.specs.Lent.{fields}
 use Rattle.mig_assemble.specs.declared.fault.RoundFault.{RoundFault}
 use Rattle.mig_assemble.specs.declared.fault.RoundFault.TheVariants.{Foreign, Doubled, Missing, DoublePage}
-use Rattle.mig_assemble.specs.Judging.{least, lesser, twice, absent, numbers, offsets, place_fault, page_in, pages_in, packet_pages, least_place_fault, all_round_pages, places_of, refusal}
-use Rattle.mig_assemble.specs.Target.{Target, pages_of_round, after_round}
+use Rattle.mig_assemble.specs.Judging.{least, lesser, twice, absent, numbers, offsets, place_fault, page_in, pages_in}
+use Rattle.mig_assemble.specs.Judging.{packet_pages, least_place_fault, all_round_pages, places_of, refusal}
+use Rattle.mig_assemble.specs.Target.{LoadTarget, pages_of_round, after_round}
 use Rattle.mig_assemble.proofs.Putting.{put_after}
 use Rattle.mig_assemble.proofs.PacketParts.{right_offsets, unknown_has_none}
 
@@ -69,7 +70,8 @@ none_wrong table packets e =
     go None is none = none_least (λ p q. nat_lt p.number q.number) (filter (lies_wrong table) packets) is
     go (Some q) is none =
         let wrong : is_some (place_fault table q) ≡ true =
-        least_has (λ p q. nat_lt p.number q.number) (λ p. lies_wrong table p ≡ true) (filter (lies_wrong table) packets) q (filter_passes (lies_wrong table) packets) is in
+        least_has (λ p q. nat_lt p.number q.number) (λ p. lies_wrong table p ≡ true) (filter (lies_wrong table) packets) q
+        (filter_passes (lies_wrong table) packets) is in
         absurd (let no : is_some (place_fault table q) ≡ false = ap (λ (o : Option RoundFault). is_some o) none in cc)
 
 -- THE PAGES OF A LAWFUL ROUND LIE RIGHT: no packet has a fault of its places.
@@ -91,19 +93,22 @@ all_of_map P f xs all k d lt = subst P (get_or-map f xs k d (f d) lt) (all k (f 
 -- the same of packets that lend their bytes
 pub each_lies_right : (table : RamTable) (base : ℕ) (records : List Page) (packets : List Packet) → refusal table base records (map fields packets) ≡ None
     → All (λ p. place_fault table (fields p) ≡ None) packets
-each_lies_right table base records packets e = all_of_map (λ p. place_fault table p ≡ None) fields packets (lawful_lies_right table base records (map fields packets) e)
+each_lies_right table base records packets e =
+    all_of_map (λ p. place_fault table p ≡ None) fields packets (lawful_lies_right table base records (map fields packets) e)
 
 -- ---- where the pages lie
 
 -- the places of the pages that a packet brings into a block are those of its offsets
-places_in : (table : RamTable) (packet : Fields) (b : ℕ) → places_of (pages_in table packet b) ≡ map (λ offset. place_at b (offset / table.page_size)) (offsets packet)
+places_in : (table : RamTable) (packet : Fields) (b : ℕ)
+    → places_of (pages_in table packet b) ≡ map (λ offset. place_at b (offset / table.page_size)) (offsets packet)
 places_in table packet b =
     let place : Page → Place = λ x. x.place in
     let at : ℕ → Place = λ offset. place_at b (offset / table.page_size) in
     let normal : NormalPage → Page = λ page. page_in table b page.offset page.content in
     let zeros : ℕ → Page = λ offset. page_in table b offset (zero_page table.page_size) in
     map-append place (map normal packet.normal) (map zeros packet.zero)
-    ∙ ap (λ (l : List Place). l ++ map place (map zeros packet.zero)) (map-map place normal packet.normal ∙ sym (map-map at (λ (page : NormalPage). page.offset) packet.normal))
+    ∙ ap (λ (l : List Place). l ++ map place (map zeros packet.zero))
+    (map-map place normal packet.normal ∙ sym (map-map at (λ (page : NormalPage). page.offset) packet.normal))
     ∙ ap (λ (l : List Place). map at (map (λ (page : NormalPage). page.offset) packet.normal) ++ l) (map-map place zeros packet.zero)
     ∙ sym (map-append at (map (λ (page : NormalPage). page.offset) packet.normal) packet.zero)
 
@@ -111,7 +116,8 @@ packet_in_table : (table : RamTable) (packet : Fields) → place_fault table pac
 packet_in_table table packet right = all_of_map (IsPlace table) (λ (x : Page). x.place) (packet_pages table packet) (go (block_of table.blocks packet.id) refl)
   where
     go : (o : Option ℕ) → block_of table.blocks packet.id ≡ o → All (IsPlace table) (places_of (packet_pages table packet))
-    go None unknown = All-same (IsPlace table) (places_of (packet_pages table packet)) [] (ap places_of (unknown_has_none table packet right unknown)) (All-nil (IsPlace table))
+    go None unknown = All-same (IsPlace table) (places_of (packet_pages table packet)) [] (ap places_of (unknown_has_none table packet right unknown))
+        (All-nil (IsPlace table))
     go (Some b) known =
         let at : ℕ → Place = λ offset. place_at b (offset / table.page_size) in
         All-same (IsPlace table) (places_of (packet_pages table packet)) (map at (offsets packet))
@@ -132,7 +138,7 @@ lawful_in_table table base records packets first lawful =
 
 -- ---- what it leaves
 
-pub applied : (t s : Target) (m : Image) (round : StreamRound) (packets gathered : List Packet) → packets ≡ gathered
+pub applied : (t s : LoadTarget) (m : Image) (round : RoundOfRecords) (packets gathered : List Packet) → packets ≡ gathered
     → s.memory ≡ with_round t.memory (pages_of_round round) → s.rounds ≡ t.rounds + 1 → s.base ≡ t.base
     → m ≡ with_round s.memory (flat_map (packet_pages s.memory.table) (map fields packets))
     → record { memory = m; rounds = s.rounds; base = s.base + length packets } ≡ after_round t round (map fields gathered)

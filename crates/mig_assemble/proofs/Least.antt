@@ -1,5 +1,6 @@
 -- The least element of a list, and the least that comes twice.
-use Rattle.std.proofs.Common.{ℕ, ◌≡◌, ◌≤◌, List, [], ◌∷◌, ◌++◌, map, get_or, refl, sym, ap, ◌∙◌, inl, inr, arith, Option, Some, None, Bool, true, false, cond, subst}
+use Rattle.std.proofs.Common.{ℕ, ◌≡◌, ◌≤◌, List, [], ◌∷◌, ◌++◌, map, get_or, refl, sym, ap, ◌∙◌, inl}
+use Rattle.std.proofs.Common.{inr, arith, Option, Some, None, Bool, true, false, cond, subst}
 use Rattle.std.specs.Prelude.{◌⊎◌, Contains, All, filter, count_by, nat_lt, nat_le}
 use Rattle.std.specs.Cmp.{IsStrictWeakOrder}
 use Rattle.std.proofs.lemmas.Bool.{cases_Bool, cond_both, cond-true, cond-false, ltb-false, le-leb, leb-true}
@@ -7,7 +8,8 @@ use Rattle.std.proofs.lemmas.List.Elements.{All-cons, All-nil, All-contains, Con
 use Rattle.std.proofs.lemmas.List.Sorted.{IsStrictWeakOrder-by_number}
 use Rattle.std.proofs.lemmas.Option.{same_Some}
 use Rattle.mig_assemble.specs.Judging.{least, lesser, twice}
-use Rattle.mig_assemble.proofs.Elements.{contains_cases, contains_here, contains_later, contains_none, all_from, contains_filter, filter_contains, contains_map, count-cons, count-push, count_zero, count_some}
+use Rattle.mig_assemble.proofs.Elements.{contains_cases, contains_here, contains_later, contains_none, all_from, contains_filter}
+use Rattle.mig_assemble.proofs.Elements.{filter_contains, contains_map, count-cons, count-push, count_zero, count_some}
 
 pub nat_order : IsStrictWeakOrder nat_lt
 nat_order = IsStrictWeakOrder-by_number (λ (n : ℕ). n)

@@ -11,3 +11,6 @@ pub mod Samples
 pub mod Putting
 pub mod PacketParts
 pub mod Lawful
+pub mod Runs
+pub mod Once
+pub mod LawfulRounds

@@ -1,5 +1,6 @@
 -- Places that are marked one after another.
-use Rattle.std.proofs.Common.{ℕ, ◌≡◌, ◌<◌, ◌+◌, List, [], ◌∷◌, ◌++◌, length, map, take, get_or, refl, sym, ap, ◌∙◌, inl, inr, arith, Option, Some, None, Bool, true, false, subst, append_assoc, ◌||◌}
+use Rattle.std.proofs.Common.{ℕ, ◌≡◌, ◌<◌, ◌+◌, List, [], ◌∷◌, ◌++◌, length, map, take, get_or, refl, sym, ap, ◌∙◌, inl}
+use Rattle.std.proofs.Common.{inr, arith, Option, Some, None, Bool, true, false, subst, append_assoc, ◌||◌}
 use Rattle.std.specs.Prelude.{Contains, flat_map}
 use Rattle.std.specs.List.{All}
 use Rattle.std.proofs.lemmas.Bool.{or_cases, or_parts}
@@ -86,7 +87,8 @@ pub seen_step : (table now : RamTable) → now ≡ table → (seen new : PlaceSe
     → HasSeen table before seen double → before ++ more ≡ after → HasSeen table after new result
 seen_step table now same seen new double result before more after step so_far is =
     subst (λ (ps : List Place). HasSeen table ps new result) is
-    (subst (λ (t : RamTable). HasSeen t (before ++ more) new result) same (step before (subst (λ (t : RamTable). HasSeen t before seen double) (sym same) so_far)))
+    (subst (λ (t : RamTable). HasSeen t (before ++ more) new result) same
+    (step before (subst (λ (t : RamTable). HasSeen t before seen double) (sym same) so_far)))
 
 -- with the marks taken away it is as it was before the first
 pub seen_cleared : (start seen : PlaceSet) (places : List Place) (double : Option Place) → start.marked ≡ [] → HasSeen start.table places seen double

@@ -27,7 +27,8 @@ module _ (table : RamTable) where
 
   -- a packet that lies right changes nothing
   pub kept : (ps : List Fields) (q : Fields) → place_fault table q ≡ None → least_misplaced table (ps ++ q ∷ []) ≡ least_misplaced table ps
-  kept ps q none = ap (λ (l : List Fields). least number_lt l) (filter-append is_bad ps (q ∷ []) ∙ ap (λ (l : List Fields). filter is_bad ps ++ l) one ∙ append-nil (filter is_bad ps))
+  kept ps q none = ap (λ (l : List Fields). least number_lt l)
+      (filter-append is_bad ps (q ∷ []) ∙ ap (λ (l : List Fields). filter is_bad ps ++ l) one ∙ append-nil (filter is_bad ps))
     where
       one : filter is_bad (q ∷ []) ≡ []
       one = cond-false (is_bad q) (q ∷ []) [] (ap (λ (o : Option RoundFault). is_some o) none)
@@ -35,7 +36,8 @@ module _ (table : RamTable) where
   -- one that lies wrong is the new one, unless the old one has a number that is as low
   more : (ps : List Fields) (q : Fields) → is_bad q ≡ true → least_misplaced table (ps ++ q ∷ []) ≡ Some (newer number_lt (least_misplaced table ps) q)
   more ps q bad =
-      ap (λ (l : List Fields). least number_lt l) (filter-append is_bad ps (q ∷ []) ∙ ap (λ (l : List Fields). filter is_bad ps ++ l) (cond-true (is_bad q) (q ∷ []) [] bad))
+      ap (λ (l : List Fields). least number_lt l)
+      (filter-append is_bad ps (q ∷ []) ∙ ap (λ (l : List Fields). filter is_bad ps ++ l) (cond-true (is_bad q) (q ∷ []) [] bad))
       ∙ least-push number_lt number_order (filter is_bad ps) q
 
   pub first_bad : (ps : List Fields) (q : Fields) → is_bad q ≡ true → None ≡ least_misplaced table ps → Some q ≡ least_misplaced table (ps ++ q ∷ [])

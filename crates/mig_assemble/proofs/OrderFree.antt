@@ -87,7 +87,8 @@ refusal_bag table base records ps qs bag =
         rw (places, doubles) refl
 
     go : (o : Option RoundFault) → number_refusal base (numbers qs) ≡ o
-        → option_or (number_refusal base (numbers ps)) (page_refusal table records ps) ≡ option_or (number_refusal base (numbers qs)) (page_refusal table records qs)
+        → option_or (number_refusal base (numbers ps)) (page_refusal table records ps)
+        ≡ option_or (number_refusal base (numbers qs)) (page_refusal table records qs)
     go (Some f) e = rw (same ∙ e, e) refl
     go None e = rw (same ∙ e, e) (same_page_refusal e)
 
@@ -101,10 +102,12 @@ has_last p (y ∷ xs) c e = go (λ q. has_last p xs c q) (last_at p xs) refl (sy
     go : (last_at p xs ≡ Some c → Contains xs c × (c.place ≡ p)) → (o : Option Page) → last_at p xs ≡ o
         → option_or (last_at p xs) (if place_eq y.place p then Some y else None) ≡ Some c → Contains (y ∷ xs) c × (c.place ≡ p)
     go ih' (Some d) is e =
-        let found : option_or (Some d) (if place_eq y.place p then Some y else None) ≡ Some c = subst (λ (o : Option Page). option_or o (if place_eq y.place p then Some y else None) ≡ Some c) is e in
+        let found : option_or (Some d) (if place_eq y.place p then Some y else None) ≡ Some c =
+        subst (λ (o : Option Page). option_or o (if place_eq y.place p then Some y else None) ≡ Some c) is e in
         let ih = ih' (is ∙ found) in (contains_later y xs c ih.0, ih.1)
     go ih' None is e =
-        let found : (if place_eq y.place p then Some y else None) ≡ Some c = subst (λ (o : Option Page). option_or o (if place_eq y.place p then Some y else None) ≡ Some c) is e in
+        let found : (if place_eq y.place p then Some y else None) ≡ Some c =
+        subst (λ (o : Option Page). option_or o (if place_eq y.place p then Some y else None) ≡ Some c) is e in
         elim (cases_Bool (place_eq y.place p)) [
           | inl t ↦
               let same : y ≡ c = same_Some y c (sym (cond-true (place_eq y.place p) (Some y) None t) ∙ found) in

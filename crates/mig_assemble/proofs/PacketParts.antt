@@ -1,5 +1,6 @@
 -- The pages of a packet: where they lie, and that its two halves are all of them.
-use Rattle.std.proofs.Common.{ℕ, ◌≡◌, ◌+◌, ◌-◌, ◌<◌, ◌≤◌, ◌/◌, ◌%◌, ◌∙◌, List, [], ◌++◌, length, map, get_or, refl, sym, ap, inl, inr, arith, Option, Some, None, Bool, false}
+use Rattle.std.proofs.Common.{ℕ, ◌≡◌, ◌+◌, ◌-◌, ◌<◌, ◌≤◌, ◌/◌, ◌%◌, ◌∙◌, List, [], ◌++◌, length, map, get_or}
+use Rattle.std.proofs.Common.{refl, sym, ap, inl, inr, arith, Option, Some, None, Bool, false}
 use Rattle.std.specs.Prelude.{◌==◌, not, nat_le, nat_lt, position, bytes_eq}
 use Rattle.std.specs.Option.{unwrap_or, option_map}
 use Rattle.std.specs.List.{range_with_len, position_or_len, All}
@@ -34,19 +35,24 @@ pub count_in_bytes : (size : ℕ) (bytes : List ℕ) → length (offsets (fields
 unfolding normal_at
 count_in_bytes size bytes =
     count_of_offsets (fields_of size bytes)
-    ∙ ap (λ (n : ℕ). n + length (fields_of size bytes).zero) (length-map (range_with_len 0 (normal_count bytes)) (normal_at size bytes) ∙ length-range_with_len 0 (normal_count bytes))
-    ∙ ap (λ (n : ℕ). normal_count bytes + n) (length-map (range_with_len (normal_count bytes) (zero_count bytes)) (offset_at bytes) ∙ length-range_with_len (normal_count bytes) (zero_count bytes))
+    ∙ ap (λ (n : ℕ). n + length (fields_of size bytes).zero)
+    (length-map (range_with_len 0 (normal_count bytes)) (normal_at size bytes) ∙ length-range_with_len 0 (normal_count bytes))
+    ∙ ap (λ (n : ℕ). normal_count bytes + n)
+    (length-map (range_with_len (normal_count bytes) (zero_count bytes)) (offset_at bytes) ∙ length-range_with_len (normal_count bytes) (zero_count bytes))
 
-pub offset_in_bytes : (size : ℕ) (bytes : List ℕ) (i : ℕ) → i < normal_count bytes + zero_count bytes → get_or (offsets (fields_of size bytes)) i 0 ≡ offset_at bytes i
+pub offset_in_bytes : (size : ℕ) (bytes : List ℕ) (i : ℕ) → i < normal_count bytes + zero_count bytes
+    → get_or (offsets (fields_of size bytes)) i 0 ≡ offset_at bytes i
 unfolding normal_at
 offset_in_bytes size bytes i lt =
     let n : ℕ = normal_count bytes in
     let first : List ℕ = map (λ (page : NormalPage). page.offset) (fields_of size bytes).normal in
     let second : List ℕ = map (offset_at bytes) (range_with_len n (zero_count bytes)) in
-    let first_is : first ≡ map (offset_at bytes) (range_with_len 0 n) = map-map (λ (page : NormalPage). page.offset) (normal_at size bytes) (range_with_len 0 n) in
+    let first_is : first ≡ map (offset_at bytes) (range_with_len 0 n) =
+    map-map (λ (page : NormalPage). page.offset) (normal_at size bytes) (range_with_len 0 n) in
     let len : length first ≡ n = ap (λ (l : List ℕ). length l) first_is ∙ length-map (range_with_len 0 n) (offset_at bytes) ∙ length-range_with_len 0 n in
     elim (cases_lt i n) [
-      | inl low ↦ get_or_append_left first second 0 i (omega (arith, len, low)) ∙ ap (λ (l : List ℕ). get_or l i 0) first_is ∙ get_or-map-range_with_len (offset_at bytes) 0 n i i 0 low (omega arith)
+      | inl low ↦ get_or_append_left first second 0 i (omega (arith, len, low)) ∙ ap (λ (l : List ℕ). get_or l i 0) first_is
+          ∙ get_or-map-range_with_len (offset_at bytes) 0 n i i 0 low (omega arith)
       | inr high ↦ get_or-append_right first second i 0 (omega (arith, len, high)) ∙ ap (λ (k : ℕ). get_or second (i - k) 0) len
           ∙ get_or-map-range_with_len (offset_at bytes) n (zero_count bytes) (i - n) i 0 (omega (arith, high, lt)) (omega (arith, high))
     ]
@@ -63,7 +69,8 @@ no_pages table packet none =
     ∙ ap (λ (l : List ℕ). map (λ (offset : ℕ). page_in table b offset (zero_page table.page_size)) l) no_zero
 
 -- a packet whose pages lie right and whose id is no block's has none
-pub unknown_has_none : (table : RamTable) (packet : Fields) → place_fault table packet ≡ None → block_of table.blocks packet.id ≡ None → packet_pages table packet ≡ []
+pub unknown_has_none : (table : RamTable) (packet : Fields) → place_fault table packet ≡ None → block_of table.blocks packet.id ≡ None
+    → packet_pages table packet ≡ []
 unknown_has_none table packet right unknown =
     no_pages table packet (elim (cases_Bool (length (offsets packet) == 0)) [
       | inl t ↦ eqb-true (length (offsets packet)) 0 t
@@ -73,20 +80,20 @@ unknown_has_none table packet right unknown =
 
 -- ---- pages that lie right
 
-not_outside : (table : RamTable) (b offset : ℕ) → b < length table.blocks → is_outside table.page_size (block table.blocks b).pages offset ≡ false
+pub not_outside : (table : RamTable) (b offset : ℕ) → b < length table.blocks → is_outside table.page_size (block table.blocks b).pages offset ≡ false
     → IsPlace table (place_at b (offset / table.page_size))
 not_outside table b offset known inside =
     let parts = or_parts (not (offset % table.page_size == 0)) (nat_le (block table.blocks b).pages (offset / table.page_size)) inside in
     record { has_block = known; has_page = leb-false (block table.blocks b).pages (offset / table.page_size) parts.1 }
 
-position_none : {X : Type 0} (p : X → Bool) (xs : List X) → position p xs ≡ None → All (λ x. p x ≡ false) xs
+pub position_none : {X : Type 0} (p : X → Bool) (xs : List X) → position p xs ≡ None → All (λ x. p x ≡ false) xs
 position_none p xs none k d lt =
     fails_before_first p xs k d (elim (cases_Bool (nat_lt (position_or_len p xs) (length xs))) [
       | inl t ↦ absurd (let found = sym none ∙ cond-true (nat_lt (position_or_len p xs) (length xs)) (Some (position_or_len p xs)) None t in cc)
       | inr f ↦ let past : length xs ≤ position_or_len p xs = ltb-false (position_or_len p xs) (length xs) f in omega (arith, past, lt)
     ])
 
-offset_fault_none : (table : RamTable) (packet : Fields) (b : ℕ) → offset_fault table packet (Some b) ≡ None
+pub offset_fault_none : (table : RamTable) (packet : Fields) (b : ℕ) → offset_fault table packet (Some b) ≡ None
     → position (is_outside table.page_size (block table.blocks b).pages) (offsets packet) ≡ None
 offset_fault_none table packet b right = go (position (is_outside table.page_size (block table.blocks b).pages) (offsets packet)) right
   where
@@ -101,18 +108,22 @@ right_offsets table packet b right names k d lt =
     let known : b < length table.blocks = (position-Some (λ (e : Block). bytes_eq e.id packet.id) table.blocks b (block table.blocks b) names).0 in
     let some : (length (offsets packet) == 0) ≡ false = ne_eqb (length (offsets packet)) 0 (λ e. omega (arith, e, lt)) in
     let fault : offset_fault table packet (Some b) ≡ None =
-    ap (offset_fault table packet) (sym names) ∙ sym (cond-false (length (offsets packet) == 0) None (offset_fault table packet (block_of table.blocks packet.id)) some) ∙ right in
-    not_outside table b (get_or (offsets packet) k d) known (position_none (is_outside table.page_size (block table.blocks b).pages) (offsets packet) (offset_fault_none table packet b fault) k d lt)
+    ap (offset_fault table packet) (sym names)
+    ∙ sym (cond-false (length (offsets packet) == 0) None (offset_fault table packet (block_of table.blocks packet.id)) some) ∙ right in
+    not_outside table b (get_or (offsets packet) k d) known
+    (position_none (is_outside table.page_size (block table.blocks b).pages) (offsets packet) (offset_fault_none table packet b fault) k d lt)
 
 pub lies : (table : RamTable) (size : ℕ) (bytes : List ℕ) (b : ℕ) → place_fault table (fields_of size bytes) ≡ None
     → block_of table.blocks (fields_of size bytes).id ≡ Some b → LiesIn table b bytes
 lies table size bytes b right names i lt =
     let len : i < length (offsets (fields_of size bytes)) = rw (count_in_bytes size bytes) lt in
-    let there : IsPlace table (place_at b (get_or (offsets (fields_of size bytes)) i 0 / table.page_size)) = right_offsets table (fields_of size bytes) b right names i 0 len in
+    let there : IsPlace table (place_at b (get_or (offsets (fields_of size bytes)) i 0 / table.page_size)) =
+    right_offsets table (fields_of size bytes) b right names i 0 len in
     rw (offset_in_bytes size bytes i lt) at there
 
 -- the place that is written
-pub place_there : (table here : RamTable) (b : ℕ) (bytes : List ℕ) (i offset size : ℕ) → here ≡ table → LiesIn table b bytes → i < normal_count bytes + zero_count bytes
+pub place_there : (table here : RamTable) (b : ℕ) (bytes : List ℕ) (i offset size : ℕ) → here ≡ table → LiesIn table b bytes
+    → i < normal_count bytes + zero_count bytes
     → offset ≡ offset_at bytes i → size ≡ table.page_size → IsPlace here (place_at b (offset / size))
 place_there table here b bytes i offset size same all lt is_offset is_size = rw (same, is_offset, is_size) (all i lt)
 
@@ -129,7 +140,8 @@ normal_page_at table b size bytes i = page_in table b (offset_at bytes i) (conte
 abbrev pub zero_page_at : RamTable → ℕ → List ℕ → ℕ → Page
 zero_page_at table b bytes i = page_in table b (offset_at bytes i) (zero_page table.page_size)
 
-pub normal_by_number : (table : RamTable) (b size : ℕ) (bytes : List ℕ) → map (normal_page_at table b size bytes) (range_with_len 0 (normal_count bytes)) ≡ normal_pages table b (fields_of size bytes)
+pub normal_by_number : (table : RamTable) (b size : ℕ) (bytes : List ℕ)
+    → map (normal_page_at table b size bytes) (range_with_len 0 (normal_count bytes)) ≡ normal_pages table b (fields_of size bytes)
 unfolding normal_at
 normal_by_number table b size bytes =
     sym (map-map (λ (page : NormalPage). page_in table b page.offset page.content) (normal_at size bytes) (range_with_len 0 (normal_count bytes)))
@@ -137,11 +149,13 @@ normal_by_number table b size bytes =
 pub zero_by_number : (table : RamTable) (b size : ℕ) (bytes : List ℕ)
     → map (zero_page_at table b bytes) (range_with_len (normal_count bytes) (zero_count bytes)) ≡ zero_pages table b (fields_of size bytes)
 zero_by_number table b size bytes =
-    sym (map-map (λ (offset : ℕ). page_in table b offset (zero_page table.page_size)) (offset_at bytes) (range_with_len (normal_count bytes) (zero_count bytes)))
+    sym (map-map (λ (offset : ℕ). page_in table b offset (zero_page table.page_size)) (offset_at bytes)
+    (range_with_len (normal_count bytes) (zero_count bytes)))
 
 -- one half after the other
 pub put_halves : (m0 m1 m2 : Image) (packet : Fields) (b : ℕ) → block_of m0.table.blocks packet.id ≡ Some b
-    → m1 ≡ with_round m0 (normal_pages m0.table b packet) → m2 ≡ with_round m1 (zero_pages m1.table b packet) → m2 ≡ with_round m0 (packet_pages m0.table packet)
+    → m1 ≡ with_round m0 (normal_pages m0.table b packet) → m2 ≡ with_round m1 (zero_pages m1.table b packet)
+    → m2 ≡ with_round m0 (packet_pages m0.table packet)
 put_halves m0 m1 m2 packet b names first second =
     second
     ∙ ap (λ (m : Image). with_round m (zero_pages m.table b packet)) first

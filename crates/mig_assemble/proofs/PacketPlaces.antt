@@ -1,5 +1,6 @@
 -- The pages of a packet: their offsets, their places, and what is wrong with them.
-use Rattle.std.proofs.Common.{ℕ, ◌≡◌, ◌<◌, ◌≤◌, ◌+◌, ◌/◌, ◌%◌, suc, zero, List, [], ◌∷◌, ◌++◌, length, map, get_or, sym, ap, ◌∙◌, inl, inr, arith, Option, Some, None, Bool, false, not}
+use Rattle.std.proofs.Common.{ℕ, ◌≡◌, ◌<◌, ◌≤◌, ◌+◌, ◌/◌, ◌%◌, suc, zero, List, [], ◌∷◌, ◌++◌, length, map}
+use Rattle.std.proofs.Common.{get_or, sym, ap, ◌∙◌, inl, inr, arith, Option, Some, None, Bool, false, not}
 use Rattle.std.specs.Prelude.{◌==◌, position, nat_le, nat_lt}
 use Rattle.std.specs.List.{range_with_len, position_or_len, All}
 use Rattle.std.specs.Option.{option_map, unwrap_or}
@@ -56,11 +57,14 @@ offset_is p i lt =
 pub fault_none : (table : RamTable) (q : Fields) → length (offsets q) ≡ 0 → place_fault table q ≡ None
 fault_none table q e = cond-true (length (offsets q) == 0) None (offset_fault table q (block_of table.blocks q.id)) (eq-eqb (length (offsets q)) 0 e)
 
-fault_some : (table : RamTable) (q : Fields) (at : Option ℕ) → (length (offsets q) ≡ 0 → ⊥) → block_of table.blocks q.id ≡ at → place_fault table q ≡ offset_fault table q at
+fault_some : (table : RamTable) (q : Fields) (at : Option ℕ) → (length (offsets q) ≡ 0 → ⊥) → block_of table.blocks q.id ≡ at
+    → place_fault table q ≡ offset_fault table q at
 fault_some table q at some e =
-    cond-false (length (offsets q) == 0) None (offset_fault table q (block_of table.blocks q.id)) (ne_eqb (length (offsets q)) 0 some) ∙ ap (offset_fault table q) e
+    cond-false (length (offsets q) == 0) None (offset_fault table q (block_of table.blocks q.id)) (ne_eqb (length (offsets q)) 0 some)
+    ∙ ap (offset_fault table q) e
 
-pub fault_unknown : (table : RamTable) (q : Fields) → (length (offsets q) ≡ 0 → ⊥) → block_of table.blocks q.id ≡ None → place_fault table q ≡ Some (UnknownBlock q.number)
+pub fault_unknown : (table : RamTable) (q : Fields) → (length (offsets q) ≡ 0 → ⊥) → block_of table.blocks q.id ≡ None
+    → place_fault table q ≡ Some (UnknownBlock q.number)
 fault_unknown table q some e = fault_some table q None some e
 
 pub fault_known : (table : RamTable) (q : Fields) (at : ℕ) → (length (offsets q) ≡ 0 → ⊥) → block_of table.blocks q.id ≡ Some at
@@ -75,7 +79,8 @@ none_passes p xs none = λ k d lt.
     let past : nat_lt (position_or_len p xs) (length xs) ≡ false = (elim (cases_Bool (nat_lt (position_or_len p xs) (length xs))) [
       | inr f ↦ f
       | inl t ↦
-          let some : position p xs ≡ Some (position_or_len p xs) = cond-true (nat_lt (position_or_len p xs) (length xs)) (Some (position_or_len p xs)) None t in absurd cc
+          let some : position p xs ≡ Some (position_or_len p xs) =
+          cond-true (nat_lt (position_or_len p xs) (length xs)) (Some (position_or_len p xs)) None t in absurd cc
     ]) in
     let all : length xs ≤ position_or_len p xs = ltb-false (position_or_len p xs) (length xs) past in
     fails_before_first p xs k d (omega arith)
@@ -86,7 +91,8 @@ pub lawful_inside : (table : RamTable) (q : Fields) (at : ℕ) → place_fault t
 lawful_inside table q at lawful found = elim (cases_eq (length (offsets q)) 0) [
   | inl none ↦ (λ k d lt. absurd (omega arith))
   | inr some ↦ none_passes (is_outside table.page_size (block table.blocks at).pages) (offsets q)
-      (map_none (Offset q.number) (position (is_outside table.page_size (block table.blocks at).pages) (offsets q)) (sym (fault_known table q at some found) ∙ lawful))
+      (map_none (Offset q.number) (position (is_outside table.page_size (block table.blocks at).pages) (offsets q))
+      (sym (fault_known table q at some found) ∙ lawful))
 ]
 
 -- ---- places
@@ -101,7 +107,8 @@ places-in table q at =
     let of_normal : NormalPage → Page = λ x. page_in table at x.offset x.content in
     let of_zero : ℕ → Page = λ o. page_in table at o (zero_page table.page_size) in
     map-append (λ (x : Page). x.place) (map of_normal q.normal) (map of_zero q.zero)
-    ∙ ap (λ (l : List Place). l ++ places_of (map of_zero q.zero)) (map-map (λ (x : Page). x.place) of_normal q.normal ∙ sym (map-map (place_of table at) (λ (x : NormalPage). x.offset) q.normal))
+    ∙ ap (λ (l : List Place). l ++ places_of (map of_zero q.zero))
+    (map-map (λ (x : Page). x.place) of_normal q.normal ∙ sym (map-map (place_of table at) (λ (x : NormalPage). x.offset) q.normal))
     ∙ ap (λ (l : List Place). map (place_of table at) (map (λ (x : NormalPage). x.offset) q.normal) ++ l) (map-map (λ (x : Page). x.place) of_zero q.zero)
     ∙ sym (map-append (place_of table at) (map (λ (x : NormalPage). x.offset) q.normal) q.zero)
 

@@ -55,7 +55,8 @@ module _ (table : RamTable) (base : ℕ) (records : List Page) (packets : List F
   pub by_numbers : (f : RoundFault) → number_refusal base (numbers packets) ≡ Some f → refusal table base records packets ≡ Some f
   by_numbers f e = refusal-parts table base records packets ∙ rw e refl
 
-  pub by_places : (f : RoundFault) → number_refusal base (numbers packets) ≡ None → least_place_fault table packets ≡ Some f → refusal table base records packets ≡ Some f
+  pub by_places : (f : RoundFault) → number_refusal base (numbers packets) ≡ None → least_place_fault table packets ≡ Some f
+      → refusal table base records packets ≡ Some f
   by_places f e g = refusal-parts table base records packets ∙ rw (e, g) refl
 
   pub by_double : (p : Place) → number_refusal base (numbers packets) ≡ None → least_place_fault table packets ≡ None → double table records packets ≡ Some p

@@ -1,10 +1,12 @@
 -- What comes twice and what is missing, in numbers in ascending order.
-use Rattle.std.proofs.Common.{ℕ, ◌≡◌, ◌<◌, ◌≤◌, ◌+◌, suc, List, [], ◌∷◌, length, get_or, drop, refl, sym, ap, ◌∙◌, inl, inr, arith, Option, Some, None, Bool, true, false, not, cond}
+use Rattle.std.proofs.Common.{ℕ, ◌≡◌, ◌<◌, ◌≤◌, ◌+◌, suc, List, [], ◌∷◌, length, get_or, drop, refl, sym, ap}
+use Rattle.std.proofs.Common.{◌∙◌, inl, inr, arith, Option, Some, None, Bool, true, false, not, cond}
 use Rattle.std.specs.Prelude.{◌==◌, ◌||◌, Contains, All, AllPairs, filter, count_by, nat_lt, nat_le, nat_eq, IsPermutation, IsSorted, if◌then◌else◌}
 use Rattle.std.specs.List.{range_with_len, list_any}
 use Rattle.std.specs.Option.{option_map, option_or}
 use Rattle.std.specs.Ordering.{nat_cmp}
-use Rattle.std.proofs.lemmas.Bool.{cases_Bool, cases_eq, cond-true, cond-false, le-ltb, lt-ltb, lt-leb, le-leb, ltb-true, ltb-false, eq-eqb, eqb-true, eqb-false, ne_eqb, or_from, or_left, not_from_true, not_from_false}
+use Rattle.std.proofs.lemmas.Bool.{cases_Bool, cases_eq, cond-true, cond-false, le-ltb, lt-ltb, lt-leb, le-leb, ltb-true, ltb-false}
+use Rattle.std.proofs.lemmas.Bool.{eq-eqb, eqb-true, eqb-false, ne_eqb, or_from, or_left, not_from_true, not_from_false}
 use Rattle.std.proofs.lemmas.List.{drop_more}
 use Rattle.std.proofs.lemmas.List.Kept.{AllPairs-cons}
 use Rattle.std.proofs.lemmas.List.Elements.{All-cons, All-contains}
@@ -16,19 +18,20 @@ use Rattle.mig_assemble.specs.declared.fault.RoundFault.{RoundFault}
 use Rattle.mig_assemble.specs.declared.fault.RoundFault.TheVariants.{Foreign, Doubled, Missing}
 use Rattle.mig_assemble.specs.Judging.{least, twice, absent}
 use Rattle.mig_assemble.specs.Sorted.{first_pair, first_gap, number_refusal, sorted_refusal}
-use Rattle.mig_assemble.proofs.Elements.{contains_cases, contains_here, contains_later, contains_filter, filter_contains, all_from, filter_none, count-cons, count_zero, count_some}
+use Rattle.mig_assemble.proofs.Elements.{contains_cases, contains_here, contains_later, contains_filter}
+use Rattle.mig_assemble.proofs.Elements.{filter_contains, all_from, filter_none, count-cons, count_zero, count_some}
 use Rattle.mig_assemble.proofs.Bags.{bag_permutation}
 use Rattle.mig_assemble.proofs.Least.{nat_order, numbers_apart, least_from}
 use Rattle.mig_assemble.proofs.OrderFree.{number_refusal_bag}
 
 -- no number is below one before it
-abbrev Rises : List ℕ → Type 0
+abbrev pub Rises : List ℕ → Type 0
 Rises ns = AllPairs (λ m n. m ≤ n) ns
 
-pairs_head : {X : Type 0} (R : X → X → Type 0) (x : X) (xs : List X) → AllPairs R (x ∷ xs) → All (R x) xs
+pub pairs_head : {X : Type 0} (R : X → X → Type 0) (x : X) (xs : List X) → AllPairs R (x ∷ xs) → All (R x) xs
 pairs_head R x xs all = λ k d h. all 0 (suc k) d (omega arith) (omega arith)
 
-pairs_tail : {X : Type 0} (R : X → X → Type 0) (x : X) (xs : List X) → AllPairs R (x ∷ xs) → AllPairs R xs
+pub pairs_tail : {X : Type 0} (R : X → X → Type 0) (x : X) (xs : List X) → AllPairs R (x ∷ xs) → AllPairs R xs
 pairs_tail R x xs all = λ i j d lt h. all (suc i) (suc j) d (omega arith) (omega arith)
 
 -- ---- what comes twice
@@ -42,7 +45,8 @@ twice_later n ns below =
     let once : count_by (λ y. nat_eq y n) (n ∷ ns) ≤ 1 =
     (let parts = count-cons (λ y. nat_eq y n) n ns in
     let here : ◌≡◌ {A = ℕ} (cond (nat_eq n n) 1 0) 1 = cond-true {A = ℕ} (nat_eq n n) 1 0 (eq-eqb n n refl) in
-    let none : count_by (λ y. nat_eq y n) ns ≡ 0 = count_zero (λ y. nat_eq y n) ns (λ m h. ne_eqb m n (λ e. let l : n < m = above m h in omega arith)) in omega arith) in
+    let none : count_by (λ y. nat_eq y n) ns ≡ 0 =
+    count_zero (λ y. nat_eq y n) ns (λ m h. ne_eqb m n (λ e. let l : n < m = above m h in omega arith)) in omega arith) in
     cond-false (p n) (n ∷ filter p ns) (filter p ns) (lt-leb 2 (count_by (λ y. nat_eq y n) (n ∷ ns)) (omega arith))
     ∙ filter_agree_on p q ns (all_from ns (λ z. p z ≡ q z) (λ z h.
     let here : ◌≡◌ {A = ℕ} (cond (nat_eq n z) 1 0) 0 = cond-false {A = ℕ} (nat_eq n z) 1 0 (ne_eqb n z (λ e. let l : n < z = above z h in omega arith)) in
@@ -164,7 +168,8 @@ first_gap-is base (n ∷ ns) up low =
           ∙ sym (least_from nat_lt nat_order (absent base (n ∷ ns)) base (λ z _ a b. numbers_apart z base a b)
           (contains_filter p (range_with_len base (length (n ∷ ns))) base (contains_here base run) (not_from_false (list_any (λ m. m == base) (n ∷ ns)) none))
           (all_from (absent base (n ∷ ns)) (λ z. nat_lt z base ≡ false) (λ z h.
-          let r : (base ≤ z) × (z < base + length (n ∷ ns)) = range-contains base (length (n ∷ ns)) z (filter_contains p (range_with_len base (length (n ∷ ns))) z h).0 in
+          let r : (base ≤ z) × (z < base + length (n ∷ ns)) =
+          range-contains base (length (n ∷ ns)) z (filter_contains p (range_with_len base (length (n ∷ ns))) z h).0 in
           le-ltb z base r.0)))
     ]
 
@@ -173,7 +178,7 @@ first_gap-is base (n ∷ ns) up low =
 abbrev rest : ℕ → List ℕ → Option RoundFault
 rest base ns = first_some (option_map Doubled (least nat_lt (twice nat_eq ns)) ∷ option_map Missing (least nat_lt (absent base ns)) ∷ [])
 
-sorted_refusal-is : (base : ℕ) (ns : List ℕ) → Rises ns → number_refusal base ns ≡ sorted_refusal base ns
+pub sorted_refusal-is : (base : ℕ) (ns : List ℕ) → Rises ns → number_refusal base ns ≡ sorted_refusal base ns
 sorted_refusal-is base [] up = refl
 sorted_refusal-is base (n ∷ ns) up = elim (cases_Bool (nat_lt n base)) [
   | inl t ↦ rw (foreign_sorted base n ns up (ltb-true n base t), t) refl
@@ -183,7 +188,8 @@ sorted_refusal-is base (n ∷ ns) up = elim (cases_Bool (nat_lt n base)) [
       (λ k d h. let l : n ≤ get_or ns k d = pairs_head (λ x y. x ≤ y) n ns up k d h in omega arith) in
       ap (λ (l : List ℕ). option_or (option_map Foreign (least nat_lt l)) (rest base (n ∷ ns))) (none_foreign base n ns up le)
       ∙ behind low (first_pair (n ∷ ns)) refl
-      ∙ sym (cond-false (nat_lt n base) (Some (Foreign n)) (option_or (option_map Doubled (first_pair (n ∷ ns))) (option_map Missing (first_gap base (n ∷ ns)))) f)
+      ∙ sym (cond-false (nat_lt n base) (Some (Foreign n))
+      (option_or (option_map Doubled (first_pair (n ∷ ns))) (option_map Missing (first_gap base (n ∷ ns)))) f)
 ]
   where
     or_nothing : {X : Type 0} (o : Option X) → option_or o None ≡ o

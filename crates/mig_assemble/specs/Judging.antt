@@ -1,6 +1,7 @@
 -- Which rounds are lawful, and why others are refused. All of it is said of the list of page records and of the packets in
 -- any order.
-use Rattle.std.specs.Prelude.{ℕ, ◌/◌, ◌%◌, Bool, not, nat_eq, nat_lt, nat_le, ◌==◌, ◌||◌, if◌then◌else◌, List, [], ◌∷◌, ◌++◌, length, map, flat_map, count_by, position, Option, Some, None}
+use Rattle.std.specs.Prelude.{ℕ, ◌/◌, ◌%◌, Bool, not, nat_eq, nat_lt, nat_le, ◌==◌, ◌||◌, if◌then◌else◌, List, []}
+use Rattle.std.specs.Prelude.{◌∷◌, ◌++◌, length, map, flat_map, count_by, position, Option, Some, None}
 use Rattle.std.specs.List.{filter, list_any, range_with_len}
 use Rattle.std.specs.Option.{option_map, option_and_then, is_some, unwrap_or}
 use Rattle.mig_mem.specs.declared.place.Place.{Place}

@@ -1,7 +1,10 @@
+-- To read first, in this order: why a round is refused, which rounds are lawful, the memory that a load builds, and the laws
 pub mod Judging
-pub mod Sorted
-pub mod Seen
+pub mod Lawful
 pub mod Target
-pub mod PacketPages
 pub mod Law
 pub mod RoundFaultNumber
+-- Of the inside: only contracts of private functions name these.
+pub mod Sorted
+pub mod Seen
+pub mod PacketPages

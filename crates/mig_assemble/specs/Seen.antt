@@ -1,5 +1,5 @@
 -- Places that are marked one after another, and the least that comes twice among them.
-use Rattle.std.specs.Prelude.{◌≡◌, List, Option}
+use Rattle.std.specs.Prelude.{◌≡◌, List, ◌++◌, Option}
 use Rattle.mig_mem.specs.declared.place.Place.{Place}
 use Rattle.mig_mem.specs.RamTable.{RamTable}
 use Rattle.mig_mem.specs.Place.{place_eq, place_lt, has_place}
@@ -10,3 +10,8 @@ use Rattle.mig_assemble.specs.Judging.{least, twice}
 pub record HasSeen (table : RamTable) (places : List Place) (seen : PlaceSet) (double : Option Place) : Type 0 where
   pub marks : seen ≡ record { table = table; marked = places_where table (has_place places) }
   pub least : double ≡ least place_lt (twice place_eq places)
+
+-- whatever places were seen before, these are seen behind them
+abbrev pub SeesMore : List Place → PlaceSet → Option Place → PlaceSet → Option Place → Type 0
+SeesMore more old before new after =
+    (places : List Place) → HasSeen old.table places old before → HasSeen old.table (places ++ more) new after

@@ -6,31 +6,31 @@ use Rattle.mig_mem.specs.Image.{Page, Image, zero_image}
 use Rattle.mig_mem.specs.PlaceSet.{PlaceSet}
 use Rattle.mig_mem.specs.Round.{with_round}
 use Rattle.mig_stream.specs.PageRecord.{page_of}
-use Rattle.mig_stream.specs.Round.{StreamRound}
+use Rattle.mig_stream.specs.Round.{RoundOfRecords}
 use Rattle.mig_packet.specs.Packet.{Fields}
 use Rattle.mig_assemble.specs.Judging.{all_round_pages}
 
 -- the memory so far, how many rounds it has, and the number that the next round's first packet has
-pub record Target : Type 0 where
+pub record LoadTarget : Type 0 where
   pub memory : Image
   pub rounds : ℕ
   pub base : ℕ
 
 -- zeros, without a round
-abbrev pub new_target : RamTable → Target
+abbrev pub new_target : RamTable → LoadTarget
 new_target table = record { memory = zero_image table; rounds = 0; base = 0 }
 
 -- the pages that the records of a round stand for, in their order
-abbrev pub pages_of_round : StreamRound → List Page
+abbrev pub pages_of_round : RoundOfRecords → List Page
 pages_of_round round = map (page_of round.page_size) round.records
 
 -- the records are of pages of the table
-pub record Fits (table : RamTable) (round : StreamRound) : Type 0 where
+pub record Fits (table : RamTable) (round : RoundOfRecords) : Type 0 where
   pub has_page_size : round.page_size ≡ table.page_size
   pub has_places : All (λ r. IsPlace table r.place) round.records
 
 -- what a lawful round of records and packets leaves
-abbrev pub after_round : Target → StreamRound → List Fields → Target
+abbrev pub after_round : LoadTarget → RoundOfRecords → List Fields → LoadTarget
 after_round target round packets = record {
   memory = with_round target.memory (all_round_pages target.memory.table (pages_of_round round) packets);
   rounds = target.rounds + 1;

@@ -1,12 +1,11 @@
 //! Looking for places that a round brings twice, by marking each that it brings.
 
-ghost use Rattle.std.specs.Prelude.{◌≡◌, ◌<◌, ◌++◌, ◌∷◌, [], List, map, length, All, None, false};
-ghost use Rattle.mig_mem.specs.declared.place.Place.{Place as AnyPlace};
+ghost use Rattle.std.specs.Prelude.{◌≡◌, ◌<◌, ◌∷◌, [], map, length, All, None, false};
 ghost use Rattle.mig_mem.specs.RamTable.{block};
 ghost use Rattle.mig_mem.specs.Place.{IsPlace, place_eq, place_lt};
 ghost use Rattle.mig_packet.specs.Lent.{fields};
 ghost use Rattle.mig_assemble.specs.Judging.{offsets, is_outside, place_fault, pages_in, packet_pages, all_round_pages, places_of, least, lesser, twice};
-ghost use Rattle.mig_assemble.specs.Seen.{HasSeen};
+ghost use Rattle.mig_assemble.specs.Seen.{HasSeen, SeesMore};
 ghost use Rattle.mig_assemble.specs.Target.{Fits, pages_of_round};
 
 use crate::places::{offset, page_count};
@@ -62,7 +61,7 @@ fn mark_packet<A: Allocator>(
     requires page_size { packet.now.page_size ≡ seen.old.table.page_size }
     requires lawful { place_fault seen.old.table (fields packet.now) ≡ None }
     ensures table { seen.new.table ≡ seen.old.table }
-    ensures seen { (places : List AnyPlace) → HasSeen seen.old.table places seen.old double → HasSeen seen.old.table (places ++ places_of (packet_pages seen.old.table (fields packet.now))) seen.new result }
+    ensures seen { SeesMore (places_of (packet_pages seen.old.table (fields packet.now))) seen.old double seen.new result }
 {
     // a lawful packet names a block, or has no pages
     match seen.table().find(packet.id()) {
@@ -82,7 +81,7 @@ fn mark_pages<A: Allocator>(
     requires block { at < length seen.old.table.blocks }
     requires lawful { All (λ offset. is_outside seen.old.table.page_size (block seen.old.table.blocks at).pages offset ≡ false) (offsets (fields packet.now)) }
     ensures table { seen.new.table ≡ seen.old.table }
-    ensures seen { (places : List AnyPlace) → HasSeen seen.old.table places seen.old double → HasSeen seen.old.table (places ++ places_of (pages_in seen.old.table (fields packet.now) at)) seen.new result }
+    ensures seen { SeesMore (places_of (pages_in seen.old.table (fields packet.now) at)) seen.old double seen.new result }
 {
     let mut double = double;
     for i in 0..page_count(packet) {
@@ -96,7 +95,7 @@ fn mark_pages<A: Allocator>(
 fn mark<A: Allocator>(seen: &mut Dirty<A>, double: Option<Place>, place: Place) -> Option<Place>
     requires { IsPlace seen.old.table place }
     ensures table { seen.new.table ≡ seen.old.table }
-    ensures seen { (places : List AnyPlace) → HasSeen seen.old.table places seen.old double → HasSeen seen.old.table (places ++ place ∷ []) seen.new result }
+    ensures seen { SeesMore (place ∷ []) seen.old double seen.new result }
 {
     match seen.mark(place) {
         Ok(true) => double,

@@ -4,6 +4,8 @@ ghost use Rattle.std.specs.Prelude.{◌≡◌};
 ghost use Rattle.mig_assemble.specs.RoundFaultNumber.{fault_number};
 
 use mig_mem::{NoMemory, Place};
+use std::error::Error;
+use std::fmt::{self, Display, Formatter};
 
 /// Why a round is not lawful: the first that applies, in this order.
 #[derive(Clone, Copy, Debug, PartialEq, Eq)]
@@ -51,3 +53,34 @@ impl From<NoMemory> for RoundFault {
         RoundFault::NoMemory
     }
 }
+
+/// The fault's number, and what it says.
+impl Display for RoundFault {
+    fn fmt<W: fmt::Write>(&self, f: &mut Formatter<W>) -> fmt::Result {
+        if let RoundFault::NoMemory = self {
+            return Display::fmt(&NoMemory, f);
+        }
+        write!(f, "{}: ", self.number())?;
+        match self {
+            RoundFault::Foreign(number) => write!(f, "packet {number} is of an earlier round"),
+            RoundFault::Doubled(number) => write!(f, "packet {number} comes twice"),
+            RoundFault::Missing(number) => write!(f, "packet {number} is missing"),
+            RoundFault::UnknownBlock(number) => write!(
+                f,
+                "packet {number} names a block that the table hasn't"
+            ),
+            RoundFault::Offset(number, i) => write!(
+                f,
+                "offset {i} of packet {number} is of no page of its block"
+            ),
+            RoundFault::DoublePage(place) => write!(
+                f,
+                "page {} of block {} comes twice",
+                place.page, place.block
+            ),
+            RoundFault::NoMemory => Ok(()),
+        }
+    }
+}
+
+impl Error for RoundFault {}

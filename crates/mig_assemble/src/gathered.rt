@@ -15,9 +15,9 @@ pub struct Gathered<'a, A: Allocator = Global> {
 
 impl<'a, A: Allocator> Model for Gathered<'a, A> {
     ghost use Rattle.std.specs.Prelude.{List};
-    ghost use Rattle.mig_packet.specs.declared.packet.Packet.{Packet as Lent};
+    ghost use Rattle.mig_packet.specs.declared.packet.Packet.{Packet};
 
-    ghost Value = { List Lent };
+    ghost Value = { List Packet };
 
     ghost view = { λ g. g.packets.items };
 }

@@ -30,7 +30,8 @@ pub(crate) fn judge<A: Allocator + Copy, B: Allocator>(
     requires page_sizes { All (λ p. p.page_size ≡ seen.old.table.page_size) packets.now }
     requires room { base + length packets.now ≤ 2 ^ 63 }
     ensures lawful { OnOk result (refusal seen.old.table base (pages_of_round round.now) (map fields packets.now) ≡ None) }
-    ensures refused { IfErr result (λ fault. (fault ≡ fault_no_memory) ⊎ (refusal seen.old.table base (pages_of_round round.now) (map fields packets.now) ≡ Some fault)) }
+    ensures refused { IfErr result (λ fault. (fault ≡ fault_no_memory)
+        ⊎ (refusal seen.old.table base (pages_of_round round.now) (map fields packets.now) ≡ Some fault)) }
     ensures seen { seen.new ≡ seen.old }
 {
     if let Some(fault) = number_fault(alloc, base, packets)? {

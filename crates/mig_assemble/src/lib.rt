@@ -2,8 +2,11 @@
 //!
 //! A `Target` takes rounds as readers give them. A round of a single stream is a section, put in as it comes. A round of multifd
 //! is the page records of the main stream and the packets of all channels, `Gathered` in any order: it is judged as a whole
-//! (`specs/Judging`), and a round that isn't lawful leaves nothing behind. Which texts rounds come from, and what is answered of
-//! a whole load, is for the crates above.
+//! (`specs/Judging`), and a round that isn't lawful (`specs/Lawful`) leaves nothing behind. Which texts rounds come from, and what
+//! is answered of a whole load, is for the crates above.
+//!
+//! Definitions to read first, in this order: `Judging`, `Lawful`, `Target`, `Law` (`specs/`). `Sorted`, `Seen` and `PacketPages`
+//! are of the inside: only contracts of private functions name them.
 #![tactic(auto)]
 
 mod doubles;
@@ -18,5 +21,5 @@ mod target;
 
 pub use fault::RoundFault;
 pub use gathered::Gathered;
-pub use laws::{lawful_rounds_lie_in_the_table, packets_come_in_any_order};
+pub use laws::{lawful_rounds_lie_in_the_table, packets_come_in_any_order, round_is_lawful};
 pub use target::Target;

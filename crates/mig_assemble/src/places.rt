@@ -33,7 +33,8 @@ fn lesser_misplaced<'a, A: Allocator>(
     packet: Packet<'a>,
 ) -> Option<Packet<'a>>
     requires { packet.page_size ≡ table.now.page_size }
-    ensures found { (packets : List Fields) → option_map fields found.entry ≡ least_misplaced table.now packets → option_map fields result ≡ least_misplaced table.now (packets ++ fields packet.entry ∷ []) }
+    ensures found { (packets : List Fields) → option_map fields found.entry ≡ least_misplaced table.now packets
+        → option_map fields result ≡ least_misplaced table.now (packets ++ fields packet.entry ∷ []) }
     ensures page_size { IfSome found.entry (λ p. p.page_size ≡ table.now.page_size) → IfSome result (λ p. p.page_size ≡ table.now.page_size) }
 {
     if place_fault(table, &packet).is_none() {

@@ -22,7 +22,8 @@ pub(crate) fn put_records<A: Allocator, B: Allocator>(
     requires { Fits memory.old.table round.now }
     ensures { memory.new ≡ with_round memory.old (pages_of_round round.now) }
 {
-    // only for what it says of the table and of the memory: a page has at most 8192 bytes
+    // For what `len` tells of the table (`IsTable`): it keeps the limits, so that a page has at most 8192 bytes. And `table` tells
+    // that each content of the memory has the page size (`IsImage`).
     let _blocks = memory.table().len();
     let zeros = [0u8; PAGE_SIZE_8K as usize];
     let zero_page = &zeros[..round.page_size() as usize];
@@ -39,7 +40,8 @@ pub(crate) fn put_packets<A: Allocator>(memory: &mut Memory<A>, packets: &[Packe
     requires lawful { All (λ p. place_fault memory.old.table (fields p) ≡ None) packets.now }
     ensures { memory.new ≡ with_round memory.old (flat_map (packet_pages memory.old.table) (map fields packets.now)) }
 {
-    // only for what it says of the table and of the memory: a page has at most 8192 bytes
+    // For what `len` tells of the table (`IsTable`): it keeps the limits, so that a page has at most 8192 bytes. And `table` tells
+    // that each content of the memory has the page size (`IsImage`).
     let _blocks = memory.table().len();
     let page = [0u8; PAGE_SIZE_8K as usize];
     let zeros = &page[..memory.table().page_size() as usize];

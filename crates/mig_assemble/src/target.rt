@@ -27,7 +27,7 @@ pub struct Target<A: Allocator = Global> {
 }
 
 impl<A: Allocator> Model for Target<A> {
-    ghost use Rattle.mig_assemble.specs.Target.{Target as LoadTarget};
+    ghost use Rattle.mig_assemble.specs.Target.{LoadTarget};
 
     ghost Value = { LoadTarget };
 
@@ -67,7 +67,8 @@ impl<A: Allocator + Copy> Target<A> {
         requires rounds { self.old.rounds < 2 ^ 63 }
         ensures lawful { OnOk result (refusal self.old.memory.table self.old.base (pages_of_round round.now) (map fields gathered.now) ≡ None) }
         ensures ok { OnOk result (self.new ≡ after_round self.old round.now (map fields gathered.now)) }
-        ensures refused { IfErr result (λ fault. (fault ≡ fault_no_memory) ⊎ (refusal self.old.memory.table self.old.base (pages_of_round round.now) (map fields gathered.now) ≡ Some fault)) }
+        ensures refused { IfErr result (λ fault. (fault ≡ fault_no_memory)
+            ⊎ (refusal self.old.memory.table self.old.base (pages_of_round round.now) (map fields gathered.now) ≡ Some fault)) }
         ensures err { OnErr result (self.new ≡ self.old) }
     {
         let packets = gathered.packets();

@@ -29,7 +29,8 @@ impl<A: Allocator> Model for Deal<A> {
 
     ghost view = { λ d. deal_view d.table.shared.table_id d.terms };
 
-    ghost invariant = { λ d. (d.table.shared.key ≡ d.terms) × (d.table.shared.table_id.words ≡ 1) × (d.table.shared.table_id.slots ≡ 0) × IsWithinLimits d.terms.base d.terms.batches d.terms.seats };
+    ghost invariant = { λ d. (d.table.shared.key ≡ d.terms) × (d.table.shared.table_id.words ≡ 1) × (d.table.shared.table_id.slots ≡ 0)
+        × IsWithinLimits d.terms.base d.terms.batches d.terms.seats };
 }
 
 // Adds a seat to a list that has room for it, so it takes no memory.

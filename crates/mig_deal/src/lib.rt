@@ -1,8 +1,8 @@
 //! The deal: one shared word that numbers packets and claims batches.
 //!
 //! The workers of a round share a list of batches. Whoever wants the next one draws a number from the deal: it is the number of
-//! the packet, and it claims the batch of that number, so that no two workers pack the same one. A draw is one `fetch_add` on
-//! one shared word, and nothing else is shared for writing. When no batch is left, each worker draws one number more, its last.
+//! the packet, and number base + i claims batch i, so that no two workers pack the same one. A draw is one `fetch_add` on one
+//! shared word, and nothing else is shared for writing. When no batch is left, each worker draws one number more, its last.
 //!
 //! A deal knows neither batches nor packets: it is handed the first number and how many batches there are. That no number is
 //! drawn twice and none is left out is proved here, for any number of threads in any schedule, over the table of words of

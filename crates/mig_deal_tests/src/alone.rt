@@ -8,52 +8,51 @@ use mig_deal::Deal;
 use mig_mem::{Memory, NoMemory};
 use mig_packet::Gate;
 use mig_send::{Batch, Packed, Worked, work};
-use std::alloc::{Allocator, Global};
+use std::alloc::{AllocGlobal, Allocator, Global};
+use std::process::Abort;
 
 /// What a worker answered, and the number after all that were drawn.
 #[derive(Drop)]
-pub struct Alone<A: Allocator = Global> {
+pub(crate) struct Alone<A: Allocator = Global> {
     pub packets: Result<Vec<Packed<A>, A>, NoMemory>,
     pub last: u64,
     pub next: u64,
 }
 
-/// Runs a worker with the only seat of a deal of these batches; None where there are too many of them, the base is too high, or
-/// there is no memory for the deal.
-pub fn work_alone<A: Allocator + Copy, B: Allocator, C: Allocator, G: Gate>(
+/// Runs a worker with the only seat of a deal of these batches, the deal in memory of another allocator.
+pub(crate) fn work_alone<A: Allocator + Copy, B: Allocator, C: Allocator, G: Gate>(
+    rt: &(impl AllocGlobal + Abort),
     alloc: A,
-    others: Global,
     base: u64,
     channel: usize,
     memory: &Memory<B>,
     batches: &[Batch<C>],
     gate: &G,
-) -> Option<Alone<A>>
+) -> Alone<A>
     requires { All (IsBatch memory.now.table) batches.now }
 {
-    if base > 1 << 63 || batches.len() > 1 << 28 {
-        return None;
-    }
-    let mut spents = Vec::with_capacity(others, 1).ok()?;
-    let Ok((deal, mut seats)) = Deal::new(others, base, batches.len() as u64, 1) else {
-        spents.destroy_empty();
-        return None;
+    assert!(rt; base <= 1 << 63);
+    assert!(rt; batches.len() <= 1 << 28);
+    let Ok(mut spents) = Vec::with_capacity(rt.alloc(), 1) else {
+        panic!(rt; "memory")
+    };
+    let Ok((deal, mut seats)) = Deal::new(rt.alloc(), base, batches.len() as u64, 1) else {
+        panic!(rt; "memory")
     };
     let Some(seat) = seats.pop() else {
-        unreachable!()
+        panic!(rt; "a seat")
     };
     seats.destroy_empty();
-    let worked = work(alloc, &deal, seat, channel, memory, batches, gate);
     let Worked {
         packets,
         last,
         spent,
-    } = worked;
+    } = work(alloc, &deal, seat, channel, memory, batches, gate);
     put(&mut spents, spent);
     let next = deal.close(spents);
-    Some(Alone {
+    Alone {
         packets,
         last,
         next,
-    })
+    }
 }

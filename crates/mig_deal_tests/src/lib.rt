@@ -3,7 +3,8 @@
 //! The worked examples of batches and packets are cases of `mig_rows`.
 #![tactic(auto)]
 
-pub mod alone;
+#[cfg(test)]
+mod alone;
 #[cfg(test)]
 mod batches;
 #[cfg(test)]

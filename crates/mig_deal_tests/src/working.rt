@@ -2,12 +2,13 @@
 
 use crate::alone::{Alone, work_alone};
 use crate::batches::cut_at;
-use mig_fixtures::{at, places_of, put_page_and_zeros, set_first, table_at};
-use mig_mem::{Memory, NoMemory, PAGE_SIZE_4K, Place};
+use mig_fixtures::{at, places_of, put_page_and_zeros, set, zeroed};
+use mig_mem::{Memory, NoMemory, Place};
 use mig_packet::{Gate, Step};
 use mig_refusing::Refusing;
 use mig_send::Packed;
-use std::alloc::{AllocError, Allocator, Global};
+use std::alloc::{AllocGlobal, Allocator};
+use std::process::Abort;
 use std::sync::atomic::{AtomicU64, Ordering};
 
 const CHANNEL: usize = 3;
@@ -20,15 +21,15 @@ struct Told {
 }
 
 impl Told {
-    fn new(alloc: Global) -> Result<Told, AllocError> {
-        let mut steps = Vec::with_capacity(alloc, 16)?;
+    fn new(rt: &(impl AllocGlobal + Abort)) -> Told {
+        let mut steps = Vec::new(rt.alloc());
         for _ in 0..16 {
-            steps.push(AtomicU64::new(u64::MAX))?;
+            assert!(rt; steps.push(AtomicU64::new(u64::MAX)).is_ok());
         }
-        Ok(Told {
+        Told {
             count: AtomicU64::new(0),
             steps,
-        })
+        }
     }
 
     fn is(&self, wanted: &[u64]) -> bool {
@@ -55,26 +56,25 @@ impl Gate for Told {
 }
 
 // A memory of some blocks, whose page 1 of block 0 has the first byte 9.
-fn memory_of(alloc: Global, entries: &[(&str, u64)]) -> Option<Memory> {
-    let table = table_at(alloc, PAGE_SIZE_4K, entries)?;
-    let mut memory = Memory::zeroed(alloc, &table).ok()?;
-    set_first(&mut memory, at(0, 1), 9)?;
-    Some(memory)
+fn memory_of(rt: &(impl AllocGlobal + Abort), entries: &[(&str, u64)]) -> Memory {
+    let mut memory = zeroed(rt.alloc(), entries).expect(rt, "a memory");
+    assert!(rt; set(&mut memory, 0, 4096, 9));
+    memory
 }
 
 // Runs a worker on the batches of some places.
 fn run<A: Allocator + Copy>(
+    rt: &(impl AllocGlobal + Abort),
     alloc: A,
-    others: Global,
     base: u64,
     memory: &Memory,
     places: &[Place],
     limit: usize,
     gate: &Told,
-) -> Option<Alone<A>> {
-    let dirty = places_of(others, memory.table(), places)?;
-    let batches = cut_at(others, memory.table(), &dirty, limit)?.ok()?;
-    work_alone(alloc, others, base, CHANNEL, memory, &batches, gate)
+) -> Alone<A> {
+    let dirty = places_of(rt.alloc(), memory.table(), places).expect(rt, "a set");
+    let batches = cut_at(rt, rt.alloc(), memory.table(), &dirty, limit).expect(rt, "batches");
+    work_alone(rt, alloc, base, CHANNEL, memory, &batches, gate)
 }
 
 // Whether packets are of these numbers, with one zero page each: of a block with an id of this byte, at this offset's third
@@ -91,15 +91,12 @@ fn are_zeros<A: Allocator>(packets: &[Packed<A>], wanted: &[(u64, u8, u8)]) -> b
 
 #[test]
 fn one_batch(rt: HostRuntime) {
-    let gate = Told::new(rt.alloc()).ok().expect(&rt, "a gate");
-    let memory = memory_of(rt.alloc(), &[("a", 2)]).expect(&rt, "a memory");
+    let gate = Told::new(&rt);
+    let memory = memory_of(&rt, &[("a", 2)]);
     let places = [at(0, 0), at(0, 1)];
-    let alone = run(rt.alloc(), rt.alloc(), 0, &memory, &places, 128, &gate).expect(
-        &rt,
-        "an answer",
-    );
+    let alone = run(&rt, rt.alloc(), 0, &memory, &places, 128, &gate);
     let mut wanted = Vec::new(rt.alloc());
-    assert!(rt; put_page_and_zeros(&mut wanted).is_ok());
+    assert!(rt; put_page_and_zeros(&mut wanted) == Ok(()));
     let packets = alone.packets.as_ref().ok().expect(&rt, "packets");
     assert!(rt; packets.len() == 1);
     assert!(rt;
@@ -113,10 +110,10 @@ fn one_batch(rt: HostRuntime) {
 
 #[test]
 fn batches_of_two_blocks(rt: HostRuntime) {
-    let gate = Told::new(rt.alloc()).ok().expect(&rt, "a gate");
-    let memory = memory_of(rt.alloc(), &[("a", 3), ("b", 2)]).expect(&rt, "a memory");
+    let gate = Told::new(&rt);
+    let memory = memory_of(&rt, &[("a", 3), ("b", 2)]);
     let places = [at(0, 0), at(0, 2), at(1, 1)];
-    let alone = run(rt.alloc(), rt.alloc(), 7, &memory, &places, 1, &gate).expect(&rt, "an answer");
+    let alone = run(&rt, rt.alloc(), 7, &memory, &places, 1, &gate);
     let packets = alone.packets.as_ref().ok().expect(&rt, "packets");
     assert!(rt; are_zeros(packets, &[(7, b'a', 0), (8, b'a', 0x20), (9, b'b', 0x10)]));
     assert_eq!(rt; alone.last, 10);
@@ -126,9 +123,9 @@ fn batches_of_two_blocks(rt: HostRuntime) {
 
 #[test]
 fn no_batch(rt: HostRuntime) {
-    let gate = Told::new(rt.alloc()).ok().expect(&rt, "a gate");
-    let memory = memory_of(rt.alloc(), &[("a", 2)]).expect(&rt, "a memory");
-    let alone = run(rt.alloc(), rt.alloc(), 5, &memory, &[], 128, &gate).expect(&rt, "an answer");
+    let gate = Told::new(&rt);
+    let memory = memory_of(&rt, &[("a", 2)]);
+    let alone = run(&rt, rt.alloc(), 5, &memory, &[], 128, &gate);
     assert!(rt;
         alone
             .packets
@@ -144,12 +141,12 @@ fn no_batch(rt: HostRuntime) {
 #[test]
 fn work_with_each_growth_refused(rt: HostRuntime) {
     let heap = Refusing::new(rt.alloc(), 0);
-    let memory = memory_of(rt.alloc(), &[("a", 2)]).expect(&rt, "a memory");
+    let memory = memory_of(&rt, &[("a", 2)]);
     let places = [at(0, 0), at(0, 1)];
     for nth in 1..=7u64 {
-        let gate = Told::new(rt.alloc()).ok().expect(&rt, "a gate");
+        let gate = Told::new(&rt);
         heap.refuse(nth);
-        let alone = run(&heap, rt.alloc(), 0, &memory, &places, 1, &gate).expect(&rt, "an answer");
+        let alone = run(&rt, &heap, 0, &memory, &places, 1, &gate);
         assert!(rt; !heap.is_waiting());
         assert!(rt; alone.packets.err() == Some(NoMemory));
         assert_eq!(rt; alone.last, 2);
@@ -157,9 +154,9 @@ fn work_with_each_growth_refused(rt: HostRuntime) {
         let steps: &[u64] = if nth < 4 { &[0, 2, 4] } else { &[0, 1, 2, 4] };
         assert!(rt; gate.is(steps));
     }
-    let gate = Told::new(rt.alloc()).ok().expect(&rt, "a gate");
+    let gate = Told::new(&rt);
     heap.refuse(8);
-    let alone = run(&heap, rt.alloc(), 0, &memory, &places, 1, &gate).expect(&rt, "an answer");
+    let alone = run(&rt, &heap, 0, &memory, &places, 1, &gate);
     assert!(rt; heap.is_waiting());
     assert!(rt; alone.packets.is_ok_and(|packets| packets.len() == 2));
     assert!(rt; gate.is(&[0, 1, 2, 3, 4]));

@@ -1,6 +1,6 @@
-//! Tables of some blocks, memories of them, and single pages.
+//! Tables of some blocks with pages of 4096 bytes, memories of them, sets of their pages, and single pages.
 
-use mig_mem::{Memory, PAGE_SIZE_4K, Place, Table, first_difference, is_page_size};
+use mig_mem::{Dirty, Memory, PAGE_SIZE_4K, Place, Table};
 use std::alloc::{AllocError, Allocator};
 
 /// The place of a page.
@@ -20,28 +20,10 @@ pub fn list<A: Allocator + Copy>(
     Ok(list)
 }
 
-/// The table of such a list, with pages of 4096 bytes.
+/// The table of such a list.
 pub fn table<A: Allocator + Copy>(alloc: A, entries: &[(&str, u64)]) -> Option<Table<A>> {
     let list = list(alloc, entries).ok()?;
     Table::new(alloc, PAGE_SIZE_4K, list).ok()
-}
-
-/// The table of such a list, with pages of a size; None where that isn't one.
-pub fn table_at<A: Allocator + Copy>(
-    alloc: A,
-    page_size: u64,
-    entries: &[(&str, u64)],
-) -> Option<Table<A>> {
-    if !is_page_size(page_size) {
-        return None;
-    }
-    let list = list(alloc, entries).ok()?;
-    Table::new(alloc, page_size, list).ok()
-}
-
-/// Whether two memories are of one table and have the same pages.
-pub fn is_same<A: Allocator, B: Allocator>(one: &Memory<A>, other: &Memory<B>) -> bool {
-    one.table().same(other.table()) && first_difference(one, other) == None
 }
 
 /// A memory of zeros of such a table.
@@ -50,41 +32,30 @@ pub fn zeroed<A: Allocator + Copy>(alloc: A, entries: &[(&str, u64)]) -> Option<
     Memory::zeroed(alloc, &table).ok()
 }
 
-/// Writes a page of one byte; None where the table lacks it.
-pub fn fill<A: Allocator, B: Allocator>(
-    memory: &mut Memory<A>,
-    alloc: B,
-    place: Place,
-    byte: u8,
-) -> Option<()> {
-    let table = memory.table();
-    if !table.holds(place) {
-        return None;
+/// The set of some places of a table; None where the table lacks one.
+pub fn places_of<A: Allocator + Copy, B: Allocator>(
+    alloc: A,
+    table: &Table<B>,
+    places: &[Place],
+) -> Option<Dirty<A>> {
+    let mut dirty = Dirty::none(alloc, table).ok()?;
+    for place in places {
+        if !dirty.table().holds(*place) {
+            return None;
+        }
+        dirty.mark(*place).ok()?;
     }
-    let page = vec![in alloc; byte; table.page_size() as usize].ok()?;
-    memory.put_page(place, &page);
-    Some(())
+    Some(dirty)
 }
 
-/// Writes one byte; None where the offset isn't in the block.
-pub fn set<A: Allocator>(
-    memory: &mut Memory<A>,
-    block: usize,
-    offset: u64,
-    byte: u8,
-) -> Option<()> {
+/// Writes one byte; false where the offset isn't in the block.
+pub fn set<A: Allocator>(memory: &mut Memory<A>, block: usize, offset: u64, byte: u8) -> bool {
     let table = memory.table();
     if block >= table.len() || offset >= table.pages(block) * table.page_size() {
-        return None;
+        return false;
     }
     memory.set(block, offset, byte);
-    Some(())
-}
-
-/// Sets the first byte of a page; None where the table lacks it.
-pub fn set_first<A: Allocator>(image: &mut Memory<A>, place: Place, byte: u8) -> Option<()> {
-    let offset = place.page.checked_mul(image.table().page_size())?;
-    set(image, place.block, offset, byte)
+    true
 }
 
 /// Whether a page holds this byte alone.

@@ -17,10 +17,10 @@ use Rattle.mig_stream.specs.declared.item.StreamState.{StreamState}
 use Rattle.mig_stream.specs.declared.item.StreamState.TheVariants as state
 use Rattle.mig_stream.specs.declared.item.StreamState.TheVariants.{Closed}
 use Rattle.mig_stream.specs.PageRecord.{PageRecord, page_of}
-use Rattle.mig_stream.specs.Reading.{StreamReading, IsReading, state_at}
-use Rattle.mig_stream.specs.Progress.{Progress, whole_table}
-use Rattle.mig_stream.specs.Reader.{Reader, Stands, with_taken, HasTable, HasRound, HasState}
-use Rattle.mig_stream.specs.Round.{StreamRound}
+use Rattle.mig_stream.specs.Reading.{settings, StreamReading, IsReading, state_at}
+use Rattle.mig_stream.specs.Progress.{StreamProgress, whole_table}
+use Rattle.mig_stream.specs.Reader.{Reader, SoFar, Stands, with_taken, HasTable, HasRound, HasState}
+use Rattle.mig_stream.specs.Round.{RoundOfRecords}
 use Rattle.mig_stream.specs.Text.{IsText, total_bytes}
 use Rattle.mig_stream.specs.Written.{written_record, single}
 use Rattle.mig_stream.specs.Law.{closed}
@@ -29,7 +29,7 @@ use Rattle.mig_stream.proofs.Limits.{limits_law}
 use Rattle.mig_stream.proofs.SpelledText.{spelled_law}
 use Rattle.mig_stream.proofs.WrittenText.{written_single}
 use Rattle.mig_stream.proofs.WrittenPages.{written_pages}
-use Rattle.mig_assemble.specs.Target.{Target, new_target, pages_of_round, Fits}
+use Rattle.mig_assemble.specs.Target.{LoadTarget, new_target, pages_of_round, Fits}
 use Rattle.mig_load.specs.declared.loaded.Loaded.{Loaded}
 use Rattle.mig_load.specs.SingleLoad.{memory_after, verdict_of, IsAnswer, IsWithoutMemory, loaded, unloaded}
 
@@ -37,25 +37,29 @@ use Rattle.mig_load.specs.SingleLoad.{memory_after, verdict_of, IsAnswer, IsWith
 abbrev pub pages_in : ℕ → List (List PageRecord) → List (List Page)
 pages_in page_size sections = map (map (page_of page_size)) sections
 
+-- a text that is over, of which so many sections were taken
+abbrev pub put_so_far : List ℕ → ℕ → SoFar
+put_so_far text n = record { text = text; ended = true; taken = n }
+
 -- The reader of a text that is over has given the sections that the memory has, and these are the first of the text.
-pub record HasPut (page_size limit : ℕ) (text : List ℕ) (r : Reader) (t : Target) : Type 0 where
-  pub stands : Stands Single page_size limit r text true t.rounds
-  pub has_table : HasTable Single page_size limit text (Some t.memory.table)
-  pub has_memory : (reading : StreamReading) → IsReading Single page_size limit text reading
+pub record HasPut (page_size limit : ℕ) (text : List ℕ) (r : Reader) (t : LoadTarget) : Type 0 where
+  pub stands : Stands (settings Single page_size limit) (put_so_far text t.rounds) r
+  pub has_table : HasTable (settings Single page_size limit) text (Some t.memory.table)
+  pub has_memory : (reading : StreamReading) → IsReading (settings Single page_size limit) text reading
       → t.memory ≡ after t.memory.table (pages_in page_size (take t.rounds reading.rounds))
 
 -- ---- one reading
 
-pub same_reading : (p limit : ℕ) (text : List ℕ) (a b : StreamReading) → IsPageSize p → IsReading Single p limit text a → IsReading Single p limit text b → a ≡ b
+pub same_reading : (p limit : ℕ) (text : List ℕ) (a b : StreamReading) → IsPageSize p → IsReading (settings Single p limit) text a → IsReading (settings Single p limit) text b → a ≡ b
 same_reading p limit text a b size is_a is_b =
-    let one = one_reading_law Single p limit text size in
+    let one = one_reading_law (settings Single p limit) text size in
     one.2 a is_a ∙ sym (one.2 b is_b)
 
 -- ---- the loop
 
 -- before the first section
-pub put_none : (p limit : ℕ) (text : List ℕ) (r : Reader) (table : RamTable) (t : Target) → Stands Single p limit r text true 0
-    → HasTable Single p limit text (Some table) → t ≡ new_target table → HasPut p limit text r t
+pub put_none : (p limit : ℕ) (text : List ℕ) (r : Reader) (table : RamTable) (t : LoadTarget) → Stands (settings Single p limit) (put_so_far text 0) r
+    → HasTable (settings Single p limit) text (Some table) → t ≡ new_target table → HasPut p limit text r t
 put_none p limit text r table t stands has is = rw is record {
   stands = stands;
   has_table = has;
@@ -63,16 +67,16 @@ put_none p limit text r table t stands has is = rw is record {
 }
 
 -- the page size of the table, and that a round that is still to come isn't the 2^63rd
-pub size_is : (p limit : ℕ) (text : List ℕ) (table : RamTable) → IsPageSize p → HasTable Single p limit text (Some table) → table.page_size ≡ p
-size_is p limit text table size has = (limits_law Single p limit text has.0 size has.1).has_page_size table (sym has.2)
+pub size_is : (p limit : ℕ) (text : List ℕ) (table : RamTable) → IsPageSize p → HasTable (settings Single p limit) text (Some table) → table.page_size ≡ p
+size_is p limit text table size has = (limits_law (settings Single p limit) text has.0 size has.1).has_page_size table (sym has.2)
 
-pub is_few : (p limit i : ℕ) (text : List ℕ) (records : List PageRecord) → IsPageSize p → HasRound Single p limit text i records → i < length text
+pub is_few : (p limit i : ℕ) (text : List ℕ) (records : List PageRecord) → IsPageSize p → HasRound (settings Single p limit) text i records → i < length text
 is_few p limit i text records size has =
-    let few = (limits_law Single p limit text has.0 size has.1).has_few in
+    let few = (limits_law (settings Single p limit) text has.0 size has.1).has_few in
     let lt = has.2 in
     omega (arith, few, lt)
 
-pub fits_is : (p limit : ℕ) (text : List ℕ) (r : Reader) (t : Target) (round : StreamRound) → IsPageSize p → HasPut p limit text r t
+pub fits_is : (p limit : ℕ) (text : List ℕ) (r : Reader) (t : LoadTarget) (round : RoundOfRecords) → IsPageSize p → HasPut p limit text r t
     → round.page_size ≡ p → All (λ x. IsPlace t.memory.table x.place) round.records → Fits t.memory.table round
 fits_is p limit text r t round size has is places = record {
   has_page_size = is ∙ sym (size_is p limit text t.memory.table size has.has_table);
@@ -80,13 +84,13 @@ fits_is p limit text r t round size has is places = record {
 }
 
 -- one section more
-pub put_more : (p limit : ℕ) (text : List ℕ) (r s : Reader) (t u : Target) (round : StreamRound) → IsPageSize p → HasPut p limit text r t
-    → round.page_size ≡ p → HasRound Single p limit text t.rounds round.records → Stands Single p limit s text true (t.rounds + 1)
+pub put_more : (p limit : ℕ) (text : List ℕ) (r s : Reader) (t u : LoadTarget) (round : RoundOfRecords) → IsPageSize p → HasPut p limit text r t
+    → round.page_size ≡ p → HasRound (settings Single p limit) text t.rounds round.records → Stands (settings Single p limit) (put_so_far text (t.rounds + 1)) s
     → u.memory ≡ with_round t.memory (pages_of_round round) → u.rounds ≡ t.rounds + 1 → HasPut p limit text s u
 put_more p limit text r s t u round size has is_size is_round stands memory rounds =
     let same : u.memory.table ≡ t.memory.table = ap (λ (m : Image). m.table) memory in record {
-      stands = subst (λ n. Stands Single p limit s text true n) (sym rounds) stands;
-      has_table = subst (λ x. HasTable Single p limit text (Some x)) (sym same) has.has_table;
+      stands = subst (λ n. Stands (settings Single p limit) (put_so_far text n) s) (sym rounds) stands;
+      has_table = subst (λ x. HasTable (settings Single p limit) text (Some x)) (sym same) has.has_table;
       has_memory = λ reading is.
           let one : is_round.0 ≡ reading = same_reading p limit text is_round.0 reading size is_round.1 is in
           let few : t.rounds < length reading.rounds = subst (λ (x : StreamReading). t.rounds < length x.rounds) one is_round.2 in
@@ -110,7 +114,7 @@ put_more p limit text r s t u round size has is_size is_round stands memory roun
 -- where memory was refused before any section
 pub none_put : {A : Type 0} (p limit : ℕ) (text : List ℕ) → IsPageSize p → IsWithoutMemory p limit text (unloaded {A = A})
 none_put p limit text size =
-    let one = one_reading_law Single p limit text size in record {
+    let one = one_reading_law (settings Single p limit) text size in record {
       reading = one.0;
       is_reading = one.1;
       has_verdict = refl;
@@ -125,11 +129,11 @@ verdict_at n Closed = refl
 verdict_at n (state.Bad f) = refl
 
 -- a text without a table has no section
-pub tableless : {A : Type 0} (p limit : ℕ) (text : List ℕ) (state : StreamState) (a : Loaded A) → IsPageSize p → HasTable Single p limit text None
-    → HasState Single p limit text true state → a ≡ record { memory = None; rounds = 0; verdict = verdict_of 0 state } → IsAnswer p limit text a
+pub tableless : {A : Type 0} (p limit : ℕ) (text : List ℕ) (state : StreamState) (a : Loaded A) → IsPageSize p → HasTable (settings Single p limit) text None
+    → HasState (settings Single p limit) text true state → a ≡ record { memory = None; rounds = 0; verdict = verdict_of 0 state } → IsAnswer p limit text a
 tableless p limit text state a size has stands is =
     let reading : StreamReading = has.0 in
-    let none : reading.rounds ≡ [] = (limits_law Single p limit text reading size has.1).has_table_first (sym has.2) in
+    let none : reading.rounds ≡ [] = (limits_law (settings Single p limit) text reading size has.1).has_table_first (sym has.2) in
     let one : stands.0 ≡ reading = same_reading p limit text stands.0 reading size stands.1 has.1 in
     rw is record {
       reading = reading;
@@ -140,30 +144,30 @@ tableless p limit text state a size has stands is =
     }
 
 -- no section is left
-not_more : (p limit : ℕ) (text : List ℕ) (reading : StreamReading) (n : ℕ) → IsReading Single p limit text reading
-    → ((i : ℕ) (round : List PageRecord) → HasRound Single p limit text i round → i < n) → length reading.rounds ≤ n
+not_more : (p limit : ℕ) (text : List ℕ) (reading : StreamReading) (n : ℕ) → IsReading (settings Single p limit) text reading
+    → ((i : ℕ) (round : List PageRecord) → HasRound (settings Single p limit) text i round → i < n) → length reading.rounds ≤ n
 not_more p limit text reading n is last = elim (cases_lt n (length reading.rounds)) [
   | inl lt ↦ let bad = last n (slice_index_or reading.rounds n []) (reading, is, lt, refl) in absurd (omega (arith, bad))
   | inr le ↦ le
 ]
 
 -- and those that were given are the text's
-given : (p limit : ℕ) (text : List ℕ) (r : Reader) (n : ℕ) (reading : StreamReading) → IsPageSize p → IsReading Single p limit text reading
-    → Stands Single p limit r text true n → n ≤ length reading.rounds
+given : (p limit : ℕ) (text : List ℕ) (r : Reader) (n : ℕ) (reading : StreamReading) → IsPageSize p → IsReading (settings Single p limit) text reading
+    → Stands (settings Single p limit) (put_so_far text n) r → n ≤ length reading.rounds
 given p limit text r n reading size is stands =
-    let to : Progress = with_taken stands.taken r.progress in
+    let to : StreamProgress = with_taken stands.rounds r.progress in
     let other : StreamReading = record { table = whole_table to; rounds = to.rounds; state = r.found } in
-    let is_other : IsReading Single p limit text other = record { to = to; rest = stands.rest; reads = stands.reads; has_table = refl; has_rounds = refl } in
+    let is_other : IsReading (settings Single p limit) text other = record { to = to; rest = stands.rest; reads = stands.reads; has_table = refl; has_rounds = refl } in
     let one : other ≡ reading = same_reading p limit text other reading size is_other is in
-    let len : length (stands.taken ++ r.progress.rounds) ≡ length reading.rounds = ap (λ (x : StreamReading). length x.rounds) one in
-    let both = length-append stands.taken r.progress.rounds in
+    let len : length (stands.rounds ++ r.progress.rounds) ≡ length reading.rounds = ap (λ (x : StreamReading). length x.rounds) one in
+    let both = length-append stands.rounds r.progress.rounds in
     let taken = stands.has_taken in
     omega (arith, len, both, taken)
 
 -- all sections are put
-pub all_put : {A : Type 0} (p limit : ℕ) (text : List ℕ) (r : Reader) (t : Target) (state : StreamState) (a : Loaded A) → IsPageSize p → HasPut p limit text r t
-    → ((i : ℕ) (round : List PageRecord) → HasRound Single p limit text i round → i < t.rounds)
-    → HasState Single p limit text true state → a ≡ record { memory = Some t.memory; rounds = t.rounds; verdict = verdict_of t.rounds state } → IsAnswer p limit text a
+pub all_put : {A : Type 0} (p limit : ℕ) (text : List ℕ) (r : Reader) (t : LoadTarget) (state : StreamState) (a : Loaded A) → IsPageSize p → HasPut p limit text r t
+    → ((i : ℕ) (round : List PageRecord) → HasRound (settings Single p limit) text i round → i < t.rounds)
+    → HasState (settings Single p limit) text true state → a ≡ record { memory = Some t.memory; rounds = t.rounds; verdict = verdict_of t.rounds state } → IsAnswer p limit text a
 all_put p limit text r t state a size has last stands is =
     let table : RamTable = t.memory.table in
     let reading : StreamReading = has.has_table.0 in
@@ -223,10 +227,10 @@ pub sent_is_loaded : {A : Type 0} (p limit : ℕ) (text : List ℕ) (a : Loaded 
 sent_is_loaded p limit text a size (inr want) table rounds is same room all sent = inr want
 sent_is_loaded p limit text a size (inl answer) table rounds is same room all sent =
     let sections : List (List PageRecord) = [] ∷ map (map written_record) rounds ++ [] ∷ [] in
-    let spelled : IsReading Single table.page_size limit (text ++ []) (closed table sections) =
+    let spelled : IsReading (settings Single table.page_size limit) (text ++ []) (closed table sections) =
     spelled_law Single limit text [] table sections (subst (λ x. IsText Single limit x table sections) (sym sent) (written_single table rounds limit is room all)) in
-    let read : IsReading Single p limit text (closed table sections) =
-    subst (λ x. IsReading Single p limit x (closed table sections)) (append-nil text) (subst (λ x. IsReading Single x limit (text ++ []) (closed table sections)) same spelled) in
+    let read : IsReading (settings Single p limit) text (closed table sections) =
+    subst (λ x. IsReading (settings Single p limit) x (closed table sections)) (append-nil text) (subst (λ x. IsReading (settings Single x limit) (text ++ []) (closed table sections)) same spelled) in
     let one : answer.reading ≡ closed table sections = same_reading p limit text answer.reading (closed table sections) size answer.is_reading read in
     let count : length sections ≡ length rounds + 2 = counted rounds in
     let n : a.rounds ≡ length rounds + 2 = answer.has_rounds ∙ ap (λ (x : StreamReading). length x.rounds) one ∙ count in

@@ -9,7 +9,7 @@ use Rattle.mig_stream.specs.declared.item.StreamState.{StreamState}
 use Rattle.mig_stream.specs.declared.item.StreamState.TheVariants.{Reading, Closed, Bad}
 use Rattle.mig_stream.specs.declared.fault.StreamFault.TheVariants.{Truncated}
 use Rattle.mig_stream.specs.PageRecord.{PageRecord, page_of}
-use Rattle.mig_stream.specs.Reading.{StreamReading, IsReading}
+use Rattle.mig_stream.specs.Reading.{settings, StreamReading, IsReading}
 use Rattle.mig_load.specs.declared.loaded.Loaded.{Loaded}
 use Rattle.mig_load.specs.declared.fault.LoadFault.{LoadFault}
 use Rattle.mig_load.specs.declared.fault.Origin.TheVariants as origin
@@ -34,7 +34,7 @@ verdict_of rounds Reading = at_main rounds (fault.Stream Truncated)
 -- the number of them; it is Ok where the text has its end byte, and else the text's first fault.
 pub record IsAnswer {A : Type 0} (page_size limit : ℕ) (text : List ℕ) (a : Loaded A) : Type 0 where
   pub reading : StreamReading
-  pub is_reading : IsReading Single page_size limit text reading
+  pub is_reading : IsReading (settings Single page_size limit) text reading
   pub has_memory : a.memory ≡ memory_after page_size reading.table reading.rounds
   pub has_rounds : a.rounds ≡ length reading.rounds
   pub has_verdict : a.verdict ≡ verdict_of a.rounds reading.state
@@ -43,7 +43,7 @@ pub record IsAnswer {A : Type 0} (page_size limit : ℕ) (text : List ℕ) (a : 
 -- was counted.
 pub record IsWithoutMemory {A : Type 0} (page_size limit : ℕ) (text : List ℕ) (a : Loaded A) : Type 0 where
   pub reading : StreamReading
-  pub is_reading : IsReading Single page_size limit text reading
+  pub is_reading : IsReading (settings Single page_size limit) text reading
   pub has_verdict : a.verdict ≡ Err (record { round = a.rounds; source = origin.Round; fault = fault.NoMemory })
   pub has_rounds : a.rounds ≤ length reading.rounds
   pub has_memory : (a.memory ≡ memory_after page_size reading.table (take a.rounds reading.rounds)) ⊎ ((a.memory ≡ None) × (a.rounds ≡ 0))

@@ -5,6 +5,8 @@ ghost use Rattle.mig_load.specs.LoadFaultNumber.{fault_number};
 
 use mig_mem::NoMemory;
 use mig_stream::StreamFault;
+use std::error::Error;
+use std::fmt::{self, Display, Formatter};
 
 /// Where a load found a fault.
 #[derive(Clone, Copy, Debug, PartialEq, Eq)]
@@ -46,3 +48,37 @@ pub struct LoadFault {
     /// What it is.
     pub fault: Fault,
 }
+
+impl Display for Origin {
+    fn fmt<W: fmt::Write>(&self, f: &mut Formatter<W>) -> fmt::Result {
+        match self {
+            Origin::Main => f.write_str("the stream"),
+            Origin::Round => f.write_str("the round"),
+        }
+    }
+}
+
+/// The fault's number, and what it says.
+impl Display for Fault {
+    fn fmt<W: fmt::Write>(&self, f: &mut Formatter<W>) -> fmt::Result {
+        match self {
+            Fault::Stream(fault) => Display::fmt(fault, f),
+            Fault::NoMemory => Display::fmt(&NoMemory, f),
+        }
+    }
+}
+
+impl Error for Fault {}
+
+/// Where the fault is, and what it says.
+impl Display for LoadFault {
+    fn fmt<W: fmt::Write>(&self, f: &mut Formatter<W>) -> fmt::Result {
+        write!(
+            f,
+            "round {}, in {}: {}",
+            self.round, self.source, self.fault
+        )
+    }
+}
+
+impl Error for LoadFault {}

@@ -6,16 +6,16 @@ use Rattle.std.specs.Option.{option_map_or, option_or}
 use Rattle.std.proofs.lemmas.Bool.{cases_Bool, cond-true, cond-false, or_parts, or_cases}
 use Rattle.std.proofs.lemmas.List.{reverse-append, append-nil, length-replicate}
 use Rattle.std.proofs.lemmas.List.Concat.{flat_map-append}
-use Rattle.std.proofs.lemmas.List.Elements.{All-head, All-tail, All-weaker}
+use Rattle.std.proofs.lemmas.List.Elements.{All-head, All-tail, All-weaker, All-map}
 use Rattle.std.proofs.lemmas.List.Folds.{find-append}
 use Rattle.mig_mem.specs.declared.place.Place.{Place}
 use Rattle.mig_mem.specs.RamTable.{RamTable}
-use Rattle.mig_mem.specs.Place.{place_eq, has_place}
+use Rattle.mig_mem.specs.Place.{place_eq, has_place, IsPlace}
 use Rattle.mig_mem.specs.Image.{Page, Image, IsImage, content_at, pages_of, image_of, zero_image, zero_page, with_page}
 use Rattle.mig_mem.specs.Round.{round_of, last_at, all_pages, after, IsRound}
 use Rattle.mig_mem.proofs.Members.{All-flat_map}
 use Rattle.mig_mem.proofs.PlaceOrder.{place_eq-true, place_eq-from, place_eq-flip}
-use Rattle.mig_mem.proofs.Images.{image_agree, image_from, with_page-image_of, content_at-image_of}
+use Rattle.mig_mem.proofs.Images.{image_agree, image_from, with_page-image_of, content_at-image_of, content_size}
 
 -- ---- the last page at a place
 
@@ -109,6 +109,15 @@ last_at-round m p (q ∷ qs) h =
           ∙ cond-true (place_eq q p) (Some (at_place m q)) None here
           ∙ ap (λ (r : Place). Some (at_place m r)) (place_eq-true q p here)
     ]
+
+-- THE ROUND OF A MEMORY and some of its table's places is one of that table
+pub image_round : (m : Image) (dirty : List Place) → IsImage m → All (IsPlace m.table) dirty → IsRound m.table (round_of m dirty)
+unfolding pages_of at_place
+image_round m dirty is within = record {
+  has_places = All-map (λ x. IsPlace m.table x.place) (at_place m) dirty within;
+  has_sizes = All-map (λ x. length x.content ≡ m.table.page_size) (at_place m) dirty
+      (All-weaker (IsPlace m.table) (λ p. length (content_at m p) ≡ m.table.page_size) (λ p at. content_size m p is at) dirty within);
+}
 
 -- ---- what rounds leave
 

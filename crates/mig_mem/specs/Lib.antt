@@ -1,12 +1,14 @@
+-- To be read first, in this order.
 pub mod PageSize
 pub mod RamTable
 pub mod First
 pub mod Refusal
-pub mod Packed
 pub mod Place
 pub mod Image
-pub mod Buffers
 pub mod Round
 pub mod PlaceSet
-pub mod Marks
 pub mod Tracking
+-- How the types keep their values: only contracts of the inside cite these.
+pub mod Packed
+pub mod Buffers
+pub mod Marks

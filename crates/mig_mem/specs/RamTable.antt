@@ -40,12 +40,16 @@ is_id id = nat_lt 0 (length id) && nat_le (length id) 255 && list_all is_printab
 abbrev pub total_pages : List Block → ℕ
 total_pages blocks = sum_by (λ b. b.pages) blocks
 
+-- the most blocks that a table has
+abbrev pub max_blocks : ℕ
+max_blocks = 256
+
 -- A lawful table: a page size of 4096 or 8192, 1 to 256 blocks, each with an id of 1 to 255 printable bytes that no other
 -- block has and with at least one page, and at most 2^40 bytes in all.
 pub record IsTable (table : RamTable) : Type 0 where
   pub has_page_size : IsPageSize table.page_size
   pub has_blocks : 0 < length table.blocks
-  pub has_few : length table.blocks ≤ 256
+  pub has_few : length table.blocks ≤ max_blocks
   pub has_ids : All (λ b. IsTrue (is_id b.id)) table.blocks
   pub has_own_ids : AllPairs (λ a b. a.id ≢ b.id) table.blocks
   pub has_pages : All (λ b. 0 < b.pages) table.blocks

@@ -5,7 +5,7 @@ use Rattle.std.specs.List.{list_any, range_with_len}
 use Rattle.std.specs.Str.{bytes_eq}
 use Rattle.mig_mem.specs.PageSize.{IsPageSize}
 use Rattle.mig_mem.specs.First.{first_some}
-use Rattle.mig_mem.specs.RamTable.{Block, RamTable, IsTable, block, is_id, total_pages}
+use Rattle.mig_mem.specs.RamTable.{Block, RamTable, IsTable, block, is_id, max_blocks, total_pages}
 use Rattle.mig_mem.specs.declared.fault.TableFault.{TableFault}
 use Rattle.mig_mem.specs.declared.fault.TableFault.TheVariants.{NoBlocks, TooManyBlocks, Id, IdTwice, NoPages, TooLarge, NoMemory}
 
@@ -25,7 +25,7 @@ entry_refusal blocks i = block_refusal (take i blocks) (block blocks i)
 unfoldable pub refusal : RamTable → Option TableFault
 refusal table = first_some (
     then_some (length table.blocks == 0) NoBlocks
-    ∷ (then_some (nat_lt 256 (length table.blocks)) TooManyBlocks
+    ∷ (then_some (nat_lt max_blocks (length table.blocks)) TooManyBlocks
     ∷ (first_some (map (entry_refusal table.blocks) (range_with_len 0 (length table.blocks)))
     ∷ (then_some (nat_lt (2 ^ 40) (total_pages table.blocks * table.page_size)) TooLarge
     ∷ []))))

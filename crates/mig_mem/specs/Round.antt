@@ -6,6 +6,7 @@ use Rattle.mig_mem.specs.declared.place.Place.{Place}
 use Rattle.mig_mem.specs.RamTable.{RamTable}
 use Rattle.mig_mem.specs.Place.{place_eq, IsPlace}
 use Rattle.mig_mem.specs.Image.{Page, Image, IsImage, content_at, pages_of, image_of, zero_page, with_page}
+use Rattle.mig_mem.specs.PlaceSet.{PlaceSet, IsPlaceSet}
 
 -- The round of an image and its dirty places: a page for each of them, in the order given (a dirty set gives them
 -- ascending), with its content in the image.
@@ -34,13 +35,18 @@ pub record IsRound (table : RamTable) (round : List Page) : Type 0 where
 abbrev pub with_round : Image → List Page → Image
 with_round m round = image_of m.table (λ p. option_map_or (λ x. x.content) (last_at p round) (content_at m p))
 
+-- The round of a memory and of a set of its table's places is one of that table.
+abbrev pub ImagesMakeRounds : Type 0
+ImagesMakeRounds = (m : Image) (s : PlaceSet) → IsImage m → IsPlaceSet s → s.table ≡ m.table → IsRound m.table (round_of m s.marked)
+
 -- What rounds leave is a memory.
 abbrev pub RoundsMakeMemory : Type 0
 RoundsMakeMemory = (table : RamTable) (rounds : List (List Page)) → All (IsRound table) rounds → IsImage (after table rounds)
 
 -- A round of one page changes the memory at its place alone.
 abbrev pub OnePageMore : Type 0
-OnePageMore = (table : RamTable) (rounds : List (List Page)) (x : Page) → after table (rounds ++ (x ∷ []) ∷ []) ≡ with_page (after table rounds) x.place x.content
+OnePageMore = (table : RamTable) (rounds : List (List Page)) (x : Page)
+    → after table (rounds ++ (x ∷ []) ∷ []) ≡ with_page (after table rounds) x.place x.content
 
 -- And a round more puts that round into it.
 abbrev pub OneRoundMore : Type 0

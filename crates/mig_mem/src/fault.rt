@@ -4,6 +4,8 @@ ghost use Rattle.std.specs.Prelude.{◌≡◌};
 ghost use Rattle.mig_mem.specs.Refusal.{fault_number, no_memory_number};
 
 use std::alloc::{AllocError, AllocFailed};
+use std::error::Error;
+use std::fmt::{self, Display, Formatter};
 
 /// Why `Table::new` was refused. `Id`, `IdTwice` and `NoPages` carry the number of the first bad entry, from 0.
 #[derive(Clone, Copy, Debug, PartialEq, Eq)]
@@ -41,7 +43,28 @@ impl TableFault {
     }
 }
 
-/// A growth was refused, or the runtime refused to start a worker.
+/// The fault's number, and what it says.
+impl Display for TableFault {
+    fn fmt<W: fmt::Write>(&self, f: &mut Formatter<W>) -> fmt::Result {
+        write!(f, "{}: ", self.number())?;
+        match self {
+            TableFault::NoBlocks => f.write_str("there is no entry"),
+            TableFault::TooManyBlocks => f.write_str("there are more than 256 entries"),
+            TableFault::Id(i) => write!(
+                f,
+                "the id of entry {i} isn't 1 to 255 bytes of 0x20 to 0x7E"
+            ),
+            TableFault::IdTwice(i) => write!(f, "an earlier entry has the id of entry {i}"),
+            TableFault::NoPages(i) => write!(f, "entry {i} has no page"),
+            TableFault::TooLarge => f.write_str("all blocks together have more than 2^40 bytes"),
+            TableFault::NoMemory => f.write_str(REFUSED),
+        }
+    }
+}
+
+impl Error for TableFault {}
+
+/// A growth was refused.
 #[derive(Clone, Copy, Debug, PartialEq, Eq)]
 pub struct NoMemory;
 
@@ -53,6 +76,19 @@ impl NoMemory {
         60
     }
 }
+
+// What want of memory says of itself.
+const REFUSED: &str = "a growth was refused";
+
+/// The fault's number, and what it says.
+impl Display for NoMemory {
+    fn fmt<W: fmt::Write>(&self, f: &mut Formatter<W>) -> fmt::Result {
+        write!(f, "{}: ", self.number())?;
+        f.write_str(REFUSED)
+    }
+}
+
+impl Error for NoMemory {}
 
 impl From<AllocError> for NoMemory {
     fn from(_: AllocError) -> NoMemory {

@@ -3,13 +3,18 @@
 //! Each law is the clause of a function that does nothing, so that it is proved with the crate and callers can have it.
 
 ghost use Rattle.mig_mem.specs.Refusal.{TableIsLawful};
-ghost use Rattle.mig_mem.specs.Round.{RoundsMakeMemory, OnePageMore, OneRoundMore};
+ghost use Rattle.mig_mem.specs.Round.{ImagesMakeRounds, RoundsMakeMemory, OnePageMore, OneRoundMore};
 ghost use Rattle.mig_mem.specs.Tracking.{TrackingGivesLastImage};
 
 /// A list of blocks is refused for no reason exactly where it makes a lawful table. So blocks that keep the limits are
 /// refused by `Table::new` for want of memory alone.
 pub fn table_is_lawful()
     ensures { TableIsLawful }
+{}
+
+/// The dirty pages of a memory, with their contents in it, are a round of its table: what a sender is handed is one.
+pub fn images_make_rounds()
+    ensures { ImagesMakeRounds }
 {}
 
 /// What rounds leave is a memory of the table.

@@ -20,9 +20,11 @@ pub use difference::first_difference;
 pub use dirty::Dirty;
 pub use fault::{NoMemory, TableFault};
 pub use laws::{
-    one_page_more, one_round_more, rounds_make_memory, table_is_lawful, tracking_gives_last_image,
+    images_make_rounds, one_page_more, one_round_more, rounds_make_memory, table_is_lawful,
+    tracking_gives_last_image,
 };
 pub use memory::Memory;
 pub use page_size::{PAGE_SIZE_4K, PAGE_SIZE_8K, is_page_size};
 pub use place::Place;
+pub use refusal::is_id;
 pub use table::{MAX_BLOCKS, MAX_ID_LEN, MAX_TOTAL, Table};

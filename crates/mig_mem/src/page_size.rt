@@ -1,4 +1,5 @@
-//! The sizes that a guest's page may have: the one place in the code that names them.
+//! The sizes that a guest's page may have. Every crate above takes them from here; `mig_packet`, which stands on no crate of this
+//! repository, has a module of its own for them.
 
 ghost use Rattle.std.specs.Prelude.{◌↔◌, IsTrue};
 ghost use Rattle.mig_mem.specs.PageSize.{IsPageSize};

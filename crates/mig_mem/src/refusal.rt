@@ -5,7 +5,7 @@ ghost use Rattle.std.specs.List.{list_any, list_all, range_with_len};
 ghost use Rattle.std.specs.Str.{bytes_eq};
 ghost use Rattle.mig_mem.specs.First.{first_some};
 ghost use Rattle.mig_mem.specs.PageSize.{IsPageSize};
-ghost use Rattle.mig_mem.specs.RamTable.{is_id, is_printable, total_pages, table_from, entry_block};
+ghost use Rattle.mig_mem.specs.RamTable.{is_id, is_printable, max_blocks, total_pages, table_from, entry_block};
 ghost use Rattle.mig_mem.specs.Refusal.{block_refusal, entry_refusal, refusal};
 
 use crate::TableFault;
@@ -18,8 +18,9 @@ fn is_printable(bytes: &[u8]) -> bool
     bytes.iter().all(|b| 0x20 <= *b && *b <= 0x7E)
 }
 
+/// Whether these bytes may be a block's id: 1 to 255 bytes of 0x20 to 0x7E.
 #[tactic(auto, unfolding(crate::specs::RamTable::is_id))]
-fn is_id(id: &[u8]) -> bool
+pub fn is_id(id: &[u8]) -> bool
     ensures { result ≡ is_id id.now }
 {
     if id.is_empty() || id.len() > MAX_ID_LEN {
@@ -75,7 +76,7 @@ fn entries_fault<A: Allocator>(list: &[(Vec<u8, A>, u64)]) -> Option<TableFault>
 
 // The pages of all blocks together.
 fn total_pages<A: Allocator>(list: &[(Vec<u8, A>, u64)]) -> u128
-    requires { length list.now ≤ 256 }
+    requires { length list.now ≤ max_blocks }
     ensures sum { result ≡ total_pages (map entry_block list.now) }
     ensures bound { result ≤ length list.now * 2 ^ 64 }
 {

@@ -1,7 +1,7 @@
 //! Each call on guest memory that takes memory, with its first growth refused, then its second, until a run has no refusal. A refused run
 //! answers want of memory and leaves what it was handed as it was; the run with memory answers as ever.
 
-use mig_fixtures::{at, has_byte, is_full, list, mark, marked, set, table, zeroed};
+use mig_fixtures::{at, has_byte, is_full, list, places_of, set, table, zeroed};
 use mig_mem::{Dirty, Memory, PAGE_SIZE_4K, Table, TableFault};
 use mig_refusing::{Refusing, with_each_growth_refused};
 use std::alloc::Allocator;
@@ -60,7 +60,7 @@ fn memory_zeroed(rt: HostRuntime) -> Result<(), Fail> {
 fn memory_copy(rt: HostRuntime) -> Result<(), Fail> {
     let heap = Refusing::new(rt.alloc(), 0);
     let mut memory = zeroed(&heap, &BLOCKS).expect(&rt, "a memory");
-    assert!(rt; set(&mut memory, 1, 5, 7).is_some());
+    assert!(rt; set(&mut memory, 1, 5, 7));
     with_each_growth_refused!(rt, heap, memory.try_copy(), copy => {
         assert!(rt; has_byte(&memory, at(1, 0), 5, 7));
         assert!(rt; has_byte(&copy, at(1, 0), 5, 7));
@@ -81,7 +81,9 @@ fn dirty_none(rt: HostRuntime) -> Result<(), Fail> {
 #[test]
 fn dirty_pages(rt: HostRuntime) -> Result<(), Fail> {
     let heap = Refusing::new(rt.alloc(), 0);
-    let dirty = marked(&heap, &BLOCKS, &[at(1, 64), at(0, 1), at(1, 0)]).expect(&rt, "a set");
+    let table = table(&heap, &BLOCKS).expect(&rt, "a table");
+    let places = [at(1, 64), at(0, 1), at(1, 0)];
+    let dirty = places_of(&heap, &table, &places).expect(&rt, "a set");
     with_each_growth_refused!(rt, heap, dirty.pages(), pages => {
         assert!(rt; pages.as_slice() == [at(0, 1), at(1, 0), at(1, 64)].as_slice());
         assert!(rt; dirty.count() == 3);
@@ -92,10 +94,12 @@ fn dirty_pages(rt: HostRuntime) -> Result<(), Fail> {
 #[test]
 fn dirty_mark(rt: HostRuntime) {
     let heap = Refusing::new(rt.alloc(), 0);
-    let mut dirty = marked(&heap, &BLOCKS, &[]).expect(&rt, "a set");
+    let table = table(&heap, &BLOCKS).expect(&rt, "a table");
+    let mut dirty = Dirty::none(&heap, &table).expect(&rt, "a set");
     heap.refuse(1);
     for place in [at(0, 1), at(1, 0), at(1, 64)] {
-        assert!(rt; mark(&mut dirty, place) == Some(true));
+        assert!(rt; dirty.table().holds(place));
+        assert!(rt; dirty.mark(place) == Ok(true));
     }
     assert!(rt; heap.is_waiting());
 }

@@ -1,11 +1,12 @@
 -- Each text has a reading and a list of pieces, and it has no other.
-use Rattle.std.proofs.Common.{◌≡◌, ◌⊎◌, ℕ, zero, suc, ◌+◌, ◌<◌, Bool, true, List, [], ◌++◌, length, take, drop, Option, Some, None, refl, sym, ap, ◌∙◌, inl, inr, append_assoc, arith}
+use Rattle.std.proofs.Common.{◌≡◌, ◌⊎◌, ℕ, zero, suc, ◌+◌, ◌<◌, Bool, true, List, [], ◌++◌, length, take, drop}
+use Rattle.std.proofs.Common.{Option, Some, None, refl, sym, ap, ◌∙◌, inl, inr, append_assoc, arith}
 use Rattle.std.proofs.lemmas.Bool.{cases_lt}
 use Rattle.std.proofs.lemmas.List.{take-append-drop, length-append}
 use Rattle.mig_packet.specs.declared.state.ChannelState.{ChannelState}
 use Rattle.mig_packet.specs.declared.state.ChannelState.TheVariants.{Reading, Bad}
 use Rattle.mig_packet.specs.declared.fault.ChannelFault.{ChannelFault}
-use Rattle.mig_packet.specs.Progress.{Progress, start, judged_len, item_len, first_fault, due_fault, after}
+use Rattle.mig_packet.specs.Progress.{ChannelProgress, start, judged_len, item_len, first_fault, due_fault, after}
 use Rattle.mig_packet.specs.Reading.{IsItem, Front, Reads, state_at, ChannelReading}
 use Rattle.mig_packet.specs.Pieces.{pieces_of}
 use Rattle.mig_packet.specs.Law.{HasOneReading, HasOneListOfPieces}
@@ -15,8 +16,8 @@ use Rattle.mig_packet.proofs.Unique.{one_reading}
 -- ---- a text has a reading
 
 -- some reading of a text from here
-abbrev SomeReading : Progress → List ℕ → Type 0
-SomeReading from text = (to : Progress) × (rest : List ℕ) × (state : ChannelState) × Reads from text to rest state
+abbrev SomeReading : ChannelProgress → List ℕ → Type 0
+SomeReading from text = (to : ChannelProgress) × (rest : List ℕ) × (state : ChannelState) × Reads from text to rest state
 
 -- whether a fault is due
 faulty : (o : Option ChannelFault) → (o ≡ None) ⊎ ((fault : ChannelFault) × (o ≡ Some fault))
@@ -29,7 +30,8 @@ some_bytes p None bytes = omega arith
 some_bytes p (Some id) bytes = omega arith
 
 -- however far a text has been read, it can be read on, since each item is a step forward
-read_on : (fuel : ℕ) (from c : Progress) (text front rest : List ℕ) → length rest < fuel → text ≡ front ++ rest → Front from front c → SomeReading from text
+read_on : (fuel : ℕ) (from c : ChannelProgress) (text front rest : List ℕ) → length rest < fuel → text ≡ front ++ rest → Front from front c
+    → SomeReading from text
 read_on zero from c text front rest few e so_far = absurd (omega arith)
 read_on (suc fuel) from c text front rest few e so_far =
     elim (faulty (due_fault c rest)) [
@@ -53,46 +55,49 @@ read_on (suc fuel) from c text front rest few e so_far =
       ]
     ]
 
-some_reading : (from : Progress) (text : List ℕ) → SomeReading from text
+some_reading : (from : ChannelProgress) (text : List ℕ) → SomeReading from text
 some_reading from text = read_on (suc (length text)) from from text [] text (omega arith) refl (Front-none from)
 
 -- ---- and no other
 
 -- two readings of a text tell the same
-same_reading : (from : Progress) (text : List ℕ) (ended : Bool) (other : ChannelReading) (c : Progress) (x : List ℕ) (s : ChannelState) → Reads from text c x s
-    → (d : Progress) (y : List ℕ) (t : ChannelState) → Reads from text d y t → other.hello ≡ d.hello → other.rounds ≡ d.rounds → other.state ≡ state_at ended d y t
+same_reading : (from : ChannelProgress) (text : List ℕ) (ended : Bool) (other : ChannelReading) (c : ChannelProgress) (x : List ℕ) (s : ChannelState)
+    → Reads from text c x s
+    → (d : ChannelProgress) (y : List ℕ) (t : ChannelState) → Reads from text d y t → other.hello ≡ d.hello → other.rounds ≡ d.rounds
+    → other.state ≡ state_at ended d y t
     → other ≡ record { hello = c.hello; rounds = c.rounds; state = state_at ended c x s }
 same_reading from text ended other c x s a d y t b hello rounds state =
     let same = one_reading from text d c y x t s b a in
     let at : state_at ended d y t ≡ state_at ended c x s =
-    ap (λ (p : Progress). state_at ended p y t) same.0 ∙ ap (λ (z : List ℕ). state_at ended c z t) same.1 ∙ ap (state_at ended c x) same.2 in
-    ap (λ (v : Option ℕ). record { hello = v; rounds = other.rounds; state = other.state }) (hello ∙ ap (λ (p : Progress). p.hello) same.0)
-    ∙ ap (λ (v : List (List (List ℕ))). record { hello = c.hello; rounds = v; state = other.state }) (rounds ∙ ap (λ (p : Progress). p.rounds) same.0)
+    ap (λ (p : ChannelProgress). state_at ended p y t) same.0 ∙ ap (λ (z : List ℕ). state_at ended c z t) same.1 ∙ ap (state_at ended c x) same.2 in
+    ap (λ (v : Option ℕ). record { hello = v; rounds = other.rounds; state = other.state }) (hello ∙ ap (λ (p : ChannelProgress). p.hello) same.0)
+    ∙ ap (λ (v : List (List (List ℕ))). record { hello = c.hello; rounds = v; state = other.state }) (rounds ∙ ap (λ (p : ChannelProgress). p.rounds) same.0)
     ∙ ap (λ (v : ChannelState). record { hello = c.hello; rounds = c.rounds; state = v }) (state ∙ at)
 
 -- Each text has exactly one reading.
 pub one_reading_law : HasOneReading
-one_reading_law = λ page_size uuid channels text ended is.
-    let from : Progress = start page_size uuid channels in
+one_reading_law = λ given text ended is.
+    let from : ChannelProgress = start given.page_size given.uuid given.channels in
     let r = some_reading from text in
     let reading : ChannelReading = record { hello = r.0.hello; rounds = r.0.rounds; state = state_at ended r.0 r.1 r.2 } in (
       reading,
       record { to = r.0; rest = r.1; found = r.2; reads = r.3; has_hello = refl; has_rounds = refl; has_state = refl },
-      λ other is_other. same_reading from text ended other r.0 r.1 r.2 r.3 is_other.to is_other.rest is_other.found is_other.reads is_other.has_hello is_other.has_rounds is_other.has_state,
+      λ other is_other. same_reading from text ended other r.0 r.1 r.2 r.3 is_other.to is_other.rest is_other.found is_other.reads is_other.has_hello
+          is_other.has_rounds is_other.has_state,
     )
 
-same_pieces : (from : Progress) (text : List ℕ) (c : Progress) (x : List ℕ) (s : ChannelState) → Reads from text c x s
-    → (d : Progress) (y : List ℕ) (t : ChannelState) → Reads from text d y t → pieces_of d (state_at true d y t) ≡ pieces_of c (state_at true c x s)
+same_pieces : (from : ChannelProgress) (text : List ℕ) (c : ChannelProgress) (x : List ℕ) (s : ChannelState) → Reads from text c x s
+    → (d : ChannelProgress) (y : List ℕ) (t : ChannelState) → Reads from text d y t → pieces_of d (state_at true d y t) ≡ pieces_of c (state_at true c x s)
 same_pieces from text c x s a d y t b =
     let same = one_reading from text d c y x t s b a in
-    ap (λ (p : Progress). pieces_of p (state_at true p y t)) same.0
+    ap (λ (p : ChannelProgress). pieces_of p (state_at true p y t)) same.0
     ∙ ap (λ (z : List ℕ). pieces_of c (state_at true c z t)) same.1
     ∙ ap (λ (z : ChannelState). pieces_of c (state_at true c x z)) same.2
 
 -- Each text that is over has exactly one list of pieces.
 pub one_list_law : HasOneListOfPieces
-one_list_law = λ page_size uuid channels text is.
-    let from : Progress = start page_size uuid channels in
+one_list_law = λ given text is.
+    let from : ChannelProgress = start given.page_size given.uuid given.channels in
     let r = some_reading from text in (
       pieces_of r.0 (state_at true r.0 r.1 r.2),
       record { to = r.0; rest = r.1; found = r.2; reads = r.3; has_pieces = refl },

@@ -4,7 +4,7 @@ use Rattle.std.proofs.lemmas.Bool.{cases_lt}
 use Rattle.std.proofs.lemmas.List.{take-append-drop}
 use Rattle.mig_packet.specs.declared.state.ChannelState.{ChannelState}
 use Rattle.mig_packet.specs.declared.state.ChannelState.TheVariants.{Reading}
-use Rattle.mig_packet.specs.Progress.{Progress, judged_len, item_len, first_fault, after_packet, after_item, after}
+use Rattle.mig_packet.specs.Progress.{ChannelProgress, judged_len, item_len, first_fault, after_packet, after_item, after}
 use Rattle.mig_packet.specs.Reading.{IsItem, Front, Reads}
 use Rattle.mig_packet.specs.Taking.{HasTaken}
 use Rattle.mig_packet.specs.Reader.{IsUnfinished, ReadsOn}
@@ -13,7 +13,7 @@ use Rattle.mig_packet.proofs.Fronts.{item_at, no_item, no_head, Front-none, Fron
 -- ---- an item that isn't whole
 
 -- no front of its bytes is the item
-not_whole : (c : Progress) (bytes : List ℕ) → IsUnfinished c bytes → (item more : List ℕ) → bytes ≡ item ++ more → IsItem c.page_size c.hello item → ⊥
+not_whole : (c : ChannelProgress) (bytes : List ℕ) → IsUnfinished c bytes → (item more : List ℕ) → bytes ≡ item ++ more → IsItem c.page_size c.hello item → ⊥
 not_whole c bytes u =
     elim (cases_lt (length bytes) (judged_len c.page_size c.hello)) [
       | inl lt ↦ no_head c.page_size c.hello bytes lt
@@ -21,7 +21,7 @@ not_whole c bytes u =
     ]
 
 -- the bytes that a reading leaves are no whole item
-unfinished : (from : Progress) (text : List ℕ) (to : Progress) (rest : List ℕ) → Reads from text to rest Reading → IsUnfinished to rest
+unfinished : (from : ChannelProgress) (text : List ℕ) (to : ChannelProgress) (rest : List ℕ) → Reads from text to rest Reading → IsUnfinished to rest
 unfinished from text to rest r =
     let n : ℕ = item_len to.page_size to.hello rest in
     record {
@@ -35,25 +35,26 @@ unfinished from text to rest r =
 -- ---- what is read
 
 -- bytes that are no whole item are left
-pub reads_short : (c : Progress) (bytes : List ℕ) → IsUnfinished c bytes → Reads c bytes c bytes Reading
+pub reads_short : (c : ChannelProgress) (bytes : List ℕ) → IsUnfinished c bytes → Reads c bytes c bytes Reading
 reads_short c bytes u = record { front = []; has_text = refl; leads = Front-none c; ends = (u.has_no_fault, not_whole c bytes u) }
 
 -- an item behind the hello is a packet
-pub after_is : (c : Progress) (h : Option ℕ) (item : List ℕ) → h ≢ None → after_item c h item ≡ after_packet c item
+pub after_is : (c : ChannelProgress) (h : Option ℕ) (item : List ℕ) → h ≢ None → after_item c h item ≡ after_packet c item
 after_is c None item some = absurd (some refl)
 after_is c (Some id) item some = refl
 
 -- one item, and what is read behind it
-front_item : (c : Progress) (item : List ℕ) → IsItem c.page_size c.hello item → first_fault c item ≡ None → Front c item (after c item)
+front_item : (c : ChannelProgress) (item : List ℕ) → IsItem c.page_size c.hello item → first_fault c item ≡ None → Front c item (after c item)
 front_item c item is none = Front-push c c [] item (Front-none c) is none
 
-pub reads_behind : (c d to : Progress) (item rest pending : List ℕ) (s : ChannelState) → IsItem c.page_size c.hello item → first_fault c item ≡ None → d ≡ after c item → ReadsOn d rest to pending s → ReadsOn c (item ++ rest) to pending s
+pub reads_behind : (c d to : ChannelProgress) (item rest pending : List ℕ) (s : ChannelState) → IsItem c.page_size c.hello item → first_fault c item ≡ None
+    → d ≡ after c item → ReadsOn d rest to pending s → ReadsOn c (item ++ rest) to pending s
 reads_behind c d to item rest pending s is none d_is r = record {
   rest = r.rest;
   reads = record {
     front = item ++ r.reads.front;
     has_text = ap (λ (x : List ℕ). item ++ x) r.reads.has_text ∙ sym (append_assoc item r.reads.front r.rest);
-    leads = Front-append c d to item r.reads.front (subst (λ (x : Progress). Front c item x) (sym d_is) (front_item c item is none)) r.reads.leads;
+    leads = Front-append c d to item r.reads.front (subst (λ (x : ChannelProgress). Front c item x) (sym d_is) (front_item c item is none)) r.reads.leads;
     ends = r.reads.ends;
   };
   has_rest = r.has_rest;
@@ -61,21 +62,23 @@ reads_behind c d to item rest pending s is none d_is r = record {
 
 -- ---- what is taken where memory runs out
 
-pub taken_behind : (c d to : Progress) (item rest : List ℕ) → IsItem c.page_size c.hello item → first_fault c item ≡ None → d ≡ after c item → HasTaken d rest to → HasTaken c (item ++ rest) to
+pub taken_behind : (c d to : ChannelProgress) (item rest : List ℕ) → IsItem c.page_size c.hello item → first_fault c item ≡ None → d ≡ after c item
+    → HasTaken d rest to → HasTaken c (item ++ rest) to
 taken_behind c d to item rest is none d_is t = record {
   front = item ++ t.front;
   rest = t.rest;
   has_bytes = ap (λ (x : List ℕ). item ++ x) t.has_bytes ∙ sym (append_assoc item t.front t.rest);
-  leads = Front-append c d to item t.front (subst (λ (x : Progress). Front c item x) (sym d_is) (front_item c item is none)) t.leads;
+  leads = Front-append c d to item t.front (subst (λ (x : ChannelProgress). Front c item x) (sym d_is) (front_item c item is none)) t.leads;
 }
 
 -- what a reading keeps is no whole item
-pub unfinished_behind : (from : Progress) (bytes : List ℕ) (to : Progress) (pending : List ℕ) (s : ChannelState) → ReadsOn from bytes to pending s → s ≡ Reading → IsUnfinished to pending
+pub unfinished_behind : (from : ChannelProgress) (bytes : List ℕ) (to : ChannelProgress) (pending : List ℕ) (s : ChannelState) → ReadsOn from bytes to pending s
+    → s ≡ Reading → IsUnfinished to pending
 unfinished_behind from bytes to pending s r reading =
     subst (IsUnfinished to) (r.has_rest reading) (unfinished from bytes to r.rest (subst (λ (x : ChannelState). Reads from bytes to r.rest x) reading r.reads))
 
 -- the piece was too short
-pub still_reading : (c : Progress) (bytes pending : List ℕ) → (bytes ≡ pending) × IsUnfinished c pending → ReadsOn c bytes c pending Reading
+pub still_reading : (c : ChannelProgress) (bytes pending : List ℕ) → (bytes ≡ pending) × IsUnfinished c pending → ReadsOn c bytes c pending Reading
 still_reading c bytes pending h = record {
   rest = pending;
   reads = subst (λ (x : List ℕ). Reads c x c pending Reading) (sym h.0) (reads_short c pending h.1);

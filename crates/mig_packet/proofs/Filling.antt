@@ -4,7 +4,7 @@ use Rattle.std.proofs.lemmas.Bool.{cases_lt}
 use Rattle.std.proofs.lemmas.List.{take-append-drop, take-take, length-take}
 use Rattle.mig_packet.specs.declared.fault.ChannelFault.{ChannelFault}
 use Rattle.mig_packet.specs.Faults.{first_of}
-use Rattle.mig_packet.specs.Progress.{Progress, judged_len, item_len, first_fault, due_fault}
+use Rattle.mig_packet.specs.Progress.{ChannelProgress, judged_len, item_len, first_fault, due_fault}
 use Rattle.mig_packet.specs.Reading.{IsItem}
 use Rattle.mig_packet.specs.Reader.{IsUnfinished}
 use Rattle.mig_packet.proofs.Fronts.{faults_stay, len_stays, due_is, judged_le_len}
@@ -20,21 +20,25 @@ grown : (mid new : List ℕ) → take (length mid) new ≡ mid → new ≡ mid +
 grown mid new kept = sym (take-append-drop (length mid) new) ∙ ap (λ (x : List ℕ). x ++ drop (length mid) new) kept
 
 -- the fault of the judged bytes is due, whatever follows
-pub faulty : (c : Progress) (mid behind all : List ℕ) (f : ChannelFault) → judged_len c.page_size c.hello ≤ length mid → first_fault c mid ≡ Some f → mid ++ behind ≡ all → due_fault c all ≡ Some f
+pub faulty : (c : ChannelProgress) (mid behind all : List ℕ) (f : ChannelFault) → judged_len c.page_size c.hello ≤ length mid → first_fault c mid ≡ Some f
+    → mid ++ behind ≡ all → due_fault c all ≡ Some f
 faulty c mid behind all f le fault e = ap (due_fault c) (sym e) ∙ due-append c mid behind f (due_is c mid le ∙ fault)
 
 -- where the judged bytes have no fault, the bytes that they grew to have none
-pub still_faultless : (c : Progress) (mid new : List ℕ) → judged_len c.page_size c.hello ≤ length mid → first_fault c mid ≡ None → take (length mid) new ≡ mid → first_fault c new ≡ None
+pub still_faultless : (c : ChannelProgress) (mid new : List ℕ) → judged_len c.page_size c.hello ≤ length mid → first_fault c mid ≡ None
+    → take (length mid) new ≡ mid → first_fault c new ≡ None
 still_faultless c mid new le none kept =
     ap (first_fault c) (grown mid new kept) ∙ ap first_of (faults_stay c c.hello mid (drop (length mid) new) le) ∙ none
 
 -- and they tell the same length
-same_len : (c : Progress) (mid new : List ℕ) → judged_len c.page_size c.hello ≤ length mid → take (length mid) new ≡ mid → item_len c.page_size c.hello new ≡ item_len c.page_size c.hello mid
+same_len : (c : ChannelProgress) (mid new : List ℕ) → judged_len c.page_size c.hello ≤ length mid → take (length mid) new ≡ mid
+    → item_len c.page_size c.hello new ≡ item_len c.page_size c.hello mid
 same_len c mid new le kept =
     ap (item_len c.page_size c.hello) (grown mid new kept) ∙ len_stays c.page_size c.hello mid (drop (length mid) new) le
 
 -- the item isn't whole
-pub still_short : (c : Progress) (mid new : List ℕ) → judged_len c.page_size c.hello ≤ length mid → first_fault c mid ≡ None → take (length mid) new ≡ mid
+pub still_short : (c : ChannelProgress) (mid new : List ℕ) → judged_len c.page_size c.hello ≤ length mid → first_fault c mid ≡ None
+    → take (length mid) new ≡ mid
     → length new < item_len c.page_size c.hello mid → IsUnfinished c new
 still_short c mid new le none kept short =
     let more : judged_len c.page_size c.hello ≤ length new = omega (arith, le, ap length kept, length-take (length mid) new) in
@@ -44,7 +48,8 @@ still_short c mid new le none kept short =
     }
 
 -- the judged bytes are no more than the item has
-mid_le : (c : Progress) (old mid : List ℕ) → IsUnfinished c old → (length old ≤ judged_len c.page_size c.hello → length mid ≤ judged_len c.page_size c.hello)
+mid_le : (c : ChannelProgress) (old mid : List ℕ) → IsUnfinished c old
+    → (length old ≤ judged_len c.page_size c.hello → length mid ≤ judged_len c.page_size c.hello)
     → (judged_len c.page_size c.hello ≤ length old → mid ≡ old) → length mid ≤ item_len c.page_size c.hello mid
 mid_le c old mid u full same =
     elim (cases_lt (length old) (judged_len c.page_size c.hello)) [
@@ -53,8 +58,10 @@ mid_le c old mid u full same =
     ]
 
 -- the item is whole
-pub is_whole : (c : Progress) (old mid new : List ℕ) → IsUnfinished c old → (length old ≤ judged_len c.page_size c.hello → length mid ≤ judged_len c.page_size c.hello)
+pub is_whole : (c : ChannelProgress) (old mid new : List ℕ) → IsUnfinished c old
+    → (length old ≤ judged_len c.page_size c.hello → length mid ≤ judged_len c.page_size c.hello)
     → (judged_len c.page_size c.hello ≤ length old → mid ≡ old) → judged_len c.page_size c.hello ≤ length mid → take (length mid) new ≡ mid
-    → (length mid ≤ item_len c.page_size c.hello mid → length new ≤ item_len c.page_size c.hello mid) → item_len c.page_size c.hello mid ≤ length new → IsItem c.page_size c.hello new
+    → (length mid ≤ item_len c.page_size c.hello mid → length new ≤ item_len c.page_size c.hello mid) → item_len c.page_size c.hello mid ≤ length new
+    → IsItem c.page_size c.hello new
 is_whole c old mid new u full same le kept no_more as_many =
     omega (arith, as_many, no_more (mid_le c old mid u full same), same_len c mid new le kept)

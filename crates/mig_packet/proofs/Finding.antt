@@ -31,7 +31,8 @@ pub begins_with_hello : (uuid : List ℕ) (channels id : ℕ) (bytes front more 
     → first_of (hello_faults uuid channels bytes) ≡ None
 begins_with_hello uuid channels id bytes front more e is lt =
     let len : length front ≡ hello_len = is.has_length in
-    ap (λ (x : List ℕ). first_of (hello_faults uuid channels x)) e ∙ ap first_of (hello_faults-front uuid channels front more (omega (arith, len))) ∙ hello_free uuid channels id front is lt
+    ap (λ (x : List ℕ). first_of (hello_faults uuid channels x)) e ∙ ap first_of (hello_faults-front uuid channels front more (omega (arith, len)))
+    ∙ hello_free uuid channels id front is lt
 
 -- ---- a packet
 
@@ -40,7 +41,8 @@ pub one_packet : (page_size : ℕ) (a b x y : List ℕ) → IsPacketText page_si
 one_packet page_size a b x y s t e =
     let la = s.has_length in
     let lb = t.has_length in
-    let same : normal_count a ≡ normal_count b = sym (normal_count-front page_size a x (omega (arith, la))) ∙ ap normal_count e ∙ normal_count-front page_size b y (omega (arith, lb)) in
+    let same : normal_count a ≡ normal_count b =
+    sym (normal_count-front page_size a x (omega (arith, la))) ∙ ap normal_count e ∙ normal_count-front page_size b y (omega (arith, lb)) in
     let len : length a ≡ length b = la ∙ ap (λ (n : ℕ). head_len page_size + n * page_size) same ∙ sym lb in
     let whole : a ≡ b = sym (take_at a x (length a) refl) ∙ ap (take (length a)) e ∙ take_at b y (length a) (sym len) in
     (whole, sym (drop_at a x (length a) refl) ∙ ap (drop (length a)) e ∙ drop_at b y (length a) (sym len))
@@ -50,7 +52,8 @@ pub no_longer : (page_size : ℕ) (a b : List ℕ) → IsPacketText page_size a 
 no_longer page_size a b s t = sym (one_packet page_size (a ++ b) a [] b t s (append-nil (a ++ b))).1
 
 -- where a front is a packet, that packet is read
-pub found : (page_size : ℕ) (bytes front more : List ℕ) (said : Fields) (r : PacketRead) → ReadsPacket page_size bytes r → bytes ≡ front ++ more → IsPacket page_size front said → FindsPacket front said r
+pub found : (page_size : ℕ) (bytes front more : List ℕ) (said : Fields) (r : PacketRead) → ReadsPacket page_size bytes r → bytes ≡ front ++ more
+    → IsPacket page_size front said → FindsPacket front said r
 found page_size bytes front more said (packet.Whole k n) reads e is =
     let own : IsPacketText page_size k.bytes.now = subst (λ (size : ℕ). IsPacketText size k.bytes.now) reads.0 k.is_packet in
     let split : k.bytes.now ++ drop n bytes ≡ front ++ more = ap (λ (x : List ℕ). x ++ drop n bytes) reads.2 ∙ take-append-drop n bytes ∙ e in

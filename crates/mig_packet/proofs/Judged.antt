@@ -1,5 +1,6 @@
 -- What is judged of an item: its fields stay where more follows, and without a fault it is a packet.
-use Rattle.std.proofs.Common.{◌≡◌, ◌≢◌, ℕ, ◌+◌, ◌-◌, ◌*◌, ◌≤◌, Bool, true, false, not, eqb, ltb, List, [], ◌∷◌, ◌++◌, length, take, drop, None, refl, ap, ◌∙◌, arith}
+use Rattle.std.proofs.Common.{◌≡◌, ◌≢◌, ℕ, ◌+◌, ◌-◌, ◌*◌, ◌≤◌, Bool, true, false, not, eqb, ltb, List}
+use Rattle.std.proofs.Common.{[], ◌∷◌, ◌++◌, length, take, drop, None, refl, ap, ◌∙◌, arith}
 use Rattle.std.specs.Prelude.{◌&&◌, slice_range}
 use Rattle.std.specs.Int.{w32, from_be_bytes}
 use Rattle.std.proofs.lemmas.List.{take-append-le, drop-append-le, length-drop, get_or_append_left}
@@ -59,7 +60,8 @@ size_holds n m k e some =
       | false ↦ λ h. eqb-true m k (holds (eqb m k) (rw h at e))
     ] refl
 
-pub faultless_text : (p : ℕ) (bytes : List ℕ) → first_of (packet_faults p bytes) ≡ None → length bytes ≡ head_len p + normal_count bytes * p → IsPacketText p bytes
+pub faultless_text : (p : ℕ) (bytes : List ℕ) → first_of (packet_faults p bytes) ≡ None → length bytes ≡ head_len p + normal_count bytes * p
+    → IsPacketText p bytes
 faultless_text p bytes free long =
     let size_fault = (not (eqb (normal_count bytes) 0) && not (eqb (contents_len_in bytes) (normal_count bytes * p)), fault.PacketSize) ∷ [] in
     let count_fault = (ltb (page_limit p) (normal_count bytes + zero_count bytes), fault.PageCount) ∷ size_fault in

@@ -1,5 +1,6 @@
 -- Free of faults is the layout, for a hello and for a packet; and a packet tells its length.
-use Rattle.std.proofs.Common.{◌≡◌, ◌≢◌, ℕ, ◌+◌, ◌*◌, ◌<◌, ◌≤◌, Bool, true, false, not, cond, eqb, ltb, leb, List, [], ◌∷◌, ◌++◌, length, get_or, take, drop, Option, None, refl, sym, ap, ◌∙◌, arith}
+use Rattle.std.proofs.Common.{◌≡◌, ◌≢◌, ℕ, ◌+◌, ◌*◌, ◌<◌, ◌≤◌, Bool, true, false, not, cond, eqb, ltb, leb, List, []}
+use Rattle.std.proofs.Common.{◌∷◌, ◌++◌, length, get_or, take, drop, Option, None, refl, sym, ap, ◌∙◌, arith}
 use Rattle.std.specs.Prelude.{◌&&◌, slice_range}
 use Rattle.std.specs.Str.{bytes_eq}
 use Rattle.std.proofs.lemmas.List.{take-append-drop, length-take-le, length-append, get_or_append_left}
@@ -70,7 +71,8 @@ hello_free uuid channels id bytes h lt =
     (pass _ fault.HelloId [] (ap (leb channels) h.has_id ∙ lt-leb channels id lt) refl)))
 
 -- what follows it changes nothing
-pub hello_faults-front : (uuid : List ℕ) (channels : ℕ) (a b : List ℕ) → hello_len ≤ length a → hello_faults uuid channels (a ++ b) ≡ hello_faults uuid channels a
+pub hello_faults-front : (uuid : List ℕ) (channels : ℕ) (a b : List ℕ) → hello_len ≤ length a
+    → hello_faults uuid channels (a ++ b) ≡ hello_faults uuid channels a
 hello_faults-front uuid channels a b le =
     let e0 = be32_at-front 0 a b (omega arith) in
     let e4 = be32_at-front 4 a b (omega arith) in
@@ -94,7 +96,8 @@ size_free n m k same =
     ] refl
 
 -- a head without faults, with its pages, is a packet
-pub free_text : (page_size : ℕ) (bytes : List ℕ) → first_of (packet_faults page_size bytes) ≡ None → length bytes ≡ head_len page_size + normal_count bytes * page_size
+pub free_text : (page_size : ℕ) (bytes : List ℕ) → first_of (packet_faults page_size bytes) ≡ None
+    → length bytes ≡ head_len page_size + normal_count bytes * page_size
     → IsPacketText page_size bytes
 free_text page_size bytes free len =
     let size_fault = (not (eqb (normal_count bytes) 0) && not (eqb (contents_len_in bytes) (normal_count bytes * page_size)), fault.PacketSize) ∷ [] in
@@ -154,7 +157,8 @@ cut_short page_size bytes lt front more e text =
     omega (arith, n, ap length e, length-append front more)
 
 -- the front as long as the head tells is a packet
-pub text_of_front : (page_size : ℕ) (bytes : List ℕ) → first_of (packet_faults page_size bytes) ≡ None → head_len page_size + normal_count bytes * page_size ≤ length bytes
+pub text_of_front : (page_size : ℕ) (bytes : List ℕ) → first_of (packet_faults page_size bytes) ≡ None
+    → head_len page_size + normal_count bytes * page_size ≤ length bytes
     → IsPacketText page_size (take (head_len page_size + normal_count bytes * page_size) bytes)
 text_of_front page_size bytes free le =
     let n = head_len page_size + normal_count bytes * page_size in

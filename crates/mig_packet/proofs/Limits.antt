@@ -7,13 +7,13 @@ use Rattle.mig_packet.specs.declared.state.ChannelState.{ChannelState}
 use Rattle.mig_packet.specs.declared.state.ChannelState.TheVariants.{Reading, Closed, Bad}
 use Rattle.mig_packet.specs.Faults.{first_of}
 use Rattle.mig_packet.specs.Packet.{is_sync, IsPacketText}
-use Rattle.mig_packet.specs.Progress.{Progress, start, faults, after_item, after}
+use Rattle.mig_packet.specs.Progress.{ChannelProgress, start, faults, after_item, after}
 use Rattle.mig_packet.specs.Reading.{IsItem, AreFaultless, after_all, Front, Ends, state_at, state_at_end}
 use Rattle.mig_packet.specs.Law.{EndsWithSync, ReadingsKeepLimits}
 use Rattle.mig_packet.proofs.Judged.{faultless_text}
 
 -- what holds of all that was read
-record Keeps (page_size : ℕ) (c : Progress) : Type 0 where
+record Keeps (page_size : ℕ) (c : ChannelProgress) : Type 0 where
   same_page_size : c.page_size ≡ page_size
   end_with_sync : All EndsWithSync c.rounds
   none_yet : All (λ packet. IsFalse (is_sync packet)) c.packets
@@ -32,7 +32,7 @@ first_keeps p uuid channels = record {
 }
 
 -- a packet, with SYNC or without
-keeps_packet : (p : ℕ) (c : Progress) (packet : List ℕ) (sync : Bool) → is_sync packet ≡ sync → c.hello ≢ None → IsPacketText p packet → Keeps p c
+keeps_packet : (p : ℕ) (c : ChannelProgress) (packet : List ℕ) (sync : Bool) → is_sync packet ≡ sync → c.hello ≢ None → IsPacketText p packet → Keeps p c
     → Keeps p (cond sync (record c { packets = []; rounds = c.rounds ++ (c.packets ++ packet ∷ []) ∷ [] }) (record c { packets = c.packets ++ packet ∷ [] }))
 keeps_packet p c packet true sync some text k =
     let round : List (List ℕ) = c.packets ++ packet ∷ [] in
@@ -54,7 +54,8 @@ keeps_packet p c packet false sync some text k = record {
   has_hello_first = k.has_hello_first;
 }
 
-keeps_item : (p : ℕ) (c : Progress) (h : Option ℕ) (item : List ℕ) → c.hello ≡ h → IsItem c.page_size h item → first_of (faults c h item) ≡ None → Keeps p c → Keeps p (after_item c h item)
+keeps_item : (p : ℕ) (c : ChannelProgress) (h : Option ℕ) (item : List ℕ) → c.hello ≡ h → IsItem c.page_size h item → first_of (faults c h item) ≡ None
+    → Keeps p c → Keeps p (after_item c h item)
 keeps_item p c None item e is free k = record {
   same_page_size = k.same_page_size;
   end_with_sync = k.end_with_sync;
@@ -67,7 +68,7 @@ keeps_item p c (Some id) item e is free k =
     keeps_packet p c item (is_sync item) refl (λ none. absurd (let clash : None ≡ Some id = sym none ∙ e in cc))
     (subst (λ (n : ℕ). IsPacketText n item) k.same_page_size (faultless_text c.page_size item free is)) k
 
-keeps_all : (p : ℕ) (c : Progress) (items : List (List ℕ)) → AreFaultless c items → Keeps p c → Keeps p (after_all c items)
+keeps_all : (p : ℕ) (c : ChannelProgress) (items : List (List ℕ)) → AreFaultless c items → Keeps p c → Keeps p (after_all c items)
 keeps_all p c [] free k = k
 keeps_all p c (item ∷ items) free k = keeps_all p (after c item) items free.2 (keeps_item p c c.hello item refl free.0 free.1 k)
 
@@ -79,12 +80,12 @@ settled_at_end (Some id) (byte ∷ rest) packets = λ e. absurd cc
 settled_at_end (Some id) [] (packet ∷ packets) = λ e. absurd cc
 settled_at_end (Some id) [] [] = λ e. absurd cc
 
-settled : (c : Progress) (rest : List ℕ) (found : ChannelState) → state_at true c rest found ≢ Reading
+settled : (c : ChannelProgress) (rest : List ℕ) (found : ChannelState) → state_at true c rest found ≢ Reading
 settled c rest Reading = settled_at_end c.hello rest c.packets
 settled c rest Closed = λ e. absurd cc
 settled c rest (Bad f) = λ e. absurd cc
 
-open_still : (c : Progress) (rest : List ℕ) (found : ChannelState) → Ends c rest found → found ≢ Closed
+open_still : (c : ChannelProgress) (rest : List ℕ) (found : ChannelState) → Ends c rest found → found ≢ Closed
 open_still c rest Reading ends = λ e. absurd cc
 open_still c rest Closed ends = absurd ends
 open_still c rest (Bad f) ends = λ e. absurd cc
@@ -93,7 +94,8 @@ hello_at_end : (hello : Option ℕ) (rest : List ℕ) (packets : List (List ℕ)
 hello_at_end None rest packets closed = absurd cc
 hello_at_end (Some id) rest packets closed = λ none. absurd cc
 
-hello_where_closed : (over : Bool) (c : Progress) (rest : List ℕ) (found : ChannelState) → Ends c rest found → state_at over c rest found ≡ Closed → c.hello ≢ None
+hello_where_closed : (over : Bool) (c : ChannelProgress) (rest : List ℕ) (found : ChannelState) → Ends c rest found → state_at over c rest found ≡ Closed
+    → c.hello ≢ None
 hello_where_closed true c rest Reading ends closed = hello_at_end c.hello rest c.packets closed
 hello_where_closed true c rest Closed ends closed = absurd ends
 hello_where_closed true c rest (Bad f) ends closed = absurd cc
@@ -102,15 +104,19 @@ hello_where_closed false c rest found ends closed = absurd (open_still c rest fo
 -- ---- the law
 
 pub limits_law : ReadingsKeepLimits
-limits_law = λ page_size uuid channels text ended reading size_is is.
-    let from : Progress = start page_size uuid channels in
+limits_law = λ given text ended reading size_is is.
+    let page_size : ℕ = given.page_size in
+    let from : ChannelProgress = start page_size given.uuid given.channels in
     let f : Front from is.reads.front is.to = is.reads.leads in
-    let k : Keeps page_size is.to = subst (Keeps page_size) (sym f.leads_to) (keeps_all page_size from f.items f.are_faultless (first_keeps page_size uuid channels)) in
+    let k : Keeps page_size is.to =
+    subst (Keeps page_size) (sym f.leads_to) (keeps_all page_size from f.items f.are_faultless (first_keeps page_size given.uuid given.channels)) in
     record {
       end_with_sync = subst (All EndsWithSync) (sym is.has_rounds) k.end_with_sync;
       are_packets = subst (All (All (IsPacketText page_size))) (sym is.has_rounds) k.in_rounds;
       has_hello_first = λ none. is.has_rounds ∙ k.has_hello_first (sym is.has_hello ∙ none);
-      is_settled = λ over reading_still. settled is.to is.rest is.found (ap (λ (b : Bool). state_at b is.to is.rest is.found) (sym over) ∙ sym is.has_state ∙ reading_still);
-      is_open = λ open_ closed. open_still is.to is.rest is.found is.reads.ends (ap (λ (b : Bool). state_at b is.to is.rest is.found) (sym open_) ∙ sym is.has_state ∙ closed);
+      is_settled = λ over reading_still. settled is.to is.rest is.found
+          (ap (λ (b : Bool). state_at b is.to is.rest is.found) (sym over) ∙ sym is.has_state ∙ reading_still);
+      is_open = λ open_ closed. open_still is.to is.rest is.found is.reads.ends
+          (ap (λ (b : Bool). state_at b is.to is.rest is.found) (sym open_) ∙ sym is.has_state ∙ closed);
       has_hello = λ closed none. hello_where_closed ended is.to is.rest is.found is.reads.ends (sym is.has_state ∙ closed) (sym is.has_hello ∙ none);
     }

@@ -1,5 +1,6 @@
 -- The fields of a packet that was written are read back, part by part.
-use Rattle.std.proofs.Common.{◌≡◌, ◌≢◌, ℕ, zero, suc, ◌+◌, ◌-◌, ◌*◌, ◌<◌, ◌≤◌, ◌^◌, ◌==◌, eqb, Bool, true, false, List, [], ◌∷◌, ◌++◌, length, get_or, take, replicate, refl, sym, ap, ◌∙◌, append_assoc, arith}
+use Rattle.std.proofs.Common.{◌≡◌, ◌≢◌, ℕ, zero, suc, ◌+◌, ◌-◌, ◌*◌, ◌<◌, ◌≤◌, ◌^◌, ◌==◌, eqb, Bool, true, false, List, []}
+use Rattle.std.proofs.Common.{◌∷◌, ◌++◌, length, get_or, take, replicate, refl, sym, ap, ◌∙◌, append_assoc, arith}
 use Rattle.std.specs.Prelude.{slice_range}
 use Rattle.std.specs.List.{All, flat_map, before_first, position_or_len}
 use Rattle.std.proofs.lemmas.List.{length-append, length-replicate, take-replicate, get_or_append_left, take_at, get_or_at}
@@ -20,32 +21,39 @@ pub length-counts : (size number normal_len zero_len : ℕ) (sync : Bool) → le
 unfolding written_counts be32 be64
 length-counts size number normal_len zero_len sync = refl
 
-pub magic_back : (size number normal_len zero_len : ℕ) (sync : Bool) (rest : List ℕ) → be32_at 0 (written_counts size number sync normal_len zero_len ++ rest) ≡ 0x11223344
+pub magic_back : (size number normal_len zero_len : ℕ) (sync : Bool) (rest : List ℕ)
+    → be32_at 0 (written_counts size number sync normal_len zero_len ++ rest) ≡ 0x11223344
 unfolding written_counts be32 be64 be32_at
 magic_back size number normal_len zero_len sync rest = refl
 
-pub version_back : (size number normal_len zero_len : ℕ) (sync : Bool) (rest : List ℕ) → be32_at 4 (written_counts size number sync normal_len zero_len ++ rest) ≡ 1
+pub version_back : (size number normal_len zero_len : ℕ) (sync : Bool) (rest : List ℕ)
+    → be32_at 4 (written_counts size number sync normal_len zero_len ++ rest) ≡ 1
 unfolding written_counts be32 be64 be32_at
 version_back size number normal_len zero_len sync rest = refl
 
-pub flags_back : (size number normal_len zero_len : ℕ) (sync : Bool) (rest : List ℕ) → be32_at 8 (written_counts size number sync normal_len zero_len ++ rest) ≡ flags_of sync
+pub flags_back : (size number normal_len zero_len : ℕ) (sync : Bool) (rest : List ℕ)
+    → be32_at 8 (written_counts size number sync normal_len zero_len ++ rest) ≡ flags_of sync
 unfolding written_counts be32 be64 be32_at
 flags_back size number n z true rest = refl
 flags_back size number n z false rest = refl
 
-pub normals_back : (size number normal_len zero_len : ℕ) (sync : Bool) (rest : List ℕ) → normal_len < 2 ^ 32 → be32_at 16 (written_counts size number sync normal_len zero_len ++ rest) ≡ normal_len
+pub normals_back : (size number normal_len zero_len : ℕ) (sync : Bool) (rest : List ℕ) → normal_len < 2 ^ 32
+    → be32_at 16 (written_counts size number sync normal_len zero_len ++ rest) ≡ normal_len
 unfolding written_counts be32 be64 be32_at
 normals_back size number normal_len zero_len sync rest lt = from_be_bytes-to_be_bytes_4 normal_len lt
 
-pub size_back : (size number normal_len zero_len : ℕ) (sync : Bool) (rest : List ℕ) → normal_len * size < 2 ^ 32 → be32_at 20 (written_counts size number sync normal_len zero_len ++ rest) ≡ normal_len * size
+pub size_back : (size number normal_len zero_len : ℕ) (sync : Bool) (rest : List ℕ) → normal_len * size < 2 ^ 32
+    → be32_at 20 (written_counts size number sync normal_len zero_len ++ rest) ≡ normal_len * size
 unfolding written_counts be32 be64 be32_at
 size_back size number normal_len zero_len sync rest lt = from_be_bytes-to_be_bytes_4 (normal_len * size) lt
 
-pub number_back : (size number normal_len zero_len : ℕ) (sync : Bool) (rest : List ℕ) → number < 2 ^ 64 → be64_at 24 (written_counts size number sync normal_len zero_len ++ rest) ≡ number
+pub number_back : (size number normal_len zero_len : ℕ) (sync : Bool) (rest : List ℕ) → number < 2 ^ 64
+    → be64_at 24 (written_counts size number sync normal_len zero_len ++ rest) ≡ number
 unfolding written_counts be32 be64 be64_at
 number_back size number normal_len zero_len sync rest lt = from_be_bytes-to_be_bytes_8 number lt
 
-pub zeros_back : (size number normal_len zero_len : ℕ) (sync : Bool) (rest : List ℕ) → zero_len < 2 ^ 32 → be32_at 32 (written_counts size number sync normal_len zero_len ++ rest) ≡ zero_len
+pub zeros_back : (size number normal_len zero_len : ℕ) (sync : Bool) (rest : List ℕ) → zero_len < 2 ^ 32
+    → be32_at 32 (written_counts size number sync normal_len zero_len ++ rest) ≡ zero_len
 unfolding written_counts be32 be64 be32_at
 zeros_back size number normal_len zero_len sync rest lt = from_be_bytes-to_be_bytes_4 zero_len lt
 
@@ -83,7 +91,8 @@ zero_ends id k none =
     (λ lt. a_zero id k (omega (arith, len, lt))) in
     ap (λ (n : ℕ). take n xs) at ∙ take_at id (replicate k 0) (length id) refl
 
-pub id_back : (id rest : List ℕ) → length id ≤ 255 → All (λ byte. byte ≢ 0) id → before_first (λ byte. byte == 0) (slice_range (written_id id ++ rest) 0 255) ≡ id
+pub id_back : (id rest : List ℕ) → length id ≤ 255 → All (λ byte. byte ≢ 0) id
+    → before_first (λ byte. byte == 0) (slice_range (written_id id ++ rest) 0 255) ≡ id
 unfolding written_id
 id_back id rest le none =
     let zs : List ℕ = replicate (256 - length id) 0 in
@@ -123,9 +132,15 @@ offset_in (x ∷ xs) (suc i) rest small lt =
 pub length-written_offsets : (size : ℕ) (xs : List ℕ) → length xs ≤ page_limit size → length (written_offsets size xs) ≡ 8 * page_limit size
 unfolding written_offsets
 length-written_offsets size xs le =
-    omega (arith, length-append (flat_map be64 xs) (replicate (8 * (page_limit size - length xs)) 0), length-offsets xs, length-replicate {A = ℕ} (8 * (page_limit size - length xs)) 0)
+    omega (
+      arith,
+      length-append (flat_map be64 xs) (replicate (8 * (page_limit size - length xs)) 0),
+      length-offsets xs,
+      length-replicate {A = ℕ} (8 * (page_limit size - length xs)) 0,
+    )
 
-pub offset_written : (size : ℕ) (xs : List ℕ) (i : ℕ) (rest : List ℕ) → All (λ x. x < 2 ^ 64) xs → i < length xs → be64_at (8 * i) (written_offsets size xs ++ rest) ≡ get_or xs i 0
+pub offset_written : (size : ℕ) (xs : List ℕ) (i : ℕ) (rest : List ℕ) → All (λ x. x < 2 ^ 64) xs → i < length xs
+    → be64_at (8 * i) (written_offsets size xs ++ rest) ≡ get_or xs i 0
 unfolding written_offsets
 offset_written size xs i rest small lt =
     ap (be64_at (8 * i)) (append_assoc (flat_map be64 xs) (replicate (8 * (page_limit size - length xs)) 0) rest)

@@ -1,5 +1,6 @@
 -- What was written is a hello, or a packet, of what it was written for.
-use Rattle.std.proofs.Common.{◌≡◌, ℕ, ◌+◌, ◌*◌, ◌<◌, ◌≤◌, ◌^◌, ◌==◌, Bool, List, [], ◌∷◌, ◌++◌, length, get_or, map, replicate, refl, sym, ap, ◌∙◌, append_assoc, arith, inl, inr}
+use Rattle.std.proofs.Common.{◌≡◌, ℕ, ◌+◌, ◌*◌, ◌<◌, ◌≤◌, ◌^◌, ◌==◌, Bool, List, [], ◌∷◌, ◌++◌, length, get_or}
+use Rattle.std.proofs.Common.{map, replicate, refl, sym, ap, ◌∙◌, append_assoc, arith, inl, inr}
 use Rattle.std.specs.Prelude.{slice_range}
 use Rattle.std.specs.List.{before_first, range_with_len}
 use Rattle.std.proofs.lemmas.List.{length-append, get_or_append_left, same_lists, take_at, get_or_at, get_or-append-add, get_or_default}
@@ -11,7 +12,8 @@ use Rattle.mig_packet.specs.Hello.{IsHello, written_hello}
 use Rattle.mig_packet.specs.Packet.{normal_count, zero_count, number_in, is_sync, id_in, offset_at, content_at, NormalPage, Fields, IsPacket}
 use Rattle.mig_packet.specs.Written.{written_counts, written_id, written_offsets, written_packet, normal_pages, written_fields, IsWritable}
 use Rattle.mig_packet.proofs.Places.{range-past, be64_at-past}
-use Rattle.mig_packet.proofs.Parts.{length-counts, magic_back, version_back, flags_back, normals_back, size_back, number_back, zeros_back, sync_back, flags_small, length-written_id, id_back, length-written_offsets, offset_written}
+use Rattle.mig_packet.proofs.Parts.{length-counts, magic_back, version_back, flags_back, normals_back, size_back, number_back, zeros_back}
+use Rattle.mig_packet.proofs.Parts.{sync_back, flags_small, length-written_id, id_back, length-written_offsets, offset_written}
 
 -- ---- a hello
 
@@ -25,7 +27,8 @@ hello_back uuid id len =
       has_magic = refl;
       has_version = refl;
       has_uuid = range-past first (uuid ++ more) 8 0 16 refl ∙ take_at uuid more 16 len;
-      has_id = ap (λ (x : List ℕ). get_or x 24 0) (sym (append_assoc first uuid more)) ∙ get_or_at (first ++ uuid) id (replicate 39 0) 0 24 (omega (arith, length-append first uuid, len));
+      has_id = ap (λ (x : List ℕ). get_or x 24 0) (sym (append_assoc first uuid more))
+          ∙ get_or_at (first ++ uuid) id (replicate 39 0) 0 24 (omega (arith, length-append first uuid, len));
     }
 
 -- ---- a packet
@@ -42,7 +45,8 @@ page_same : (m n : ℕ) (x y : List ℕ) → m ≡ n → x ≡ y → ◌≡◌ {
 page_same m n x y offset content = cc
 
 -- the normal pages that are read are those that were written
-pages_are : (size count : ℕ) (normal contents : List ℕ) (offset : ℕ → ℕ) (content : ℕ → List ℕ) → count ≡ length normal → ((i : ℕ) → i < length normal → offset i ≡ get_or normal i 0)
+pages_are : (size count : ℕ) (normal contents : List ℕ) (offset : ℕ → ℕ) (content : ℕ → List ℕ) → count ≡ length normal
+    → ((i : ℕ) → i < length normal → offset i ≡ get_or normal i 0)
     → ((i : ℕ) → content i ≡ slice_range contents (i * size) (i * size + size))
     → normal_pages size normal contents ≡ map (λ i. record { offset = offset i; content = content i }) (range_with_len 0 count)
 pages_are size count normal contents offset content all here there =
@@ -55,7 +59,8 @@ pages_are size count normal contents offset content all here there =
     ∙ ap (λ (n : ℕ). map read (range_with_len 0 n)) (sym all)
 
 -- what is read behind the first is the second
-tail_is : (from count : ℕ) (xs ys : List ℕ) (f : ℕ → ℕ) → from ≡ length xs → count ≡ length ys → ((i : ℕ) → i < length xs + length ys → f i ≡ get_or (xs ++ ys) i 0)
+tail_is : (from count : ℕ) (xs ys : List ℕ) (f : ℕ → ℕ) → from ≡ length xs → count ≡ length ys
+    → ((i : ℕ) → i < length xs + length ys → f i ≡ get_or (xs ++ ys) i 0)
     → map f (range_with_len from count) ≡ ys
 tail_is from count xs ys f from_is count_is all =
     let len : length (map f (range_with_len from count)) ≡ length ys = length-map-range_with_len f from count ∙ count_is in
@@ -93,7 +98,8 @@ packet_back size number sync id normal contents zeros w =
     ∙ be64_at-past C rest 64 (256 + 8 * i) lenC ∙ be64_at-past I (O ++ contents) 256 (8 * i) lenI
     ∙ offset_written size (normal ++ zeros) i contents w.has_offsets (omega (arith, both, lt)) in
     let content : (i : ℕ) → content_at size bytes i ≡ slice_range contents (i * size) (i * size + size) = λ i.
-    ap (λ (k : ℕ). slice_range bytes (head_len size + i * size) k) (let e : head_len size + i * size + size ≡ head_len size + (i * size + size) = omega arith in e)
+    ap (λ (k : ℕ). slice_range bytes (head_len size + i * size) k)
+    (let e : head_len size + i * size + size ≡ head_len size + (i * size + size) = omega arith in e)
     ∙ range-past head contents (head_len size) (i * size) (i * size + size) lenH in (
       record {
         has_magic = ap (be32_at 0) whole ∙ magic_back size number n z sync rest;
@@ -101,14 +107,17 @@ packet_back size number sync id normal contents zeros w =
         has_flags = omega (arith, flags, flags_small sync);
         has_few = omega (arith, normals, zeroes, few);
         has_size = λ _. ap (be32_at 20) whole ∙ size_back size number n z sync rest product ∙ ap (λ (k : ℕ). k * size) (sym normals);
-        has_length = length-append head contents ∙ ap (λ (k : ℕ). k + length contents) lenH ∙ ap (λ (k : ℕ). head_len size + k) (w.has_contents ∙ ap (λ (k : ℕ). k * size) (sym normals));
+        has_length = length-append head contents ∙ ap (λ (k : ℕ). k + length contents) lenH
+            ∙ ap (λ (k : ℕ). head_len size + k) (w.has_contents ∙ ap (λ (k : ℕ). k * size) (sym normals));
       },
       fields_same number (number_in bytes) sync (is_sync bytes) id (id_in bytes)
-          (normal_pages size normal contents) (map (λ i. record { offset = offset_at bytes i; content = content_at size bytes i }) (range_with_len 0 (normal_count bytes)))
+          (normal_pages size normal contents)
+          (map (λ i. record { offset = offset_at bytes i; content = content_at size bytes i }) (range_with_len 0 (normal_count bytes)))
           zeros (map (offset_at bytes) (range_with_len (normal_count bytes) (zero_count bytes)))
           (sym (ap number_in whole ∙ number_back size number n z sync rest w.has_number))
           (sym (ap (λ (k : ℕ). k == 1) flags ∙ sync_back sync))
-          (sym (ap id_in whole ∙ ap (before_first (λ byte. byte == 0)) (range-past C rest 64 0 255 lenC) ∙ id_back id (O ++ contents) w.has_short_id w.has_whole_id))
+          (sym (ap id_in whole ∙ ap (before_first (λ byte. byte == 0)) (range-past C rest 64 0 255 lenC)
+          ∙ id_back id (O ++ contents) w.has_short_id w.has_whole_id))
           (pages_are size (normal_count bytes) normal contents (offset_at bytes) (content_at size bytes) normals
           (λ i lt. offset i (omega (arith, lt)) ∙ get_or_append_left normal zeros 0 i lt) content)
           (sym (tail_is (normal_count bytes) (zero_count bytes) normal zeros (offset_at bytes) normals zeroes offset)),

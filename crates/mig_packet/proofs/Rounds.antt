@@ -7,7 +7,8 @@ use Rattle.mig_packet.specs.Packet.{IsPacketText}
 use Rattle.mig_packet.specs.Progress.{ArePackets}
 
 -- a round that a packet makes whole
-pub made_whole : (p q : ℕ) (packets now : List (List ℕ)) (packet : List ℕ) (rounds all : List (List (List ℕ))) → ArePackets p packets rounds → q ≡ p → IsPacketText q packet
+pub made_whole : (p q : ℕ) (packets now : List (List ℕ)) (packet : List ℕ) (rounds all : List (List (List ℕ))) → ArePackets p packets rounds → q ≡ p
+    → IsPacketText q packet
     → now ≡ [] → all ≡ rounds ++ (packets ++ packet ∷ []) ∷ [] → ArePackets p now all
 made_whole p q packets now packet rounds all are same text empty e =
     let text_here : IsPacketText p packet = subst (λ (n : ℕ). IsPacketText n packet) same text in

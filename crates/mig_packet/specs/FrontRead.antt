@@ -18,7 +18,8 @@ ReadsHello uuid channels bytes (hello.Bad fault) = due_hello_fault uuid channels
 -- Whole: the front of that length is this packet. Cut: no fault is due, and no front is a packet. Bad: the fault that is due.
 abbrev pub ReadsPacket : ℕ → List ℕ → PacketRead → Type 0
 ReadsPacket page_size bytes (packet.Whole found len) = (found.page_size ≡ page_size) × (len ≤ length bytes) × (found.bytes.now ≡ take len bytes)
-ReadsPacket page_size bytes packet.Cut = (due_packet_fault page_size bytes ≡ None) × ((front more : List ℕ) → bytes ≡ front ++ more → IsPacketText page_size front → ⊥)
+ReadsPacket page_size bytes packet.Cut =
+    (due_packet_fault page_size bytes ≡ None) × ((front more : List ℕ) → bytes ≡ front ++ more → IsPacketText page_size front → ⊥)
 ReadsPacket page_size bytes (packet.Bad fault) = due_packet_fault page_size bytes ≡ Some fault
 
 -- this front, which says this, is the packet that was found

@@ -1,5 +1,6 @@
 -- The hello: the 64 bytes that each channel begins with. QEMU's `MultiFDInit_t`.
-use Rattle.std.specs.Prelude.{◌≡◌, ℕ, Bool, not, nat_le, ◌==◌, bytes_eq, if◌then◌else◌, List, [], ◌∷◌, ◌++◌, length, get_or, Option, None, slice_range, replicate}
+use Rattle.std.specs.Prelude.{◌≡◌, ℕ, Bool, not, nat_le, ◌==◌, bytes_eq, if◌then◌else◌, List, [], ◌∷◌}
+use Rattle.std.specs.Prelude.{◌++◌, length, get_or, Option, None, slice_range, replicate}
 use Rattle.mig_packet.specs.declared.fault.ChannelFault.{ChannelFault}
 use Rattle.mig_packet.specs.declared.fault.ChannelFault.TheVariants as fault
 use Rattle.mig_packet.specs.Fields.{be32, be32_at}

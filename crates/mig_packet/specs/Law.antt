@@ -5,14 +5,14 @@ use Rattle.mig_packet.specs.Hello.{IsHello, written_hello}
 use Rattle.mig_packet.specs.Packet.{IsPacketText, IsPacket, is_sync}
 use Rattle.mig_packet.specs.Written.{written_packet, written_fields, IsWritable}
 use Rattle.mig_packet.specs.declared.state.ChannelState.TheVariants.{Reading, Closed}
-use Rattle.mig_packet.specs.Reading.{ChannelReading, IsReading}
+use Rattle.mig_packet.specs.Reading.{ChannelReading, Settings, IsReading}
 use Rattle.mig_packet.specs.Pieces.{Piece, ArePieces}
 
 -- What is written for a UUID and an id is a hello of them.
 abbrev pub WrittenHellosAreHellos : Type 0
 WrittenHellosAreHellos = (uuid : List ℕ) (id : ℕ) → length uuid ≡ 16 → IsHello uuid id (written_hello uuid id)
 
--- What is written for some fields is a packet that says these fields.
+-- What is written for some fields that a packet can say is a packet that says these fields.
 abbrev pub WrittenPacketsArePackets : Type 0
 WrittenPacketsArePackets = (page_size number : ℕ) (sync : Bool) (id normal contents zero : List ℕ) → IsWritable page_size number id normal contents zero
     → IsPacket page_size (written_packet page_size number sync id normal contents zero) (written_fields page_size number sync id normal contents zero)
@@ -23,15 +23,15 @@ NoPacketBeginsAnother = (page_size : ℕ) (front more : List ℕ) → IsPacketTe
 
 -- Each text, over or not, has exactly one reading.
 abbrev pub HasOneReading : Type 0
-HasOneReading = (page_size : ℕ) (uuid : List ℕ) (channels : ℕ) (text : List ℕ) (ended : Bool) → IsPageSize page_size
-    → (reading : ChannelReading) × IsReading page_size uuid channels text ended reading
-    × ((other : ChannelReading) → IsReading page_size uuid channels text ended other → other ≡ reading)
+HasOneReading = (given : Settings) (text : List ℕ) (ended : Bool) → IsPageSize given.page_size
+    → (reading : ChannelReading) × IsReading given text ended reading
+    × ((other : ChannelReading) → IsReading given text ended other → other ≡ reading)
 
 -- And each text that is over has exactly one list of pieces.
 abbrev pub HasOneListOfPieces : Type 0
-HasOneListOfPieces = (page_size : ℕ) (uuid : List ℕ) (channels : ℕ) (text : List ℕ) → IsPageSize page_size
-    → (pieces : List Piece) × ArePieces page_size uuid channels text pieces
-    × ((other : List Piece) → ArePieces page_size uuid channels text other → other ≡ pieces)
+HasOneListOfPieces = (given : Settings) (text : List ℕ) → IsPageSize given.page_size
+    → (pieces : List Piece) × ArePieces given text pieces
+    × ((other : List Piece) → ArePieces given text other → other ≡ pieces)
 
 -- a round ends with its only SYNC packet
 pub record EndsWithSync (round : List (List ℕ)) : Type 0 where
@@ -52,5 +52,5 @@ pub record KeepsLimits (page_size : ℕ) (ended : Bool) (reading : ChannelReadin
   pub has_hello : reading.state ≡ Closed → reading.hello ≢ None
 
 abbrev pub ReadingsKeepLimits : Type 0
-ReadingsKeepLimits = (page_size : ℕ) (uuid : List ℕ) (channels : ℕ) (text : List ℕ) (ended : Bool) (reading : ChannelReading) → IsPageSize page_size
-    → IsReading page_size uuid channels text ended reading → KeepsLimits page_size ended reading
+ReadingsKeepLimits = (given : Settings) (text : List ℕ) (ended : Bool) (reading : ChannelReading) → IsPageSize given.page_size
+    → IsReading given text ended reading → KeepsLimits given.page_size ended reading

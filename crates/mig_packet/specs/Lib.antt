@@ -1,17 +1,20 @@
+-- To read first, in this order: a hello, a packet, and the one text that is written for some fields ..
 pub mod PageSize
 pub mod Fields
-pub mod FaultNumber
 pub mod Faults
 pub mod Hello
 pub mod Packet
 pub mod Written
 pub mod Lent
+pub mod FaultNumber
+-- .. what stands at the front of bytes, how a whole text is read, what a reader of it stands for, and the laws
 pub mod FrontRead
 pub mod Progress
 pub mod Reading
-pub mod Taking
-pub mod Later
 pub mod Reader
-pub mod Filling
 pub mod Pieces
 pub mod Law
+-- Of the inside: only contracts of private functions name these.
+pub mod Taking
+pub mod Later
+pub mod Filling

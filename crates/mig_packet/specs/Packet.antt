@@ -1,5 +1,6 @@
 -- The layout of a packet, field by field at its place. QEMU's `MultiFDPacket_t`, with this project's count of zero pages.
-use Rattle.std.specs.Prelude.{◌≡◌, ◌≢◌, ℕ, ◌+◌, ◌*◌, ◌≤◌, Bool, not, nat_le, nat_lt, if◌then◌else◌, ◌==◌, ◌&&◌, List, [], ◌∷◌, length, map, Option, None, slice_range}
+use Rattle.std.specs.Prelude.{◌≡◌, ◌≢◌, ℕ, ◌+◌, ◌*◌, ◌≤◌, Bool, not, nat_le, nat_lt, if◌then◌else◌, ◌==◌}
+use Rattle.std.specs.Prelude.{◌&&◌, List, [], ◌∷◌, length, map, Option, None, slice_range}
 use Rattle.std.specs.List.{before_first, range_with_len}
 use Rattle.mig_packet.specs.declared.fault.ChannelFault.{ChannelFault}
 use Rattle.mig_packet.specs.declared.fault.ChannelFault.TheVariants as fault

@@ -7,7 +7,7 @@ use Rattle.mig_packet.specs.Hello.{hello_len, hello_faults}
 use Rattle.mig_packet.specs.Packet.{normal_count, is_sync, IsPacketText, packet_faults}
 
 -- how far a channel has been read
-pub record Progress : Type 0 where
+pub record ChannelProgress : Type 0 where
   pub page_size : ℕ
   -- the UUID and the number of channels that were handed in
   pub uuid : List ℕ
@@ -19,7 +19,7 @@ pub record Progress : Type 0 where
   -- the whole rounds: each is the packets up to and with a SYNC packet
   pub rounds : List (List (List ℕ))
 
-abbrev pub start : ℕ → List ℕ → ℕ → Progress
+abbrev pub start : ℕ → List ℕ → ℕ → ChannelProgress
 start page_size uuid channels = record { page_size = page_size; uuid = uuid; channels = channels; hello = None; packets = []; rounds = [] }
 
 -- all that is kept are packets of this page size
@@ -40,28 +40,28 @@ abbrev pub item_len : ℕ → Option ℕ → List ℕ → ℕ
 item_len page_size None bytes = hello_len
 item_len page_size (Some id) bytes = head_len page_size + normal_count bytes * page_size
 
-abbrev pub faults : Progress → Option ℕ → List ℕ → List (Bool × ChannelFault)
+abbrev pub faults : ChannelProgress → Option ℕ → List ℕ → List (Bool × ChannelFault)
 faults c None bytes = hello_faults c.uuid c.channels bytes
 faults c (Some id) bytes = packet_faults c.page_size bytes
 
-abbrev pub first_fault : Progress → List ℕ → Option ChannelFault
+abbrev pub first_fault : ChannelProgress → List ℕ → Option ChannelFault
 first_fault c bytes = first_of (faults c c.hello bytes)
 
 -- the fault that is due: none before the bytes that are judged are there, but also where pages are missing
-abbrev pub due_fault : Progress → List ℕ → Option ChannelFault
+abbrev pub due_fault : ChannelProgress → List ℕ → Option ChannelFault
 due_fault c bytes = if nat_le (judged_len c.page_size c.hello) (length bytes) then first_fault c bytes else None
 
 -- ---- what an item leaves
 
 -- a SYNC packet makes the round whole
-abbrev pub after_packet : Progress → List ℕ → Progress
+abbrev pub after_packet : ChannelProgress → List ℕ → ChannelProgress
 after_packet c packet =
     if is_sync packet then record c { packets = []; rounds = c.rounds ++ (c.packets ++ packet ∷ []) ∷ [] }
     else record c { packets = c.packets ++ packet ∷ [] }
 
-abbrev pub after_item : Progress → Option ℕ → List ℕ → Progress
+abbrev pub after_item : ChannelProgress → Option ℕ → List ℕ → ChannelProgress
 after_item c None item = record c { hello = Some (get_or item 24 0) }
 after_item c (Some id) item = after_packet c item
 
-abbrev pub after : Progress → List ℕ → Progress
+abbrev pub after : ChannelProgress → List ℕ → ChannelProgress
 after c item = after_item c c.hello item

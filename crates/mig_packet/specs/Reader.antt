@@ -1,17 +1,17 @@
 -- What a reader holds, and the bytes that it stands for.
-use Rattle.std.specs.Prelude.{◌≡◌, ℕ, ◌<◌, ◌≤◌, Bool, false, List, [], ◌++◌, length, slice_index_or, Option, None}
+use Rattle.std.specs.Prelude.{◌≡◌, ◌≢◌, ℕ, ◌+◌, ◌<◌, ◌≤◌, Bool, true, false, List, [], ◌++◌, length, slice_index_or, Option, None}
 use Rattle.mig_packet.specs.declared.state.ChannelState.{ChannelState}
 use Rattle.mig_packet.specs.declared.state.ChannelState.TheVariants.{Reading}
 use Rattle.mig_packet.specs.PageSize.{IsPageSize}
 use Rattle.mig_packet.specs.Packet.{IsPacketText}
 use Rattle.std.specs.List.{All}
-use Rattle.mig_packet.specs.Progress.{Progress, start, item_len, judged_len, due_fault}
-use Rattle.mig_packet.specs.Reading.{Reads, ChannelReading, IsReading}
+use Rattle.mig_packet.specs.Progress.{ChannelProgress, start, item_len, judged_len, due_fault}
+use Rattle.mig_packet.specs.Reading.{Reads, ChannelReading, Settings, IsReading}
 
 -- what a reader holds
 pub record Reader : Type 0 where
   -- how far it has read; its rounds are those that were not taken yet
-  pub progress : Progress
+  pub progress : ChannelProgress
   -- the bytes after it: a part of an item
   pub pending : List ℕ
   -- how the bytes fed stand, whether or not the text is over
@@ -20,35 +20,70 @@ pub record Reader : Type 0 where
   pub ended : Bool
 
 -- These bytes are a part of the item that comes next, not the whole of it, and no fault of it is due.
-pub record IsUnfinished (c : Progress) (bytes : List ℕ) : Type 0 where
+pub record IsUnfinished (c : ChannelProgress) (bytes : List ℕ) : Type 0 where
   pub has_no_fault : due_fault c bytes ≡ None
   pub is_short : judged_len c.page_size c.hello ≤ length bytes → length bytes < item_len c.page_size c.hello bytes
 
 -- bytes are read to there, and of an item that isn't whole these bytes are kept
-pub record ReadsOn (from : Progress) (bytes : List ℕ) (to : Progress) (pending : List ℕ) (state : ChannelState) : Type 0 where
+pub record ReadsOn (from : ChannelProgress) (bytes : List ℕ) (to : ChannelProgress) (pending : List ℕ) (state : ChannelState) : Type 0 where
   pub rest : List ℕ
   pub reads : Reads from bytes to rest state
   pub has_rest : state ≡ Reading → rest ≡ pending
 
 -- with rounds that were taken before
-abbrev pub with_taken : List (List (List ℕ)) → Progress → Progress
+abbrev pub with_taken : List (List (List ℕ)) → ChannelProgress → ChannelProgress
 with_taken taken c = record c { rounds = taken ++ c.rounds }
 
--- The reader was made with this page size, UUID and number of channels. It was fed this text, was told that the text is over
--- or not, and this many rounds were taken from it.
-pub record Stands (page_size : ℕ) (uuid : List ℕ) (channels : ℕ) (r : Reader) (text : List ℕ) (ended : Bool) (count : ℕ) : Type 0 where
-  pub has_fed : r.fed ≡ length text
-  pub has_ended : r.ended ≡ ended
-  pub taken : List (List (List ℕ))
-  pub has_taken : length taken ≡ count
+-- ---- what a reader stands for
+
+-- what a reader was given so far: this text, whether it was told that the text is over, and how many rounds were taken from it
+pub record SoFar : Type 0 where
+  pub text : List ℕ
+  pub ended : Bool
+  pub taken : ℕ
+
+-- before the first byte
+abbrev pub nothing_yet : SoFar
+nothing_yet = record { text = []; ended = false; taken = 0 }
+
+-- a piece more of the text
+abbrev pub with_piece : List ℕ → SoFar → SoFar
+with_piece piece so_far = record so_far { text = so_far.text ++ piece }
+
+-- told that the text is over
+abbrev pub over : SoFar → SoFar
+over so_far = record so_far { ended = true }
+
+-- a round more was taken
+abbrev pub one_taken : SoFar → SoFar
+one_taken so_far = record so_far { taken = so_far.taken + 1 }
+
+-- A reader stands for what it was given so far, under these settings. The rounds that were taken come before those that it holds.
+pub record Stands (given : Settings) (so_far : SoFar) (r : Reader) : Type 0 where
+  pub has_fed : r.fed ≡ length so_far.text
+  pub has_ended : r.ended ≡ so_far.ended
+  pub rounds : List (List (List ℕ))
+  pub has_taken : length rounds ≡ so_far.taken
   pub rest : List ℕ
-  pub reads : Reads (start page_size uuid channels) text (with_taken taken r.progress) rest r.found
+  pub reads : Reads (start given.page_size given.uuid given.channels) so_far.text (with_taken rounds r.progress) rest r.found
   pub has_pending : r.found ≡ Reading → rest ≡ r.pending
+
+-- a step of a call: whatever the reader stood for before, it stands for that with the step done
+abbrev pub StepsOn : (SoFar → SoFar) → Reader → Reader → Type 0
+StepsOn step old new = (given : Settings) (so_far : SoFar) → Stands given so_far old → Stands given (step so_far) new
+
+-- what is said of a reader by what it stands for alone
+abbrev pub Tells : Reader → (Settings → SoFar → Type 0) → Type 0
+Tells r says = (given : Settings) (so_far : SoFar) → Stands given so_far r → says given so_far
+
+-- how many whole rounds wait to be taken
+abbrev pub waiting : Reader → ℕ
+waiting r = length r.progress.rounds
 
 -- ---- a round that was taken
 
 -- a round: its packets, each as its text
-pub record PacketRound : Type 0 where
+pub record RoundOfPackets : Type 0 where
   pub page_size : ℕ
   pub packets : List (List ℕ)
 
@@ -59,17 +94,19 @@ pub record IsPacketRound (page_size : ℕ) (packets : List (List ℕ)) : Type 0 
 -- ---- what the reading of a text tells (its hello and its rounds are the same, over or not)
 
 -- the state of a text that may be over
-abbrev pub HasState : ℕ → List ℕ → ℕ → List ℕ → Bool → ChannelState → Type 0
-HasState page_size uuid channels text ended state =
-    (reading : ChannelReading) × IsReading page_size uuid channels text ended reading × (state ≡ reading.state)
+abbrev pub HasState : Settings → List ℕ → Bool → ChannelState → Type 0
+HasState given text ended state = (reading : ChannelReading) × IsReading given text ended reading × (state ≡ reading.state)
+
+-- the text has a fault already: more bytes change nothing
+abbrev pub IsSettled : Settings → List ℕ → Type 0
+IsSettled given text = (state : ChannelState) × HasState given text false state × (state ≢ Reading)
 
 -- the id that its hello names
-abbrev pub HasHello : ℕ → List ℕ → ℕ → List ℕ → Option ℕ → Type 0
-HasHello page_size uuid channels text hello =
-    (reading : ChannelReading) × IsReading page_size uuid channels text false reading × (hello ≡ reading.hello)
+abbrev pub HasHello : Settings → List ℕ → Option ℕ → Type 0
+HasHello given text hello = (reading : ChannelReading) × IsReading given text false reading × (hello ≡ reading.hello)
 
 -- the whole round of a number
-abbrev pub HasRound : ℕ → List ℕ → ℕ → List ℕ → ℕ → List (List ℕ) → Type 0
-HasRound page_size uuid channels text i round =
-    (reading : ChannelReading) × IsReading page_size uuid channels text false reading
+abbrev pub HasRound : Settings → List ℕ → ℕ → List (List ℕ) → Type 0
+HasRound given text i round =
+    (reading : ChannelReading) × IsReading given text false reading
     × (i < length reading.rounds) × (slice_index_or reading.rounds i [] ≡ round)

@@ -4,23 +4,23 @@ use Rattle.std.specs.List.{concat}
 use Rattle.mig_packet.specs.declared.state.ChannelState.{ChannelState}
 use Rattle.mig_packet.specs.declared.state.ChannelState.TheVariants.{Reading, Closed, Bad}
 use Rattle.mig_packet.specs.declared.fault.ChannelFault.TheVariants.{Truncated, Unsynced}
-use Rattle.mig_packet.specs.Progress.{Progress, start, item_len, first_fault, due_fault, after}
+use Rattle.mig_packet.specs.Progress.{ChannelProgress, start, item_len, first_fault, due_fault, after}
 
 -- these bytes are one whole item
 abbrev pub IsItem : ℕ → Option ℕ → List ℕ → Type 0
 IsItem page_size hello item = length item ≡ item_len page_size hello item
 
 -- each item is whole and without a fault, after the items before it
-abbrev pub AreFaultless : Progress → List (List ℕ) → Type 0
+abbrev pub AreFaultless : ChannelProgress → List (List ℕ) → Type 0
 AreFaultless c [] = ⊤
 AreFaultless c (item ∷ items) = IsItem c.page_size c.hello item × (first_fault c item ≡ None) × AreFaultless (after c item) items
 
-abbrev pub after_all : Progress → List (List ℕ) → Progress
+abbrev pub after_all : ChannelProgress → List (List ℕ) → ChannelProgress
 after_all c [] = c
 after_all c (item ∷ items) = after_all (after c item) items
 
 -- these bytes are whole items without a fault, and lead from here to there
-pub record Front (from : Progress) (bytes : List ℕ) (to : Progress) : Type 0 where
+pub record Front (from : ChannelProgress) (bytes : List ℕ) (to : ChannelProgress) : Type 0 where
   pub items : List (List ℕ)
   pub has_bytes : bytes ≡ concat items
   pub are_faultless : AreFaultless from items
@@ -28,14 +28,14 @@ pub record Front (from : Progress) (bytes : List ℕ) (to : Progress) : Type 0 w
 
 -- How a text stands where these bytes follow a front: bad where a fault is due, and else to be read on, where no whole item
 -- follows. No byte closes it.
-abbrev pub Ends : Progress → List ℕ → ChannelState → Type 0
+abbrev pub Ends : ChannelProgress → List ℕ → ChannelState → Type 0
 Ends c rest Reading = (due_fault c rest ≡ None) × ((item more : List ℕ) → rest ≡ item ++ more → IsItem c.page_size c.hello item → ⊥)
 Ends c rest Closed = ⊥
 Ends c rest (Bad fault) = due_fault c rest ≡ Some fault
 
 -- A text is read from there on to here, with these bytes left, and stands so. A text that is bad is left from its faulty item
 -- on.
-pub record Reads (from : Progress) (text : List ℕ) (to : Progress) (rest : List ℕ) (state : ChannelState) : Type 0 where
+pub record Reads (from : ChannelProgress) (text : List ℕ) (to : ChannelProgress) (rest : List ℕ) (state : ChannelState) : Type 0 where
   pub front : List ℕ
   pub has_text : text ≡ front ++ rest
   pub leads : Front from front to
@@ -49,7 +49,7 @@ state_at_end (Some id) [] (packet ∷ packets) = Bad Unsynced
 state_at_end (Some id) [] [] = Closed
 
 -- how a text stands that is read to there, and may be over
-abbrev pub state_at : Bool → Progress → List ℕ → ChannelState → ChannelState
+abbrev pub state_at : Bool → ChannelProgress → List ℕ → ChannelState → ChannelState
 state_at true to rest Reading = state_at_end to.hello rest to.packets
 state_at true to rest Closed = Closed
 state_at true to rest (Bad fault) = Bad fault
@@ -61,11 +61,22 @@ pub record ChannelReading : Type 0 where
   pub rounds : List (List (List ℕ))
   pub state : ChannelState
 
-pub record IsReading (page_size : ℕ) (uuid : List ℕ) (channels : ℕ) (text : List ℕ) (ended : Bool) (reading : ChannelReading) : Type 0 where
-  pub to : Progress
+-- what no text tells: the size of a page, the UUID and the number of channels
+pub record Settings : Type 0 where
+  pub page_size : ℕ
+  pub uuid : List ℕ
+  pub channels : ℕ
+
+-- as a caller hands them in
+abbrev pub settings : ℕ → List ℕ → ℕ → Settings
+settings page_size uuid channels = record { page_size = page_size; uuid = uuid; channels = channels }
+
+-- This is what a text tells, over or not, where these settings were given.
+pub record IsReading (given : Settings) (text : List ℕ) (ended : Bool) (reading : ChannelReading) : Type 0 where
+  pub to : ChannelProgress
   pub rest : List ℕ
   pub found : ChannelState
-  pub reads : Reads (start page_size uuid channels) text to rest found
+  pub reads : Reads (start given.page_size given.uuid given.channels) text to rest found
   pub has_hello : reading.hello ≡ to.hello
   pub has_rounds : reading.rounds ≡ to.rounds
   pub has_state : reading.state ≡ state_at ended to rest found

@@ -1,10 +1,10 @@
 -- What a run over bytes leaves where memory is refused.
 use Rattle.std.specs.Prelude.{◌≡◌, List, ℕ, ◌++◌}
-use Rattle.mig_packet.specs.Progress.{Progress}
+use Rattle.mig_packet.specs.Progress.{ChannelProgress}
 use Rattle.mig_packet.specs.Reading.{Front}
 
 -- some of these bytes, whole items without a fault, were taken
-pub record HasTaken (old : Progress) (bytes : List ℕ) (new : Progress) : Type 0 where
+pub record HasTaken (old : ChannelProgress) (bytes : List ℕ) (new : ChannelProgress) : Type 0 where
   pub front : List ℕ
   pub rest : List ℕ
   pub has_bytes : bytes ≡ front ++ rest

@@ -36,7 +36,8 @@ written_packet page_size number sync id normal contents zero = written_head page
 -- the normal pages of these offsets, with their contents
 abbrev pub normal_pages : ℕ → List ℕ → List ℕ → List NormalPage
 normal_pages page_size normal contents =
-    map (λ i. record { offset = get_or normal i 0; content = slice_range contents (i * page_size) (i * page_size + page_size) }) (range_with_len 0 (length normal))
+    map (λ i. record { offset = get_or normal i 0; content = slice_range contents (i * page_size) (i * page_size + page_size) })
+    (range_with_len 0 (length normal))
 
 -- what it says
 abbrev pub written_fields : ℕ → ℕ → Bool → List ℕ → List ℕ → List ℕ → List ℕ → Fields

@@ -4,6 +4,8 @@ ghost use Rattle.std.specs.Prelude.{◌≡◌};
 ghost use Rattle.mig_packet.specs.FaultNumber.{fault_number, no_memory_number};
 
 use std::alloc::{AllocError, AllocFailed};
+use std::error::Error;
+use std::fmt::{self, Display, Formatter};
 
 /// Why a text is no channel of packets: the first fault of its first faulty item, or how it was cut.
 #[derive(Clone, Copy, Debug, PartialEq, Eq)]
@@ -51,7 +53,37 @@ impl ChannelFault {
             ChannelFault::Unsynced => 45,
         }
     }
+
+    // The fault in a few words, for who reads what is printed.
+    fn words(self) -> &'static str {
+        match self {
+            ChannelFault::HelloMagic => "the hello doesn't begin with MULTIFD_MAGIC",
+            ChannelFault::HelloVersion => "the hello's version isn't MULTIFD_VERSION",
+            ChannelFault::HelloUuid => "the hello is of another UUID",
+            ChannelFault::HelloId => "the hello's id isn't below the number of channels",
+            ChannelFault::PacketMagic => "the packet doesn't begin with MULTIFD_MAGIC",
+            ChannelFault::PacketVersion => "the packet's version isn't MULTIFD_VERSION",
+            ChannelFault::PacketFlags(_) => "the packet has flags beside MULTIFD_FLAG_SYNC",
+            ChannelFault::PageCount => "the packet has more pages than a packet may have",
+            ChannelFault::PacketSize => "next_packet_size isn't that of the normal pages",
+            ChannelFault::Truncated => "the text ends inside the hello or a packet",
+            ChannelFault::Unsynced => "the text ends after a packet without SYNC",
+        }
+    }
 }
+
+/// The fault's number, and what it says.
+impl Display for ChannelFault {
+    fn fmt<W: fmt::Write>(&self, f: &mut Formatter<W>) -> fmt::Result {
+        write!(f, "{}: {}", self.number(), self.words())?;
+        match self {
+            ChannelFault::PacketFlags(flags) => write!(f, ": {flags:#x}"),
+            _ => Ok(()),
+        }
+    }
+}
+
+impl Error for ChannelFault {}
 
 /// A growth was refused.
 #[derive(Clone, Copy, Debug, PartialEq, Eq)]
@@ -65,6 +97,15 @@ impl NoMemory {
         60
     }
 }
+
+/// The fault's number, and what it says.
+impl Display for NoMemory {
+    fn fmt<W: fmt::Write>(&self, f: &mut Formatter<W>) -> fmt::Result {
+        write!(f, "{}: a growth was refused", self.number())
+    }
+}
+
+impl Error for NoMemory {}
 
 impl From<AllocError> for NoMemory {
     fn from(_: AllocError) -> NoMemory {

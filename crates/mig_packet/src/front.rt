@@ -10,6 +10,7 @@ ghost use Rattle.mig_packet.specs.FrontRead.{ReadsHello, ReadsPacket, FindsPacke
 
 use crate::ChannelFault;
 use crate::fields::be32;
+use crate::format::{HELLO_LEN, MULTIFD_FLAG_SYNC, MULTIFD_MAGIC, MULTIFD_VERSION};
 use crate::packet::{Packet, head_len, page_limit};
 use uuid::Uuid;
 
@@ -25,7 +26,7 @@ pub enum HelloRead {
 }
 
 /// What stands at the front of bytes, where a packet is expected.
-#[derive(Clone, Copy)]
+#[derive(Clone, Copy, Debug)]
 pub enum PacketRead<'a> {
     /// A packet, and how many bytes it has.
     Whole(Packet<'a>, usize),
@@ -40,7 +41,7 @@ pub fn read_hello(bytes: &[u8], uuid: &Uuid, channels: usize) -> HelloRead
     ensures reads { ReadsHello uuid.now channels bytes.now result }
     ensures found { (front more : List ℕ) (id : ℕ) → bytes.now ≡ front ++ more → IsHello uuid.now id front → id < channels → result ≡ hello_read.Whole id }
 {
-    if bytes.len() < 64 {
+    if bytes.len() < HELLO_LEN {
         return HelloRead::Cut;
     }
     match hello_fault(bytes, uuid, channels) {
@@ -54,10 +55,10 @@ pub(crate) fn hello_fault(bytes: &[u8], uuid: &Uuid, channels: usize) -> Option<
     requires { hello_len ≤ length bytes.now }
     ensures { result ≡ first_of (hello_faults uuid.now channels bytes.now) }
 {
-    if be32(bytes, 0) != 0x1122_3344 {
+    if be32(bytes, 0) != MULTIFD_MAGIC {
         return Some(ChannelFault::HelloMagic);
     }
-    if be32(bytes, 4) != 1 {
+    if be32(bytes, 4) != MULTIFD_VERSION {
         return Some(ChannelFault::HelloVersion);
     }
     let theirs = &bytes[8..24];
@@ -103,14 +104,14 @@ pub(crate) fn head_fault(page_size: u64, bytes: &[u8]) -> Option<ChannelFault>
     requires head { head_len page_size ≤ length bytes.now }
     ensures { result ≡ first_of (packet_faults page_size bytes.now) }
 {
-    if be32(bytes, 0) != 0x1122_3344 {
+    if be32(bytes, 0) != MULTIFD_MAGIC {
         return Some(ChannelFault::PacketMagic);
     }
-    if be32(bytes, 4) != 1 {
+    if be32(bytes, 4) != MULTIFD_VERSION {
         return Some(ChannelFault::PacketVersion);
     }
     let flags = be32(bytes, 8);
-    if flags > 1 {
+    if flags > MULTIFD_FLAG_SYNC {
         return Some(ChannelFault::PacketFlags(flags));
     }
     let normal = u64::from(be32(bytes, 16));

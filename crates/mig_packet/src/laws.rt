@@ -2,14 +2,16 @@
 //!
 //! Each law is the clause of a function that does nothing, so that it is proved with the crate and callers can have it.
 
-ghost use Rattle.mig_packet.specs.Law.{WrittenHellosAreHellos, WrittenPacketsArePackets, NoPacketBeginsAnother, HasOneReading, HasOneListOfPieces, ReadingsKeepLimits};
+ghost use Rattle.mig_packet.specs.Law.{WrittenHellosAreHellos, WrittenPacketsArePackets, NoPacketBeginsAnother};
+ghost use Rattle.mig_packet.specs.Law.{HasOneReading, HasOneListOfPieces, ReadingsKeepLimits};
 
 /// What is written for a UUID and an id is a hello of them. So `read_hello` finds it, whatever follows.
 pub fn written_hellos_are_hellos()
     ensures { WrittenHellosAreHellos }
 {}
 
-/// What is written for some fields is a packet that says these fields. So `read_packet` gives them back, whatever follows.
+/// What is written for some fields is a packet that says these fields, where a packet can: an id of at most 255 bytes without a
+/// byte 0, offsets and a number below 2^64, whole contents. So `read_packet` gives them back, whatever follows.
 pub fn written_packets_are_packets()
     ensures { WrittenPacketsArePackets }
 {}

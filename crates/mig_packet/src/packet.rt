@@ -6,9 +6,10 @@ ghost use Rattle.mig_packet.specs.PageSize.{IsPageSize, IsPageSize-prop, page_li
 ghost use Rattle.mig_packet.specs.Packet.{IsPacketText, number_in, is_sync, id_in, normal_count, zero_count, offset_at, content_at};
 
 use crate::fields::{be32, be64};
+use crate::format::{FIELDS_LEN, MULTIFD_PACKET_SIZE};
 
 /// One packet: QEMU's `MultiFDPacket_t` with its pages behind it. It borrows its bytes, and copies none of them.
-#[derive(Clone, Copy)]
+#[derive(Clone, Copy, Debug)]
 pub struct Packet<'a> {
     pub(crate) page_size: u64,
     pub(crate) bytes: &'a [u8],
@@ -65,7 +66,7 @@ impl<'a> Packet<'a> {
         requires { i < normal_count self.now.bytes.now + zero_count self.now.bytes.now }
         ensures { result ≡ offset_at self.now.bytes.now i }
     {
-        be64(self.bytes, 320 + 8 * i)
+        be64(self.bytes, FIELDS_LEN + 8 * i)
     }
 
     /// The content of normal page `i`.
@@ -97,11 +98,11 @@ fn zero_at(name: &[u8]) -> Option<usize>
 }
 
 /// How many pages a packet may have, and how many offsets it always has.
-pub(crate) fn page_limit(page_size: u64) -> usize
+pub fn page_limit(page_size: u64) -> usize
     requires { IsPageSize page_size }
     ensures { result ≡ page_limit page_size }
 {
-    (524_288 / page_size) as usize
+    (MULTIFD_PACKET_SIZE / page_size) as usize
 }
 
 /// How many bytes of a packet stand before its pages.
@@ -109,5 +110,5 @@ pub fn head_len(page_size: u64) -> usize
     requires { IsPageSize page_size }
     ensures { result ≡ head_len page_size }
 {
-    320 + 8 * page_limit(page_size)
+    FIELDS_LEN + 8 * page_limit(page_size)
 }

@@ -3,13 +3,14 @@
 ghost use Rattle.std.specs.Prelude.{◌≡◌, ◌≢◌, ◌≤◌, ◌<◌, [], ◌∷◌, List, ℕ, None, slice_get, length, IsTrue, IsFalse, IfOk, IfErr, IfSome, IfNone, OnOk, OnErr};
 ghost use Rattle.mig_packet.specs.PageSize.{IsPageSize};
 ghost use Rattle.mig_packet.specs.Packet.{IsPacketText};
-ghost use Rattle.mig_packet.specs.Progress.{Progress as Read, start, judged_len, item_len, first_fault, after, after_packet};
+ghost use Rattle.mig_packet.specs.Progress.{ChannelProgress, start, judged_len, item_len, first_fault, after, after_packet};
 ghost use Rattle.mig_packet.specs.Reading.{IsItem, Reads};
 ghost use Rattle.mig_packet.specs.Taking.{HasTaken};
 ghost use Rattle.mig_packet.specs.Later.{mark_of, IsLater, reopened};
 ghost use Rattle.mig_packet.specs.Reader.{with_taken};
 
 use crate::fields::be32;
+use crate::format::{HELLO_LEN, MULTIFD_FLAG_SYNC};
 use crate::front::{head_fault, hello_fault, packet_len};
 use crate::packet::head_len;
 use crate::round::{PacketRound, PacketText, Packets};
@@ -34,9 +35,9 @@ pub(crate) struct Progress<A: Allocator> {
 }
 
 impl<A: Allocator> Model for Progress<A> {
-    ghost use Rattle.mig_packet.specs.Progress.{Progress as Read, ArePackets};
+    ghost use Rattle.mig_packet.specs.Progress.{ChannelProgress, ArePackets};
 
-    ghost Value = { Read };
+    ghost Value = { ChannelProgress };
 
     ghost view = { λ c. record {
       page_size = c.page_size;
@@ -107,7 +108,7 @@ impl<A: Allocator + Copy> Progress<A> {
         ensures err { OnErr result (self.new ≡ self.old) }
         ensures back { IfErr result (λ p. p ≡ packet) }
     {
-        if be32(packet.as_slice(), 8) != 1 {
+        if be32(packet.as_slice(), 8) != MULTIFD_FLAG_SYNC {
             return self.packets.push(packet);
         }
         if self.rounds.reserve(1).is_err() {
@@ -164,7 +165,7 @@ impl<A: Allocator> Progress<A> {
         ensures page_size { IsPageSize self.now.page_size }
     {
         match self.hello {
-            None => 64,
+            None => HELLO_LEN,
             Some(_) => head_len(self.page_size),
         }
     }
@@ -186,7 +187,7 @@ impl<A: Allocator> Progress<A> {
         ensures { result ≡ item_len self.now.page_size self.now.hello bytes.now }
     {
         match self.hello {
-            None => 64,
+            None => HELLO_LEN,
             Some(_) => packet_len(self.page_size, bytes),
         }
     }
@@ -228,8 +229,8 @@ impl<A: Allocator> Progress<A> {
 
     /// Goes back to where the mark was made. Gives the first of the packets that had followed.
     pub(crate) fn undo(&mut self, mark: Mark) -> Option<PacketText<A>>
-        ensures back { (c : Read) (more : List (List ℕ)) → mark ≡ mark_of c → IsLater c more self.old → self.new ≡ c }
-        ensures first { (c : Read) (more : List (List ℕ)) → mark ≡ mark_of c → IsLater c more self.old → result ≡ slice_get more 0 }
+        ensures back { (c : ChannelProgress) (more : List (List ℕ)) → mark ≡ mark_of c → IsLater c more self.old → self.new ≡ c }
+        ensures first { (c : ChannelProgress) (more : List (List ℕ)) → mark ≡ mark_of c → IsLater c more self.old → result ≡ slice_get more 0 }
     {
         self.hello = mark.hello;
         self.reopen(mark.rounds);

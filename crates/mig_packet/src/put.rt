@@ -8,11 +8,12 @@ ghost use Rattle.mig_packet.specs.Hello.{written_hello};
 ghost use Rattle.mig_packet.specs.Written.{written_packet, written_head, written_counts, written_offsets, written_id, flags_of};
 
 use crate::NoMemory;
+use crate::format::{MULTIFD_FLAG_SYNC, MULTIFD_MAGIC, MULTIFD_VERSION};
 use crate::packet::{head_len, page_limit};
 use std::alloc::Allocator;
 use uuid::Uuid;
 
-// A hello of a UUID of zeros and the id 0.
+// A hello of a UUID of zeros and the id 0: MULTIFD_MAGIC, MULTIFD_VERSION, and zeros.
 const HELLO: [u8; 64] = [
     0x11, 0x22, 0x33, 0x44, 0, 0, 0, 1, 0, 0, 0, 0, 0, 0, 0, 0, 0, 0, 0, 0, 0, 0, 0, 0, 0, 0, 0, 0,
     0, 0, 0, 0, 0, 0, 0, 0, 0, 0, 0, 0, 0, 0, 0, 0, 0, 0, 0, 0, 0, 0, 0, 0, 0, 0, 0, 0, 0, 0, 0, 0,
@@ -128,8 +129,8 @@ fn append_counts<A: Allocator>(
     ensures len { vec_len out.new ≡ vec_len out.old + 64 }
     ensures capacity { vec_capacity out.old ≤ vec_capacity out.new }
 {
-    append_be32(out, 0x1122_3344);
-    append_be32(out, 1);
+    append_be32(out, MULTIFD_MAGIC);
+    append_be32(out, MULTIFD_VERSION);
     append_be32(out, flags_of(sync));
     append_be32(out, page_limit(page_size) as u32);
     append_be32(out, normals);
@@ -142,7 +143,7 @@ fn append_counts<A: Allocator>(
 fn flags_of(sync: bool) -> u32
     ensures { result ≡ flags_of sync }
 {
-    if sync { 1 } else { 0 }
+    if sync { MULTIFD_FLAG_SYNC } else { 0 }
 }
 
 fn zeros_of(n: usize) -> &'static [u8]

@@ -4,14 +4,16 @@
 //! place, but for what such an item needs of its front; and a packet that comes in pieces is kept where its bytes were
 //! gathered. So each byte of a packet is copied once.
 
-ghost use Rattle.std.specs.Prelude.{◌≡◌, ◌≢◌, ◌+◌, ◌<◌, ◌≤◌, ◌^◌, ◌++◌, ◌⊎◌, ℕ, Bool, List, [], ◌∷◌, length, take, drop, true, false, IsTrue, IsFalse, IsOk, Some, None, All, IfOk, IfSome, IfNone, OnOk, OnErr};
+ghost use Rattle.std.specs.Prelude.{◌≡◌, ◌≢◌, ◌+◌, ◌<◌, ◌≤◌, ◌^◌, ◌++◌, ℕ, List, [], length, take, true};
+ghost use Rattle.std.specs.Prelude.{IsTrue, IsFalse, IsOk, None, IfOk, IfSome, IfNone, OnOk, OnErr};
 ghost use Rattle.mig_packet.specs.PageSize.{IsPageSize};
 ghost use Rattle.mig_packet.specs.declared.state.ChannelState.TheVariants as state;
-ghost use Rattle.mig_packet.specs.Progress.{judged_len, item_len, first_fault, after};
-ghost use Rattle.mig_packet.specs.Reading.{IsItem, state_at, state_at_end};
+ghost use Rattle.mig_packet.specs.Progress.{first_fault};
+ghost use Rattle.mig_packet.specs.Reading.{IsItem, state_at_end, settings};
 ghost use Rattle.mig_packet.specs.Taking.{HasTaken};
 ghost use Rattle.mig_packet.specs.Filling.{Fills};
-ghost use Rattle.mig_packet.specs.Reader.{IsUnfinished, ReadsOn, Stands, HasState, HasHello, HasRound};
+ghost use Rattle.mig_packet.specs.Reader.{IsUnfinished, ReadsOn, Stands, StepsOn, Tells, nothing_yet, with_piece, over, one_taken, waiting};
+ghost use Rattle.mig_packet.specs.Reader.{HasState, IsSettled, HasHello, HasRound};
 
 use crate::progress::Progress;
 use crate::round::{PacketRound, PacketText};
@@ -212,7 +214,7 @@ impl<A: Allocator + Copy> ChannelReader<A> {
     pub fn new(alloc: A, page_size: u64, uuid: Uuid, channels: usize) -> ChannelReader<A>
         requires page_size { IsPageSize page_size }
         requires channels { (0 < channels) × (channels ≤ 255) }
-        ensures stands { Stands page_size uuid channels result [] false 0 }
+        ensures stands { Stands (settings page_size uuid channels) nothing_yet result }
         ensures open { IsFalse result.ended }
         ensures fed { result.fed ≡ 0 }
     {
@@ -225,13 +227,13 @@ impl<A: Allocator + Copy> ChannelReader<A> {
         }
     }
 
-    /// Takes the next piece of the text. After a fault its bytes are only counted. An `Err` changes nothing.
+    /// Takes the next piece of the text. After a fault its bytes are only counted, which is never refused. An `Err` changes
+    /// nothing.
     pub fn feed(&mut self, piece: &[u8]) -> Result<(), NoMemory>
         requires open { IsFalse self.old.ended }
         requires room { self.old.fed + length piece.now < 2 ^ 64 }
-        ensures stands { OnOk result ((page_size : ℕ) (uuid : List ℕ) (channels : ℕ) (text : List ℕ) (count : ℕ) →
-            Stands page_size uuid channels self.old text false count → Stands page_size uuid channels self.new (text ++ piece.now) false count) }
-        ensures stays { self.old.found ≢ state.Reading → IsOk result × (self.new ≡ record self.old { fed = self.old.fed + length piece.now }) }
+        ensures stands { OnOk result (StepsOn (with_piece piece.now) self.old self.new) }
+        ensures settled { Tells self.old (λ given so_far. IsSettled given so_far.text → IsOk result) }
         ensures fed { OnOk result (self.new.fed ≡ self.old.fed + length piece.now) }
         ensures open { IsFalse self.new.ended }
         ensures err { OnErr result (self.new ≡ self.old) }
@@ -283,8 +285,7 @@ impl<A: Allocator> ChannelReader<A> {
     /// more, and else bad. A second call changes nothing.
     pub fn end(&mut self)
         ensures value { self.new ≡ record self.old { ended = true } }
-        ensures stands { (page_size : ℕ) (uuid : List ℕ) (channels : ℕ) (text : List ℕ) (ended : Bool) (count : ℕ) →
-            Stands page_size uuid channels self.old text ended count → Stands page_size uuid channels self.new text true count }
+        ensures stands { StepsOn over self.old self.new }
     {
         self.ended = true;
     }
@@ -305,9 +306,7 @@ impl<A: Allocator> ChannelReader<A> {
 
     /// How the text stands that was fed: still to be read on, closed, or bad.
     pub fn state(&self) -> ChannelState
-        ensures value { result ≡ state_at self.now.ended self.now.progress self.now.pending self.now.found }
-        ensures reading { (page_size : ℕ) (uuid : List ℕ) (channels : ℕ) (text : List ℕ) (ended : Bool) (count : ℕ) →
-            Stands page_size uuid channels self.now text ended count → HasState page_size uuid channels text ended result }
+        ensures { Tells self.now (λ given so_far. HasState given so_far.text so_far.ended result) }
     {
         if self.ended && self.is_reading() {
             self.state_at_end()
@@ -331,9 +330,7 @@ impl<A: Allocator> ChannelReader<A> {
 
     /// The channel id that the hello named. None before the hello is whole, and where it has a fault.
     pub fn hello_id(&self) -> Option<u8>
-        ensures value { result ≡ self.now.progress.hello }
-        ensures reading { (page_size : ℕ) (uuid : List ℕ) (channels : ℕ) (text : List ℕ) (ended : Bool) (count : ℕ) →
-            Stands page_size uuid channels self.now text ended count → HasHello page_size uuid channels text result }
+        ensures { Tells self.now (λ given so_far. HasHello given so_far.text result) }
     {
         self.progress.hello()
     }
@@ -342,14 +339,13 @@ impl<A: Allocator> ChannelReader<A> {
     pub fn take_round(&mut self) -> Result<Option<PacketRound<A>>, NoMemory>
         ensures ok { IsOk result }
         ensures none { IfOk result (λ o. IfNone o (self.new ≡ self.old)) }
-        ensures last { IfOk result (λ o. IfNone o ((page_size : ℕ) (uuid : List ℕ) (channels : ℕ) (text : List ℕ) (ended : Bool) (count i : ℕ) (round : List (List ℕ)) →
-            Stands page_size uuid channels self.old text ended count → HasRound page_size uuid channels text i round → i < count)) }
-        ensures round { IfOk result (λ o. IfSome o (λ r. (page_size : ℕ) (uuid : List ℕ) (channels : ℕ) (text : List ℕ) (ended : Bool) (count : ℕ) →
-            Stands page_size uuid channels self.old text ended count → (r.page_size ≡ page_size) × HasRound page_size uuid channels text count r.packets)) }
-        ensures rest { IfOk result (λ o. IfSome o (λ r. self.old.progress.rounds ≡ r.packets ∷ self.new.progress.rounds)) }
-        ensures stands { IfOk result (λ o. IfSome o (λ r. (page_size : ℕ) (uuid : List ℕ) (channels : ℕ) (text : List ℕ) (ended : Bool) (count : ℕ) →
-            Stands page_size uuid channels self.old text ended count → Stands page_size uuid channels self.new text ended (count + 1))) }
-        ensures same { (self.new.fed ≡ self.old.fed) × (self.new.ended ≡ self.old.ended) × (self.new.found ≡ self.old.found) }
+        ensures last { IfOk result (λ o. IfNone o (Tells self.old (λ given so_far. (i : ℕ) (round : List (List ℕ)) →
+            HasRound given so_far.text i round → i < so_far.taken))) }
+        ensures round { IfOk result (λ o. IfSome o (λ r. Tells self.old (λ given so_far.
+            (r.page_size ≡ given.page_size) × HasRound given so_far.text so_far.taken r.packets))) }
+        ensures fewer { IfOk result (λ o. IfSome o (λ r. waiting self.old ≡ waiting self.new + 1)) }
+        ensures stands { IfOk result (λ o. IfSome o (λ r. StepsOn one_taken self.old self.new)) }
+        ensures same { (self.new.fed ≡ self.old.fed) × (self.new.ended ≡ self.old.ended) }
     {
         Ok(self.progress.take_round())
     }

@@ -133,9 +133,9 @@ pub struct PacketRound<A: Allocator = Global> {
 }
 
 impl<A: Allocator> Model for PacketRound<A> {
-    ghost use Rattle.mig_packet.specs.Reader.{PacketRound as Round, IsPacketRound};
+    ghost use Rattle.mig_packet.specs.Reader.{RoundOfPackets, IsPacketRound};
 
-    ghost Value = { Round };
+    ghost Value = { RoundOfPackets };
 
     ghost view = { λ r. record { page_size = r.page_size; packets = r.packets } };
 

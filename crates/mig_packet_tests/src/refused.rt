@@ -1,23 +1,45 @@
 //! Each call on packets and channels that takes memory, with its first growth refused, then its second, until a run has no
 //! refusal. A refused run answers want of memory and leaves what it was handed as it was; the run with memory answers as ever.
 
-use mig_fixtures::{channel_reader, feed_channel, put_page_and_zeros, two_page_channel};
-use mig_packet::{ChannelReader, ChannelState, Gate, NoMemory, OpenGate, Step, put_packet_head};
+use mig_fixtures::put_page_and_zeros;
+use mig_packet::{
+    ChannelReader, ChannelState, Gate, NoMemory, OpenGate, Step, hello, put_packet, put_packet_head,
+};
 use mig_refusing::Refusing;
-use std::alloc::Allocator;
+use std::alloc::{AllocGlobal, Allocator};
+use std::process::Abort;
 use uuid::Uuid;
 
+// A channel of 6,848 bytes: a hello of the UUID of zeros, the packet of two pages, and a SYNC packet.
+fn two_page_channel(rt: &(impl AllocGlobal + Abort)) -> Vec<u8> {
+    let mut text = Vec::from_slice(rt.alloc(), &hello(&Uuid::nil(), 0)).expect(rt, "a hello");
+    assert!(rt; put_page_and_zeros(&mut text) == Ok(()));
+    assert!(rt; put_packet(4096, &mut text, 1, true, &[], &[], &[], &[]) == Ok(()));
+    text
+}
+
+// Feeds a piece, where the text isn't over.
+fn feed<A: Allocator + Copy>(
+    rt: &(impl AllocGlobal + Abort),
+    reader: &mut ChannelReader<A>,
+    piece: &[u8],
+) -> Result<(), NoMemory> {
+    assert!(rt; !reader.ended());
+    assert!(rt; reader.fed().checked_add(piece.len() as u64).is_some());
+    reader.feed(piece)
+}
+
 // A text of three bytes in a buffer without room for more.
-fn three<'a>(heap: &'a Refusing) -> Option<Vec<u8, &'a Refusing>> {
-    Vec::from_slice(heap, &[5, 6, 7]).ok()
+fn three<'a>(rt: &(impl AllocGlobal + Abort), heap: &'a Refusing) -> Vec<u8, &'a Refusing> {
+    Vec::from_slice(heap, &[5, 6, 7]).expect(rt, "a text")
 }
 
 #[test]
 fn packets(rt: HostRuntime) {
     let heap = Refusing::new(rt.alloc(), 0);
-    let mut wanted = three(&heap).expect(&rt, "a text");
+    let mut wanted = three(&rt, &heap);
     assert!(rt; put_page_and_zeros(&mut wanted).is_ok());
-    let mut text = three(&heap).expect(&rt, "a text");
+    let mut text = three(&rt, &heap);
     heap.refuse(1);
     assert!(rt; put_page_and_zeros(&mut text) == Err(NoMemory));
     assert!(rt; !heap.is_waiting());
@@ -32,7 +54,7 @@ fn packets(rt: HostRuntime) {
 #[test]
 fn heads(rt: HostRuntime) {
     let heap = Refusing::new(rt.alloc(), 0);
-    let mut text = three(&heap).expect(&rt, "a text");
+    let mut text = three(&rt, &heap);
     heap.refuse(1);
     let run = put_packet_head(4096, &mut text, 0, false, b"a", &[4096], &[0]);
     assert!(rt; run == Err(NoMemory));
@@ -46,7 +68,7 @@ fn heads(rt: HostRuntime) {
     let mut page = [0u8; 4096];
     page[0] = 9;
     assert!(rt; text.extend_from_slice(&page).is_ok());
-    let mut wanted = three(&heap).expect(&rt, "a text");
+    let mut wanted = three(&rt, &heap);
     assert!(rt; put_page_and_zeros(&mut wanted).is_ok());
     assert!(rt; text.as_slice() == wanted.as_slice());
 }
@@ -83,15 +105,15 @@ fn has_read<A: Allocator + Copy>(reader: &mut ChannelReader<A>, len: u64) -> boo
 #[test]
 fn pieces(rt: HostRuntime) {
     let heap = Refusing::new(rt.alloc(), 0);
-    let text = two_page_channel(rt.alloc()).expect(&rt, "a text");
+    let text = two_page_channel(&rt);
     for len in [0usize, 10, 64, 70, 1408, 5000, 5504, 5600] {
         let (front, rest) = text.split_at_checked(len).expect(&rt, "two pieces");
-        let mut reader = channel_reader(&heap, 4096, Uuid::nil(), 1).expect(&rt, "a reader");
-        assert!(rt; feed_channel(&mut reader, front).is_some_and(|fed| fed.is_ok()));
+        let mut reader = ChannelReader::new(&heap, 4096, Uuid::nil(), 1);
+        assert!(rt; feed(&rt, &mut reader, front) == Ok(()));
         let mut refused = 0u64;
         for nth in 1..100u64 {
             heap.refuse(nth);
-            let run = feed_channel(&mut reader, rest).expect(&rt, "it isn't over");
+            let run = feed(&rt, &mut reader, rest);
             let is_waiting = heap.is_waiting();
             heap.refuse(0);
             if run.is_ok() {
@@ -113,9 +135,9 @@ fn pieces(rt: HostRuntime) {
 #[test]
 fn rounds(rt: HostRuntime) {
     let heap = Refusing::new(rt.alloc(), 0);
-    let text = two_page_channel(rt.alloc()).expect(&rt, "a text");
-    let mut reader = channel_reader(&heap, 4096, Uuid::nil(), 1).expect(&rt, "a reader");
-    assert!(rt; feed_channel(&mut reader, &text).is_some_and(|fed| fed.is_ok()));
+    let text = two_page_channel(&rt);
+    let mut reader = ChannelReader::new(&heap, 4096, Uuid::nil(), 1);
+    assert!(rt; feed(&rt, &mut reader, &text) == Ok(()));
     heap.refuse(1);
     let Ok(Some(round)) = reader.take_round() else {
         panic!(rt; "no round")

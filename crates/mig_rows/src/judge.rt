@@ -1,10 +1,11 @@
 //! Rounds of packets that are judged and put into a memory, in one order after another.
 
-use crate::case::Case;
-use crate::show::{put_memory, put_round_fault};
-use crate::trouble::{Done, Trouble};
-use mig_assemble::Target;
-use mig_fixtures::{How, feed, put_round, reader};
+ghost use Rattle.std.specs.Prelude.{◌≡◌, All, IfOk};
+
+use crate::show::put_round_fault;
+use crate::streams::{feed, reader_of, rounds_of};
+use mig_assemble::{Gathered, RoundFault, Target};
+use mig_cases::{Case, Done, Trouble, put_memory};
 use mig_mem::{Table, is_page_size};
 use mig_packet::{Packet, PacketRead, read_packet};
 use mig_stream::{Mode, StreamReader, StreamRound};
@@ -63,16 +64,38 @@ fn packets_of(alloc: Global, page_size: u64, text: &[u8]) -> Result<Vec<Packet<'
     Err(Trouble::Line)
 }
 
-// The rounds of a single stream, START's first.
-fn rounds_of(alloc: Global, reader: &mut StreamReader) -> Result<Vec<StreamRound>, Trouble> {
-    let mut rounds = Vec::new(alloc);
-    for _ in 0..u64::MAX {
-        match reader.take_round()? {
-            Some(round) => rounds.push(round)?,
-            None => return Ok(rounds),
+// Packets with pages of one size, in their order, as a memory takes them.
+fn gathered<'a>(
+    alloc: Global,
+    page_size: u64,
+    packets: &[Packet<'a>],
+) -> Result<Gathered<'a>, Trouble>
+    ensures { IfOk result (λ g. All (λ p. p.page_size ≡ page_size) g) }
+{
+    let mut gathered = Gathered::new(alloc);
+    for packet in packets {
+        if packet.page_size() != page_size {
+            return Err(Trouble::Line);
         }
+        gathered.push(*packet)?;
     }
-    Err(Trouble::Line)
+    Ok(gathered)
+}
+
+// Judges a round and puts it into a memory.
+fn put_round(
+    alloc: Global,
+    target: &mut Target,
+    round: &StreamRound,
+    packets: &[Packet<'_>],
+) -> Result<Result<(), RoundFault>, Trouble> {
+    let page_size = target.memory().table().page_size();
+    let gathered = gathered(alloc, page_size, packets)?;
+    let has_room = gathered.len() <= 1000 && target.base() <= 1000 && target.rounds() <= 1000;
+    if !has_room || !target.fits(round) {
+        return Err(Trouble::Line);
+    }
+    Ok(target.round(round, &gathered))
 }
 
 /// The texts of rounds, read: text 0 is a single stream, and each further text the packets of a round. A round's page records
@@ -81,9 +104,32 @@ fn rounds_of(alloc: Global, reader: &mut StreamReader) -> Result<Vec<StreamRound
 struct Rounds<'a> {
     records: Vec<StreamRound>,
     packets: Vec<Vec<Packet<'a>>>,
+    /// The number of orders in which they are put in.
+    orders: usize,
+    /// The step from one order to the next.
+    step: usize,
 }
 
-impl Rounds<'_> {
+impl<'a> Rounds<'a> {
+    fn new(records: Vec<StreamRound>, packets: Vec<Vec<Packet<'a>>>) -> Rounds<'a> {
+        let mut most = 0;
+        for round in &packets {
+            most = most.max(round.len());
+        }
+        let orders = orders(most);
+        let step = if most > MOST_IN_EVERY_ORDER {
+            orders.saturating_sub(1)
+        } else {
+            1
+        };
+        Rounds {
+            records,
+            packets,
+            orders,
+            step: step.max(1),
+        }
+    }
+
     fn records_of(&self, round: usize) -> Result<&StreamRound, Trouble> {
         let part = round.checked_add(1).ok_or(Trouble::Line)?;
         // the last section is END
@@ -92,32 +138,6 @@ impl Rounds<'_> {
             _ => self.records.first(),
         };
         records.ok_or(Trouble::Line)
-    }
-
-    // The number of orders in which the rounds are put in.
-    fn orders(&self) -> usize {
-        let most = self
-            .packets
-            .iter()
-            .map(|packets| packets.len())
-            .max()
-            .unwrap_or(0);
-        orders(most)
-    }
-
-    // The step from one order to the next.
-    fn step(&self) -> usize {
-        let most = self
-            .packets
-            .iter()
-            .map(|packets| packets.len())
-            .max()
-            .unwrap_or(0);
-        if most > MOST_IN_EVERY_ORDER {
-            self.orders().saturating_sub(1).max(1)
-        } else {
-            1
-        }
     }
 }
 
@@ -132,19 +152,24 @@ fn put_all(
     for (i, packets) in rounds.packets.iter().enumerate() {
         let most = orders(packets.len()).max(1);
         // the reverse of all is the reverse of each
-        let number = if order == rounds.orders().saturating_sub(1) {
+        let number = if order == rounds.orders.saturating_sub(1) {
             most.saturating_sub(1)
         } else {
             order % most
         };
         let ordered = in_order(alloc, packets, number)?;
         let records = rounds.records_of(i)?;
-        match put_round(alloc, target, records, &ordered).ok_or(Trouble::Line)? {
+        match put_round(alloc, target, records, &ordered)? {
             Ok(()) => out.push_str("ok")?,
             Err(fault) => put_round_fault(out, fault)?,
         }
         out.push_str("; ")?;
     }
+    put_target(out, target)
+}
+
+// What stands in a memory after its rounds.
+fn put_target(out: &mut String, target: &Target) -> Done {
     write!(out, "rounds {} base {};", target.rounds(), target.base())?;
     put_memory(out, target.memory())
 }
@@ -160,28 +185,18 @@ fn put_section(out: &mut String, target: &mut Target, section: &StreamRound) -> 
     Ok(out.push_str("; ")?)
 }
 
-// A reader of a single stream, as the case tells it.
-fn single_reader(case: &Case) -> Result<StreamReader, Trouble> {
-    let how = How {
-        mode: Mode::Single,
-        page_size: case.page_size,
-        limit: case.limit,
-    };
-    reader(case.alloc, how).ok_or(Trouble::Line)
-}
-
-// The sections of the last text.
-fn sections_of(case: &Case) -> Result<Vec<StreamRound>, Trouble> {
-    let mut reader = single_reader(case)?;
-    let text = case.texts.last().ok_or(Trouble::Line)?;
-    feed(&mut reader, text).ok_or(Trouble::Line)??;
-    rounds_of(case.alloc, &mut reader)
+// A reader that was fed a single stream.
+fn reader_of_single(case: &Case, text: &[u8]) -> Result<StreamReader, Trouble> {
+    let mut reader = reader_of(case, Mode::Single)?;
+    feed(&mut reader, text)?;
+    Ok(reader)
 }
 
 /// What comes of the sections of the last text, put one after another into a memory of the guest's table.
 pub fn sections(out: &mut String, case: &mut Case) -> Done {
-    let sections = sections_of(case)?;
     let alloc = case.alloc;
+    let mut reader = reader_of_single(case, case.texts.last().ok_or(Trouble::Line)?)?;
+    let sections = rounds_of(alloc, &mut reader)?;
     let mut target = Target::new(alloc, case.guest()?.image.table())?;
     for section in &sections {
         put_section(out, &mut target, section)?;
@@ -206,7 +221,7 @@ fn answer_in(
 // What comes of them in every order.
 fn judge_all(out: &mut String, alloc: Global, table: &Table, rounds: &Rounds<'_>) -> Done {
     let wanted = answer_in(alloc, table, rounds, 0)?;
-    for order in (0..rounds.orders()).step_by(rounds.step().max(1)) {
+    for order in (0..rounds.orders).step_by(rounds.step.max(1)) {
         let answer = answer_in(alloc, table, rounds, order)?;
         if answer.as_str() != wanted.as_str() {
             write!(out, "in order {order} {answer}, and in the text's ")?;
@@ -216,28 +231,15 @@ fn judge_all(out: &mut String, alloc: Global, table: &Table, rounds: &Rounds<'_>
     Ok(out.push_str(&wanted)?)
 }
 
-// The packets of some texts.
-fn packets_of_all<'a>(
-    alloc: Global,
-    page_size: u64,
-    texts: &'a [Vec<u8>],
-) -> Result<Vec<Vec<Packet<'a>>>, Trouble> {
-    let mut all = Vec::new(alloc);
-    for text in texts {
-        all.push(packets_of(alloc, page_size, text)?)?;
-    }
-    Ok(all)
-}
-
 /// What comes of the rounds, which is to be the same in every order.
 pub fn judge(out: &mut String, case: &Case) -> Done {
     let alloc = case.alloc;
     let (stream, texts) = case.texts.split_first().ok_or(Trouble::Line)?;
-    let mut reader = single_reader(case)?;
-    feed(&mut reader, stream).ok_or(Trouble::Line)??;
-    let rounds = Rounds {
-        records: rounds_of(alloc, &mut reader)?,
-        packets: packets_of_all(alloc, case.page_size, texts)?,
-    };
+    let mut reader = reader_of_single(case, stream)?;
+    let mut packets = Vec::new(alloc);
+    for text in texts {
+        packets.push(packets_of(alloc, case.page_size, text)?)?;
+    }
+    let rounds = Rounds::new(rounds_of(alloc, &mut reader)?, packets);
     judge_all(out, alloc, reader.table().ok_or(Trouble::Line)?, &rounds)
 }

@@ -4,18 +4,15 @@
 //! Its words are the files' names; without words it reads its input. A case is some lines (`docs/EXAMPLES.md` has them all): what
 //! builds a guest and texts, and questions, each with ` = ` and its answer. A question that has no answer beside it has its
 //! answer printed, one a line, so that another implementation can be compared with this one over many cases in one run.
-//! It ends with the number of cases and answers, and with status 1 where an answer was wrong. It is no part of the product.
+//! It ends with the number of cases and answers, and with status 1 where an answer was wrong. What guest memory and packets
+//! answer, and what a case is, `mig_cases` has. It is no part of the product.
 #![tactic(auto)]
 
-mod ask;
-mod book;
-mod case;
-mod guest;
 mod judge;
+mod rounds;
 mod run;
 mod show;
-mod trouble;
-mod words;
+mod streams;
 
 use crate::run::{Count, run_file};
 use std::io::{self, BufWriter, Read, Write};

@@ -1,10 +1,11 @@
 //! The cases of a file, one after another: each question is asked, and its answer compared with the one that stands beside it.
 
-use crate::ask::{ask_both, ask_guest, ask_text};
-use crate::book::{Book, Section};
-use crate::case::Case;
-use crate::trouble::Trouble;
-use crate::words::{Words, bytes_of};
+use crate::judge::{judge, sections};
+use crate::rounds::Rounds;
+use crate::streams::ask_stream;
+use mig_cases::{
+    Book, Case, Section, Trouble, Words, ask_memory, ask_packets, bytes_of, difference,
+};
 use std::alloc::Global;
 use std::io::{self, Write};
 use std::rt::Files;
@@ -66,7 +67,7 @@ fn run_case<R: Files, W: Write>(
     section: &Section<'_>,
     count: &mut Count,
 ) -> io::Result<()> {
-    let Ok(mut case) = Case::new(alloc) else {
+    let Ok(mut built) = Rounds::new(alloc) else {
         count.add(false);
         return writeln!(out, "{}: no memory", section.name);
     };
@@ -75,12 +76,12 @@ fn run_case<R: Files, W: Write>(
             Some((question, wanted)) => (question, Some(wanted)),
             None => (*line, None),
         };
-        match answer_of(rt, book, &mut case, question, wanted) {
+        match answer_of(rt, book, &mut built, question, wanted) {
             Ok(None) => {}
             Ok(Some(answer)) => put_answer(out, section.name, question, wanted, &answer, count)?,
             Err(trouble) => {
                 count.add(false);
-                return writeln!(out, "{}: {question}: {trouble}", section.name);
+                return writeln!(out, "{}: {question}: {}", section.name, trouble.text());
             }
         }
     }
@@ -114,47 +115,63 @@ fn put_answer<W: Write>(
 fn answer_of<R: Files>(
     rt: &R,
     book: &Book<'_>,
-    case: &mut Case,
+    built: &mut Rounds,
     line: &str,
     wanted: Option<&str>,
 ) -> Result<Option<String>, Trouble> {
     let mut words = Words::new(line);
     let name = words.word()?;
     if name == "each" {
-        return Ok(Some(each(case, words, wanted)?));
+        return Ok(Some(each(&mut built.case, words, wanted)?));
     }
     if let (true, Some(wanted)) = (name == "bytes", wanted) {
-        return Ok(Some(same_bytes(case, wanted)?));
+        return Ok(Some(same_bytes(&built.case, wanted)?));
     }
-    let mut out = String::new(case.alloc);
-    if !case.texts.is_empty() && ask_text(&mut out, case, name)? {
-        return Ok(Some(out));
-    }
-    if name == "same" || name == "difference" {
-        let mut other = built(rt, book, case.alloc, words.rest())?;
-        ask_both(&mut out, case, &mut other, name)?;
-        return Ok(Some(out));
-    }
-    if case.take(rt, name, words)? {
+    if built.take(rt, name, words)? {
         return Ok(None);
     }
-    if ask_guest(&mut out, case, name, words)? {
-        return Ok(Some(out));
+    let mut out = String::new(built.case.alloc);
+    if name == "same" || name == "difference" {
+        let mut other = case_of(rt, book, built.case.alloc, words.rest())?;
+        difference(&mut out, &mut built.case, &mut other, name)?;
+    } else if !ask_text(&mut out, &built.case, name)? && !ask_guest(&mut out, built, name, words)? {
+        return Err(Trouble::Line);
     }
-    Err(Trouble::Line)
+    Ok(Some(out))
+}
+
+// Writes down what a question about the last text is answered; false where it is no such question, or there is no text.
+fn ask_text(out: &mut String, case: &Case, name: &str) -> Result<bool, Trouble> {
+    Ok(!case.texts.is_empty() && (ask_packets(out, case, name)? || ask_stream(out, case, name)?))
+}
+
+// The same of a question about the guest.
+fn ask_guest(
+    out: &mut String,
+    built: &mut Rounds,
+    name: &str,
+    words: Words,
+) -> Result<bool, Trouble> {
+    match name {
+        "batches" => built.batches(out, words)?,
+        "judge" => judge(out, &built.case)?,
+        "sections" => sections(out, &mut built.case)?,
+        _ => return ask_memory(out, &mut built.case, name, words),
+    }
+    Ok(true)
 }
 
 // What the lines of a name build.
-fn built<R: Files>(rt: &R, book: &Book<'_>, alloc: Global, name: &str) -> Result<Case, Trouble> {
-    let mut case = Case::new(alloc)?;
+fn case_of<R: Files>(rt: &R, book: &Book<'_>, alloc: Global, name: &str) -> Result<Case, Trouble> {
+    let mut built = Rounds::new(alloc)?;
     for line in book.lines_of(name)? {
         let mut words = Words::new(line);
         let word = words.word()?;
-        if !case.take(rt, word, words)? {
+        if !built.take(rt, word, words)? {
             return Err(Trouble::Line);
         }
     }
-    Ok(case)
+    Ok(built.case)
 }
 
 // Whether the text is these bytes: what was expected where it is, else what it is.

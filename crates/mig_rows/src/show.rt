@@ -1,188 +1,16 @@
-//! How answers are written down.
+//! How answers about streams, rounds and loads are written down.
 
-use crate::trouble::Done;
 use mig_assemble::RoundFault;
-use mig_load::{Fault, Loaded, Origin};
-use mig_mem::{Memory, Place, Table, TableFault};
-use mig_packet::{ChannelFault, ChannelState, Packet};
+use mig_cases::{Done, Pages, put_memory};
+use mig_load::{Fault, LoadFault, Loaded, Origin};
 use mig_stream::{StreamFault, StreamRound, StreamState};
-use sha1::Sha1;
-use std::alloc::Global;
 
-// Bytes with more runs of one byte than this are written as a sum.
-const MOST_RUNS: usize = 4;
-
-/// Bytes as runs of one byte, `09,00*4095`, or as the front of their SHA-1 sum in hexadecimal digits.
-pub fn put_bytes(out: &mut String, bytes: &[u8]) -> Done {
-    let mut runs = String::new(*out.allocator());
-    let mut rest = bytes;
-    for i in 0..MOST_RUNS {
-        let Some(byte) = rest.first() else {
-            break;
-        };
-        let len = rest
-            .iter()
-            .position(|other| other != byte)
-            .unwrap_or(rest.len());
-        if i > 0 {
-            write!(runs, ",")?;
-        }
-        write!(runs, "{byte:02x}")?;
-        if len > 1 {
-            write!(runs, "*{len}")?;
-        }
-        rest = rest.get(len..).unwrap_or(&[]);
-    }
-    if !rest.is_empty() {
-        let [a, b, c, d, ..] = Sha1::digest(bytes);
-        write!(out, "sha1:{a:02x}{b:02x}{c:02x}{d:02x}")?;
-        return Ok(());
-    }
-    out.push_str(&runs)?;
-    Ok(())
-}
-
-/// A list of pages. Those that follow one another with one content are one entry, `0-127=07*4096`, and so is one page that comes
-/// again and again with one content, `2 of 0=zero`.
-#[derive(Drop)]
-pub struct Pages {
-    before: String,
-    first: u64,
-    last: u64,
-    times: u64,
-    content: String,
-    /// How far the next page is from one.
-    step: u64,
-    has_entry: bool,
-}
-
-impl Pages {
-    pub fn new(alloc: Global, step: u64) -> Pages {
-        Pages {
-            before: String::new(alloc),
-            first: 0,
-            last: 0,
-            times: 0,
-            content: String::new(alloc),
-            step,
-            has_entry: false,
-        }
-    }
-
-    /// Adds a page, whose number is written behind some text. No content is a mark of zeros.
-    pub fn add(&mut self, out: &mut String, before: &str, page: u64, bytes: Option<&[u8]>) -> Done {
-        let mut content = String::new(*out.allocator());
-        match bytes {
-            Some(bytes) => put_bytes(&mut content, bytes)?,
-            None => content.push_str("zero")?,
-        }
-        let is_alike = self.has_entry
-            && self.before.as_str() == before
-            && self.content.as_str() == content.as_str();
-        if is_alike && self.times == 1 && self.last.checked_add(self.step) == Some(page) {
-            self.last = page;
-        } else if is_alike && self.first == self.last && self.last == page {
-            self.times = self.times.saturating_add(1);
-        } else {
-            self.end(out)?;
-            self.before.clear();
-            self.before.push_str(before)?;
-            self.first = page;
-            self.last = page;
-            self.times = 1;
-            self.content = content;
-            self.has_entry = true;
-        }
-        Ok(())
-    }
-
-    /// Writes the last entry.
-    pub fn end(&mut self, out: &mut String) -> Done {
-        if !self.has_entry {
-            return Ok(());
-        }
-        self.has_entry = false;
-        out.push_str(" ")?;
-        if self.times > 1 {
-            write!(out, "{} of ", self.times)?;
-        }
-        write!(out, "{}{}", self.before, self.first)?;
-        if self.first != self.last {
-            write!(out, "-{}", self.last)?;
-        }
-        write!(out, "={}", self.content)?;
-        Ok(())
-    }
-}
-
-/// A memory: its pages that aren't zeros.
-pub fn put_memory(out: &mut String, memory: &Memory) -> Done {
-    let alloc = *out.allocator();
-    let mut pages = Pages::new(alloc, 1);
-    let mut has_pages = false;
-    let table = memory.table();
-    for block in 0..table.len() {
-        let before = format!(in alloc; "{block}.")?;
-        for page in 0..table.pages(block) {
-            match memory.page(Place { block, page }) {
-                Some(bytes) if bytes.iter().any(|byte| *byte != 0) => {
-                    has_pages = true;
-                    pages.add(out, &before, page, Some(bytes))?;
-                }
-                _ => {}
-            }
-        }
-    }
-    if !has_pages {
-        out.push_str(" zeros")?;
-    }
-    pages.end(out)
-}
-
-/// A table: each block's id and pages.
-pub fn put_table(out: &mut String, table: &Table) -> Done {
-    for block in 0..table.len() {
-        let id = table.id(block);
-        if block > 0 {
-            out.push_str(",")?;
-        }
-        match str::from_utf8(id) {
-            Ok(text) if id.len() <= 16 => write!(out, " {text} {}", table.pages(block))?,
-            _ => {
-                out.push_str(" 0x")?;
-                put_bytes(out, id)?;
-                write!(out, " {}", table.pages(block))?;
-            }
-        }
-    }
-    Ok(())
-}
-
-pub fn put_table_fault(out: &mut String, fault: TableFault) -> Done {
-    write!(out, "fault {}", fault.number())?;
-    match fault {
-        TableFault::Id(i) | TableFault::IdTwice(i) | TableFault::NoPages(i) => {
-            write!(out, "({i})")?;
-            Ok(())
-        }
-        _ => Ok(()),
-    }
-}
-
-pub fn put_stream_fault(out: &mut String, fault: StreamFault) -> Done {
+fn put_stream_fault(out: &mut String, fault: StreamFault) -> Done {
     write!(out, "fault {}", fault.number())?;
     match fault {
         StreamFault::Flags(flags) => write!(out, "({flags})")?,
         StreamFault::Fill(byte) => write!(out, "({byte})")?,
         _ => {}
-    }
-    Ok(())
-}
-
-pub fn put_channel_fault(out: &mut String, fault: ChannelFault) -> Done {
-    write!(out, "fault {}", fault.number())?;
-    if let ChannelFault::PacketFlags(flags) = fault {
-        write!(out, "({flags})")?;
     }
     Ok(())
 }
@@ -210,15 +38,6 @@ pub fn put_stream_state(out: &mut String, state: StreamState) -> Done {
     Ok(())
 }
 
-pub fn put_channel_state(out: &mut String, state: ChannelState) -> Done {
-    match state {
-        ChannelState::Reading => out.push_str("reading")?,
-        ChannelState::Closed => out.push_str("closed")?,
-        ChannelState::Bad(fault) => put_channel_fault(out, fault)?,
-    }
-    Ok(())
-}
-
 /// The page records of a round, in the order of the text.
 pub fn put_records(out: &mut String, round: &StreamRound) -> Done {
     let alloc = *out.allocator();
@@ -234,59 +53,28 @@ pub fn put_records(out: &mut String, round: &StreamRound) -> Done {
     pages.end(out)
 }
 
-/// A packet: its number, `sync`, its block's id, and its pages by their offsets.
-pub fn put_packet(out: &mut String, packet: &Packet<'_>) -> Done {
-    write!(out, " #{}", packet.number())?;
-    if packet.sync() {
-        out.push_str(" sync")?;
+fn put_load_fault(out: &mut String, fault: LoadFault) -> Done {
+    match fault.fault {
+        Fault::Stream(fault) => put_stream_fault(out, fault)?,
+        Fault::NoMemory => write!(out, "fault {}", Fault::NoMemory.number())?,
     }
-    let id = packet.id();
-    match str::from_utf8(id) {
-        Ok(_) if id.is_empty() => {}
-        Ok(text) if id.len() <= 16 => write!(out, " {text}")?,
-        _ => {
-            out.push_str(" 0x")?;
-            put_bytes(out, id)?;
-        }
+    write!(out, " round {}", fault.round)?;
+    match fault.source {
+        Origin::Main => out.push_str(" in main")?,
+        Origin::Round => out.push_str(" in round")?,
     }
-    let mut pages = Pages::new(*out.allocator(), packet.page_size());
-    for i in 0..packet.normal_len() {
-        pages.add(out, "", packet.offset(i), Some(packet.page(i)))?;
-    }
-    for i in 0..packet.zero_len() {
-        pages.add(out, "", packet.offset(packet.normal_len() + i), None)?;
-    }
-    pages.end(out)
+    Ok(())
 }
 
 /// What a load answers: the verdict, the number of rounds, and the memory.
 pub fn put_loaded(out: &mut String, loaded: &Loaded) -> Done {
     match loaded.verdict {
         Ok(()) => out.push_str("ok")?,
-        Err(fault) => {
-            match fault.fault {
-                Fault::Stream(fault) => put_stream_fault(out, fault)?,
-                Fault::NoMemory => write!(out, "fault {}", Fault::NoMemory.number())?,
-            }
-            write!(out, " round {}", fault.round)?;
-            match fault.source {
-                Origin::Main => out.push_str(" in main")?,
-                Origin::Round => out.push_str(" in round")?,
-            }
-        }
+        Err(fault) => put_load_fault(out, fault)?,
     }
     write!(out, "; rounds {};", loaded.rounds)?;
     match &loaded.memory {
         Some(memory) => put_memory(out, memory),
         None => Ok(out.push_str(" none")?),
     }
-}
-
-/// What a call that needs a place answers.
-pub fn put_place(out: &mut String, place: Option<Place>) -> Done {
-    match place {
-        Some(place) => write!(out, "{}.{}", place.block, place.page)?,
-        None => out.push_str("none")?,
-    }
-    Ok(())
 }

@@ -1,5 +1,6 @@
 -- The pages of a batch as the packet holds them.
-use Rattle.std.proofs.Common.{ℕ, ◌≡◌, ◌<◌, ◌≤◌, ◌+◌, ◌-◌, ◌*◌, ◌/◌, ◌^◌, List, [], ◌∷◌, ◌++◌, length, map, get_or, take, drop, refl, sym, ap, ◌∙◌, inl, inr, arith, zero, suc, Bool, true, false, not, subst}
+use Rattle.std.proofs.Common.{ℕ, ◌≡◌, ◌<◌, ◌≤◌, ◌+◌, ◌-◌, ◌*◌, ◌/◌, ◌^◌, List, [], ◌∷◌, ◌++◌, length, map, get_or, take}
+use Rattle.std.proofs.Common.{drop, refl, sym, ap, ◌∙◌, inl, inr, arith, zero, suc, Bool, true, false, not, subst}
 use Rattle.std.specs.Prelude.{◌≢◌, IsFalse, nat_le, ◌&&◌, nat_lt, slice_range}
 use Rattle.std.specs.List.{filter, All, AllPairs, range_with_len, list_all}
 use Rattle.std.proofs.Math.Nat.{mul-div_cancel, mul-lt-mul_of_pos_right}
@@ -23,7 +24,7 @@ use Rattle.mig_zero.specs.Zero.{is_zero}
 use Rattle.mig_packet.specs.PageSize.{IsPageSize, page_limit}
 use Rattle.mig_packet.specs.Written.{normal_pages, written_head}
 use Rattle.mig_packet.specs.Packet.{NormalPage}
-use Rattle.mig_send.specs.Batches.{Batch, batch_places, IsBatch}
+use Rattle.mig_send.specs.Batches.{BatchOfPages, batch_places, IsBatch}
 use Rattle.mig_send.specs.Packing.{normals_of, zeros_of, offsets_of, contents_of, IsPacked, packed_of, normal_offsets, zero_offsets, contents_at, packet_at}
 
 -- ---- a page more
@@ -40,7 +41,8 @@ abbrev pub passing : (List ℕ → Bool) → Image → ℕ → List ℕ → List
 passing test m b pages = offsets_of m.table.page_size (filter (λ page. test page.content) (round_of m (map (place_at b) pages)))
 
 passing-push : (test : List ℕ → Bool) (m : Image) (b : ℕ) (pages : List ℕ) (n : ℕ)
-    → passing test m b (pages ++ n ∷ []) ≡ passing test m b pages ++ offsets_of m.table.page_size (filter (λ page. test page.content) (page_at m (place_at b n) ∷ []))
+    → passing test m b (pages ++ n ∷ []) ≡ passing test m b pages
+    ++ offsets_of m.table.page_size (filter (λ page. test page.content) (page_at m (place_at b n) ∷ []))
 passing-push test m b pages n =
     let f : Page → Bool = λ page. test page.content in
     let o : Page → ℕ = λ page. page.place.page * m.table.page_size in
@@ -57,14 +59,16 @@ pub none_passing : (test : List ℕ → Bool) (m : Image) (b : ℕ) → [] ≡ p
 unfolding pages_of
 none_passing test m b = refl
 
-pub passes_too : (test : List ℕ → Bool) (m : Image) (b : ℕ) (pages : List ℕ) (i : ℕ) → i < length pages → test (content_at m (place_at b (get_or pages i 0))) ≡ true
+pub passes_too : (test : List ℕ → Bool) (m : Image) (b : ℕ) (pages : List ℕ) (i : ℕ) → i < length pages
+    → test (content_at m (place_at b (get_or pages i 0))) ≡ true
     → passing test m b (take (i + 1) pages) ≡ passing test m b (take i pages) ++ (get_or pages i 0 * m.table.page_size) ∷ []
 passes_too test m b pages i lt t =
     let f : Page → Bool = λ page. test page.content in
     let n : ℕ = get_or pages i 0 in
     ap (passing test m b) (take_more pages i 0 lt) ∙ passing-push test m b (take i pages) n ∙ rw t refl
 
-pub passes_not : (test : List ℕ → Bool) (m : Image) (b : ℕ) (pages : List ℕ) (i : ℕ) → i < length pages → test (content_at m (place_at b (get_or pages i 0))) ≡ false
+pub passes_not : (test : List ℕ → Bool) (m : Image) (b : ℕ) (pages : List ℕ) (i : ℕ) → i < length pages
+    → test (content_at m (place_at b (get_or pages i 0))) ≡ false
     → passing test m b (take (i + 1) pages) ≡ passing test m b (take i pages)
 passes_not test m b pages i lt t =
     let n : ℕ = get_or pages i 0 in
@@ -105,7 +109,8 @@ content_slice size (x ∷ pages) zero d sizes lt =
     let here : length x.content ≡ size = All-head (HasSize size) x pages sizes in
     let none : zero * size ≡ 0 = omega arith in
     let long : (zero * size + size) - zero * size ≡ length x.content = omega (arith, here, none) in
-    ap (λ (n : ℕ). take n (drop (zero * size) (x.content ++ contents_of pages))) long ∙ ap (λ (n : ℕ). take (length x.content) (drop n (x.content ++ contents_of pages))) none
+    ap (λ (n : ℕ). take n (drop (zero * size) (x.content ++ contents_of pages))) long
+    ∙ ap (λ (n : ℕ). take (length x.content) (drop n (x.content ++ contents_of pages))) none
     ∙ take-append_seam x.content (contents_of pages)
 content_slice size (x ∷ pages) (suc i) d sizes lt =
     let here : length x.content ≡ size = All-head (HasSize size) x pages sizes in
@@ -117,7 +122,8 @@ content_slice size (x ∷ pages) (suc i) d sizes lt =
     ∙ content_slice size pages i d (All-tail (HasSize size) x pages sizes) (omega arith)
 
 -- what holds of the contents holds of the packet's normal pages
-normal_pages_have : (size : ℕ) (pages : List Page) (offsets : List ℕ) (P : List ℕ → Type 0) → All (HasSize size) pages → length offsets ≡ length pages → All (λ page. P page.content) pages
+normal_pages_have : (size : ℕ) (pages : List Page) (offsets : List ℕ) (P : List ℕ → Type 0) → All (HasSize size) pages → length offsets ≡ length pages
+    → All (λ page. P page.content) pages
     → All (λ page. P page.content) (normal_pages size offsets (contents_of pages))
 normal_pages_have size pages offsets P sizes long all =
     let f : ℕ → NormalPage = λ i. record { offset = get_or offsets i 0; content = slice_range (contents_of pages) (i * size) (i * size + size) } in
@@ -146,13 +152,16 @@ pairs_map {X} R f (x ∷ xs) pairs =
 abbrev IsBelow : ℕ → Page → Page → Type 0
 IsBelow size x y = x.place.page * size < y.place.page * size
 
-round_ascends : (m : Image) (b : ℕ) (pages : List ℕ) → 0 < m.table.page_size → AllPairs (λ i j. i < j) pages → AllPairs (IsBelow m.table.page_size) (round_of m (map (place_at b) pages))
+round_ascends : (m : Image) (b : ℕ) (pages : List ℕ) → 0 < m.table.page_size → AllPairs (λ i j. i < j) pages
+    → AllPairs (IsBelow m.table.page_size) (round_of m (map (place_at b) pages))
 unfolding pages_of
 round_ascends m b pages some pairs =
-    pairs_map (IsBelow m.table.page_size) (page_at m) (map (place_at b) pages) (pairs_map (λ p q. IsBelow m.table.page_size (page_at m p) (page_at m q)) (place_at b) pages
+    pairs_map (IsBelow m.table.page_size) (page_at m) (map (place_at b) pages)
+    (pairs_map (λ p q. IsBelow m.table.page_size (page_at m p) (page_at m q)) (place_at b) pages
     (λ i j d before within. mul-lt-mul_of_pos_right {m = get_or pages i d} {n = get_or pages j d} {k = m.table.page_size} (pairs i j d before within) some))
 
-offsets_ascend : (test : List ℕ → Bool) (m : Image) (b : ℕ) (pages : List ℕ) → 0 < m.table.page_size → AllPairs (λ i j. i < j) pages → AllPairs (λ i j. i < j) (passing test m b pages)
+offsets_ascend : (test : List ℕ → Bool) (m : Image) (b : ℕ) (pages : List ℕ) → 0 < m.table.page_size → AllPairs (λ i j. i < j) pages
+    → AllPairs (λ i j. i < j) (passing test m b pages)
 offsets_ascend test m b pages some pairs =
     let round : List Page = round_of m (map (place_at b) pages) in
     pairs_map (λ i j. i < j) (λ page. page.place.page * m.table.page_size) (filter (λ page. test page.content) round)
@@ -181,7 +190,9 @@ offsets_fit test m b pages is all =
     let P : Page → Type 0 = λ page. page.place.page * m.table.page_size < 2 ^ 64 in
     let round : List Page = round_of m (map (place_at b) pages) in
     All-map (λ offset. offset < 2 ^ 64) (λ page. page.place.page * m.table.page_size) (filter (λ page. test page.content) round)
-    (All-filter (λ page. test page.content) P round (places_have P m (map (place_at b) pages) (All-weaker (IsPlace m.table) (λ p. P (page_at m p)) (λ p at. offset_fits m.table p is at) (map (place_at b) pages) all)))
+    (All-filter (λ page. test page.content) P round
+    (places_have P m (map (place_at b) pages)
+    (All-weaker (IsPlace m.table) (λ p. P (page_at m p)) (λ p at. offset_fits m.table p is at) (map (place_at b) pages) all)))
 
 -- an id has no byte 0
 no_zero : (id : List ℕ) → list_all is_printable id ≡ true → All (λ byte. byte ≢ 0) id
@@ -214,14 +225,15 @@ kinds_length m b pages =
     )
 
 -- a batch's block is one of the table's
-pub batch_block : (table : RamTable) (batch : Batch) → IsBatch table batch → batch.block < length table.blocks
+pub batch_block : (table : RamTable) (batch : BatchOfPages) → IsBatch table batch → batch.block < length table.blocks
 batch_block table batch is = block_of_places batch.block batch.pages is.has_places is.has_some
   where
     block_of_places : (b : ℕ) (pages : List ℕ) → All (IsPlace table) (map (place_at b) pages) → 0 < length pages → b < length table.blocks
     block_of_places b [] all some = absurd (omega arith)
     block_of_places b (n ∷ pages) all some = (All-head (IsPlace table) (place_at b n) (map (place_at b) pages) all).has_block
 
-pub is_packed : (m : Image) (batch : Batch) (number : ℕ) → IsTable m.table → IsImage m → IsBatch m.table batch → number < 2 ^ 64 → IsPacked (packed_of m batch number)
+pub is_packed : (m : Image) (batch : BatchOfPages) (number : ℕ) → IsTable m.table → IsImage m → IsBatch m.table batch → number < 2 ^ 64
+    → IsPacked (packed_of m batch number)
 is_packed m batch number is image is_batch fits =
     let table : RamTable = m.table in
     let b : ℕ = batch.block in
@@ -231,7 +243,8 @@ is_packed m batch number is image is_batch fits =
     let round : List Page = round_of m (batch_places batch) in
     let normals : List Page = normals_of round in
     let sizes : All (HasSize table.page_size) normals = All-filter (λ page. not (is_zero page.content)) (HasSize table.page_size) round
-    (places_have (HasSize table.page_size) m (batch_places batch) (All-weaker (IsPlace table) (λ p. HasSize table.page_size (page_at m p)) (λ p at. content_size m p image at) (batch_places batch) all)) in
+    (places_have (HasSize table.page_size) m (batch_places batch)
+    (All-weaker (IsPlace table) (λ p. HasSize table.page_size (page_at m p)) (λ p at. content_size m p image at) (batch_places batch) all)) in
     let count = kinds_length m b pages in
     let long : length (offsets_of table.page_size normals) ≡ length normals = length-map normals (λ page. page.place.page * table.page_size) in
     let in_table : b < length table.blocks = batch_block table batch is_batch in
@@ -254,7 +267,8 @@ is_packed m batch number is image is_batch fits =
       has_bytes = refl;
       has_some = omega (arith, count, is_batch.has_some);
       no_zeros = normal_pages_have table.page_size normals (offsets_of table.page_size normals) (λ c. IsFalse (is_zero c)) sizes long
-          (All-weaker (λ page. not (is_zero page.content) ≡ true) (λ page. IsFalse (is_zero page.content)) (λ page h. is_false (is_zero page.content) h) normals no_zeros);
+          (All-weaker (λ page. not (is_zero page.content) ≡ true) (λ page. IsFalse (is_zero page.content))
+          (λ page h. is_false (is_zero page.content) h) normals no_zeros);
       normal_ascends = offsets_ascend (λ c. not (is_zero c)) m b pages some is_batch.is_ascending;
       zero_ascends = offsets_ascend is_zero m b pages some is_batch.is_ascending;
     }
@@ -272,7 +286,7 @@ packet_small size normals is few =
     (limit, omega (arith, product))
 
 -- the packet at the offsets of a batch's pages is that of the batch
-pub made : (m : Image) (batch : Batch) (number size : ℕ) (normal zeros bytes : List ℕ) → 0 < m.table.page_size → size ≡ m.table.page_size
+pub made : (m : Image) (batch : BatchOfPages) (number size : ℕ) (normal zeros bytes : List ℕ) → 0 < m.table.page_size → size ≡ m.table.page_size
     → normal ≡ normal_offsets m (batch_places batch) → zeros ≡ zero_offsets m (batch_places batch) → bytes ≡ packet_at m batch.block number normal zeros
     → record { page_size = size; number = number; bytes = bytes } ≡ packed_of m batch number
 made m batch number size normal zeros bytes some size-is normal-is zeros-is bytes-is =
@@ -280,11 +294,14 @@ made m batch number size normal zeros bytes some size-is normal-is zeros-is byte
     let z : List ℕ = zero_offsets m (batch_places batch) in
     let text : bytes ≡ (packed_of m batch number).bytes =
     bytes-is ∙ ap (λ (l : List ℕ). packet_at m batch.block number l zeros) normal-is ∙ ap (λ (l : List ℕ). packet_at m batch.block number n l) zeros-is
-    ∙ ap (λ (l : List ℕ). written_head m.table.page_size number false (block m.table.blocks batch.block).id n z ++ l) (contents_back (λ c. not (is_zero c)) m batch.block batch.pages some) in
-    ap (λ (k : ℕ). record { page_size = k; number = number; bytes = bytes }) size-is ∙ ap (λ (l : List ℕ). record { page_size = m.table.page_size; number = number; bytes = l }) text
+    ∙ ap (λ (l : List ℕ). written_head m.table.page_size number false (block m.table.blocks batch.block).id n z ++ l)
+    (contents_back (λ c. not (is_zero c)) m batch.block batch.pages some) in
+    ap (λ (k : ℕ). record { page_size = k; number = number; bytes = bytes }) size-is
+    ∙ ap (λ (l : List ℕ). record { page_size = m.table.page_size; number = number; bytes = l }) text
 
 -- both kinds of pages have room in a packet
-pub few_kinds : (m : Image) (batch : Batch) (normal zeros : List ℕ) → IsBatch m.table batch → normal ≡ normal_offsets m (batch_places batch) → zeros ≡ zero_offsets m (batch_places batch)
+pub few_kinds : (m : Image) (batch : BatchOfPages) (normal zeros : List ℕ) → IsBatch m.table batch → normal ≡ normal_offsets m (batch_places batch)
+    → zeros ≡ zero_offsets m (batch_places batch)
     → length normal + length zeros ≤ page_limit m.table.page_size
 few_kinds m batch normal zeros is normal-is zeros-is =
     omega (arith, is.has_few, kinds_length m batch.block batch.pages, ap (λ (l : List ℕ). length l) normal-is, ap (λ (l : List ℕ). length l) zeros-is)

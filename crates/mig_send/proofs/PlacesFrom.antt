@@ -44,7 +44,8 @@ from_place p (q ∷ qs) order has = elim (cases_Bool (place_eq q p)) [
       let kept : place_lt q p ≡ false = ap (λ (x : Place). place_lt x p) same ∙ place_ge-from p p (inr (refl, omega arith)) in
       let gone : place_lt q (behind p) ≡ true = ap (λ (x : Place). place_lt x (behind p)) same ∙ place_lt-from p (behind p) (inr (refl, omega arith)) in
       let others : filter (is_from p) qs ≡ filter (is_from (behind p)) qs = filter_agree_on (is_from p) (is_from (behind p)) qs
-      (All-weaker (λ r. IsTrue (place_lt p r)) (λ r. is_from p r ≡ is_from (behind p) r) (λ r lt. ap not (place_order.one_way p r lt ∙ sym (ge_behind p r lt))) qs later) in
+      (All-weaker (λ r. IsTrue (place_lt p r)) (λ r. is_from p r ≡ is_from (behind p) r)
+      (λ r lt. ap not (place_order.one_way p r lt ∙ sym (ge_behind p r lt))) qs later) in
       rw (kept, gone) (ap (λ (l : List Place). q ∷ l) others ∙ ap (λ (x : Place). x ∷ filter (is_from (behind p)) qs) same)
   | inr n ↦
       let in_rest : has_place qs p ≡ true = elim (or_cases (place_eq q p) (has_place qs p) has) [ inl t ↦ absurd cc | inr t ↦ t ] in
@@ -98,17 +99,21 @@ walked p ps next order has found =
 filter_all : (f : Place → Bool) (ps : List Place) → All (λ q. f q ≡ true) ps → filter f ps ≡ ps
 filter_all f [] all = refl
 filter_all f (q ∷ qs) all =
-    let here : f q ≡ true = All-head (λ r. f r ≡ true) q qs all in rw here (ap (λ (l : List Place). q ∷ l) (filter_all f qs (All-tail (λ r. f r ≡ true) q qs all)))
+    let here : f q ≡ true =
+    All-head (λ r. f r ≡ true) q qs all in rw here (ap (λ (l : List Place). q ∷ l) (filter_all f qs (All-tail (λ r. f r ≡ true) q qs all)))
 
-pub walk_begins : (ps : List Place) (next : Option Place) → IsAscending ps → next ≡ find (is_from (place_at 0 0)) ps → (ps ≡ places_from ps next) × IsInSet ps next
+pub walk_begins : (ps : List Place) (next : Option Place) → IsAscending ps → next ≡ find (is_from (place_at 0 0)) ps
+    → (ps ≡ places_from ps next) × IsInSet ps next
 walk_begins ps next order found =
     let on = goes_on (place_at 0 0) ps next order found in (
-      sym (filter_all (is_from (place_at 0 0)) ps (All-any (λ q. is_from (place_at 0 0) q ≡ true) (λ q. ap not (place_ge-from q (place_at 0 0) (no_place_before q))) ps)) ∙ on.0,
+      sym (filter_all (is_from (place_at 0 0)) ps
+          (All-any (λ q. is_from (place_at 0 0) q ≡ true) (λ q. ap not (place_ge-from q (place_at 0 0) (no_place_before q))) ps)) ∙ on.0,
       on.1,
     )
   where
     no_place_before : (q : Place) → (0 < q.block) ⊎ ((q.block ≡ 0) × (0 ≤ q.page))
-    no_place_before q = elim (cases_Bool (nat_lt 0 q.block)) [ inl t ↦ inl (ltb-true 0 q.block t) | inr f ↦ inr (omega (arith, ltb-false 0 q.block f), omega arith) ]
+    no_place_before q =
+        elim (cases_Bool (nat_lt 0 q.block)) [ inl t ↦ inl (ltb-true 0 q.block t) | inr f ↦ inr (omega (arith, ltb-false 0 q.block f), omega arith) ]
 
 -- what is from a place on isn't before it
 pub none_before : (p : Place) (ps : List Place) → All (λ q. place_lt q p ≡ false) (filter (is_from p) ps)

@@ -9,16 +9,16 @@ use Rattle.mig_packet.specs.PageSize.{page_limit}
 -- ---- batches
 
 -- some pages of one block, by their numbers in it
-pub record Batch : Type 0 where
+pub record BatchOfPages : Type 0 where
   pub block : ℕ
   pub pages : List ℕ
 
-abbrev pub batch_places : Batch → List Place
+abbrev pub batch_places : BatchOfPages → List Place
 batch_places batch = map (place_at batch.block) batch.pages
 
 -- A batch of a table, which one packet can hold: pages of one of its blocks, ascending and none twice, at least one, and no
 -- more than a packet may have.
-pub record IsBatch (table : RamTable) (batch : Batch) : Type 0 where
+pub record IsBatch (table : RamTable) (batch : BatchOfPages) : Type 0 where
   pub has_places : All (IsPlace table) (batch_places batch)
   pub has_some : 0 < length batch.pages
   pub has_few : length batch.pages ≤ page_limit table.page_size
@@ -28,14 +28,14 @@ pub record IsBatch (table : RamTable) (batch : Batch) : Type 0 where
 
 -- The batches of some places: all of the places, in their order; in each batch at least one, of one block, and at most so
 -- many; and a batch that another of its block follows is full.
-pub record IsCut (limit : ℕ) (places : List Place) (batches : List Batch) : Type 0 where
+pub record IsCut (limit : ℕ) (places : List Place) (batches : List BatchOfPages) : Type 0 where
   pub has_all : flat_map batch_places batches ≡ places
   pub has_sizes : All (λ batch. (0 < length batch.pages) × (length batch.pages ≤ limit)) batches
   pub are_full : AllPairs (λ a b. a.block ≡ b.block → length a.pages ≡ limit) batches
 
 -- There is one such list of batches.
 abbrev pub HasOneCut : Type 0
-HasOneCut = (limit : ℕ) (places : List Place) (some others : List Batch) → IsCut limit places some → IsCut limit places others → some ≡ others
+HasOneCut = (limit : ℕ) (places : List Place) (some others : List BatchOfPages) → IsCut limit places some → IsCut limit places others → some ≡ others
 
 -- ---- the walk over a set of places
 
@@ -50,7 +50,7 @@ places_from places None = []
 places_from places (Some next) = filter (λ place. not (place_lt place next)) places
 
 -- The first batch of some places, and the places behind it: where these go on with its block, it is full.
-pub record IsFirstBatch (limit : ℕ) (places : List Place) (batch : Batch) (behind : List Place) : Type 0 where
+pub record IsFirstBatch (limit : ℕ) (places : List Place) (batch : BatchOfPages) (behind : List Place) : Type 0 where
   pub has_all : places ≡ batch_places batch ++ behind
   pub has_some : 0 < length batch.pages
   pub has_few : length batch.pages ≤ limit

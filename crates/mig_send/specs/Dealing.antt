@@ -1,8 +1,13 @@
--- A round dealt out to workers: which of them has which number.
-use Rattle.std.specs.Prelude.{ℕ, ◌≡◌, ◌+◌, ◌<◌, List, length, map, flat_map, All, AllPairs}
+-- A round dealt out to workers: which of them has which number, and what each of them sends.
+use Rattle.std.specs.Prelude.{ℕ, ◌≡◌, ◌+◌, ◌<◌, true, List, [], ◌++◌, length, map, flat_map, All, AllPairs, IsOk, IfOk}
 use Rattle.std.specs.List.{AllZip}
+use Rattle.mig_mem.specs.Image.{Image}
+use Rattle.mig_packet.specs.Written.{written_packet}
 use Rattle.mig_deal.specs.Deal.{DealView, SeatView, HasEachOnce, new_seat, all_drawn, end_of_deal}
-use Rattle.mig_send.specs.Work.{Share, HasShare}
+use Rattle.mig_send.specs.declared.worker.Worked.{Worked}
+use Rattle.mig_send.specs.Batches.{BatchOfPages}
+use Rattle.mig_send.specs.Packing.{PackedBatch}
+use Rattle.mig_send.specs.Work.{Share, HasShare, HasWorked, claimed_packet}
 
 -- A dealing of so many batches whose numbers begin at a base: the number of each batch is in one of the shares, once; the numbers
 -- behind these, as many as there are shares, are the last ones, each of one share; and in each share numbers rise. Any share may
@@ -12,8 +17,43 @@ pub record IsDealing (base batches : ℕ) (shares : List Share) : Type 0 where
   pub has_lasts : HasEachOnce (base + batches) (base + batches + length shares) (map (λ (share : Share). share.last) shares)
   pub rise : All (λ (share : Share). AllPairs (λ a b. a < b) share.numbers) shares
 
--- Where the seats of a deal that had drawn nothing are spent, as many as the deal has, and together hold what its end says, their
--- shares are a dealing of its batches.
-abbrev pub WorkersMakeADealing : Type 0
-WorkersMakeADealing = (deal : DealView) (spents : List SeatView) (shares : List Share) → AllZip (HasShare (new_seat deal)) spents shares → length spents ≡ deal.seats
+-- the same of spent seats: where these had drawn nothing, are as many as the deal has, and hold together what its end says, their
+-- shares are a dealing of its batches
+abbrev pub SharesAreDealt : Type 0
+SharesAreDealt = (deal : DealView) (spents : List SeatView) (shares : List Share) → AllZip (HasShare (new_seat deal)) spents shares → length spents ≡ deal.seats
     → HasEachOnce deal.base (end_of_deal deal) (all_drawn spents) → IsDealing deal.base deal.batches shares
+
+-- ---- what is sent of it
+
+-- the packet with SYNC and without pages, by which a channel ends a round
+abbrev pub sync_packet : ℕ → ℕ → List ℕ
+sync_packet page_size number = written_packet page_size number true [] [] [] []
+
+-- what is sent of a share: the packets that its numbers claim, in their order, and a SYNC packet of its last number
+abbrev pub share_text : ℕ → Image → List BatchOfPages → Share → List ℕ
+share_text base image batches share =
+    flat_map (λ number. (claimed_packet base image batches number).bytes) share.numbers ++ sync_packet image.table.page_size share.last
+
+-- what is sent of a worker's answer: its packets, in their order, and a SYNC packet of its last number
+abbrev pub answer_text : ℕ → List PackedBatch → ℕ → List ℕ
+answer_text page_size packets last = flat_map (λ packed. packed.bytes) packets ++ sync_packet page_size last
+
+-- a worker's answer is what is sent of a share
+abbrev pub IsSent : {A : Type 0} → ℕ → Image → List BatchOfPages → Share → Worked A → Type 0
+IsSent base image batches share worked =
+    IfOk worked.packets (λ packets. answer_text image.table.page_size packets.items worked.last ≡ share_text base image batches share)
+
+-- Workers' answers deal a round's batches from a base on: what is sent of them are the shares of a dealing.
+pub record AreDealing {A : Type 0} (base : ℕ) (image : Image) (batches : List BatchOfPages) (answers : List (Worked A)) : Type 0 where
+  pub shares : List Share
+  pub is_dealing : IsDealing base (length batches) shares
+  pub are_sent : AllZip (IsSent base image batches) shares answers
+
+-- Where as many workers as a deal has seats began with seats that had drawn nothing, all of them answered packets, and their spent
+-- seats hold together each number of the deal once, as its end says, their answers are a dealing.
+abbrev pub WorkersMakeADealing : Type 0 → Type 0
+WorkersMakeADealing A = (deal : DealView) (image : Image) (batches : List BatchOfPages) (answers : List (Worked A))
+    → All (HasWorked image batches (new_seat deal)) answers → All (λ (worked : Worked A). IsOk worked.packets) answers
+    → length batches ≡ deal.batches → length answers ≡ deal.seats
+    → HasEachOnce deal.base (end_of_deal deal) (all_drawn (map (λ (worked : Worked A). worked.spent) answers))
+    → AreDealing deal.base image batches answers

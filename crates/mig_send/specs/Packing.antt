@@ -8,7 +8,7 @@ use Rattle.mig_mem.specs.Place.{place_at}
 use Rattle.mig_mem.specs.Round.{round_of}
 use Rattle.mig_zero.specs.Zero.{is_zero}
 use Rattle.mig_packet.specs.Written.{IsWritable, written_packet, normal_pages}
-use Rattle.mig_send.specs.Batches.{Batch, batch_places}
+use Rattle.mig_send.specs.Batches.{BatchOfPages, batch_places}
 
 -- ---- the packet of a batch
 
@@ -50,14 +50,14 @@ packet_at image b number normal zero =
 
 -- ---- a packed packet
 
-pub record Packed : Type 0 where
+pub record PackedBatch : Type 0 where
   pub page_size : ℕ
   pub number : ℕ
   pub bytes : List ℕ
 
 -- What the bytes of a packed packet show: the written packet of that number, without SYNC, of at least one page and no more
 -- than a packet may have, none of its normal pages zeros, and both kinds ascending.
-pub record IsPacked (packed : Packed) : Type 0 where
+pub record IsPacked (packed : PackedBatch) : Type 0 where
   pub id : List ℕ
   pub normal : List ℕ
   pub contents : List ℕ
@@ -70,7 +70,7 @@ pub record IsPacked (packed : Packed) : Type 0 where
   pub zero_ascends : AllPairs (λ a b. a < b) zero
 
 -- the packed packet of a batch and a number
-abbrev pub packed_of : Image → Batch → ℕ → Packed
+abbrev pub packed_of : Image → BatchOfPages → ℕ → PackedBatch
 packed_of image batch number = record {
   page_size = image.table.page_size;
   number = number;

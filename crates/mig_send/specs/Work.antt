@@ -4,19 +4,19 @@ use Rattle.mig_mem.specs.RamTable.{RamTable}
 use Rattle.mig_mem.specs.Image.{Image}
 use Rattle.mig_deal.specs.Deal.{DealView, SeatView, end_of_work, end_of_deal}
 use Rattle.mig_send.specs.declared.worker.Worked.{Worked}
-use Rattle.mig_send.specs.Batches.{Batch, IsBatch}
-use Rattle.mig_send.specs.Packing.{Packed, packed_of}
+use Rattle.mig_send.specs.Batches.{BatchOfPages, IsBatch}
+use Rattle.mig_send.specs.Packing.{PackedBatch, packed_of}
 
 -- a batch without pages, which no table has
-abbrev pub no_batch : Batch
+abbrev pub no_batch : BatchOfPages
 no_batch = record { block = 0; pages = [] }
 
 -- the packet that a number claims: the number that is i above the base claims that of batch i
-abbrev pub claimed_packet : ℕ → Image → List Batch → ℕ → Packed
+abbrev pub claimed_packet : ℕ → Image → List BatchOfPages → ℕ → PackedBatch
 claimed_packet base image batches number = packed_of image (get_or batches (number - base) no_batch) number
 
 -- the deal's numbers claim these batches of a table, one number for each
-pub record AreDealt (deal : DealView) (table : RamTable) (batches : List Batch) : Type 0 where
+pub record AreDealt (deal : DealView) (table : RamTable) (batches : List BatchOfPages) : Type 0 where
   pub are_batches : All (IsBatch table) batches
   pub as_many : length batches ≡ deal.batches
 
@@ -33,7 +33,7 @@ pub record HasShare (seat spent : SeatView) (share : Share) : Type 0 where
   pub claims_none : (end_of_work seat.deal ≤ share.last) × (share.last < end_of_deal seat.deal)
 
 -- What a worker answers: the share that it drew, and, where it answers packets, those that the share's numbers claim, in their order.
-pub record HasWorked {A : Type 0} (image : Image) (batches : List Batch) (seat : SeatView) (worked : Worked A) : Type 0 where
+pub record HasWorked {A : Type 0} (image : Image) (batches : List BatchOfPages) (seat : SeatView) (worked : Worked A) : Type 0 where
   pub share : Share
   pub has_share : HasShare seat worked.spent share
   pub has_last : worked.last ≡ share.last

@@ -17,9 +17,9 @@ pub struct Batch<A: Allocator = Global> {
 }
 
 impl<A: Allocator> Model for Batch<A> {
-    ghost use Rattle.mig_send.specs.Batches.{Batch as Pages};
+    ghost use Rattle.mig_send.specs.Batches.{BatchOfPages};
 
-    ghost Value = { Pages };
+    ghost Value = { BatchOfPages };
 
     ghost view = { λ b. record { block = b.block; pages = b.pages.items } };
 }

@@ -4,6 +4,8 @@ ghost use Rattle.std.specs.Prelude.{◌≡◌};
 ghost use Rattle.mig_send.specs.SendFaultNumber.{fault_number};
 
 use mig_mem::NoMemory;
+use std::error::Error;
+use std::fmt::{self, Display, Formatter};
 
 /// Why a round was not sent.
 #[derive(Clone, Copy, Debug, PartialEq, Eq)]
@@ -35,3 +37,19 @@ impl From<NoMemory> for SendFault {
         SendFault::NoMemory
     }
 }
+
+/// The fault's number, and what it says.
+impl Display for SendFault {
+    fn fmt<W: fmt::Write>(&self, f: &mut Formatter<W>) -> fmt::Result {
+        match self {
+            SendFault::OtherTable => write!(
+                f,
+                "{}: the image or the dirty set is of another table",
+                self.number()
+            ),
+            SendFault::NoMemory => Display::fmt(&NoMemory, f),
+        }
+    }
+}
+
+impl Error for SendFault {}

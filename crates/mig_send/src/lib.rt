@@ -1,8 +1,10 @@
 //! Senders of guest memory: they make the texts of a migration from images of a guest and its dirty pages.
 //!
 //! `SingleSender` writes all rounds into one stream. `cut` puts the dirty pages of a round into batches, and `pack` makes the
-//! packet of one; `work` is one worker of several, which does that for the batches that it draws. What a text looks like is `mig_stream`'s and `mig_packet`'s;
-//! which pages are dirty, and when a round is sent, is for the caller.
+//! packet of one; `work` is one worker of several, which does that for the batches that it draws. What a text looks like is
+//! `mig_stream`'s and `mig_packet`'s; which pages are dirty, and when a round is sent, is for the caller.
+//!
+//! Definitions to read first, in this order: `Sending`, `Batches`, `Packing`, `Work`, `Dealing` (`specs/`).
 #![tactic(auto)]
 
 mod batch;
@@ -16,3 +18,6 @@ pub use fault::SendFault;
 pub use packed::{Packed, pack};
 pub use single::SingleSender;
 pub use worker::{Worked, work, workers_make_a_dealing};
+
+/// What a worker tells of its steps, for tests that hold workers.
+pub use mig_packet::{Gate, OpenGate, Step};

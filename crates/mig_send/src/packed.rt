@@ -25,9 +25,9 @@ pub struct Packed<A: Allocator = Global> {
 }
 
 impl<A: Allocator> Model for Packed<A> {
-    ghost use Rattle.mig_send.specs.Packing.{Packed as Packet, IsPacked};
+    ghost use Rattle.mig_send.specs.Packing.{PackedBatch, IsPacked};
 
-    ghost Value = { Packet };
+    ghost Value = { PackedBatch };
 
     ghost view = { λ p. record { page_size = p.page_size; number = p.number; bytes = p.bytes.items } };
 
@@ -62,6 +62,7 @@ pub fn pack<A: Allocator + Copy, B: Allocator, C: Allocator>(
     requires { IsBatch memory.now.table batch.now }
     ensures { IfOk result (λ packed. packed ≡ packed_of memory.now batch.now number) }
 {
+    // For what `len` tells of the table (`IsTable`): its ids, page numbers and page size are such that its packets can be written.
     let _blocks = memory.table().len();
     let (normal, zero) = offsets(alloc, memory, batch.block, &batch.pages)?;
     let bytes = packet_text(alloc, memory, batch.block, number, &normal, &zero)?;

@@ -47,7 +47,8 @@ impl<A: Allocator> SingleSender<A> {
     ) -> Result<(), SendFault>
         ensures table { self.new.table ≡ self.old.table }
         ensures other { (result ≡ Err SendFault.OtherTable) ↔ (AreOf self.old.table image.now dirty.now → ⊥) }
-        ensures ok { OnOk result ((rounds : List (List Page)) → HasSent self.old rounds → HasSent self.new (rounds ++ round_of image.now dirty.now.marked ∷ [])) }
+        ensures ok { OnOk result ((rounds : List (List Page)) → HasSent self.old rounds
+            → HasSent self.new (rounds ++ round_of image.now dirty.now.marked ∷ [])) }
         ensures err { OnErr result (self.new ≡ self.old) }
     {
         let table = self.writer.table();

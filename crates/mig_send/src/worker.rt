@@ -81,8 +81,9 @@ fn add<A: Allocator + Copy, B: Allocator, C: Allocator, G: Gate>(
     Ok(packets)
 }
 
-/// The answers of workers that had all seats of a deal, and what the deal's end says, make a dealing: each batch is in one worker's
-/// share, and each last number is one worker's.
-pub fn workers_make_a_dealing()
-    ensures { WorkersMakeADealing }
+/// What workers answer makes a dealing, where each had a seat of one deal that had drawn nothing, all seats were had, all workers
+/// answered packets, and the deal had as many batches as there are: each batch is in one worker's packets, once, and each number
+/// behind the batches' is one worker's last, by which its SYNC packet is numbered.
+pub fn workers_make_a_dealing<A: Allocator>()
+    ensures { WorkersMakeADealing A }
 {}

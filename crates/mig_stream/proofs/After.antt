@@ -4,12 +4,12 @@ use Rattle.std.specs.List.{AllByRecursion}
 use Rattle.mig_stream.specs.declared.item.Mode.{Mode}
 use Rattle.mig_stream.specs.declared.item.Due.TheVariants as due
 use Rattle.mig_stream.specs.PageRecord.{PageRecord}
-use Rattle.mig_stream.specs.Progress.{Progress}
+use Rattle.mig_stream.specs.Progress.{StreamProgress}
 use Rattle.mig_stream.specs.Items.{is_single, open_records, whole_rounds, end_section}
 use Rattle.mig_stream.specs.Text.{Record, PageOf, FlushMark, HasNoFlush, named_after}
 
 -- after a page record
-abbrev pub after_page : Progress → PageRecord → Progress
+abbrev pub after_page : StreamProgress → PageRecord → StreamProgress
 after_page c r = record c { due = due.RecordHead; named = Some r.place.block; records = c.records ++ r ∷ [] }
 
 -- the records of the round that isn't whole, and the whole rounds, after records
@@ -23,11 +23,11 @@ rounds_after before rounds [] = rounds
 rounds_after before rounds (PageOf continued r ∷ rs) = rounds_after (before ++ r ∷ []) rounds rs
 rounds_after before rounds (FlushMark ∷ rs) = rounds_after [] (rounds ++ before ∷ []) rs
 
-abbrev pub after_records : Progress → List Record → Progress
+abbrev pub after_records : StreamProgress → List Record → StreamProgress
 after_records c rs = record c { named = named_after c.named rs; records = records_after c.records rs; rounds = rounds_after c.records c.rounds rs }
 
 -- after a section's records, EOS and footer
-abbrev pub after_body : Progress → List Record → Progress
+abbrev pub after_body : StreamProgress → List Record → StreamProgress
 after_body c rs = end_section (after_records c rs)
 
 -- the records of the round that isn't whole, and the whole rounds, after sections

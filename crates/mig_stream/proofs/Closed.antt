@@ -5,25 +5,25 @@ use Rattle.mig_mem.specs.PageSize.{IsPageSize}
 use Rattle.mig_mem.specs.RamTable.{RamTable}
 use Rattle.mig_stream.specs.declared.item.Mode.{Mode}
 use Rattle.mig_stream.specs.PageRecord.{PageRecord}
-use Rattle.mig_stream.specs.Reading.{IsReading}
+use Rattle.mig_stream.specs.Reading.{settings, IsReading}
 use Rattle.mig_stream.specs.Law.{closed, HasText, SpelledIsRead, ReadIsSpelled, ClosedIsText}
 use Rattle.mig_stream.proofs.SpelledText.{spelled_law}
 use Rattle.mig_stream.proofs.Found.{read_law}
 
 -- what is read closed, of this table and these rounds, begins with a text of them
 text_of_closed : ReadIsSpelled → (mode : Mode) (limit : ℕ) (bytes : List ℕ) (table : RamTable) (rounds : List (List PageRecord)) → IsPageSize table.page_size → limit ≤ 2 ^ 40
-    → All (λ byte. byte < 2 ^ 8) bytes → IsReading mode table.page_size limit bytes (closed table rounds) → HasText mode limit bytes table rounds
+    → All (λ byte. byte < 2 ^ 8) bytes → IsReading (settings mode table.page_size limit) bytes (closed table rounds) → HasText mode limit bytes table rounds
 text_of_closed law mode limit bytes table rounds size small all is =
-    let found = law mode table.page_size limit bytes (closed table rounds) size small all is refl in
+    let found = law (settings mode table.page_size limit) bytes (closed table rounds) size small all is refl in
     let told : Some table ≡ Some found.0 = found.2 in
     let same : found.0 ≡ table = cc in
     subst (λ (x : RamTable). HasText mode limit bytes x rounds) same found.3
 
 -- and bytes that begin with a text are read closed
 closed_of_text : SpelledIsRead → (mode : Mode) (limit : ℕ) (bytes : List ℕ) (table : RamTable) (rounds : List (List PageRecord)) → HasText mode limit bytes table rounds
-    → IsReading mode table.page_size limit bytes (closed table rounds)
+    → IsReading (settings mode table.page_size limit) bytes (closed table rounds)
 closed_of_text law mode limit bytes table rounds is =
-    subst (λ (x : List ℕ). IsReading mode table.page_size limit x (closed table rounds)) (sym is.2) (law mode limit is.0 is.1 table rounds is.3)
+    subst (λ (x : List ℕ). IsReading (settings mode table.page_size limit) x (closed table rounds)) (sym is.2) (law mode limit is.0 is.1 table rounds is.3)
 
 -- The two directions of the law give it as one.
 pub closed_from_laws : SpelledIsRead → ReadIsSpelled → ClosedIsText

@@ -10,7 +10,7 @@ use Rattle.mig_stream.specs.declared.item.Before.TheVariants as before
 use Rattle.mig_stream.specs.declared.item.Filling.TheVariants.{Zero}
 use Rattle.mig_stream.specs.declared.item.Due.TheVariants.{TypeByte, RecordHead, ListEntry, BlockName, Content}
 use Rattle.mig_stream.specs.Fields.{be64, be64_at}
-use Rattle.mig_stream.specs.Progress.{Progress, start}
+use Rattle.mig_stream.specs.Progress.{StreamProgress, start}
 use Rattle.mig_stream.specs.Items.{first_fault}
 use Rattle.mig_stream.specs.Text.{file_header, size_list}
 use Rattle.mig_stream.specs.Written.{RoundPart, FlushPart, written, written_parts, opening, closing}
@@ -53,11 +53,11 @@ carried_on = refl
 -- ---- how items are judged
 
 -- START's head was read, and the limit on the table's total is one page of 4,096 bytes
-abbrev in_start : Mode → Progress
+abbrev in_start : Mode → StreamProgress
 in_start mode = record (start mode 4096 4096) { due = RecordHead; section_id = 1 }
 
 -- the head of a PART was read; the table has one page, and no block was named yet
-abbrev in_part : Mode → ℕ → Progress
+abbrev in_part : Mode → ℕ → StreamProgress
 in_part mode page_size = record (start mode page_size (2 ^ 40)) {
   due = RecordHead;
   section = section.Part;
@@ -114,7 +114,7 @@ fill_byte : first_fault (record (in_part Single 4096) { due = Content Zero (reco
 fill_byte = refl
 
 -- A main stream may not end after a page record that no FLUSH follows.
-abbrev with_open_record : Progress
+abbrev with_open_record : StreamProgress
 with_open_record = record (in_part Main 4096) { due = TypeByte before.LastFooter; records = record { place = record { block = 0; page = 0 }; content = None } ∷ [] }
 
 end_behind_record : first_fault with_open_record (0x00 ∷ []) ≡ Some fault.Tail

@@ -14,7 +14,7 @@ use Rattle.mig_stream.specs.declared.item.StreamState.{StreamState}
 use Rattle.mig_stream.specs.declared.item.StreamState.TheVariants.{Reading, Closed, Bad}
 use Rattle.mig_stream.specs.declared.fault.StreamFault.{StreamFault}
 use Rattle.mig_stream.specs.PageRecord.{PageRecord}
-use Rattle.mig_stream.specs.Progress.{Progress, start, whole_table}
+use Rattle.mig_stream.specs.Progress.{StreamProgress, start, whole_table}
 use Rattle.mig_stream.specs.Items.{size, first_fault, after_type, after_head, after_item, after}
 use Rattle.mig_stream.specs.Reading.{IsItem, Front, Reads, StreamReading}
 use Rattle.mig_stream.specs.Law.{HasOneReading}
@@ -24,15 +24,15 @@ use Rattle.mig_stream.proofs.Unique.{one_reading}
 -- ---- an item leaves the page size as it was
 
 -- a type byte leaves it
-type_size : (c : Progress) (byte : ℕ) → (after_type c byte).page_size ≡ c.page_size
+type_size : (c : StreamProgress) (byte : ℕ) → (after_type c byte).page_size ≡ c.page_size
 type_size c byte =
-    cond_both (eqb byte 7) _ _ (λ (x : Progress). x.page_size ≡ c.page_size) (λ _. refl) (λ _.
-    cond_both (eqb byte 1) _ _ (λ (x : Progress). x.page_size ≡ c.page_size) (λ _. refl) (λ _.
-    cond_both (eqb byte 2) _ _ (λ (x : Progress). x.page_size ≡ c.page_size) (λ _. refl) (λ _.
-    cond_both (eqb byte 3) _ _ (λ (x : Progress). x.page_size ≡ c.page_size) (λ _. refl) (λ _. refl))))
+    cond_both (eqb byte 7) _ _ (λ (x : StreamProgress). x.page_size ≡ c.page_size) (λ _. refl) (λ _.
+    cond_both (eqb byte 1) _ _ (λ (x : StreamProgress). x.page_size ≡ c.page_size) (λ _. refl) (λ _.
+    cond_both (eqb byte 2) _ _ (λ (x : StreamProgress). x.page_size ≡ c.page_size) (λ _. refl) (λ _.
+    cond_both (eqb byte 3) _ _ (λ (x : StreamProgress). x.page_size ≡ c.page_size) (λ _. refl) (λ _. refl))))
 
 -- so does a record head, of any kind
-head_size : (c : Progress) (kind : Option RecordKind) (page : ℕ) → (after_head c kind page).page_size ≡ c.page_size
+head_size : (c : StreamProgress) (kind : Option RecordKind) (page : ℕ) → (after_head c kind page).page_size ≡ c.page_size
 head_size c None page = refl
 head_size c (Some SizeList) page = refl
 head_size c (Some (Named filling)) page = refl
@@ -41,7 +41,7 @@ head_size c (Some EndOfSection) page = refl
 head_size c (Some Flush) page = refl
 
 -- and so does each item
-item_size : (c : Progress) (d : Due) (item : List ℕ) → (after_item c d item).page_size ≡ c.page_size
+item_size : (c : StreamProgress) (d : Due) (item : List ℕ) → (after_item c d item).page_size ≡ c.page_size
 item_size c FileHeader item = refl
 item_size c (TypeByte before) item = type_size c (slice_index item 0)
 item_size c ConfigLength item = refl
@@ -74,7 +74,7 @@ work_small Footer = omega arith
 work_small Nothing = omega arith
 
 -- an item is not empty, or it is a name, behind which no name comes
-step : (c : Progress) (d : Due) (item : List ℕ) → 0 < c.page_size → d ≢ Nothing → length item ≡ size c.page_size d item → work (after_item c d item).due < 2 * length item + work d
+step : (c : StreamProgress) (d : Due) (item : List ℕ) → 0 < c.page_size → d ≢ Nothing → length item ≡ size c.page_size d item → work (after_item c d item).due < 2 * length item + work d
 step c FileHeader item some open_ whole = omega arith
 step c (TypeByte before) item some open_ whole = omega (arith, work_small (after_type c (slice_index item 0)).due)
 step c ConfigLength item some open_ whole = omega (arith, work_small (after_item c ConfigLength item).due)
@@ -107,8 +107,8 @@ is_nothing Nothing = inl refl
 -- ---- a text has a reading
 
 -- some reading of a text from here
-abbrev SomeReading : Progress → List ℕ → Type 0
-SomeReading from text = (to : Progress) × (rest : List ℕ) × (state : StreamState) × Reads from text to rest state
+abbrev SomeReading : StreamProgress → List ℕ → Type 0
+SomeReading from text = (to : StreamProgress) × (rest : List ℕ) × (state : StreamState) × Reads from text to rest state
 
 -- whether an item has a fault
 faulty : (o : Option StreamFault) → (o ≡ None) ⊎ ((fault : StreamFault) × (o ≡ Some fault))
@@ -116,7 +116,7 @@ faulty None = inl refl
 faulty (Some fault) = inr (fault, refl)
 
 -- however far a text has been read, it can be read on, since each item is a step forward
-read_on : (fuel : ℕ) (from c : Progress) (text front rest : List ℕ) → 0 < c.page_size → 2 * length rest + work c.due < fuel → text ≡ front ++ rest → Front from front c → SomeReading from text
+read_on : (fuel : ℕ) (from c : StreamProgress) (text front rest : List ℕ) → 0 < c.page_size → 2 * length rest + work c.due < fuel → text ≡ front ++ rest → Front from front c → SomeReading from text
 read_on zero from c text front rest some few e so_far = absurd (omega arith)
 read_on (suc fuel) from c text front rest some few e so_far =
     elim (is_nothing c.due) [
@@ -141,22 +141,22 @@ read_on (suc fuel) from c text front rest some few e so_far =
     ]
 
 -- two readings of a text tell the same
-same_reading : (from : Progress) (text : List ℕ) (other : StreamReading) (c : Progress) (x : List ℕ) (s : StreamState) → Reads from text c x s
-    → (d : Progress) (y : List ℕ) → Reads from text d y other.state → other.table ≡ whole_table d → other.rounds ≡ d.rounds
+same_reading : (from : StreamProgress) (text : List ℕ) (other : StreamReading) (c : StreamProgress) (x : List ℕ) (s : StreamState) → Reads from text c x s
+    → (d : StreamProgress) (y : List ℕ) → Reads from text d y other.state → other.table ≡ whole_table d → other.rounds ≡ d.rounds
     → other ≡ record { table = whole_table c; rounds = c.rounds; state = s }
 same_reading from text other c x s a d y b table rounds =
     let same = one_reading from text d c y x other.state s b a in
     let t : other.table ≡ whole_table c = table ∙ ap whole_table same.0 in
-    let r : other.rounds ≡ c.rounds = rounds ∙ ap (λ (p : Progress). p.rounds) same.0 in
+    let r : other.rounds ≡ c.rounds = rounds ∙ ap (λ (p : StreamProgress). p.rounds) same.0 in
     ap (λ (v : Option RamTable). record { table = v; rounds = other.rounds; state = other.state }) t
     ∙ ap (λ (v : List (List PageRecord)). record { table = whole_table c; rounds = v; state = other.state }) r
     ∙ ap (λ (v : StreamState). record { table = whole_table c; rounds = c.rounds; state = v }) same.2
 
 -- Each text has exactly one reading.
 pub one_reading_law : HasOneReading
-one_reading_law = λ mode page_size limit text is.
-    let from : Progress = start mode page_size limit in
-    let r = read_on (suc (2 * length text + work from.due)) from from text [] text (page_size_some page_size is) (omega arith) refl (Front-none from) in
+one_reading_law = λ given text is.
+    let from : StreamProgress = start given.mode given.page_size given.limit in
+    let r = read_on (suc (2 * length text + work from.due)) from from text [] text (page_size_some given.page_size is) (omega arith) refl (Front-none from) in
     let reading : StreamReading = record { table = whole_table r.0; rounds = r.0.rounds; state = r.2 } in (
       reading,
       record { to = r.0; rest = r.1; reads = r.3; has_table = refl; has_rounds = refl },

@@ -9,7 +9,7 @@ use Rattle.mig_stream.specs.declared.item.Due.TheVariants.{FileHeader, TypeByte,
 use Rattle.mig_stream.specs.declared.item.StreamState.{StreamState}
 use Rattle.mig_stream.specs.declared.item.StreamState.TheVariants.{Reading, Bad}
 use Rattle.mig_stream.specs.declared.fault.StreamFault.{StreamFault}
-use Rattle.mig_stream.specs.Progress.{Progress}
+use Rattle.mig_stream.specs.Progress.{StreamProgress}
 use Rattle.mig_stream.specs.Items.{size, first_fault, after}
 use Rattle.mig_stream.specs.Reading.{IsItem, Front, Reads}
 use Rattle.mig_stream.specs.Taking.{HasTaken}
@@ -22,7 +22,7 @@ pub is_due : (p : ℕ) (d : Due) (bytes : List ℕ) → length bytes < size p d 
 is_due p d bytes lt none = absurd (omega (arith, lt, ap (λ (x : Due). size p x bytes) none))
 
 -- the bytes that a reading leaves are no whole item
-pub unfinished : (from : Progress) (text : List ℕ) (to : Progress) (rest : List ℕ) → Reads from text to rest Reading → IsUnfinished to rest
+pub unfinished : (from : StreamProgress) (text : List ℕ) (to : StreamProgress) (rest : List ℕ) → Reads from text to rest Reading → IsUnfinished to rest
 unfinished from text to rest r =
     elim (cases_lt (length rest) (size to.page_size to.due rest)) [
       | inl lt ↦ lt
@@ -56,7 +56,7 @@ size_grows p Nothing bytes more = omega arith
 -- ---- what is read
 
 -- bytes that are no whole item are left
-pub reads_short : (c : Progress) (bytes : List ℕ) → IsUnfinished c bytes → Reads c bytes c bytes Reading
+pub reads_short : (c : StreamProgress) (bytes : List ℕ) → IsUnfinished c bytes → Reads c bytes c bytes Reading
 reads_short c bytes lt = record {
   front = [];
   has_text = refl;
@@ -64,7 +64,7 @@ reads_short c bytes lt = record {
   ends = (is_due c.page_size c.due bytes lt, no_item c.page_size c.due bytes lt);
 }
 
-pub reads_fault : (c : Progress) (item rest : List ℕ) (f : StreamFault) → IsItem c.page_size c.due item → first_fault c item ≡ Some f → Reads c (item ++ rest) c (item ++ rest) (Bad f)
+pub reads_fault : (c : StreamProgress) (item rest : List ℕ) (f : StreamFault) → IsItem c.page_size c.due item → first_fault c item ≡ Some f → Reads c (item ++ rest) c (item ++ rest) (Bad f)
 reads_fault c item rest f is fault = record {
   front = [];
   has_text = refl;
@@ -73,16 +73,16 @@ reads_fault c item rest f is fault = record {
 }
 
 -- one item, and what is read behind it
-pub front_item : (c : Progress) (item : List ℕ) → IsItem c.page_size c.due item → first_fault c item ≡ None → Front c item (after c item)
+pub front_item : (c : StreamProgress) (item : List ℕ) → IsItem c.page_size c.due item → first_fault c item ≡ None → Front c item (after c item)
 front_item c item is none = Front-push c c [] item (Front-none c) is none
 
-pub reads_behind : (c d to : Progress) (item rest pending : List ℕ) (s : StreamState) → IsItem c.page_size c.due item → first_fault c item ≡ None → d ≡ after c item → ReadsOn d rest to pending s → ReadsOn c (item ++ rest) to pending s
+pub reads_behind : (c d to : StreamProgress) (item rest pending : List ℕ) (s : StreamState) → IsItem c.page_size c.due item → first_fault c item ≡ None → d ≡ after c item → ReadsOn d rest to pending s → ReadsOn c (item ++ rest) to pending s
 reads_behind c d to item rest pending s is none d_is r = record {
   rest = r.rest;
   reads = record {
     front = item ++ r.reads.front;
     has_text = ap (λ (x : List ℕ). item ++ x) r.reads.has_text ∙ sym (append_assoc item r.reads.front r.rest);
-    leads = Front-append c d to item r.reads.front (subst (λ (x : Progress). Front c item x) (sym d_is) (front_item c item is none)) r.reads.leads;
+    leads = Front-append c d to item r.reads.front (subst (λ (x : StreamProgress). Front c item x) (sym d_is) (front_item c item is none)) r.reads.leads;
     ends = r.reads.ends;
   };
   has_rest = r.has_rest;
@@ -90,25 +90,25 @@ reads_behind c d to item rest pending s is none d_is r = record {
 
 -- ---- what is taken where memory runs out
 
-pub taken_none : (c : Progress) (bytes : List ℕ) → HasTaken c bytes c
+pub taken_none : (c : StreamProgress) (bytes : List ℕ) → HasTaken c bytes c
 taken_none c bytes = record { front = []; rest = bytes; has_bytes = refl; leads = Front-none c }
 
 -- a run that was through, before more was refused
-pub taken_all : (c : Progress) (bytes : List ℕ) (to : Progress) (rest : List ℕ) (s : StreamState) → Reads c bytes to rest s → HasTaken c bytes to
+pub taken_all : (c : StreamProgress) (bytes : List ℕ) (to : StreamProgress) (rest : List ℕ) (s : StreamState) → Reads c bytes to rest s → HasTaken c bytes to
 taken_all c bytes to rest s r = record { front = r.front; rest = rest; has_bytes = r.has_text; leads = r.leads }
 
-pub taken_behind : (c d to : Progress) (item rest : List ℕ) → IsItem c.page_size c.due item → first_fault c item ≡ None → d ≡ after c item → HasTaken d rest to → HasTaken c (item ++ rest) to
+pub taken_behind : (c d to : StreamProgress) (item rest : List ℕ) → IsItem c.page_size c.due item → first_fault c item ≡ None → d ≡ after c item → HasTaken d rest to → HasTaken c (item ++ rest) to
 taken_behind c d to item rest is none d_is t = record {
   front = item ++ t.front;
   rest = t.rest;
   has_bytes = ap (λ (x : List ℕ). item ++ x) t.has_bytes ∙ sym (append_assoc item t.front t.rest);
-  leads = Front-append c d to item t.front (subst (λ (x : Progress). Front c item x) (sym d_is) (front_item c item is none)) t.leads;
+  leads = Front-append c d to item t.front (subst (λ (x : StreamProgress). Front c item x) (sym d_is) (front_item c item is none)) t.leads;
 }
 
 -- ---- what filling the pending item up leads to
 
 -- the piece was too short
-pub still_short : {X : Type 0} (o : Option X) (c : Progress) (old piece new : List ℕ) → o ≡ None → IfNone o ((new ≡ old ++ piece) × IsUnfinished c new) → ReadsOn c (old ++ piece) c new Reading
+pub still_short : {X : Type 0} (o : Option X) (c : StreamProgress) (old piece new : List ℕ) → o ≡ None → IfNone o ((new ≡ old ++ piece) × IsUnfinished c new) → ReadsOn c (old ++ piece) c new Reading
 still_short {X} (Some x) c old piece new none h = absurd cc
 still_short {X} None c old piece new none h = record {
   rest = new;
@@ -120,14 +120,14 @@ still_short {X} None c old piece new none h = record {
 pub text_at : {X : Type 0} (o : Option X) (x : X) (P : X → Type 0) → o ≡ Some x → IfSome o P → P x
 text_at {X} o x P e h = subst (λ (y : Option X). IfSome y P) e h
 
-pub whole_fault : (c d : Progress) (old piece item rest pending : List ℕ) (f : StreamFault) → item ++ rest ≡ old ++ piece → IsItem c.page_size c.due item → first_fault c item ≡ Some f → d ≡ c → ReadsOn c (old ++ piece) d pending (Bad f)
+pub whole_fault : (c d : StreamProgress) (old piece item rest pending : List ℕ) (f : StreamFault) → item ++ rest ≡ old ++ piece → IsItem c.page_size c.due item → first_fault c item ≡ Some f → d ≡ c → ReadsOn c (old ++ piece) d pending (Bad f)
 whole_fault c d old piece item rest pending f e is fault same = record {
   rest = item ++ rest;
-  reads = subst (λ (x : List ℕ). Reads c x d (item ++ rest) (Bad f)) e (subst (λ (x : Progress). Reads c (item ++ rest) x (item ++ rest) (Bad f)) (sym same) (reads_fault c item rest f is fault));
+  reads = subst (λ (x : List ℕ). Reads c x d (item ++ rest) (Bad f)) e (subst (λ (x : StreamProgress). Reads c (item ++ rest) x (item ++ rest) (Bad f)) (sym same) (reads_fault c item rest f is fault));
   has_rest = λ reading. absurd cc;
 }
 
 -- what a reading keeps is no whole item
-pub unfinished_behind : (from : Progress) (bytes : List ℕ) (to : Progress) (pending : List ℕ) (s : StreamState) → ReadsOn from bytes to pending s → s ≡ Reading → IsUnfinished to pending
+pub unfinished_behind : (from : StreamProgress) (bytes : List ℕ) (to : StreamProgress) (pending : List ℕ) (s : StreamState) → ReadsOn from bytes to pending s → s ≡ Reading → IsUnfinished to pending
 unfinished_behind from bytes to pending s r reading =
     subst (IsUnfinished to) (r.has_rest reading) (unfinished from bytes to r.rest (subst (λ (x : StreamState). Reads from bytes to r.rest x) reading r.reads))

@@ -11,7 +11,7 @@ use Rattle.mig_stream.specs.declared.item.RecordKind.TheVariants.{SizeList}
 use Rattle.mig_stream.specs.PageRecord.{PageRecord}
 use Rattle.mig_stream.specs.Fields.{be64}
 use Rattle.mig_stream.specs.Format.{end_byte, flags_of}
-use Rattle.mig_stream.specs.Progress.{Progress, start, whole_table}
+use Rattle.mig_stream.specs.Progress.{StreamProgress, start, whole_table}
 use Rattle.mig_stream.specs.Reading.{Ends}
 use Rattle.mig_stream.specs.Text.{file_header, configuration, start_head, size_list, total_bytes, entry, Follow, all_records, body, section, IsText, AreRounds}
 use Rattle.mig_stream.specs.Law.{ReadIsSpelled}
@@ -35,14 +35,14 @@ regroup : (f c s l b p e z : List ℕ) → f ++ (c ++ (s ++ (l ++ (b ++ (p ++ (e
 regroup f c s l b p e z = simp append_assoc
 
 -- A whole text that is left from the first byte on is a text of its table and its rounds.
-pub record IsFound (mode : Mode) (page_size limit : ℕ) (to : Progress) (text : List ℕ) : Type 0 where
+pub record IsFound (mode : Mode) (page_size limit : ℕ) (to : StreamProgress) (text : List ℕ) : Type 0 where
   pub table : RamTable
   pub has_page_size : table.page_size ≡ page_size
   pub has_table : whole_table to ≡ Some table
   pub has_text : IsText mode limit text table to.rounds
 
 -- Such a rest is a text.
-pub text_found : (mode : Mode) (page_size limit : ℕ) (to : Progress) (text : List ℕ) → IsPageSize page_size → limit ≤ 2 ^ 40 → RestOfFile to (start mode page_size limit) text
+pub text_found : (mode : Mode) (page_size limit : ℕ) (to : StreamProgress) (text : List ℕ) → IsPageSize page_size → limit ≤ 2 ^ 40 → RestOfFile to (start mode page_size limit) text
     → IsFound mode page_size limit to text
 text_found mode page_size limit to text size small file =
     let opening = file.rest in
@@ -87,15 +87,16 @@ text_found mode page_size limit to text size small file =
 
 -- Whatever is read to its end byte is spelled so.
 pub read_law : ReadIsSpelled
-read_law mode page_size limit bytes reading size small all is closed =
+read_law given bytes reading size small all is closed =
+    let from : StreamProgress = start given.mode given.page_size given.limit in
     let reads = is.reads in
     let leads = reads.leads in
     let due : is.to.due ≡ Nothing = subst (λ (x : StreamState). Ends is.to is.rest x) closed reads.ends in
     let whole : IsBytes bytes = bytes_from_all bytes all in
     let front : IsBytes reads.front = bytes_of_front reads.front is.rest (subst IsBytes reads.has_text whole) in
-    let left = items_back is.to (start mode page_size limit) leads.items leads.are_faultless (subst IsBytes leads.has_bytes front) leads.leads_to due in
-    let file : RestOfFile is.to (start mode page_size limit) reads.front = subst (λ (x : List ℕ). RestOfFile is.to (start mode page_size limit) x) (sym leads.has_bytes) (left refl) in
-    let found = text_found mode page_size limit is.to reads.front size small file in (
+    let left = items_back is.to from leads.items leads.are_faultless (subst IsBytes leads.has_bytes front) leads.leads_to due in
+    let file : RestOfFile is.to from reads.front = subst (λ (x : List ℕ). RestOfFile is.to from x) (sym leads.has_bytes) (left refl) in
+    let found = text_found given.mode given.page_size given.limit is.to reads.front size small file in (
       found.table,
       found.has_page_size,
       is.has_table ∙ found.has_table,
@@ -103,6 +104,6 @@ read_law mode page_size limit bytes reading size small all is closed =
         reads.front,
         is.rest,
         reads.has_text,
-        subst (λ (x : List (List PageRecord)). IsText mode limit reads.front found.table x) (sym is.has_rounds) found.has_text,
+        subst (λ (x : List (List PageRecord)). IsText given.mode given.limit reads.front found.table x) (sym is.has_rounds) found.has_text,
       ),
     )

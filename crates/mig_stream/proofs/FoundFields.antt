@@ -15,7 +15,8 @@ use Rattle.mig_stream.specs.declared.item.RecordKind.{RecordKind}
 use Rattle.mig_stream.specs.declared.fault.StreamFault.{StreamFault}
 use Rattle.mig_stream.specs.Fields.{be32, be64, counted, be32_at, be64_at}
 use Rattle.mig_stream.specs.Format.{flags_of, record_kinds}
-use Rattle.mig_stream.specs.Items.{id_in, record_kind, first_of}
+use Rattle.mig_mem.specs.First.{first_of}
+use Rattle.mig_stream.specs.Items.{id_in, record_kind}
 
 -- ---- bytes
 

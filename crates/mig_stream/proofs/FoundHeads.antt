@@ -12,8 +12,9 @@ use Rattle.mig_stream.specs.declared.item.Due.TheVariants.{RecordHead, Content}
 use Rattle.mig_stream.specs.declared.fault.StreamFault.TheVariants as fault
 use Rattle.mig_stream.specs.Fields.{be64}
 use Rattle.mig_stream.specs.Format.{flags_of}
-use Rattle.mig_stream.specs.Progress.{Progress}
-use Rattle.mig_stream.specs.Items.{record_kind, has_page, is_single, first_of, head_faults, end_round, after_head}
+use Rattle.mig_stream.specs.Progress.{StreamProgress}
+use Rattle.mig_mem.specs.First.{first_of}
+use Rattle.mig_stream.specs.Items.{record_kind, has_page, is_single, head_faults, end_round, after_head}
 use Rattle.mig_stream.proofs.FoundFields.{passed, kind_found}
 use Rattle.mig_stream.proofs.FoundPages.{RestOfBody, RestOfPage, named_back, continued_back}
 use Rattle.mig_stream.proofs.FoundSections.{at_head, end_back, flush_back, bare_head}
@@ -34,13 +35,13 @@ read_already None e is = absurd cc
 read_already (Some x) e is = absurd cc
 
 -- behind the size list, a record head is followed by the records' rest
-behind_list : (to c : Progress) (bytes : List ℕ) → is_none c.left ≡ false → (c.left ≡ Some 0 → RestOfBody (Behind to) c bytes) → RestAt to c RecordHead bytes
+behind_list : (to c : StreamProgress) (bytes : List ℕ) → is_none c.left ≡ false → (c.left ≡ Some 0 → RestOfBody (Behind to) c bytes) → RestAt to c RecordHead bytes
 behind_list to c bytes used rest = ((λ none. absurd (read_already c.left used none)), rest)
 
 -- ---- page records of the block that was named last
 
 -- the test found that there is such a block, and in it the page
-some_block_back : (Behind : Progress → List ℕ → Type 0) (c : Progress) (named : Option ℕ) (page : ℕ) (item bytes : List ℕ) (f : Filling)
+some_block_back : (Behind : StreamProgress → List ℕ → Type 0) (c : StreamProgress) (named : Option ℕ) (page : ℕ) (item bytes : List ℕ) (f : Filling)
     → item ≡ be64 (page * c.page_size + flags_of (Continued f)) → has_page c.blocks named page ≡ true
     → RestOfPage Behind (record c { due = Content f (place_at (unwrap_or named 0) page); named = named }) f (place_at (unwrap_or named 0) page) bytes
     → RestOfBody Behind (record c { due = RecordHead; named = named }) (item ++ bytes)
@@ -50,7 +51,7 @@ some_block_back Behind c (Some b) page item bytes f head in_range r = continued_
 -- ---- heads by their kind
 
 -- a head's bytes, by its kind
-kind_head : (c : Progress) (flags page : ℕ) (item : List ℕ) (kind : RecordKind) → item ≡ be64 (page * c.page_size + flags) → record_kind flags ≡ Some kind → item ≡ be64 (page * c.page_size + flags_of kind)
+kind_head : (c : StreamProgress) (flags page : ℕ) (item : List ℕ) (kind : RecordKind) → item ≡ be64 (page * c.page_size + flags) → record_kind flags ≡ Some kind → item ≡ be64 (page * c.page_size + flags_of kind)
 kind_head c flags page item kind head is = head ∙ ap (λ (x : ℕ). be64 (page * c.page_size + x)) (kind_found flags kind is)
 
 -- a page number that the test found to be 0
@@ -58,7 +59,7 @@ zero_page : (page : ℕ) → first_of ((not (eqb page 0), fault.OffsetOut) ∷ [
 zero_page page free = eqb-true page 0 (not-false (eqb page 0) (passed (not (eqb page 0)) fault.OffsetOut [] free).0)
 
 -- A record head in front of what is left behind its kind.
-pub head_back : (to c : Progress) (flags page : ℕ) (item bytes : List ℕ) (kind : Option RecordKind) → c.due ≡ RecordHead → item ≡ be64 (page * c.page_size + flags) → record_kind flags ≡ kind
+pub head_back : (to c : StreamProgress) (flags page : ℕ) (item bytes : List ℕ) (kind : Option RecordKind) → c.due ≡ RecordHead → item ≡ be64 (page * c.page_size + flags) → record_kind flags ≡ kind
     → first_of (head_faults c flags kind page) ≡ None → RestFrom to (after_head c kind page) bytes → RestAt to c RecordHead (item ++ bytes)
 head_back to c flags page item bytes None due head is free r = absurd cc
 head_back to c flags page item bytes (Some SizeList) due head is free r =

@@ -15,8 +15,9 @@ use Rattle.mig_stream.specs.declared.item.Due.{Due}
 use Rattle.mig_stream.specs.declared.item.Due.TheVariants.{FileHeader, TypeByte, ConfigLength, ConfigName, StartHead, SectionHead, RecordHead, ListEntry, BlockName, Content, Footer, Nothing}
 use Rattle.mig_stream.specs.declared.fault.StreamFault.TheVariants as fault
 use Rattle.mig_stream.specs.Fields.{be32_at, be64_at}
-use Rattle.mig_stream.specs.Progress.{Progress, whole_table}
-use Rattle.mig_stream.specs.Items.{id_in, record_kind, has_page, first_of, faults, footer_of, end_section, after_item, after}
+use Rattle.mig_stream.specs.Progress.{StreamProgress, whole_table}
+use Rattle.mig_mem.specs.First.{first_of}
+use Rattle.mig_stream.specs.Items.{id_in, record_kind, has_page, faults, footer_of, end_section, after_item, after}
 use Rattle.mig_stream.specs.Reading.{IsItem, AreFaultless, after_all}
 use Rattle.mig_stream.proofs.FoundFields.{IsBytes, bytes_of_front, bytes_of_rest, passed, head_found}
 use Rattle.mig_stream.proofs.FoundPages.{RestOfBody, RestOfPage, RestOfName, zero_back, normal_back, name_back}
@@ -29,18 +30,18 @@ use Rattle.mig_stream.proofs.FoundHeads.{head_back}
 use Rattle.mig_stream.proofs.FoundTypes.{type_back}
 
 -- behind the length of a configuration's name stands the name, or nothing of it
-configuration_behind : (to c : Progress) (len : ℕ) (bytes : List ℕ) (b : Bool) → eqb len 0 ≡ b → RestFrom to (record c { due = cond b (TypeByte before.Configuration) (ConfigName len) }) bytes
+configuration_behind : (to c : StreamProgress) (len : ℕ) (bytes : List ℕ) (b : Bool) → eqb len 0 ≡ b → RestFrom to (record c { due = cond b (TypeByte before.Configuration) (ConfigName len) }) bytes
     → c.left ≡ None → opening.RestOfConfigName to (record c { due = ConfigName len }) len bytes
 configuration_behind to c len bytes true test r none = opening.no_name_back to (record c { due = ConfigName len }) len bytes (eqb-true len 0 test) (r none)
 configuration_behind to c len bytes false test r none = r none
 
 -- behind START's head, in START
-in_start : (to c : Progress) (id : ℕ) (bytes : List ℕ) → c.section ≡ section.Start → RestOfList (Behind to) (record c { due = RecordHead; section_id = id }) bytes
+in_start : (to c : StreamProgress) (id : ℕ) (bytes : List ℕ) → c.section ≡ section.Start → RestOfList (Behind to) (record c { due = RecordHead; section_id = id }) bytes
     → RestOfList (Behind to) (record c { due = RecordHead; section = section.Start; section_id = id }) bytes
 in_start to c id bytes is r = subst (λ (x : Section). RestOfList (Behind to) (record c { due = RecordHead; section = x; section_id = id }) bytes) is r
 
 -- behind an entry stand other entries, or the records
-entry_behind : (to c : Progress) (item bytes : List ℕ) (b : Bool) → length item ≡ 9 + get_or item 0 0 → IsBytes item → IsEntry c item → eqb (left_after c item) 0 ≡ b
+entry_behind : (to c : StreamProgress) (item bytes : List ℕ) (b : Bool) → length item ≡ 9 + get_or item 0 0 → IsBytes item → IsEntry c item → eqb (left_after c item) 0 ≡ b
     → RestFrom to (record c { due = cond b RecordHead ListEntry; left = Some (left_after c item); blocks = c.blocks ++ block_in c.page_size item ∷ [] }) bytes
     → RestOfEntries (Behind to) c (item ++ bytes)
 entry_behind to c item bytes true len all is test r =
@@ -51,7 +52,7 @@ entry_behind to c item bytes true len all is test r =
 entry_behind to c item bytes false len all is test r = entry_back (Behind to) c item bytes len all is r
 
 -- the id of a page record names a block
-id_back : (Behind : Progress → List ℕ → Type 0) (c : Progress) (f : Filling) (page : ℕ) (item bytes : List ℕ) (named : Option ℕ) → length item ≡ 1 + get_or item 0 0
+id_back : (Behind : StreamProgress → List ℕ → Type 0) (c : StreamProgress) (f : Filling) (page : ℕ) (item bytes : List ℕ) (named : Option ℕ) → length item ≡ 1 + get_or item 0 0
     → block_of c.blocks (id_in item) ≡ named → has_page c.blocks named page ≡ true
     → RestOfPage Behind (record c { due = Content f (place_at (unwrap_or named 0) page); named = named }) f (place_at (unwrap_or named 0) page) bytes
     → RestOfName Behind c f page (item ++ bytes)
@@ -59,13 +60,13 @@ id_back Behind c f page item bytes None len is in_range r = absurd cc
 id_back Behind c f page item bytes (Some b) len is in_range r = name_back Behind c f page item bytes len b is in_range r
 
 -- behind a footer
-footer_behind : (to c : Progress) (s : Section) (bytes : List ℕ) → c.left ≡ Some 0 → RestAtType to c (footer_of s) bytes → RestBehind to s c bytes
+footer_behind : (to c : StreamProgress) (s : Section) (bytes : List ℕ) → c.left ≡ Some 0 → RestAtType to c (footer_of s) bytes → RestBehind to s c bytes
 footer_behind to c section.Start bytes used r = r used
 footer_behind to c section.Part bytes used r = r used
 footer_behind to c section.End bytes used r = r
 
 -- The item of each kind in front of what is left behind it.
-pub item_back : (to c : Progress) (d : Due) (item bytes : List ℕ) → c.due ≡ d → IsItem c.page_size d item → IsBytes item → first_of (faults c d item) ≡ None
+pub item_back : (to c : StreamProgress) (d : Due) (item bytes : List ℕ) → c.due ≡ d → IsItem c.page_size d item → IsBytes item → first_of (faults c d item) ≡ None
     → RestFrom to (after_item c d item) bytes → RestAt to c d (item ++ bytes)
 item_back to c FileHeader item bytes due is all free r = λ none. opening.header_back to c item bytes is.is_whole all free (r none)
 item_back to c (TypeByte b) item bytes due is all free r = type_back to c b item bytes is.is_whole free r
@@ -91,10 +92,10 @@ item_back to c Footer item bytes due is all free r = λ used. footer_back (Behin
 item_back to c Nothing item bytes due is all free r = absurd (is.is_due refl)
 
 -- Items without a fault that lead to the end byte are what is left before them.
-pub items_back : (to c : Progress) (items : List (List ℕ)) → AreFaultless c items → IsBytes (concat items) → to ≡ after_all c items → to.due ≡ Nothing → RestFrom to c (concat items)
+pub items_back : (to c : StreamProgress) (items : List (List ℕ)) → AreFaultless c items → IsBytes (concat items) → to ≡ after_all c items → to.due ≡ Nothing → RestFrom to c (concat items)
 items_back to c [] free all leads due =
-    let end : c.due ≡ Nothing = ap (λ (x : Progress). x.due) (sym leads) ∙ due in
-    subst (λ (d : Due). RestAt to c d []) (sym end) (refl, ap (λ (x : Progress). x.rounds) leads, ap whole_table leads)
+    let end : c.due ≡ Nothing = ap (λ (x : StreamProgress). x.due) (sym leads) ∙ due in
+    subst (λ (d : Due). RestAt to c d []) (sym end) (refl, ap (λ (x : StreamProgress). x.rounds) leads, ap whole_table leads)
 items_back to c (item ∷ items) free all leads due =
     item_back to c c.due item (concat items) refl free.0 (bytes_of_front item (concat items) all) free.1
     (items_back to (after c item) items free.2 (bytes_of_rest item (concat items) all) leads due)

@@ -6,14 +6,15 @@ use Rattle.std.specs.List.{flat_map}
 use Rattle.std.proofs.lemmas.Nat.{div-add-mod'}
 use Rattle.std.proofs.lemmas.Bool.{not-false, eqb-true, eqb-false, leb-false, ltb-false, or_parts}
 use Rattle.std.proofs.lemmas.List.{length-append}
-use Rattle.mig_mem.specs.RamTable.{Block, block_of, is_id}
+use Rattle.mig_mem.specs.RamTable.{Block, block_of, is_id, max_blocks}
 use Rattle.mig_stream.specs.declared.item.Due.TheVariants.{RecordHead, ListEntry}
 use Rattle.mig_stream.specs.declared.item.RecordKind.TheVariants.{SizeList}
 use Rattle.mig_stream.specs.declared.fault.StreamFault.TheVariants as fault
 use Rattle.mig_stream.specs.Fields.{be64}
-use Rattle.mig_stream.specs.Format.{flags_of, most_blocks}
-use Rattle.mig_stream.specs.Progress.{Progress}
-use Rattle.mig_stream.specs.Items.{id_in, length_in, faults, first_of}
+use Rattle.mig_stream.specs.Format.{flags_of}
+use Rattle.mig_stream.specs.Progress.{StreamProgress}
+use Rattle.mig_mem.specs.First.{first_of}
+use Rattle.mig_stream.specs.Items.{id_in, length_in, faults}
 use Rattle.mig_stream.specs.Text.{entry}
 use Rattle.mig_stream.proofs.Tables.{AreBlocks, sum_of}
 use Rattle.mig_stream.proofs.FoundFields.{IsBytes, passed}
@@ -21,7 +22,7 @@ use Rattle.mig_stream.proofs.FoundParts.{entry_found}
 use Rattle.mig_stream.proofs.FoundPages.{RestOfBody}
 
 -- The entries of one or more blocks are left, and then START's records.
-pub record RestOfEntries (Behind : Progress → List ℕ → Type 0) (c : Progress) (bytes : List ℕ) : Type 0 where
+pub record RestOfEntries (Behind : StreamProgress → List ℕ → Type 0) (c : StreamProgress) (bytes : List ℕ) : Type 0 where
   pub blocks : List Block
   pub tail : List ℕ
   pub has_bytes : bytes ≡ flat_map (entry c.page_size) blocks ++ tail
@@ -32,7 +33,7 @@ pub record RestOfEntries (Behind : Progress → List ℕ → Type 0) (c : Progre
   pub rest : RestOfBody Behind (record c { due = RecordHead; left = Some 0; blocks = c.blocks ++ blocks }) tail
 
 -- The size list is left, and then START's records.
-pub record RestOfList (Behind : Progress → List ℕ → Type 0) (c : Progress) (bytes : List ℕ) : Type 0 where
+pub record RestOfList (Behind : StreamProgress → List ℕ → Type 0) (c : StreamProgress) (bytes : List ℕ) : Type 0 where
   pub blocks : List Block
   pub tail : List ℕ
   pub has_bytes : bytes ≡ be64 (sum_of c.page_size blocks + flags_of SizeList) ++ (flat_map (entry c.page_size) blocks ++ tail)
@@ -45,7 +46,7 @@ pub record RestOfList (Behind : Progress → List ℕ → Type 0) (c : Progress)
 -- ---- what an entry without a fault is
 
 -- what the five tests of an entry say, where none has found a fault
-pub record IsEntry (c : Progress) (item : List ℕ) : Type 0 where
+pub record IsEntry (c : StreamProgress) (item : List ℕ) : Type 0 where
   pub has_few : length c.blocks < 256
   pub has_id : IsTrue (is_id (id_in item))
   pub is_new : block_of c.blocks (id_in item) ≡ None
@@ -64,14 +65,14 @@ some_pages len zero p whole some = absurd (some (omega (arith, whole)))
 some_pages len (suc pages) p whole some = omega arith
 
 -- an entry without a fault is such an entry
-pub entry_is : (c : Progress) (item : List ℕ) → first_of (faults c ListEntry item) ≡ None → IsEntry c item
+pub entry_is : (c : StreamProgress) (item : List ℕ) → first_of (faults c ListEntry item) ≡ None → IsEntry c item
 entry_is c item free =
     let len = length_in item in
     let room = ltb (unwrap_or c.left 0) len in
     let odd = eqb len 0 || not (eqb (len % c.page_size) 0) in
     let twice = is_some (block_of c.blocks (id_in item)) in
     let good = is_id (id_in item) in
-    let t1 = passed (leb most_blocks (length c.blocks)) fault.TooManyBlocks ((not good, fault.Id) ∷ (twice, fault.IdTwice) ∷ (odd, fault.Length) ∷ (room, fault.SizeSum) ∷ []) free in
+    let t1 = passed (leb max_blocks (length c.blocks)) fault.TooManyBlocks ((not good, fault.Id) ∷ (twice, fault.IdTwice) ∷ (odd, fault.Length) ∷ (room, fault.SizeSum) ∷ []) free in
     let t2 = passed (not good) fault.Id ((twice, fault.IdTwice) ∷ (odd, fault.Length) ∷ (room, fault.SizeSum) ∷ []) t1.1 in
     let t3 = passed twice fault.IdTwice ((odd, fault.Length) ∷ (room, fault.SizeSum) ∷ []) t2.1 in
     let t4 = passed odd fault.Length ((room, fault.SizeSum) ∷ []) t3.1 in
@@ -95,15 +96,15 @@ abbrev pub block_in : ℕ → List ℕ → Block
 block_in p item = record { id = id_in item; pages = length_in item / p }
 
 -- the bytes that the total leaves behind an entry
-abbrev pub left_after : Progress → List ℕ → ℕ
+abbrev pub left_after : StreamProgress → List ℕ → ℕ
 left_after c item = unwrap_or c.left 0 - length_in item
 
 -- and its bytes are spelled as its block's entry
-entry_bytes : (c : Progress) (item : List ℕ) → length item ≡ 9 + get_or item 0 0 → IsBytes item → IsEntry c item → item ≡ entry c.page_size (block_in c.page_size item)
+entry_bytes : (c : StreamProgress) (item : List ℕ) → length item ≡ 9 + get_or item 0 0 → IsBytes item → IsEntry c item → item ≡ entry c.page_size (block_in c.page_size item)
 entry_bytes c item len all is = entry_found item len all ∙ ap (λ (n : ℕ). length (id_in item) ∷ (id_in item ++ be64 n)) (sym is.has_length)
 
 -- the last entry, in front of what is left
-pub last_entry_back : (Behind : Progress → List ℕ → Type 0) (c : Progress) (item bytes : List ℕ) → length item ≡ 9 + get_or item 0 0 → IsBytes item → IsEntry c item → left_after c item ≡ 0
+pub last_entry_back : (Behind : StreamProgress → List ℕ → Type 0) (c : StreamProgress) (item bytes : List ℕ) → length item ≡ 9 + get_or item 0 0 → IsBytes item → IsEntry c item → left_after c item ≡ 0
     → RestOfBody Behind (record c { due = RecordHead; left = Some 0; blocks = c.blocks ++ block_in c.page_size item ∷ [] }) bytes → RestOfEntries Behind c (item ++ bytes)
 last_entry_back Behind c item bytes len all is none r =
     let b = block_in c.page_size item in
@@ -121,7 +122,7 @@ last_entry_back Behind c item bytes len all is none r =
     }
 
 -- an entry in front of others
-pub entry_back : (Behind : Progress → List ℕ → Type 0) (c : Progress) (item bytes : List ℕ) → length item ≡ 9 + get_or item 0 0 → IsBytes item → IsEntry c item
+pub entry_back : (Behind : StreamProgress → List ℕ → Type 0) (c : StreamProgress) (item bytes : List ℕ) → length item ≡ 9 + get_or item 0 0 → IsBytes item → IsEntry c item
     → RestOfEntries Behind (record c { due = ListEntry; left = Some (left_after c item); blocks = c.blocks ++ block_in c.page_size item ∷ [] }) bytes → RestOfEntries Behind c (item ++ bytes)
 entry_back Behind c item bytes len all is r =
     let b = block_in c.page_size item in
@@ -142,7 +143,7 @@ entry_back Behind c item bytes len all is r =
 -- ---- the head of the size list
 
 -- the head says how many bytes the entries have in all
-pub list_back : (Behind : Progress → List ℕ → Type 0) (c : Progress) (page : ℕ) (item bytes : List ℕ) → item ≡ be64 (page * c.page_size + flags_of SizeList) → page * c.page_size ≤ c.limit
+pub list_back : (Behind : StreamProgress → List ℕ → Type 0) (c : StreamProgress) (page : ℕ) (item bytes : List ℕ) → item ≡ be64 (page * c.page_size + flags_of SizeList) → page * c.page_size ≤ c.limit
     → RestOfEntries Behind (record c { due = ListEntry; left = Some (page * c.page_size) }) bytes → RestOfList Behind c (item ++ bytes)
 list_back Behind c page item bytes head small r = record {
   blocks = r.blocks;

@@ -11,8 +11,9 @@ use Rattle.mig_stream.specs.declared.item.Due.TheVariants.{FileHeader, TypeByte,
 use Rattle.mig_stream.specs.declared.fault.StreamFault.TheVariants as fault
 use Rattle.mig_stream.specs.Fields.{be32, be32_at}
 use Rattle.mig_stream.specs.Format.{magic, version, section_type, configuration_type, ram_name, ram_instance, ram_version, most_name_bytes}
-use Rattle.mig_stream.specs.Progress.{Progress}
-use Rattle.mig_stream.specs.Items.{faults, first_of}
+use Rattle.mig_stream.specs.Progress.{StreamProgress}
+use Rattle.mig_mem.specs.First.{first_of}
+use Rattle.mig_stream.specs.Items.{faults}
 use Rattle.mig_stream.specs.Text.{file_header, configuration, start_head}
 use Rattle.mig_stream.proofs.FoundFields.{IsBytes, passed, be32_found}
 use Rattle.mig_stream.proofs.FoundParts.{be32_small, header_found, start_found}
@@ -20,7 +21,7 @@ use Rattle.mig_stream.proofs.FoundList.{RestOfList}
 use Rattle.mig_stream.proofs.FoundTail.{Behind}
 
 -- START's head is left, and then its size list. Its type byte may have been read: `front` is what was read of it.
-pub record RestOfStart (front : List ℕ) (to c : Progress) (bytes : List ℕ) : Type 0 where
+pub record RestOfStart (front : List ℕ) (to c : StreamProgress) (bytes : List ℕ) : Type 0 where
   pub id : ℕ
   pub tail : List ℕ
   pub has_bytes : front ++ bytes ≡ start_head id ++ tail
@@ -28,7 +29,7 @@ pub record RestOfStart (front : List ℕ) (to c : Progress) (bytes : List ℕ) :
   pub rest : RestOfList (Behind to) (record c { due = RecordHead; section = Start; section_id = id }) tail
 
 -- The name of a configuration is left, and then START.
-pub record RestOfConfigName (to c : Progress) (len : ℕ) (bytes : List ℕ) : Type 0 where
+pub record RestOfConfigName (to c : StreamProgress) (len : ℕ) (bytes : List ℕ) : Type 0 where
   pub name : List ℕ
   pub tail : List ℕ
   pub has_bytes : bytes ≡ name ++ tail
@@ -36,7 +37,7 @@ pub record RestOfConfigName (to c : Progress) (len : ℕ) (bytes : List ℕ) : T
   pub rest : RestOfStart [] to (record c { due = TypeByte before.Configuration }) tail
 
 -- The name of a configuration and its length are left, and then START.
-pub record RestOfConfigLength (to c : Progress) (bytes : List ℕ) : Type 0 where
+pub record RestOfConfigLength (to c : StreamProgress) (bytes : List ℕ) : Type 0 where
   pub name : List ℕ
   pub tail : List ℕ
   pub has_bytes : bytes ≡ be32 (length name) ++ (name ++ tail)
@@ -44,7 +45,7 @@ pub record RestOfConfigLength (to c : Progress) (bytes : List ℕ) : Type 0 wher
   pub rest : RestOfStart [] to (record c { due = TypeByte before.Configuration }) tail
 
 -- A configuration or none is left, and then START.
-pub record RestOfOpening (to c : Progress) (bytes : List ℕ) : Type 0 where
+pub record RestOfOpening (to c : StreamProgress) (bytes : List ℕ) : Type 0 where
   pub name : Option (List ℕ)
   pub tail : List ℕ
   pub has_bytes : bytes ≡ configuration name ++ tail
@@ -52,7 +53,7 @@ pub record RestOfOpening (to c : Progress) (bytes : List ℕ) : Type 0 where
   pub rest : RestOfStart [] to (record c { due = TypeByte before.Configuration }) tail
 
 -- The whole text is left.
-pub record RestOfFile (to c : Progress) (bytes : List ℕ) : Type 0 where
+pub record RestOfFile (to c : StreamProgress) (bytes : List ℕ) : Type 0 where
   pub tail : List ℕ
   pub has_bytes : bytes ≡ file_header ++ tail
   pub rest : RestOfOpening to (record c { due = TypeByte before.FileHeader }) tail
@@ -60,7 +61,7 @@ pub record RestOfFile (to c : Progress) (bytes : List ℕ) : Type 0 where
 -- ---- START's head
 
 -- START's head, in front of its size list
-pub start_head_back : (to c : Progress) (item bytes : List ℕ) → length item ≡ 13 + get_or item 4 0 → IsBytes item → first_of (faults c StartHead item) ≡ None
+pub start_head_back : (to c : StreamProgress) (item bytes : List ℕ) → length item ≡ 13 + get_or item 4 0 → IsBytes item → first_of (faults c StartHead item) ≡ None
     → RestOfList (Behind to) (record c { due = RecordHead; section = Start; section_id = be32_at 0 item }) bytes → RestOfStart (section_type Start ∷ []) to c (item ++ bytes)
 start_head_back to c item bytes len all free r =
     let n = get_or item 4 0 in
@@ -81,18 +82,18 @@ start_head_back to c item bytes len all free r =
     }
 
 -- the type byte in front of START's head
-pub start_type_back : (to c : Progress) (bytes : List ℕ) → RestOfStart (section_type Start ∷ []) to (record c { due = StartHead; section = Start }) bytes
+pub start_type_back : (to c : StreamProgress) (bytes : List ℕ) → RestOfStart (section_type Start ∷ []) to (record c { due = StartHead; section = Start }) bytes
     → RestOfStart [] to (record c { due = TypeByte before.Configuration }) (section_type Start ∷ bytes)
 start_type_back to c bytes r = record { id = r.id; tail = r.tail; has_bytes = r.has_bytes; has_id = r.has_id; rest = r.rest }
 
 -- ---- configurations
 
 -- a configuration's name, in front of START
-pub name_back : (to c : Progress) (len : ℕ) (item bytes : List ℕ) → length item ≡ len → RestOfStart [] to (record c { due = TypeByte before.Configuration }) bytes → RestOfConfigName to c len (item ++ bytes)
+pub name_back : (to c : StreamProgress) (len : ℕ) (item bytes : List ℕ) → length item ≡ len → RestOfStart [] to (record c { due = TypeByte before.Configuration }) bytes → RestOfConfigName to c len (item ++ bytes)
 name_back to c len item bytes whole r = record { name = item; tail = bytes; has_bytes = refl; has_length = whole; rest = r }
 
 -- the length of a configuration's name, in front of the name
-pub length_back : (to c : Progress) (item bytes : List ℕ) → length item ≡ 4 → IsBytes item → first_of (faults c ConfigLength item) ≡ None
+pub length_back : (to c : StreamProgress) (item bytes : List ℕ) → length item ≡ 4 → IsBytes item → first_of (faults c ConfigLength item) ≡ None
     → RestOfConfigName to (record c { due = ConfigName (be32_at 0 item) }) (be32_at 0 item) bytes → RestOfConfigLength to c (item ++ bytes)
 length_back to c item bytes len all free r =
     let t = passed (ltb most_name_bytes (be32_at 0 item)) fault.ConfigLength [] free in
@@ -105,11 +106,11 @@ length_back to c item bytes len all free r =
     }
 
 -- a name of no bytes has no item
-pub no_name_back : (to c : Progress) (len : ℕ) (bytes : List ℕ) → len ≡ 0 → RestOfStart [] to (record c { due = TypeByte before.Configuration }) bytes → RestOfConfigName to c len bytes
+pub no_name_back : (to c : StreamProgress) (len : ℕ) (bytes : List ℕ) → len ≡ 0 → RestOfStart [] to (record c { due = TypeByte before.Configuration }) bytes → RestOfConfigName to c len bytes
 no_name_back to c len bytes none r = record { name = []; tail = bytes; has_bytes = refl; has_length = sym none; rest = r }
 
 -- the type byte of a configuration, in front of its length
-pub configuration_back : (to c : Progress) (bytes : List ℕ) → RestOfConfigLength to (record c { due = ConfigLength }) bytes → RestOfOpening to c (configuration_type ∷ bytes)
+pub configuration_back : (to c : StreamProgress) (bytes : List ℕ) → RestOfConfigLength to (record c { due = ConfigLength }) bytes → RestOfOpening to c (configuration_type ∷ bytes)
 configuration_back to c bytes r = record {
   name = Some r.name;
   tail = r.tail;
@@ -119,13 +120,13 @@ configuration_back to c bytes r = record {
 }
 
 -- START alone is START behind no configuration
-pub no_configuration_back : (to c : Progress) (bytes : List ℕ) → RestOfStart [] to (record c { due = TypeByte before.Configuration }) bytes → RestOfOpening to c bytes
+pub no_configuration_back : (to c : StreamProgress) (bytes : List ℕ) → RestOfStart [] to (record c { due = TypeByte before.Configuration }) bytes → RestOfOpening to c bytes
 no_configuration_back to c bytes r = record { name = None; tail = bytes; has_bytes = refl; has_name = tt; rest = r }
 
 -- ---- the file header
 
 -- the file header, in front of all else
-pub header_back : (to c : Progress) (item bytes : List ℕ) → length item ≡ 8 → IsBytes item → first_of (faults c FileHeader item) ≡ None
+pub header_back : (to c : StreamProgress) (item bytes : List ℕ) → length item ≡ 8 → IsBytes item → first_of (faults c FileHeader item) ≡ None
     → RestOfOpening to (record c { due = TypeByte before.FileHeader }) bytes → RestOfFile to c (item ++ bytes)
 unfolding file_header
 header_back to c item bytes len all free r =

@@ -14,14 +14,15 @@ use Rattle.mig_stream.specs.declared.item.RecordKind.TheVariants.{Named, Continu
 use Rattle.mig_stream.specs.Fields.{be64, counted}
 use Rattle.mig_stream.specs.Format.{flags_of}
 use Rattle.mig_stream.specs.PageRecord.{PageRecord, filling_of, page_kind}
-use Rattle.mig_stream.specs.Progress.{Progress, table_of}
-use Rattle.mig_stream.specs.Items.{id_in, is_single, faults, first_of, with_record}
+use Rattle.mig_stream.specs.Progress.{StreamProgress, table_of}
+use Rattle.mig_mem.specs.First.{first_of}
+use Rattle.mig_stream.specs.Items.{id_in, is_single, faults, with_record}
 use Rattle.mig_stream.specs.Text.{content_bytes, Record, PageOf, record_bytes, Follow, HasNoFlush, footer, body}
 use Rattle.mig_stream.proofs.After.{after_body}
 use Rattle.mig_stream.proofs.FoundFields.{passed, counted_found, named_found}
 
 -- Records, EOS and footer are left, and what stands behind the footer is what `Behind` says.
-pub record RestOfBody (Behind : Progress → List ℕ → Type 0) (c : Progress) (bytes : List ℕ) : Type 0 where
+pub record RestOfBody (Behind : StreamProgress → List ℕ → Type 0) (c : StreamProgress) (bytes : List ℕ) : Type 0 where
   pub records : List Record
   pub more : List ℕ
   pub has_bytes : bytes ≡ body (table_of c) c.section_id records ++ more
@@ -30,7 +31,7 @@ pub record RestOfBody (Behind : Progress → List ℕ → Type 0) (c : Progress)
   pub others : Behind (after_body c records) more
 
 -- A page record's content is left, and then the section's rest.
-pub record RestOfPage (Behind : Progress → List ℕ → Type 0) (c : Progress) (f : Filling) (place : Place) (bytes : List ℕ) : Type 0 where
+pub record RestOfPage (Behind : StreamProgress → List ℕ → Type 0) (c : StreamProgress) (f : Filling) (place : Place) (bytes : List ℕ) : Type 0 where
   pub content : Option (List ℕ)
   pub tail : List ℕ
   pub has_bytes : bytes ≡ content_bytes content ++ tail
@@ -39,7 +40,7 @@ pub record RestOfPage (Behind : Progress → List ℕ → Type 0) (c : Progress)
   pub rest : RestOfBody Behind (with_record c place content) tail
 
 -- The id of a page record's block is left, and then its content.
-pub record RestOfName (Behind : Progress → List ℕ → Type 0) (c : Progress) (f : Filling) (page : ℕ) (bytes : List ℕ) : Type 0 where
+pub record RestOfName (Behind : StreamProgress → List ℕ → Type 0) (c : StreamProgress) (f : Filling) (page : ℕ) (bytes : List ℕ) : Type 0 where
   pub number : ℕ
   pub tail : List ℕ
   pub has_bytes : bytes ≡ counted (block c.blocks number).id ++ tail
@@ -49,7 +50,7 @@ pub record RestOfName (Behind : Progress → List ℕ → Type 0) (c : Progress)
 -- ---- contents
 
 -- the mark of a zero page, in front of the section's rest
-pub zero_back : (Behind : Progress → List ℕ → Type 0) (c : Progress) (place : Place) (item bytes : List ℕ) → length item ≡ 1 → first_of (faults c (Content Zero place) item) ≡ None
+pub zero_back : (Behind : StreamProgress → List ℕ → Type 0) (c : StreamProgress) (place : Place) (item bytes : List ℕ) → length item ≡ 1 → first_of (faults c (Content Zero place) item) ≡ None
     → RestOfBody Behind (with_record c place None) bytes → RestOfPage Behind c Zero place (item ++ bytes)
 zero_back Behind c place [] bytes len free r = absurd cc
 zero_back Behind c place (x ∷ []) bytes len free r =
@@ -58,14 +59,14 @@ zero_back Behind c place (x ∷ []) bytes len free r =
 zero_back Behind c place (x ∷ y ∷ item) bytes len free r = absurd (omega arith)
 
 -- a page's bytes, in front of the section's rest
-pub normal_back : (Behind : Progress → List ℕ → Type 0) (c : Progress) (place : Place) (item bytes : List ℕ) → length item ≡ c.page_size
+pub normal_back : (Behind : StreamProgress → List ℕ → Type 0) (c : StreamProgress) (place : Place) (item bytes : List ℕ) → length item ≡ c.page_size
     → RestOfBody Behind (with_record c place (Some item)) bytes → RestOfPage Behind c Normal place (item ++ bytes)
 normal_back Behind c place item bytes len r = record { content = Some item; tail = bytes; has_bytes = refl; has_filling = refl; has_size = len; rest = r }
 
 -- ---- ids
 
 -- the id of a block, in front of a content
-pub name_back : (Behind : Progress → List ℕ → Type 0) (c : Progress) (f : Filling) (page : ℕ) (item bytes : List ℕ) → length item ≡ 1 + get_or item 0 0
+pub name_back : (Behind : StreamProgress → List ℕ → Type 0) (c : StreamProgress) (f : Filling) (page : ℕ) (item bytes : List ℕ) → length item ≡ 1 + get_or item 0 0
     → (number : ℕ) → block_of c.blocks (id_in item) ≡ Some number → ltb page (block c.blocks number).pages ≡ true
     → RestOfPage Behind (record c { due = Content f (place_at number page); named = Some number }) f (place_at number page) bytes
     → RestOfName Behind c f page (item ++ bytes)
@@ -86,7 +87,7 @@ regroup : (h n c r e m : List ℕ) → h ++ (n ++ (c ++ ((r ++ e) ++ m))) ≡ ((
 regroup h n c r e m = simp append_assoc
 
 -- the bytes of a page record that names its block, and what is left
-named_bytes : (c : Progress) (page : ℕ) (item bytes : List ℕ) (f : Filling) (number : ℕ) (content : Option (List ℕ)) (tail last : List ℕ) (rs : List Record) (more : List ℕ)
+named_bytes : (c : StreamProgress) (page : ℕ) (item bytes : List ℕ) (f : Filling) (number : ℕ) (content : Option (List ℕ)) (tail last : List ℕ) (rs : List Record) (more : List ℕ)
     → item ≡ be64 (page * c.page_size + flags_of (Named f)) → bytes ≡ counted (block c.blocks number).id ++ tail → filling_of content ≡ f → tail ≡ content_bytes content ++ last
     → last ≡ body (table_of c) c.section_id rs ++ more
     → item ++ bytes ≡ body (table_of c) c.section_id (PageOf false (record { place = place_at number page; content = content }) ∷ rs) ++ more
@@ -100,7 +101,7 @@ named_bytes c page item bytes f number content tail last rs more head b fill t l
     (be64 (flags_of EndOfSection) ++ footer c.section_id) more
 
 -- a page record that names its block, in front of what is left
-pub named_back : (Behind : Progress → List ℕ → Type 0) (c : Progress) (page : ℕ) (item bytes : List ℕ) (f : Filling) → item ≡ be64 (page * c.page_size + flags_of (Named f))
+pub named_back : (Behind : StreamProgress → List ℕ → Type 0) (c : StreamProgress) (page : ℕ) (item bytes : List ℕ) (f : Filling) → item ≡ be64 (page * c.page_size + flags_of (Named f))
     → RestOfName Behind (record c { due = BlockName f page }) f page bytes → RestOfBody Behind c (item ++ bytes)
 named_back Behind c page item bytes f head r =
     let q = r.rest in
@@ -124,7 +125,7 @@ known_block blocks b n lt =
     ]
 
 -- a page record of the block that was named last, in front of what is left
-pub continued_back : (Behind : Progress → List ℕ → Type 0) (c : Progress) (number page : ℕ) (item bytes : List ℕ) (f : Filling)
+pub continued_back : (Behind : StreamProgress → List ℕ → Type 0) (c : StreamProgress) (number page : ℕ) (item bytes : List ℕ) (f : Filling)
     → item ≡ be64 (page * c.page_size + flags_of (Continued f)) → page < (block c.blocks number).pages
     → RestOfPage Behind (record c { due = Content f (place_at number page); named = Some number }) f (place_at number page) bytes
     → RestOfBody Behind (record c { due = RecordHead; named = Some number }) (item ++ bytes)

@@ -6,7 +6,7 @@ use Rattle.mig_stream.specs.declared.item.Section.TheVariants as section
 use Rattle.mig_stream.specs.declared.item.Due.{Due}
 use Rattle.mig_stream.specs.declared.item.Due.TheVariants.{FileHeader, TypeByte, ConfigLength, ConfigName, StartHead, SectionHead, RecordHead, ListEntry, BlockName, Content, Footer, Nothing}
 use Rattle.mig_stream.specs.Format.{section_type}
-use Rattle.mig_stream.specs.Progress.{Progress, whole_table}
+use Rattle.mig_stream.specs.Progress.{StreamProgress, whole_table}
 use Rattle.mig_stream.proofs.FoundPages.{RestOfBody, RestOfPage, RestOfName}
 use Rattle.mig_stream.proofs.FoundSections.{RestOfFooter, RestOfSection}
 use Rattle.mig_stream.proofs.FoundList.{RestOfEntries, RestOfList}
@@ -14,14 +14,14 @@ use Rattle.mig_stream.proofs.FoundTail.{RestOfEnd, RestOfParts, Behind}
 use Rattle.mig_stream.proofs.FoundOpening.{RestOfStart, RestOfConfigName, RestOfConfigLength, RestOfOpening, RestOfFile}
 
 -- what is left from a type byte on, up to where the reading stands at `to`
-abbrev pub RestAtType : Progress → Progress → Before → List ℕ → Type 0
+abbrev pub RestAtType : StreamProgress → StreamProgress → Before → List ℕ → Type 0
 RestAtType to c before.FileHeader bytes = c.left ≡ None → RestOfOpening to c bytes
 RestAtType to c before.Configuration bytes = c.left ≡ None → RestOfStart [] to (record c { due = TypeByte before.Configuration }) bytes
 RestAtType to c before.Footer bytes = c.left ≡ Some 0 → RestOfParts to c bytes
 RestAtType to c before.LastFooter bytes = RestOfEnd to c bytes
 
 -- Each kind says what of the size list must have been read before it: nothing, or all of it.
-abbrev pub RestAt : Progress → Progress → Due → List ℕ → Type 0
+abbrev pub RestAt : StreamProgress → StreamProgress → Due → List ℕ → Type 0
 RestAt to c FileHeader bytes = c.left ≡ None → RestOfFile to c bytes
 RestAt to c (TypeByte b) bytes = RestAtType to c b bytes
 RestAt to c ConfigLength bytes = c.left ≡ None → RestOfConfigLength to c bytes
@@ -36,5 +36,5 @@ RestAt to c Footer bytes = c.left ≡ Some 0 → RestOfFooter (Behind to) c byte
 RestAt to c Nothing bytes = (bytes ≡ []) × (to.rounds ≡ c.rounds) × (whole_table to ≡ whole_table c)
 
 -- what is left from the item that is due on
-abbrev pub RestFrom : Progress → Progress → List ℕ → Type 0
+abbrev pub RestFrom : StreamProgress → StreamProgress → List ℕ → Type 0
 RestFrom to c bytes = RestAt to c c.due bytes

@@ -8,31 +8,32 @@ use Rattle.mig_stream.specs.declared.item.RecordKind.TheVariants.{EndOfSection, 
 use Rattle.mig_stream.specs.declared.fault.StreamFault.TheVariants as fault
 use Rattle.mig_stream.specs.Fields.{be32, be64, be32_at}
 use Rattle.mig_stream.specs.Format.{flags_of, footer_type}
-use Rattle.mig_stream.specs.Progress.{Progress}
-use Rattle.mig_stream.specs.Items.{is_single, faults, first_of, end_round, end_section}
+use Rattle.mig_stream.specs.Progress.{StreamProgress}
+use Rattle.mig_mem.specs.First.{first_of}
+use Rattle.mig_stream.specs.Items.{is_single, faults, end_round, end_section}
 use Rattle.mig_stream.specs.Text.{FlushMark, footer}
 use Rattle.mig_stream.proofs.FoundFields.{IsBytes, passed, be32_found}
 use Rattle.mig_stream.proofs.FoundParts.{footer_found}
 use Rattle.mig_stream.proofs.FoundPages.{RestOfBody}
 
 -- A footer is left, and what stands behind it is what `Behind` says.
-pub record RestOfFooter (Behind : Progress → List ℕ → Type 0) (c : Progress) (bytes : List ℕ) : Type 0 where
+pub record RestOfFooter (Behind : StreamProgress → List ℕ → Type 0) (c : StreamProgress) (bytes : List ℕ) : Type 0 where
   pub more : List ℕ
   pub has_bytes : bytes ≡ footer c.section_id ++ more
   pub others : Behind (end_section c) more
 
 -- The head of a PART or END behind its type byte is left, and then its records.
-pub record RestOfSection (Behind : Progress → List ℕ → Type 0) (c : Progress) (bytes : List ℕ) : Type 0 where
+pub record RestOfSection (Behind : StreamProgress → List ℕ → Type 0) (c : StreamProgress) (bytes : List ℕ) : Type 0 where
   pub tail : List ℕ
   pub has_bytes : bytes ≡ be32 c.section_id ++ tail
   pub rest : RestOfBody Behind c tail
 
 -- a rest of records doesn't depend on the item that is due
-pub at_head : (Behind : Progress → List ℕ → Type 0) (c : Progress) (bytes : List ℕ) → RestOfBody Behind (record c { due = RecordHead }) bytes → RestOfBody Behind c bytes
+pub at_head : (Behind : StreamProgress → List ℕ → Type 0) (c : StreamProgress) (bytes : List ℕ) → RestOfBody Behind (record c { due = RecordHead }) bytes → RestOfBody Behind c bytes
 at_head Behind c bytes r = record { records = r.records; more = r.more; has_bytes = r.has_bytes; follow = r.follow; flushes = r.flushes; others = r.others }
 
 -- a footer, in front of what stands behind it
-pub footer_back : (Behind : Progress → List ℕ → Type 0) (c : Progress) (item bytes : List ℕ) → length item ≡ 5 → IsBytes item → first_of (faults c Footer item) ≡ None
+pub footer_back : (Behind : StreamProgress → List ℕ → Type 0) (c : StreamProgress) (item bytes : List ℕ) → length item ≡ 5 → IsBytes item → first_of (faults c Footer item) ≡ None
     → Behind (end_section c) bytes → RestOfFooter Behind c (item ++ bytes)
 footer_back Behind c item bytes len all free r =
     let mark = eqb (get_or item 0 0) footer_type in
@@ -45,7 +46,7 @@ footer_back Behind c item bytes len all free r =
     }
 
 -- the head of a PART or END, in front of its records
-pub section_back : (Behind : Progress → List ℕ → Type 0) (c : Progress) (item bytes : List ℕ) → length item ≡ 4 → IsBytes item → first_of (faults c SectionHead item) ≡ None
+pub section_back : (Behind : StreamProgress → List ℕ → Type 0) (c : StreamProgress) (item bytes : List ℕ) → length item ≡ 4 → IsBytes item → first_of (faults c SectionHead item) ≡ None
     → RestOfBody Behind (record c { due = RecordHead }) bytes → RestOfSection Behind c (item ++ bytes)
 section_back Behind c item bytes len all free r =
     let same = eqb (be32_at 0 item) c.section_id in
@@ -57,7 +58,7 @@ section_back Behind c item bytes len all free r =
     }
 
 -- an EOS, in front of the footer
-pub end_back : (Behind : Progress → List ℕ → Type 0) (c : Progress) (item bytes : List ℕ) → item ≡ be64 (flags_of EndOfSection) → RestOfFooter Behind (record c { due = Footer }) bytes
+pub end_back : (Behind : StreamProgress → List ℕ → Type 0) (c : StreamProgress) (item bytes : List ℕ) → item ≡ be64 (flags_of EndOfSection) → RestOfFooter Behind (record c { due = Footer }) bytes
     → RestOfBody Behind c (item ++ bytes)
 end_back Behind c item bytes e r = record {
   records = [];
@@ -69,7 +70,7 @@ end_back Behind c item bytes e r = record {
 }
 
 -- a FLUSH, in front of the records behind it
-pub flush_back : (Behind : Progress → List ℕ → Type 0) (c : Progress) (item bytes : List ℕ) → item ≡ be64 (flags_of Flush) → is_single c.mode ≡ false
+pub flush_back : (Behind : StreamProgress → List ℕ → Type 0) (c : StreamProgress) (item bytes : List ℕ) → item ≡ be64 (flags_of Flush) → is_single c.mode ≡ false
     → RestOfBody Behind (end_round c) bytes → RestOfBody Behind c (item ++ bytes)
 flush_back Behind c item bytes e main r = record {
   records = FlushMark ∷ r.records;

@@ -12,21 +12,21 @@ use Rattle.mig_stream.specs.declared.item.Due.TheVariants.{SectionHead}
 use Rattle.mig_stream.specs.Fields.{be32}
 use Rattle.mig_stream.specs.Format.{end_byte, section_type}
 use Rattle.mig_stream.specs.PageRecord.{PageRecord}
-use Rattle.mig_stream.specs.Progress.{Progress, table_of, whole_table}
+use Rattle.mig_stream.specs.Progress.{StreamProgress, table_of, whole_table}
 use Rattle.mig_stream.specs.Items.{is_single}
 use Rattle.mig_stream.specs.Text.{named_after, Record, PageOf, FlushMark, Follow, HasNoFlush, all_records, body, section}
 use Rattle.mig_stream.proofs.After.{records_behind, rounds_behind, FlushesFit, HasNoTail}
 use Rattle.mig_stream.proofs.FoundSections.{RestOfSection}
 
 -- The end byte is left, and after it the reading stands at `to`.
-pub record RestOfEnd (to c : Progress) (bytes : List ℕ) : Type 0 where
+pub record RestOfEnd (to c : StreamProgress) (bytes : List ℕ) : Type 0 where
   pub has_bytes : bytes ≡ end_byte ∷ []
   pub no_tail : HasNoTail c.mode c.records
   pub has_rounds : to.rounds ≡ c.rounds
   pub has_table : whole_table to ≡ whole_table c
 
 -- PARTs, END and the end byte are left, and after them the reading stands at `to`.
-pub record RestOfParts (to c : Progress) (bytes : List ℕ) : Type 0 where
+pub record RestOfParts (to c : StreamProgress) (bytes : List ℕ) : Type 0 where
   pub parts : List (List Record)
   pub last : List Record
   pub has_bytes : bytes ≡ flat_map (section (table_of c) Part c.section_id) parts ++ (section (table_of c) End c.section_id last ++ end_byte ∷ [])
@@ -37,13 +37,13 @@ pub record RestOfParts (to c : Progress) (bytes : List ℕ) : Type 0 where
   pub has_table : whole_table to ≡ whole_table c
 
 -- what is left behind the footer of a section
-abbrev pub RestBehind : Progress → Section → Progress → List ℕ → Type 0
+abbrev pub RestBehind : StreamProgress → Section → StreamProgress → List ℕ → Type 0
 RestBehind to Start c bytes = RestOfParts to c bytes
 RestBehind to Part c bytes = RestOfParts to c bytes
 RestBehind to End c bytes = RestOfEnd to c bytes
 
 -- what is left behind the footer of the section that is being read
-abbrev pub Behind : Progress → Progress → List ℕ → Type 0
+abbrev pub Behind : StreamProgress → StreamProgress → List ℕ → Type 0
 Behind to c bytes = RestBehind to c.section c bytes
 
 -- ---- records that follow, section after section
@@ -67,7 +67,7 @@ regroup_part : (head items others end : List ℕ) (kind : ℕ) → kind ∷ (hea
 regroup_part head items others end kind = simp append_assoc
 
 -- a PART in front of the PARTs and END behind it
-pub part_back : (to c : Progress) (bytes : List ℕ) → RestOfSection (Behind to) (record c { due = SectionHead; section = Part }) bytes → RestOfParts to c (section_type Part ∷ bytes)
+pub part_back : (to c : StreamProgress) (bytes : List ℕ) → RestOfSection (Behind to) (record c { due = SectionHead; section = Part }) bytes → RestOfParts to c (section_type Part ∷ bytes)
 part_back to c bytes r =
     let s = r.rest in
     let q = s.others in
@@ -92,7 +92,7 @@ regroup_end : (head items end : List ℕ) (kind : ℕ) → kind ∷ (head ++ (it
 regroup_end head items end kind = simp append_assoc
 
 -- END in front of the end byte
-pub last_back : (to c : Progress) (bytes : List ℕ) → RestOfSection (Behind to) (record c { due = SectionHead; section = End }) bytes → RestOfParts to c (section_type End ∷ bytes)
+pub last_back : (to c : StreamProgress) (bytes : List ℕ) → RestOfSection (Behind to) (record c { due = SectionHead; section = End }) bytes → RestOfParts to c (section_type End ∷ bytes)
 last_back to c bytes r =
     let s = r.rest in
     let q = s.others in

@@ -8,28 +8,29 @@ use Rattle.mig_stream.specs.declared.item.Section.TheVariants as section
 use Rattle.mig_stream.specs.declared.item.Due.TheVariants.{TypeByte}
 use Rattle.mig_stream.specs.declared.fault.StreamFault.TheVariants as fault
 use Rattle.mig_stream.specs.Format.{end_byte, section_type, configuration_type}
-use Rattle.mig_stream.specs.Progress.{Progress}
-use Rattle.mig_stream.specs.Items.{is_single, is_allowed, first_of, faults, after_type}
+use Rattle.mig_stream.specs.Progress.{StreamProgress}
+use Rattle.mig_mem.specs.First.{first_of}
+use Rattle.mig_stream.specs.Items.{is_single, is_allowed, faults, after_type}
 use Rattle.mig_stream.proofs.FoundFields.{passed}
 use Rattle.mig_stream.proofs.FoundTail.{part_back, last_back, no_tail_found}
 use Rattle.mig_stream.proofs.FoundOpening.{start_type_back, configuration_back, no_configuration_back}
 use Rattle.mig_stream.proofs.FoundRest.{RestAt, RestAtType, RestFrom}
 
 -- the rest behind a byte is the rest behind the byte that it is
-byte_is : (to c : Progress) (byte known : ℕ) (bytes : List ℕ) → byte ≡ known → RestFrom to (after_type c byte) bytes → RestFrom to (after_type c known) bytes
+byte_is : (to c : StreamProgress) (byte known : ℕ) (bytes : List ℕ) → byte ≡ known → RestFrom to (after_type c byte) bytes → RestFrom to (after_type c known) bytes
 byte_is to c byte known bytes e r = subst (λ (x : ℕ). RestFrom to (after_type c x) bytes) e r
 
 -- a byte in front of a rest is the byte that it is
-byte_front : (to c : Progress) (b : Before) (byte known : ℕ) (bytes : List ℕ) → byte ≡ known → RestAtType to c b (known ∷ bytes) → RestAtType to c b (byte ∷ bytes)
+byte_front : (to c : StreamProgress) (b : Before) (byte known : ℕ) (bytes : List ℕ) → byte ≡ known → RestAtType to c b (known ∷ bytes) → RestAtType to c b (byte ∷ bytes)
 byte_front to c b byte known bytes e r = subst (λ (x : ℕ). RestAtType to c b (x ∷ bytes)) (sym e) r
 
 -- the second test of an end byte
-tail_test : (c : Progress) (byte : ℕ) → byte ≡ end_byte → (eqb byte end_byte && not (is_single c.mode) && not (eqb (length c.records) 0)) ≡ false
+tail_test : (c : StreamProgress) (byte : ℕ) → byte ≡ end_byte → (eqb byte end_byte && not (is_single c.mode) && not (eqb (length c.records) 0)) ≡ false
     → (true && not (is_single c.mode) && not (eqb (length c.records) 0)) ≡ false
 tail_test c byte e free = ap (λ (x : ℕ). eqb x end_byte && not (is_single c.mode) && not (eqb (length c.records) 0)) (sym e) ∙ free
 
 -- a byte that is allowed, in front of what is left behind it
-byte_back : (to c : Progress) (b : Before) (byte : ℕ) (bytes : List ℕ) → is_allowed b byte ≡ true → (eqb byte end_byte && not (is_single c.mode) && not (eqb (length c.records) 0)) ≡ false
+byte_back : (to c : StreamProgress) (b : Before) (byte : ℕ) (bytes : List ℕ) → is_allowed b byte ≡ true → (eqb byte end_byte && not (is_single c.mode) && not (eqb (length c.records) 0)) ≡ false
     → RestFrom to (after_type c byte) bytes → RestAtType to c b (byte ∷ bytes)
 byte_back to c before.FileHeader byte bytes ok free r =
     elim (or_cases (eqb byte configuration_type) (eqb byte (section_type section.Start)) ok) [
@@ -64,7 +65,7 @@ byte_back to c before.LastFooter byte bytes ok free r =
     (record { has_bytes = ap (λ (x : List ℕ). end_byte ∷ x) at.0; no_tail = no_tail_found c.mode c.records (tail_test c byte e free); has_rounds = at.1; has_table = at.2 })
 
 -- A type byte in front of what is left behind it.
-pub type_back : (to c : Progress) (b : Before) (item bytes : List ℕ) → length item ≡ 1 → first_of (faults c (TypeByte b) item) ≡ None → RestFrom to (after_type c (get_or item 0 0)) bytes
+pub type_back : (to c : StreamProgress) (b : Before) (item bytes : List ℕ) → length item ≡ 1 → first_of (faults c (TypeByte b) item) ≡ None → RestFrom to (after_type c (get_or item 0 0)) bytes
     → RestAt to c (TypeByte b) (item ++ bytes)
 type_back to c b [] bytes len free r = absurd cc
 type_back to c b (x ∷ []) bytes len free r =

@@ -6,7 +6,7 @@ use Rattle.std.proofs.lemmas.List.Folds.{concat-append}
 use Rattle.mig_stream.specs.declared.item.Filling.TheVariants.{Zero, Normal}
 use Rattle.mig_stream.specs.declared.item.Due.{Due}
 use Rattle.mig_stream.specs.declared.item.Due.TheVariants.{FileHeader, TypeByte, ConfigLength, ConfigName, StartHead, SectionHead, RecordHead, ListEntry, BlockName, Content, Footer, Nothing}
-use Rattle.mig_stream.specs.Progress.{Progress}
+use Rattle.mig_stream.specs.Progress.{StreamProgress}
 use Rattle.mig_stream.specs.Items.{size, first_fault, after}
 use Rattle.mig_stream.specs.Reading.{IsItem, AreFaultless, after_all, Front}
 
@@ -54,24 +54,24 @@ no_item p d rest lt item more e is =
     let same : size p d rest ≡ length item = ap (size p d) e ∙ size-append p d item more is.is_whole in
     omega (arith, same, ap length e, length-append item more)
 
-pub after_all-push : (c : Progress) (items : List (List ℕ)) (item : List ℕ) → after_all c (items ++ item ∷ []) ≡ after (after_all c items) item
+pub after_all-push : (c : StreamProgress) (items : List (List ℕ)) (item : List ℕ) → after_all c (items ++ item ∷ []) ≡ after (after_all c items) item
 after_all-push c [] item = refl
 after_all-push c (i ∷ items) item = after_all-push (after c i) items item
 
-pub AreFaultless-push : (c : Progress) (items : List (List ℕ)) (item : List ℕ) → AreFaultless c items → IsItem (after_all c items).page_size (after_all c items).due item → first_fault (after_all c items) item ≡ None → AreFaultless c (items ++ item ∷ [])
+pub AreFaultless-push : (c : StreamProgress) (items : List (List ℕ)) (item : List ℕ) → AreFaultless c items → IsItem (after_all c items).page_size (after_all c items).due item → first_fault (after_all c items) item ≡ None → AreFaultless c (items ++ item ∷ [])
 AreFaultless-push c [] item free is none = (is, none, tt)
 AreFaultless-push c (i ∷ items) item free is none = (free.0, free.1, AreFaultless-push (after c i) items item free.2 is none)
 
-pub Front-none : (c : Progress) → Front c [] c
+pub Front-none : (c : StreamProgress) → Front c [] c
 Front-none c = record { items = []; has_bytes = refl; are_faultless = tt; leads_to = refl }
 
 -- one item more
-pub Front-push : (c d : Progress) (bytes item : List ℕ) → Front c bytes d → IsItem d.page_size d.due item → first_fault d item ≡ None → Front c (bytes ++ item) (after d item)
+pub Front-push : (c d : StreamProgress) (bytes item : List ℕ) → Front c bytes d → IsItem d.page_size d.due item → first_fault d item ≡ None → Front c (bytes ++ item) (after d item)
 Front-push c d bytes item f is none = record {
   items = f.items ++ item ∷ [];
   has_bytes = ap (λ (b : List ℕ). b ++ item) f.has_bytes ∙ ap (λ (x : List ℕ). concat f.items ++ x) (sym (append-nil item)) ∙ sym (concat-append f.items (item ∷ []));
-  are_faultless = AreFaultless-push c f.items item f.are_faultless (subst (λ (x : Progress). IsItem x.page_size x.due item) f.leads_to is) (ap (λ (x : Progress). first_fault x item) (sym f.leads_to) ∙ none);
-  leads_to = ap (λ (x : Progress). after x item) f.leads_to ∙ sym (after_all-push c f.items item);
+  are_faultless = AreFaultless-push c f.items item f.are_faultless (subst (λ (x : StreamProgress). IsItem x.page_size x.due item) f.leads_to is) (ap (λ (x : StreamProgress). first_fault x item) (sym f.leads_to) ∙ none);
+  leads_to = ap (λ (x : StreamProgress). after x item) f.leads_to ∙ sym (after_all-push c f.items item);
 }
 
 -- ---- each item is a step forward
@@ -82,12 +82,12 @@ work (ConfigName n) = 1
 work d = 0
 
 -- a loop that takes items: bytes is all of them, rest what was left before this item
-pub goes_on : (from d new : Progress) (bytes rest item more : List ℕ) → IsItem d.page_size d.due item → rest ≡ item ++ more → first_fault d item ≡ None → new ≡ after d item
+pub goes_on : (from d new : StreamProgress) (bytes rest item more : List ℕ) → IsItem d.page_size d.due item → rest ≡ item ++ more → first_fault d item ≡ None → new ≡ after d item
     → (front : List ℕ) × (bytes ≡ front ++ rest) × Front from front d → (front : List ℕ) × (bytes ≡ front ++ more) × Front from front new
 goes_on from d new bytes rest item more is e none new-is so_far = (
   so_far.0 ++ item,
   so_far.1 ∙ ap (λ (x : List ℕ). so_far.0 ++ x) e ∙ sym (append_assoc so_far.0 item more),
-  subst (λ (x : Progress). Front from (so_far.0 ++ item) x) (sym new-is) (Front-push from d so_far.0 item so_far.2 is none),
+  subst (λ (x : StreamProgress). Front from (so_far.0 ++ item) x) (sym new-is) (Front-push from d so_far.0 item so_far.2 is none),
 )
 
 -- the front of the rest, as long as the item is
@@ -100,18 +100,18 @@ split_item p d rest item more n open_ n-is le item-is more-is =
 
 -- ---- fronts put together
 
-pub after_all-append : (c : Progress) (xs ys : List (List ℕ)) → after_all c (xs ++ ys) ≡ after_all (after_all c xs) ys
+pub after_all-append : (c : StreamProgress) (xs ys : List (List ℕ)) → after_all c (xs ++ ys) ≡ after_all (after_all c xs) ys
 after_all-append c [] ys = refl
 after_all-append c (x ∷ xs) ys = after_all-append (after c x) xs ys
 
-pub AreFaultless-append : (c : Progress) (xs ys : List (List ℕ)) → AreFaultless c xs → AreFaultless (after_all c xs) ys → AreFaultless c (xs ++ ys)
+pub AreFaultless-append : (c : StreamProgress) (xs ys : List (List ℕ)) → AreFaultless c xs → AreFaultless (after_all c xs) ys → AreFaultless c (xs ++ ys)
 AreFaultless-append c [] ys f g = g
 AreFaultless-append c (x ∷ xs) ys f g = (f.0, f.1, AreFaultless-append (after c x) xs ys f.2 g)
 
-pub Front-append : (a b c : Progress) (x y : List ℕ) → Front a x b → Front b y c → Front a (x ++ y) c
+pub Front-append : (a b c : StreamProgress) (x y : List ℕ) → Front a x b → Front b y c → Front a (x ++ y) c
 Front-append a b c x y f g = record {
   items = f.items ++ g.items;
   has_bytes = ap (λ (u : List ℕ). u ++ y) f.has_bytes ∙ ap (λ (u : List ℕ). concat f.items ++ u) g.has_bytes ∙ sym (concat-append f.items g.items);
-  are_faultless = AreFaultless-append a f.items g.items f.are_faultless (subst (λ (u : Progress). AreFaultless u g.items) f.leads_to g.are_faultless);
-  leads_to = g.leads_to ∙ ap (λ (u : Progress). after_all u g.items) f.leads_to ∙ sym (after_all-append a f.items g.items);
+  are_faultless = AreFaultless-append a f.items g.items f.are_faultless (subst (λ (u : StreamProgress). AreFaultless u g.items) f.leads_to g.are_faultless);
+  leads_to = g.leads_to ∙ ap (λ (u : StreamProgress). after_all u g.items) f.leads_to ∙ sym (after_all-append a f.items g.items);
 }

@@ -11,26 +11,27 @@ use Rattle.mig_stream.specs.declared.item.RecordKind.TheVariants.{SizeList, Name
 use Rattle.mig_stream.specs.declared.item.StreamState.{StreamState}
 use Rattle.mig_stream.specs.declared.item.StreamState.TheVariants.{Reading, Closed, Bad}
 use Rattle.mig_stream.specs.PageRecord.{PageRecord}
-use Rattle.mig_stream.specs.Progress.{Progress}
-use Rattle.mig_stream.specs.Items.{kind_faults, head_faults, faults, first_of, after_type, after_kind, after_head, end_round, whole_rounds, end_section, after_item, after}
+use Rattle.mig_stream.specs.Progress.{StreamProgress}
+use Rattle.mig_mem.specs.First.{first_of}
+use Rattle.mig_stream.specs.Items.{kind_faults, head_faults, faults, after_type, after_kind, after_head, end_round, whole_rounds, end_section, after_item, after}
 use Rattle.mig_stream.specs.Reading.{AreFaultless, after_all, Front, Ends, Reads}
 use Rattle.mig_stream.specs.Reader.{with_taken}
 use Rattle.mig_stream.proofs.Fronts.{Front-append}
 
 -- ---- rounds that were taken change nothing
 
-kind_faults-taken : (g : List (List PageRecord)) (c : Progress) (k : RecordKind) (page : ℕ) → kind_faults (with_taken g c) k page ≡ kind_faults c k page
+kind_faults-taken : (g : List (List PageRecord)) (c : StreamProgress) (k : RecordKind) (page : ℕ) → kind_faults (with_taken g c) k page ≡ kind_faults c k page
 kind_faults-taken g c SizeList page = refl
 kind_faults-taken g c (Named f) page = refl
 kind_faults-taken g c (Continued f) page = refl
 kind_faults-taken g c EndOfSection page = refl
 kind_faults-taken g c Flush page = refl
 
-head_faults-taken : (g : List (List PageRecord)) (c : Progress) (flags : ℕ) (k : Option RecordKind) (page : ℕ) → head_faults (with_taken g c) flags k page ≡ head_faults c flags k page
+head_faults-taken : (g : List (List PageRecord)) (c : StreamProgress) (flags : ℕ) (k : Option RecordKind) (page : ℕ) → head_faults (with_taken g c) flags k page ≡ head_faults c flags k page
 head_faults-taken g c flags None page = refl
 head_faults-taken g c flags (Some k) page = kind_faults-taken g c k page
 
-faults-taken : (g : List (List PageRecord)) (c : Progress) (d : Due) (item : List ℕ) → faults (with_taken g c) d item ≡ faults c d item
+faults-taken : (g : List (List PageRecord)) (c : StreamProgress) (d : Due) (item : List ℕ) → faults (with_taken g c) d item ≡ faults c d item
 faults-taken g c FileHeader item = refl
 faults-taken g c (TypeByte b) item = refl
 faults-taken g c ConfigLength item = refl
@@ -45,17 +46,17 @@ faults-taken g c (Content Normal place) item = refl
 faults-taken g c Footer item = refl
 faults-taken g c Nothing item = refl
 
-end_round-taken : (g : List (List PageRecord)) (c : Progress) → end_round (with_taken g c) ≡ with_taken g (end_round c)
+end_round-taken : (g : List (List PageRecord)) (c : StreamProgress) → end_round (with_taken g c) ≡ with_taken g (end_round c)
 end_round-taken g c = ap (λ (r : List (List PageRecord)). record c { records = []; rounds = r }) (append_assoc g c.rounds (c.records ∷ []))
 
-after_kind-taken : (g : List (List PageRecord)) (c : Progress) (k : RecordKind) (page : ℕ) → after_kind (with_taken g c) k page ≡ with_taken g (after_kind c k page)
+after_kind-taken : (g : List (List PageRecord)) (c : StreamProgress) (k : RecordKind) (page : ℕ) → after_kind (with_taken g c) k page ≡ with_taken g (after_kind c k page)
 after_kind-taken g c SizeList page = refl
 after_kind-taken g c (Named f) page = refl
 after_kind-taken g c (Continued f) page = refl
 after_kind-taken g c EndOfSection page = refl
 after_kind-taken g c Flush page = end_round-taken g c
 
-after_head-taken : (g : List (List PageRecord)) (c : Progress) (k : Option RecordKind) (page : ℕ) → after_head (with_taken g c) k page ≡ with_taken g (after_head c k page)
+after_head-taken : (g : List (List PageRecord)) (c : StreamProgress) (k : Option RecordKind) (page : ℕ) → after_head (with_taken g c) k page ≡ with_taken g (after_head c k page)
 after_head-taken g c None page = refl
 after_head-taken g c (Some k) page = after_kind-taken g c k page
 
@@ -64,14 +65,14 @@ choice : {A B : Type 0} (f : A → B) (b : Bool) (x y : A) → f (cond b x y) �
 choice f true x y = refl
 choice f false x y = refl
 
-after_type-taken : (g : List (List PageRecord)) (c : Progress) (b : ℕ) → after_type (with_taken g c) b ≡ with_taken g (after_type c b)
+after_type-taken : (g : List (List PageRecord)) (c : StreamProgress) (b : ℕ) → after_type (with_taken g c) b ≡ with_taken g (after_type c b)
 after_type-taken g c b = sym (simp (choice (with_taken g)))
 
 whole_rounds-taken : (g : List (List PageRecord)) (m : Mode) (rounds : List (List PageRecord)) (records : List PageRecord) → whole_rounds m (g ++ rounds) records ≡ g ++ whole_rounds m rounds records
 whole_rounds-taken g Single rounds records = append_assoc g rounds (records ∷ [])
 whole_rounds-taken g Main rounds records = refl
 
-after_item-taken : (g : List (List PageRecord)) (c : Progress) (d : Due) (item : List ℕ) → after_item (with_taken g c) d item ≡ with_taken g (after_item c d item)
+after_item-taken : (g : List (List PageRecord)) (c : StreamProgress) (d : Due) (item : List ℕ) → after_item (with_taken g c) d item ≡ with_taken g (after_item c d item)
 after_item-taken g c FileHeader item = refl
 after_item-taken g c (TypeByte b) item = after_type-taken g c (slice_index item 0)
 after_item-taken g c ConfigLength item = refl
@@ -86,19 +87,19 @@ after_item-taken g c (Content Normal place) item = refl
 after_item-taken g c Footer item = ap (λ (x : List (List PageRecord)). record (end_section c) { rounds = x }) (whole_rounds-taken g c.mode c.rounds c.records)
 after_item-taken g c Nothing item = refl
 
-AreFaultless-taken : (g : List (List PageRecord)) (c : Progress) (items : List (List ℕ)) → AreFaultless c items → AreFaultless (with_taken g c) items
+AreFaultless-taken : (g : List (List PageRecord)) (c : StreamProgress) (items : List (List ℕ)) → AreFaultless c items → AreFaultless (with_taken g c) items
 AreFaultless-taken g c [] free = tt
 AreFaultless-taken g c (item ∷ items) free = (
   record { is_due = free.0.is_due; is_whole = free.0.is_whole },
   ap first_of (faults-taken g c c.due item) ∙ free.1,
-  subst (λ (x : Progress). AreFaultless x items) (sym (after_item-taken g c c.due item)) (AreFaultless-taken g (after c item) items free.2),
+  subst (λ (x : StreamProgress). AreFaultless x items) (sym (after_item-taken g c c.due item)) (AreFaultless-taken g (after c item) items free.2),
 )
 
-after_all-taken : (g : List (List PageRecord)) (c : Progress) (items : List (List ℕ)) → after_all (with_taken g c) items ≡ with_taken g (after_all c items)
+after_all-taken : (g : List (List PageRecord)) (c : StreamProgress) (items : List (List ℕ)) → after_all (with_taken g c) items ≡ with_taken g (after_all c items)
 after_all-taken g c [] = refl
-after_all-taken g c (item ∷ items) = ap (λ (x : Progress). after_all x items) (after_item-taken g c c.due item) ∙ after_all-taken g (after c item) items
+after_all-taken g c (item ∷ items) = ap (λ (x : StreamProgress). after_all x items) (after_item-taken g c c.due item) ∙ after_all-taken g (after c item) items
 
-pub Front-taken : (g : List (List PageRecord)) (c d : Progress) (bytes : List ℕ) → Front c bytes d → Front (with_taken g c) bytes (with_taken g d)
+pub Front-taken : (g : List (List PageRecord)) (c d : StreamProgress) (bytes : List ℕ) → Front c bytes d → Front (with_taken g c) bytes (with_taken g d)
 Front-taken g c d bytes f = record {
   items = f.items;
   has_bytes = f.has_bytes;
@@ -106,7 +107,7 @@ Front-taken g c d bytes f = record {
   leads_to = ap (with_taken g) f.leads_to ∙ sym (after_all-taken g c f.items);
 }
 
-pub Ends-taken : (g : List (List PageRecord)) (c : Progress) (rest : List ℕ) (s : StreamState) → Ends c rest s → Ends (with_taken g c) rest s
+pub Ends-taken : (g : List (List PageRecord)) (c : StreamProgress) (rest : List ℕ) (s : StreamState) → Ends c rest s → Ends (with_taken g c) rest s
 Ends-taken g c rest Reading e = e
 Ends-taken g c rest Closed e = e
 Ends-taken g c rest (Bad f) e = (e.0, e.1, e.2, record { is_due = e.3.is_due; is_whole = e.3.is_whole }, ap first_of (faults-taken g c c.due e.0) ∙ e.4)
@@ -114,12 +115,12 @@ Ends-taken g c rest (Bad f) e = (e.0, e.1, e.2, record { is_due = e.3.is_due; is
 -- ---- a reading goes on
 
 -- what follows the end, or a fault, changes nothing
-pub Ends-more : (c : Progress) (rest piece : List ℕ) (s : StreamState) → s ≢ Reading → Ends c rest s → Ends c (rest ++ piece) s
+pub Ends-more : (c : StreamProgress) (rest piece : List ℕ) (s : StreamState) → s ≢ Reading → Ends c rest s → Ends c (rest ++ piece) s
 Ends-more c rest piece Reading other e = absurd (other refl)
 Ends-more c rest piece Closed other e = e
 Ends-more c rest piece (Bad f) other e = (e.0, e.1 ++ piece, ap (λ (x : List ℕ). x ++ piece) e.2 ∙ append_assoc e.0 e.1 piece, e.3, e.4)
 
-pub Reads-more : (from : Progress) (text : List ℕ) (to : Progress) (rest piece : List ℕ) (s : StreamState) → s ≢ Reading → Reads from text to rest s → Reads from (text ++ piece) to (rest ++ piece) s
+pub Reads-more : (from : StreamProgress) (text : List ℕ) (to : StreamProgress) (rest piece : List ℕ) (s : StreamState) → s ≢ Reading → Reads from text to rest s → Reads from (text ++ piece) to (rest ++ piece) s
 Reads-more from text to rest piece s other r = record {
   front = r.front;
   has_text = ap (λ (x : List ℕ). x ++ piece) r.has_text ∙ append_assoc r.front rest piece;
@@ -128,7 +129,7 @@ Reads-more from text to rest piece s other r = record {
 }
 
 -- what is read after a front, of the bytes that it left and those that come
-pub Reads-on : (g : List (List PageRecord)) (from mid to : Progress) (text kept piece rest : List ℕ) (s : StreamState)
+pub Reads-on : (g : List (List PageRecord)) (from mid to : StreamProgress) (text kept piece rest : List ℕ) (s : StreamState)
     → Reads from text (with_taken g mid) kept Reading → Reads mid (kept ++ piece) to rest s → Reads from (text ++ piece) (with_taken g to) rest s
 Reads-on g from mid to text kept piece rest s r q = record {
   front = r.front ++ q.front;

@@ -17,8 +17,9 @@ use Rattle.mig_stream.specs.declared.item.RecordKind.TheVariants.{SizeList, Name
 use Rattle.mig_stream.specs.declared.fault.StreamFault.{StreamFault}
 use Rattle.mig_stream.specs.Fields.{be32_at}
 use Rattle.mig_stream.specs.PageRecord.{PageRecord}
-use Rattle.mig_stream.specs.Progress.{Progress, start, is_used_up, table_of}
-use Rattle.mig_stream.specs.Items.{size, length_in, kind_faults, head_faults, faults, first_of, after_type, after_kind, after_head, whole_rounds, after_item, after}
+use Rattle.mig_stream.specs.Progress.{StreamProgress, start, is_used_up, table_of}
+use Rattle.mig_mem.specs.First.{first_of}
+use Rattle.mig_stream.specs.Items.{size, length_in, kind_faults, head_faults, faults, after_type, after_kind, after_head, whole_rounds, after_item, after}
 use Rattle.mig_stream.specs.Reading.{AreFaultless, after_all, Front}
 use Rattle.mig_stream.specs.Law.{ReadingsKeepLimits}
 use Rattle.mig_stream.proofs.Steps.{passed, IsLater-front}
@@ -26,17 +27,17 @@ use Rattle.mig_stream.proofs.Steps.{passed, IsLater-front}
 -- ---- no more rounds than bytes
 
 -- at most so many rounds more
-abbrev HasFew : List (List PageRecord) → ℕ → Progress → Type 0
+abbrev HasFew : List (List PageRecord) → ℕ → StreamProgress → Type 0
 HasFew rounds n c = length c.rounds ≤ length rounds + n
 
-few_type : (c : Progress) (byte n : ℕ) → HasFew c.rounds n (after_type c byte)
+few_type : (c : StreamProgress) (byte n : ℕ) → HasFew c.rounds n (after_type c byte)
 few_type c byte n =
     cond_both (eqb byte 7) _ _ (HasFew c.rounds n) (λ _. omega arith) (λ _.
     cond_both (eqb byte 1) _ _ (HasFew c.rounds n) (λ _. omega arith) (λ _.
     cond_both (eqb byte 2) _ _ (HasFew c.rounds n) (λ _. omega arith) (λ _.
     cond_both (eqb byte 3) _ _ (HasFew c.rounds n) (λ _. omega arith) (λ _. omega arith))))
 
-few_head : (c : Progress) (kind : Option RecordKind) (page n : ℕ) → 1 ≤ n → HasFew c.rounds n (after_head c kind page)
+few_head : (c : StreamProgress) (kind : Option RecordKind) (page n : ℕ) → 1 ≤ n → HasFew c.rounds n (after_head c kind page)
 few_head c None page n some = omega arith
 few_head c (Some SizeList) page n some = omega arith
 few_head c (Some (Named filling)) page n some = omega arith
@@ -49,7 +50,7 @@ few_whole Single rounds records = omega (arith, length-append rounds (records �
 few_whole Main rounds records = omega arith
 
 -- an item makes one round whole at most, and none where it is empty
-few_item : (c : Progress) (d : Due) (item : List ℕ) → length item ≡ size c.page_size d item → HasFew c.rounds (length item) (after_item c d item)
+few_item : (c : StreamProgress) (d : Due) (item : List ℕ) → length item ≡ size c.page_size d item → HasFew c.rounds (length item) (after_item c d item)
 few_item c FileHeader item whole = omega arith
 few_item c (TypeByte before) item whole = few_type c (slice_index item 0) (length item)
 few_item c ConfigLength item whole = omega arith
@@ -64,7 +65,7 @@ few_item c (Content Normal place) item whole = omega arith
 few_item c Footer item whole = omega (arith, few_whole c.mode c.rounds c.records)
 few_item c Nothing item whole = omega arith
 
-few_all : (c : Progress) (items : List (List ℕ)) → AreFaultless c items → HasFew c.rounds (length (concat items)) (after_all c items)
+few_all : (c : StreamProgress) (items : List (List ℕ)) → AreFaultless c items → HasFew c.rounds (length (concat items)) (after_all c items)
 few_all c [] free = omega arith
 few_all c (item ∷ items) free =
     omega (arith, few_item c c.due item free.0.is_whole, few_all (after c item) items free.2, length-append item (concat items))
@@ -85,10 +86,10 @@ MayBeDue None d = IsNoFooter d
 MayBeDue (Some left) d = IsEntry d
 
 -- no round is whole before the size list is used up
-abbrev Waits : Progress → Due → Type 0
+abbrev Waits : StreamProgress → Due → Type 0
 Waits c d = is_used_up c.left ≡ false → (c.rounds ≡ []) × MayBeDue c.left d
 
-abbrev IsWaiting : Progress → Type 0
+abbrev IsWaiting : StreamProgress → Type 0
 IsWaiting c = Waits c c.due
 
 -- what follows an item that is no entry
@@ -96,10 +97,10 @@ moved : (left : Option ℕ) (d e : Due) → (IsEntry d → ⊥) → IsNoFooter e
 moved None d e other next h = next
 moved (Some n) d e other next h = absurd (other h)
 
-waits_on : (c : Progress) (d e : Due) → (IsEntry d → ⊥) → IsNoFooter e → Waits c d → Waits c e
+waits_on : (c : StreamProgress) (d e : Due) → (IsEntry d → ⊥) → IsNoFooter e → Waits c d → Waits c e
 waits_on c d e other next w = λ open_. let h = w open_ in (h.0, moved c.left d e other next h.1)
 
-waits_type : (c : Progress) (d : Due) (byte : ℕ) → (IsEntry d → ⊥) → Waits c d → IsWaiting (after_type c byte)
+waits_type : (c : StreamProgress) (d : Due) (byte : ℕ) → (IsEntry d → ⊥) → Waits c d → IsWaiting (after_type c byte)
 waits_type c d byte other w =
     cond_both (eqb byte 7) _ _ IsWaiting (λ _. waits_on c d ConfigLength other tt w) (λ _.
     cond_both (eqb byte 1) _ _ IsWaiting (λ _. waits_on c d StartHead other tt w) (λ _.
@@ -116,7 +117,7 @@ not_begun : (left : Option ℕ) → is_some left ≡ false → is_used_up left �
 not_begun None none = refl
 not_begun (Some n) none = absurd cc
 
-no_record : {X : Type 0} (c : Progress) → Waits c RecordHead → is_none c.left ≡ false → is_used_up c.left ≡ false → X
+no_record : {X : Type 0} (c : StreamProgress) → Waits c RecordHead → is_none c.left ≡ false → is_used_up c.left ≡ false → X
 no_record {X} c w begun open_ = absurd (no_head c.left begun (w open_).1)
 
 -- the first of these tests doesn't hold
@@ -128,14 +129,14 @@ passes_first : (tests : List (Bool × StreamFault)) → first_of tests ≡ None 
 passes_first [] free = tt
 passes_first (test ∷ tests) free = (passed test.0 test.1 tests free).0
 
-waits_kind : (c : Progress) (kind : RecordKind) (page : ℕ) → Waits c RecordHead → PassesFirst (kind_faults c kind page) → IsWaiting (after_kind c kind page)
+waits_kind : (c : StreamProgress) (kind : RecordKind) (page : ℕ) → Waits c RecordHead → PassesFirst (kind_faults c kind page) → IsWaiting (after_kind c kind page)
 waits_kind c SizeList page w none = λ _. ((w (not_begun c.left none)).0, tt)
 waits_kind c (Named filling) page w begun = λ open_. no_record c w begun open_
 waits_kind c (Continued filling) page w begun = λ open_. no_record c w begun open_
 waits_kind c EndOfSection page w begun = λ open_. no_record c w begun open_
 waits_kind c Flush page w begun = λ open_. no_record c w begun open_
 
-waits_head : (c : Progress) (flags : ℕ) (kind : Option RecordKind) (page : ℕ) → Waits c RecordHead → first_of (head_faults c flags kind page) ≡ None → IsWaiting (after_head c kind page)
+waits_head : (c : StreamProgress) (flags : ℕ) (kind : Option RecordKind) (page : ℕ) → Waits c RecordHead → first_of (head_faults c flags kind page) ≡ None → IsWaiting (after_head c kind page)
 waits_head c flags None page w free = absurd (let clash = passes_first (head_faults c flags None page) free in cc)
 waits_head c flags (Some kind) page w free = waits_kind c kind page w (passes_first (kind_faults c kind page) free)
 
@@ -152,7 +153,7 @@ no_footer : (left : Option ℕ) → MayBeDue left Footer → ⊥
 no_footer None h = h
 no_footer (Some n) h = h
 
-waits_item : (c : Progress) (d : Due) (item : List ℕ) → IsWaiting c → Waits c d → first_of (faults c d item) ≡ None → IsWaiting (after_item c d item)
+waits_item : (c : StreamProgress) (d : Due) (item : List ℕ) → IsWaiting c → Waits c d → first_of (faults c d item) ≡ None → IsWaiting (after_item c d item)
 waits_item c FileHeader item v w free = waits_on c FileHeader _ (λ h. h) tt w
 waits_item c (TypeByte before) item v w free = waits_type c (TypeByte before) (slice_index item 0) (λ h. h) w
 waits_item c ConfigLength item v w free = waits_on c ConfigLength _ (λ h. h) (cond_both (eqb (be32_at 0 item) 0) _ _ IsNoFooter (λ _. tt) (λ _. tt)) w
@@ -168,7 +169,7 @@ waits_item c (Content Normal place) item v w free = waits_on c (Content Normal p
 waits_item c Footer item v w free = λ open_. absurd (no_footer c.left (w open_).1)
 waits_item c Nothing item v w free = v
 
-waits_all : (c : Progress) (items : List (List ℕ)) → IsWaiting c → AreFaultless c items → IsWaiting (after_all c items)
+waits_all : (c : StreamProgress) (items : List (List ℕ)) → IsWaiting c → AreFaultless c items → IsWaiting (after_all c items)
 waits_all c [] v free = v
 waits_all c (item ∷ items) v free = waits_all (after c item) items (waits_item c c.due item v v free.1) free.2
 
@@ -184,8 +185,8 @@ the_table false t u e = absurd cc
 
 -- A text has few rounds, none before its table, and the page size that was handed in.
 pub limits_law : ReadingsKeepLimits
-limits_law = λ mode page_size limit text reading size_is is.
-    let from : Progress = start mode page_size limit in
+limits_law = λ given text reading size_is is.
+    let from : StreamProgress = start given.mode given.page_size given.limit in
     let f : Front from is.reads.front is.to = is.reads.leads in
     let few : HasFew [] (length (concat f.items)) is.to = subst (HasFew [] (length (concat f.items))) (sym f.leads_to) (few_all from f.items f.are_faultless) in
     let waits : IsWaiting is.to = subst IsWaiting (sym f.leads_to) (waits_all from f.items (λ open_. (refl, tt)) f.are_faultless) in

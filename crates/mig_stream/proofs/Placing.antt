@@ -18,8 +18,9 @@ use Rattle.mig_stream.specs.declared.item.RecordKind.TheVariants.{SizeList, Name
 use Rattle.mig_stream.specs.declared.fault.StreamFault.TheVariants as fault
 use Rattle.mig_stream.specs.Fields.{be32_at}
 use Rattle.mig_stream.specs.PageRecord.{PageRecord}
-use Rattle.mig_stream.specs.Progress.{Progress, start}
-use Rattle.mig_stream.specs.Items.{id_in, length_in, has_page, kind_faults, head_faults, faults, first_of, after_type, after_kind, after_head, open_records, whole_rounds, after_item, after}
+use Rattle.mig_stream.specs.Progress.{StreamProgress, start}
+use Rattle.mig_mem.specs.First.{first_of}
+use Rattle.mig_stream.specs.Items.{id_in, length_in, has_page, kind_faults, head_faults, faults, after_type, after_kind, after_head, open_records, whole_rounds, after_item, after}
 use Rattle.mig_stream.specs.Reading.{AreFaultless, after_all, Front}
 use Rattle.mig_stream.proofs.Steps.{passed}
 
@@ -58,7 +59,7 @@ abbrev DueIn : List Block → Due → Type 0
 DueIn blocks (Content f place) = HasPage blocks place
 DueIn blocks d = ⊤
 
-record Placed (c : Progress) : Type 0 where
+record Placed (c : StreamProgress) : Type 0 where
   due : DueIn c.blocks c.due
   records : AreIn c.blocks c.records
   rounds : All (AreIn c.blocks) c.rounds
@@ -66,7 +67,7 @@ record Placed (c : Progress) : Type 0 where
 more_in : (blocks more : List Block) (records : List PageRecord) → AreIn blocks records → AreIn (blocks ++ more) records
 more_in blocks more records all = λ i d lt. more_blocks blocks more (get_or records i d).place (all i d lt)
 
-placed_type : (c : Progress) (b : ℕ) → Placed c → Placed (after_type c b)
+placed_type : (c : StreamProgress) (b : ℕ) → Placed c → Placed (after_type c b)
 placed_type c b v =
     cond_both (eqb b 7) _ _ Placed (λ _. record { due = tt; records = v.records; rounds = v.rounds }) (λ _.
     cond_both (eqb b 1) _ _ Placed (λ _. record { due = tt; records = v.records; rounds = v.rounds }) (λ _.
@@ -74,7 +75,7 @@ placed_type c b v =
     cond_both (eqb b 3) _ _ Placed (λ _. record { due = tt; records = v.records; rounds = v.rounds }) (λ _.
     record { due = tt; records = v.records; rounds = v.rounds }))))
 
-placed_kind : (c : Progress) (k : RecordKind) (page : ℕ) → Placed c → DueIn c.blocks c.due → first_of (kind_faults c k page) ≡ None → Placed (after_kind c k page)
+placed_kind : (c : StreamProgress) (k : RecordKind) (page : ℕ) → Placed c → DueIn c.blocks c.due → first_of (kind_faults c k page) ≡ None → Placed (after_kind c k page)
 placed_kind c SizeList page v d free = record { due = tt; records = v.records; rounds = v.rounds }
 placed_kind c (Named f) page v d free = record { due = tt; records = v.records; rounds = v.rounds }
 placed_kind c (Continued f) page v d free =
@@ -85,7 +86,7 @@ placed_kind c (Continued f) page v d free =
 placed_kind c EndOfSection page v d free = record { due = tt; records = v.records; rounds = v.rounds }
 placed_kind c Flush page v d free = record { due = d; records = All-nil (λ r. HasPage c.blocks r.place); rounds = All-push (AreIn c.blocks) c.rounds c.records v.rounds v.records }
 
-placed_head : (c : Progress) (flags : ℕ) (k : Option RecordKind) (page : ℕ) → Placed c → DueIn c.blocks c.due → first_of (head_faults c flags k page) ≡ None → Placed (after_head c k page)
+placed_head : (c : StreamProgress) (flags : ℕ) (k : Option RecordKind) (page : ℕ) → Placed c → DueIn c.blocks c.due → first_of (head_faults c flags k page) ≡ None → Placed (after_head c k page)
 placed_head c flags None page v d free = v
 placed_head c flags (Some k) page v d free = placed_kind c k page v d free
 
@@ -97,7 +98,7 @@ whole_in : (m : Mode) (blocks : List Block) (rounds : List (List PageRecord)) (r
 whole_in Single blocks rounds records all last = All-push (AreIn blocks) rounds records all last
 whole_in Main blocks rounds records all last = all
 
-placed_item : (c : Progress) (d : Due) (item : List ℕ) → Placed c → DueIn c.blocks d → first_of (faults c d item) ≡ None → Placed (after_item c d item)
+placed_item : (c : StreamProgress) (d : Due) (item : List ℕ) → Placed c → DueIn c.blocks d → first_of (faults c d item) ≡ None → Placed (after_item c d item)
 placed_item c FileHeader item v d free = record { due = tt; records = v.records; rounds = v.rounds }
 placed_item c (TypeByte b) item v d free = placed_type c (slice_index item 0) v
 placed_item c ConfigLength item v d free = record { due = cond_both (eqb (be32_at 0 item) 0) _ _ (DueIn c.blocks) (λ _. tt) (λ _. tt); records = v.records; rounds = v.rounds }
@@ -120,12 +121,12 @@ placed_item c (Content Normal place) item v d free = record { due = tt; records 
 placed_item c Footer item v d free = record { due = tt; records = open_in c.mode c.blocks c.records v.records; rounds = whole_in c.mode c.blocks c.rounds c.records v.rounds v.records }
 placed_item c Nothing item v d free = v
 
-placed_all : (c : Progress) (items : List (List ℕ)) → Placed c → AreFaultless c items → Placed (after_all c items)
+placed_all : (c : StreamProgress) (items : List (List ℕ)) → Placed c → AreFaultless c items → Placed (after_all c items)
 placed_all c [] v free = v
 placed_all c (item ∷ items) v free = placed_all (after c item) items (placed_item c c.due item v v.due free.1) free.2
 
 -- Each page record of a whole round has its page in the blocks that were read.
-pub placed_front : (m : Mode) (p limit : ℕ) (bytes : List ℕ) (to : Progress) (table : RamTable) → Front (start m p limit) bytes to → table.blocks ≡ to.blocks → All (λ rs. All (λ r. IsPlace table r.place) rs) to.rounds
+pub placed_front : (m : Mode) (p limit : ℕ) (bytes : List ℕ) (to : StreamProgress) (table : RamTable) → Front (start m p limit) bytes to → table.blocks ≡ to.blocks → All (λ rs. All (λ r. IsPlace table r.place) rs) to.rounds
 placed_front m p limit bytes to table f same =
     let first : Placed (start m p limit) = record { due = tt; records = All-nil (λ r. HasPage [] r.place); rounds = All-nil (AreIn []) } in
     let last : Placed to = subst Placed (sym f.leads_to) (placed_all (start m p limit) f.items first f.are_faultless) in

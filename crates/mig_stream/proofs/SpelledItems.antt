@@ -19,15 +19,16 @@ use Rattle.mig_stream.specs.declared.fault.StreamFault.TheVariants as fault
 use Rattle.mig_stream.specs.Fields.{be32, be64, counted, be32_at, be64_at}
 use Rattle.mig_stream.specs.Format.{end_byte, section_type, configuration_type, ram_name, ram_instance, ram_version, flags_of, most_name_bytes}
 use Rattle.mig_stream.specs.PageRecord.{PageRecord}
-use Rattle.mig_stream.specs.Progress.{Progress}
-use Rattle.mig_stream.specs.Items.{size, record_kind, is_single, is_allowed, first_of, kind_faults, head_faults, first_fault, after_type, after_kind, after_head, end_section, after}
+use Rattle.mig_stream.specs.Progress.{StreamProgress}
+use Rattle.mig_mem.specs.First.{first_of}
+use Rattle.mig_stream.specs.Items.{size, record_kind, is_single, is_allowed, kind_faults, head_faults, first_fault, after_type, after_kind, after_head, end_section, after}
 use Rattle.mig_stream.specs.Reading.{Front}
 use Rattle.mig_stream.specs.Text.{file_header, configuration, start_head, footer}
 use Rattle.mig_stream.proofs.Fronts.{Front-none, Front-push, Front-append}
 use Rattle.mig_stream.proofs.After.{HasNoTail}
 
 -- whole bytes without a fault are a front of one item
-pub item_front : (c : Progress) (item : List ℕ) → c.due ≢ Nothing → length item ≡ size c.page_size c.due item → first_fault c item ≡ None → Front c item (after c item)
+pub item_front : (c : StreamProgress) (item : List ℕ) → c.due ≢ Nothing → length item ≡ size c.page_size c.due item → first_fault c item ≡ None → Front c item (after c item)
 item_front c item open_ whole free = Front-push c c [] item (Front-none c) (record { is_due = open_; is_whole = whole }) free
 
 -- ---- numbers are read as they are spelled
@@ -85,7 +86,7 @@ pub page_size_large : (size : ℕ) → IsPageSize size → 4096 ≤ size
 page_size_large size is = elim is [ inl e ↦ omega arith | inr e ↦ omega arith ]
 
 -- a head of a page number and a kind's flags
-pub head_front : (c : Progress) (kind : RecordKind) (page : ℕ) → IsPageSize c.page_size → page * c.page_size + flags_of kind < 2 ^ 64
+pub head_front : (c : StreamProgress) (kind : RecordKind) (page : ℕ) → IsPageSize c.page_size → page * c.page_size + flags_of kind < 2 ^ 64
     → first_of (kind_faults (record c { due = RecordHead }) kind page) ≡ None
     → Front (record c { due = RecordHead }) (be64 (page * c.page_size + flags_of kind)) (after_kind (record c { due = RecordHead }) kind page)
 head_front c kind page is small none =
@@ -94,37 +95,37 @@ head_front c kind page is small none =
     let value : be64_at 0 head ≡ page * c.page_size + flags_of kind = be64_back (page * c.page_size + flags_of kind) small in
     let flags : be64_at 0 head % c.page_size ≡ flags_of kind = ap (λ (x : ℕ). x % c.page_size) value ∙ mod-mul-add page c.page_size (flags_of kind) below in
     let number : be64_at 0 head / c.page_size ≡ page = ap (λ (x : ℕ). x / c.page_size) value ∙ div-mul-add page c.page_size (flags_of kind) below in
-    let d : Progress = record c { due = RecordHead } in
+    let d : StreamProgress = record c { due = RecordHead } in
     let kind_is : record_kind (be64_at 0 head % c.page_size) ≡ Some kind = ap record_kind flags ∙ kind_of_flags kind in
     let free : first_fault d head ≡ None =
     ap (λ (x : Option RecordKind). first_of (head_faults d (be64_at 0 head % c.page_size) x (be64_at 0 head / c.page_size))) kind_is
     ∙ ap (λ (x : ℕ). first_of (kind_faults d kind x)) number ∙ none in
     let new : after d head ≡ after_kind d kind page =
     ap (λ (x : Option RecordKind). after_head d x (be64_at 0 head / c.page_size)) kind_is ∙ ap (λ (x : ℕ). after_kind d kind x) number in
-    subst (λ (x : Progress). Front d head x) new (item_front d head (λ e. absurd cc) refl free)
+    subst (λ (x : StreamProgress). Front d head x) new (item_front d head (λ e. absurd cc) refl free)
 
 -- a head of flags alone
-pub bare_front : (c : Progress) (kind : RecordKind) → IsPageSize c.page_size → first_of (kind_faults (record c { due = RecordHead }) kind 0) ≡ None
+pub bare_front : (c : StreamProgress) (kind : RecordKind) → IsPageSize c.page_size → first_of (kind_faults (record c { due = RecordHead }) kind 0) ≡ None
     → Front (record c { due = RecordHead }) (be64 (flags_of kind)) (after_kind (record c { due = RecordHead }) kind 0)
 bare_front c kind is none =
-    let d : Progress = record c { due = RecordHead } in
+    let d : StreamProgress = record c { due = RecordHead } in
     let no_page : 0 * c.page_size + flags_of kind ≡ flags_of kind = omega arith in
     subst (λ (n : ℕ). Front d (be64 n) (after_kind d kind 0)) no_page (head_front c kind 0 is (omega (arith, flags_small kind)) none)
 
 -- ---- type bytes, heads of sections, and footers
 
 -- a type byte that is allowed there, but the end byte
-pub type_front : (c : Progress) (b : Before) (byte : ℕ) → is_allowed b byte ≡ true → eqb byte end_byte ≡ false → Front (record c { due = TypeByte b }) (byte ∷ []) (after_type (record c { due = TypeByte b }) byte)
+pub type_front : (c : StreamProgress) (b : Before) (byte : ℕ) → is_allowed b byte ≡ true → eqb byte end_byte ≡ false → Front (record c { due = TypeByte b }) (byte ∷ []) (after_type (record c { due = TypeByte b }) byte)
 type_front c b byte allowed other = item_front (record c { due = TypeByte b }) (byte ∷ []) (λ e. absurd cc) refl (rw (allowed, other) refl)
 
 -- the head of a PART or END, with START's section id
-pub section_front : (c : Progress) → c.section_id < 2 ^ 32 → Front (record c { due = SectionHead }) (be32 c.section_id) (record c { due = RecordHead })
+pub section_front : (c : StreamProgress) → c.section_id < 2 ^ 32 → Front (record c { due = SectionHead }) (be32 c.section_id) (record c { due = RecordHead })
 section_front c small =
     let same : eqb (be32_at 0 (be32 c.section_id)) c.section_id ≡ true = eq-eqb _ _ (be32_back c.section_id small) in
     item_front (record c { due = SectionHead }) (be32 c.section_id) (λ e. absurd cc) refl (rw same refl)
 
 -- a footer, with START's section id
-pub footer_front : (c : Progress) → c.section_id < 2 ^ 32 → Front (record c { due = Footer }) (footer c.section_id) (end_section c)
+pub footer_front : (c : StreamProgress) → c.section_id < 2 ^ 32 → Front (record c { due = Footer }) (footer c.section_id) (end_section c)
 footer_front c small =
     let same : eqb (be32_at 1 (footer c.section_id)) c.section_id ≡ true = eq-eqb _ _ (be32_footer c.section_id small) in
     item_front (record c { due = Footer }) (footer c.section_id) (λ e. absurd cc) refl (rw same refl)
@@ -144,7 +145,7 @@ is_empty mode records (inl e) = inl e
 is_empty mode records (inr e) = inr (ap (λ (x : List PageRecord). eqb (length x) 0) e)
 
 -- the end byte, where no record is left that no FLUSH followed
-pub end_front : (c : Progress) → HasNoTail c.mode c.records → Front (record c { due = TypeByte before.LastFooter }) (end_byte ∷ []) (record c { due = Nothing })
+pub end_front : (c : StreamProgress) → HasNoTail c.mode c.records → Front (record c { due = TypeByte before.LastFooter }) (end_byte ∷ []) (record c { due = Nothing })
 end_front c none =
     let free = no_tail (is_single c.mode) (eqb (length c.records) 0) (is_empty c.mode c.records none) in
     item_front (record c { due = TypeByte before.LastFooter }) (end_byte ∷ []) (λ e. absurd cc) refl
@@ -153,23 +154,23 @@ end_front c none =
 -- ---- what stands before the size list
 
 -- the magic and the version
-pub header_front : (c : Progress) → Front (record c { due = FileHeader }) file_header (record c { due = TypeByte before.FileHeader })
+pub header_front : (c : StreamProgress) → Front (record c { due = FileHeader }) file_header (record c { due = TypeByte before.FileHeader })
 unfolding be32_at file_header
 header_front c = item_front (record c { due = FileHeader }) file_header (λ e. absurd cc) refl refl
 
 -- the length of a configuration's name
-length_front : (c : Progress) (len : ℕ) → len ≤ most_name_bytes → Front (record c { due = ConfigLength }) (be32 len) (record c { due = cond (eqb len 0) (TypeByte before.Configuration) (ConfigName len) })
+length_front : (c : StreamProgress) (len : ℕ) → len ≤ most_name_bytes → Front (record c { due = ConfigLength }) (be32 len) (record c { due = cond (eqb len 0) (TypeByte before.Configuration) (ConfigName len) })
 length_front c len small =
     let item : List ℕ = be32 len in
-    let d : Progress = record c { due = ConfigLength } in
+    let d : StreamProgress = record c { due = ConfigLength } in
     let value : be32_at 0 item ≡ len = be32_back len (omega arith) in
     let few : ltb most_name_bytes len ≡ false = le-ltb _ _ small in
     let free : first_fault d item ≡ None = rw (value, few) refl in
     let new : after d item ≡ record c { due = cond (eqb len 0) (TypeByte before.Configuration) (ConfigName len) } = rw value refl in
-    subst (λ (x : Progress). Front d item x) new (item_front d item (λ e. absurd cc) refl free)
+    subst (λ (x : StreamProgress). Front d item x) new (item_front d item (λ e. absurd cc) refl free)
 
 -- a configuration's name: an item, or nothing where it has no bytes
-name_front : (c : Progress) (name : List ℕ) → Front (record c { due = cond (eqb (length name) 0) (TypeByte before.Configuration) (ConfigName (length name)) }) name (record c { due = TypeByte before.Configuration })
+name_front : (c : StreamProgress) (name : List ℕ) → Front (record c { due = cond (eqb (length name) 0) (TypeByte before.Configuration) (ConfigName (length name)) }) name (record c { due = TypeByte before.Configuration })
 name_front c [] = Front-none (record c { due = TypeByte before.Configuration })
 name_front c (byte ∷ name) =
     let n : ℕ = length (byte ∷ name) in
@@ -183,7 +184,7 @@ before_start None = before.FileHeader
 before_start (Some name) = before.Configuration
 
 -- a whole configuration, or none
-configuration_front : (c : Progress) (name : Option (List ℕ)) → IfSome name (λ bytes. length bytes ≤ most_name_bytes)
+configuration_front : (c : StreamProgress) (name : Option (List ℕ)) → IfSome name (λ bytes. length bytes ≤ most_name_bytes)
     → Front (record c { due = TypeByte before.FileHeader }) (configuration name) (record c { due = TypeByte (before_start name) })
 configuration_front c None small = Front-none (record c { due = TypeByte before.FileHeader })
 configuration_front c (Some name) small =
@@ -194,18 +195,18 @@ abbrev head_bytes : ℕ → List ℕ
 head_bytes id = be32 id ++ counted ram_name ++ be32 ram_instance ++ be32 ram_version
 
 -- START's head has no fault: its name, instance and version are RAM's
-start_free : (c : Progress) (id : ℕ) → first_fault (record c { due = StartHead }) (head_bytes id) ≡ None
+start_free : (c : StreamProgress) (id : ℕ) → first_fault (record c { due = StartHead }) (head_bytes id) ≡ None
 unfolding be32_at
 start_free c id = refl
 
 -- and it tells START's section id
-start_front : (c : Progress) (id : ℕ) → id < 2 ^ 32 → Front (record c { due = StartHead }) (head_bytes id) (record c { due = RecordHead; section_id = id })
+start_front : (c : StreamProgress) (id : ℕ) → id < 2 ^ 32 → Front (record c { due = StartHead }) (head_bytes id) (record c { due = RecordHead; section_id = id })
 start_front c id small =
     let item : List ℕ = head_bytes id in
-    let d : Progress = record c { due = StartHead } in
+    let d : StreamProgress = record c { due = StartHead } in
     let value : be32_at 0 item ≡ id = be32_front id (counted ram_name ++ be32 ram_instance ++ be32 ram_version) small in
     let new : after d item ≡ record c { due = RecordHead; section_id = id } = rw value refl in
-    subst (λ (x : Progress). Front d item x) new (item_front d item (λ e. absurd cc) refl (start_free c id))
+    subst (λ (x : StreamProgress). Front d item x) new (item_front d item (λ e. absurd cc) refl (start_free c id))
 
 -- START's type byte may stand behind a configuration, and where there is none
 start_allowed : (name : Option (List ℕ)) → is_allowed (before_start name) (section_type sections.Start) ≡ true
@@ -213,10 +214,10 @@ start_allowed None = refl
 start_allowed (Some name) = refl
 
 -- all that stands before the size list
-pub opening_front : (c : Progress) (name : Option (List ℕ)) (id : ℕ) → IfSome name (λ bytes. length bytes ≤ most_name_bytes) → id < 2 ^ 32
+pub opening_front : (c : StreamProgress) (name : Option (List ℕ)) (id : ℕ) → IfSome name (λ bytes. length bytes ≤ most_name_bytes) → id < 2 ^ 32
     → Front (record c { due = FileHeader }) (file_header ++ configuration name ++ start_head id) (record c { due = RecordHead; section = sections.Start; section_id = id })
 opening_front c name id short small =
-    let d : Progress = record c { section = sections.Start } in
+    let d : StreamProgress = record c { section = sections.Start } in
     let first : Front (record c { due = TypeByte (before_start name) }) (section_type sections.Start ∷ []) (record d { due = StartHead }) =
     type_front c (before_start name) (section_type sections.Start) (start_allowed name) refl in
     Front-append _ _ _ _ _ (Front-append _ _ _ _ _ (header_front c) (configuration_front c name short)) (Front-append _ _ _ _ _ first (start_front d id small))

@@ -18,7 +18,7 @@ use Rattle.mig_stream.specs.declared.item.Due.TheVariants.{RecordHead, BlockName
 use Rattle.mig_stream.specs.Fields.{counted}
 use Rattle.mig_stream.specs.Format.{flags_of}
 use Rattle.mig_stream.specs.PageRecord.{PageRecord, filling_of}
-use Rattle.mig_stream.specs.Progress.{Progress, table_of}
+use Rattle.mig_stream.specs.Progress.{StreamProgress, table_of}
 use Rattle.mig_stream.specs.Items.{is_single, id_in, first_fault, end_round, with_record, after}
 use Rattle.mig_stream.specs.Reading.{Front}
 use Rattle.mig_stream.specs.Text.{content_bytes, page_record, Fits, Record, PageOf, FlushMark, record_bytes, Follow, HasNoFlush, body}
@@ -36,7 +36,7 @@ page_fits table b page kind is known in_range =
     omega (arith, flags_small kind, page_size_large table.page_size is.has_page_size, page_before table.page_size (block table.blocks b).pages page in_range, block_room table b is known)
 
 -- a page's content, as a mark or whole
-content_front : (c : Progress) (at : Place) (content : Option (List ℕ)) → IfSome content (λ bytes. length bytes ≡ c.page_size)
+content_front : (c : StreamProgress) (at : Place) (content : Option (List ℕ)) → IfSome content (λ bytes. length bytes ≡ c.page_size)
     → Front (record c { due = Content (filling_of content) at }) (content_bytes content) (with_record c at content)
 content_front c at None len = item_front (record c { due = Content Zero at }) (0 ∷ []) (λ e. absurd cc) refl refl
 content_front c at (Some bytes) len = item_front (record c { due = Content Normal at }) bytes (λ e. absurd cc) len refl
@@ -46,19 +46,19 @@ counted_id : (id : List ℕ) → id_in (counted id) ≡ id
 counted_id id = rw add-sub_cancel_left (take_all (length id) id (omega arith))
 
 -- a block's id in a page record, of a page that the block has
-name_front : (c : Progress) (filling : Filling) (b page : ℕ) → block_of c.blocks (block c.blocks b).id ≡ Some b → page < (block c.blocks b).pages
+name_front : (c : StreamProgress) (filling : Filling) (b page : ℕ) → block_of c.blocks (block c.blocks b).id ≡ Some b → page < (block c.blocks b).pages
     → Front (record c { due = BlockName filling page }) (counted (block c.blocks b).id) (record c { due = Content filling (place_at b page); named = Some b })
 name_front c filling b page found in_range =
     let item : List ℕ = counted (block c.blocks b).id in
-    let d : Progress = record c { due = BlockName filling page } in
+    let d : StreamProgress = record c { due = BlockName filling page } in
     let named : block_of c.blocks (id_in item) ≡ Some b = ap (block_of c.blocks) (counted_id (block c.blocks b).id) ∙ found in
     let inside : ltb page (block c.blocks b).pages ≡ true = lt-ltb page (block c.blocks b).pages in_range in
     let free : first_fault d item ≡ None = rw (named, inside) refl in
     let new : after d item ≡ record c { due = Content filling (place_at b page); named = Some b } = rw named refl in
-    subst (λ (x : Progress). Front d item x) new (item_front d item (λ e. absurd cc) (omega arith) free)
+    subst (λ (x : StreamProgress). Front d item x) new (item_front d item (λ e. absurd cc) (omega arith) free)
 
 -- a whole page record, with CONTINUE or without
-page_front : (c : Progress) (continued : Bool) (r : PageRecord) → IsTable (table_of c) → is_none c.left ≡ false → Fits (table_of c) c.named continued r
+page_front : (c : StreamProgress) (continued : Bool) (r : PageRecord) → IsTable (table_of c) → is_none c.left ≡ false → Fits (table_of c) c.named continued r
     → Front (record c { due = RecordHead }) (page_record (table_of c) continued r) (after_page c r)
 page_front c false r is begun fits =
     let b : ℕ = r.place.block in
@@ -73,7 +73,7 @@ page_front c true r is begun fits =
     let b : ℕ = r.place.block in
     let page : ℕ = r.place.page in
     let filling : Filling = filling_of r.content in
-    let d : Progress = record c { named = Some b } in
+    let d : StreamProgress = record c { named = Some b } in
     let small = page_fits (table_of c) b page (Continued filling) is fits.has_place.has_block fits.has_place.has_page in
     let inside : ltb page (block c.blocks b).pages ≡ true = lt-ltb page (block c.blocks b).pages fits.has_place.has_page in
     let head = head_front d (Continued filling) page is.has_page_size small (rw (begun, inside) refl) in
@@ -83,7 +83,7 @@ page_front c true r is begun fits =
 -- ---- records one after the other
 
 -- page records and FLUSHes, as far as the mode has them
-records_front : (c : Progress) (records : List Record) → IsTable (table_of c) → is_none c.left ≡ false → is_single c.mode ≡ false ⊎ HasNoFlush records → Follow (table_of c) c.named records
+records_front : (c : StreamProgress) (records : List Record) → IsTable (table_of c) → is_none c.left ≡ false → is_single c.mode ≡ false ⊎ HasNoFlush records → Follow (table_of c) c.named records
     → Front (record c { due = RecordHead }) (flat_map (record_bytes (table_of c)) records) (record (after_records c records) { due = RecordHead })
 records_front c [] is begun flushes follow = Front-none (record c { due = RecordHead })
 records_front c (PageOf continued r ∷ records) is begun flushes follow =
@@ -97,9 +97,9 @@ records_front c (FlushMark ∷ records) is begun (inl main) follow =
 records_front c (FlushMark ∷ records) is begun (inr none) follow = absurd none
 
 -- a section's records, EOS and footer
-pub body_front : (c : Progress) (records : List Record) → IsTable (table_of c) → c.section_id < 2 ^ 32 → is_none c.left ≡ false → is_single c.mode ≡ false ⊎ HasNoFlush records
+pub body_front : (c : StreamProgress) (records : List Record) → IsTable (table_of c) → c.section_id < 2 ^ 32 → is_none c.left ≡ false → is_single c.mode ≡ false ⊎ HasNoFlush records
     → Follow (table_of c) c.named records → Front (record c { due = RecordHead }) (body (table_of c) c.section_id records) (after_body c records)
 body_front c records is small begun flushes follow =
-    let d : Progress = after_records c records in
+    let d : StreamProgress = after_records c records in
     let end = Front-append _ _ _ _ _ (bare_front d EndOfSection is.has_page_size (rw begun refl)) (footer_front d small) in
     Front-append _ _ _ _ _ (records_front c records is begun flushes follow) end

@@ -8,7 +8,7 @@ use Rattle.mig_stream.specs.declared.item.Section.TheVariants as sections
 use Rattle.mig_stream.specs.declared.item.Before.TheVariants as before
 use Rattle.mig_stream.specs.declared.item.Due.TheVariants.{TypeByte, Nothing}
 use Rattle.mig_stream.specs.Format.{end_byte, section_type}
-use Rattle.mig_stream.specs.Progress.{Progress, table_of}
+use Rattle.mig_stream.specs.Progress.{StreamProgress, table_of}
 use Rattle.mig_stream.specs.Items.{is_single}
 use Rattle.mig_stream.specs.Reading.{Front}
 use Rattle.mig_stream.specs.Text.{named_after, Record, PageOf, FlushMark, Follow, HasNoFlush, all_records, section}
@@ -49,7 +49,7 @@ named_behind named [] = named
 named_behind named (records ∷ others) = named_behind (named_after named records) others
 
 -- how far a stream has been read behind its end byte, where these sections were the last ones
-abbrev pub at_end : Progress → List (List Record) → Progress
+abbrev pub at_end : StreamProgress → List (List Record) → StreamProgress
 at_end c others = record c {
   due = Nothing;
   section = sections.End;
@@ -59,24 +59,24 @@ at_end c others = record c {
 }
 
 -- a PART
-part_front : (c : Progress) (records : List Record) → IsTable (table_of c) → c.section_id < 2 ^ 32 → is_none c.left ≡ false → is_single c.mode ≡ false ⊎ HasNoFlush records
+part_front : (c : StreamProgress) (records : List Record) → IsTable (table_of c) → c.section_id < 2 ^ 32 → is_none c.left ≡ false → is_single c.mode ≡ false ⊎ HasNoFlush records
     → Follow (table_of c) c.named records
     → Front (record c { due = TypeByte before.Footer }) (section (table_of c) sections.Part c.section_id records) (after_body (record c { section = sections.Part }) records)
 part_front c records is small begun flushes follow =
-    let d : Progress = record c { section = sections.Part } in
+    let d : StreamProgress = record c { section = sections.Part } in
     Front-append _ _ _ _ _ (type_front c before.Footer (section_type sections.Part) refl refl) (Front-append _ _ _ _ _ (section_front d small) (body_front d records is small begun flushes follow))
 
 -- END and the end byte
-end_front_of : (c : Progress) (records : List Record) → IsTable (table_of c) → c.section_id < 2 ^ 32 → is_none c.left ≡ false → is_single c.mode ≡ false ⊎ HasNoFlush records
+end_front_of : (c : StreamProgress) (records : List Record) → IsTable (table_of c) → c.section_id < 2 ^ 32 → is_none c.left ≡ false → is_single c.mode ≡ false ⊎ HasNoFlush records
     → Follow (table_of c) c.named records → HasNoTail c.mode (records_behind c.mode c.records (records ∷ []))
     → Front (record c { due = TypeByte before.Footer }) (section (table_of c) sections.End c.section_id records ++ end_byte ∷ []) (at_end c (records ∷ []))
 end_front_of c records is small begun flushes follow none =
-    let d : Progress = record c { section = sections.End } in
+    let d : StreamProgress = record c { section = sections.End } in
     let first = Front-append _ _ _ _ _ (type_front c before.Footer (section_type sections.End) refl refl) (Front-append _ _ _ _ _ (section_front d small) (body_front d records is small begun flushes follow)) in
     Front-append _ _ _ _ _ first (end_front (after_body d records) none)
 
 -- PARTs, END and the end byte
-pub sections_front : (c : Progress) (parts : List (List Record)) (last : List Record) → IsTable (table_of c) → c.section_id < 2 ^ 32 → is_none c.left ≡ false
+pub sections_front : (c : StreamProgress) (parts : List (List Record)) (last : List Record) → IsTable (table_of c) → c.section_id < 2 ^ 32 → is_none c.left ≡ false
     → FlushesFit c.mode (parts ++ last ∷ []) → Follow (table_of c) c.named (all_records parts ++ last) → HasNoTail c.mode (records_behind c.mode c.records (parts ++ last ∷ []))
     → Front (record c { due = TypeByte before.Footer }) (flat_map (section (table_of c) sections.Part c.section_id) parts ++ (section (table_of c) sections.End c.section_id last ++ end_byte ∷ [])) (at_end c (parts ++ last ∷ []))
 sections_front c [] last is small begun flushes follow none = end_front_of c last is small begun (FlushesFit-first c.mode last [] flushes) follow none
@@ -84,7 +84,7 @@ sections_front c (records ∷ parts) last is small begun flushes follow none =
     let others : List Record = all_records parts ++ last in
     let all : all_records (records ∷ parts) ++ last ≡ records ++ others = append_assoc records (all_records parts) last in
     let f : Follow (table_of c) c.named (records ++ others) = subst (Follow (table_of c) c.named) all follow in
-    let d : Progress = after_body (record c { section = sections.Part }) records in
+    let d : StreamProgress = after_body (record c { section = sections.Part }) records in
     let end : List ℕ = section (table_of c) sections.End c.section_id last ++ end_byte ∷ [] in
     let one = part_front c records is small begun (FlushesFit-first c.mode records (parts ++ last ∷ []) flushes) (Follow-first (table_of c) c.named records others f) in
     let rest = sections_front d parts last is small begun (FlushesFit-rest c.mode records (parts ++ last ∷ []) flushes) (Follow-rest (table_of c) c.named records others f) none in

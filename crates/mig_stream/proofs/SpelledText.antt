@@ -9,7 +9,7 @@ use Rattle.mig_stream.specs.declared.item.Due.TheVariants.{RecordHead, Nothing}
 use Rattle.mig_stream.specs.declared.item.StreamState.TheVariants.{Closed}
 use Rattle.mig_stream.specs.Format.{end_byte}
 use Rattle.mig_stream.specs.PageRecord.{PageRecord}
-use Rattle.mig_stream.specs.Progress.{Progress, start, whole_table}
+use Rattle.mig_stream.specs.Progress.{StreamProgress, start, whole_table}
 use Rattle.mig_stream.specs.Reading.{Front, Reads}
 use Rattle.mig_stream.specs.Text.{Record, Follow, all_records, file_header, configuration, start_head, size_list, body, section, IsText}
 use Rattle.mig_stream.specs.Law.{SpelledIsRead, HasOneText}
@@ -24,7 +24,7 @@ use Rattle.mig_stream.proofs.SpelledSections.{FlushesFit-first, FlushesFit-rest,
 
 -- a front that is a whole text: it leads to the end of the stream, and tells this table and these rounds
 pub record IsReadWhole (mode : Mode) (limit : ℕ) (text : List ℕ) (table : RamTable) (rounds : List (List PageRecord)) : Type 0 where
-  pub to : Progress
+  pub to : StreamProgress
   pub leads : Front (start mode table.page_size limit) text to
   pub is_closed : to.due ≡ Nothing
   pub has_table : whole_table to ≡ Some table
@@ -41,10 +41,10 @@ text_is_read mode limit text table rounds is =
     let behind : List Record = all_records is.parts ++ is.last in
     let told = rounds_read mode (is.first ∷ others) rounds is.has_rounds in
     let follow : Follow table None (is.first ++ behind) = subst (Follow table None) (append_assoc is.first (all_records is.parts) is.last) is.follow in
-    let from : Progress = start mode table.page_size limit in
-    let begun : Progress = record from { due = RecordHead; section_id = is.id } in
-    let listed : Progress = record begun { left = Some 0; blocks = table.blocks } in
-    let first : Progress = after_body listed is.first in
+    let from : StreamProgress = start mode table.page_size limit in
+    let begun : StreamProgress = record from { due = RecordHead; section_id = is.id } in
+    let listed : StreamProgress = record begun { left = Some 0; blocks = table.blocks } in
+    let first : StreamProgress = after_body listed is.first in
     let opening = opening_front from is.name is.id is.has_name is.has_id in
     let list = list_front begun table is.has_table is.has_limit in
     let start_body = body_front listed is.first is.has_table is.has_id refl (FlushesFit-first mode is.first others told.0) (Follow-first table None is.first behind follow) in
@@ -80,14 +80,14 @@ spelled_law = λ mode limit text rest table rounds is_text.
 one_whole : (mode : Mode) (limit : ℕ) (a b x y : List ℕ) (s t : RamTable) (p q : List (List PageRecord)) → s.page_size ≡ t.page_size → IsReadWhole mode limit a s p → IsReadWhole mode limit b t q
     → a ++ x ≡ b ++ y → (a ≡ b) × (s ≡ t) × (p ≡ q)
 one_whole mode limit a b x y s t p q size f g e =
-    let from : Progress = start mode t.page_size limit in
+    let from : StreamProgress = start mode t.page_size limit in
     let one : Reads (start mode s.page_size limit) (a ++ x) f.to x Closed = text_reads mode limit a x s p f in
     let two : Reads from (b ++ y) g.to y Closed = text_reads mode limit b y t q g in
     let here : Reads from (b ++ y) f.to x Closed = subst (λ (n : ℕ). Reads (start mode n limit) (b ++ y) f.to x Closed) size (subst (λ (z : List ℕ). Reads (start mode s.page_size limit) z f.to x Closed) e one) in
     let same = one_reading from (b ++ y) f.to g.to x y Closed Closed here two in
     let fronts : a ++ x ≡ b ++ x = e ∙ ap (λ (z : List ℕ). b ++ z) (sym same.1) in
     let tables : Some s ≡ Some t = sym f.has_table ∙ ap whole_table same.0 ∙ g.has_table in
-    (append_cancel_right a b x fronts, cc, sym f.has_rounds ∙ ap (λ (c : Progress). c.rounds) same.0 ∙ g.has_rounds)
+    (append_cancel_right a b x fronts, cc, sym f.has_rounds ∙ ap (λ (c : StreamProgress). c.rounds) same.0 ∙ g.has_rounds)
 
 -- No bytes have two prefixes that are texts.
 pub one_text_law : HasOneText

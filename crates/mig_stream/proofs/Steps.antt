@@ -4,7 +4,7 @@ use Rattle.std.specs.Prelude.{is_some, slice_index}
 use Rattle.std.specs.Option.{unwrap_or}
 use Rattle.std.proofs.lemmas.List.{append-nil}
 use Rattle.std.proofs.lemmas.Bool.{cond_both, ltb-false, eqb-false, eqb-true}
-use Rattle.mig_mem.specs.RamTable.{Block, block_of, is_id}
+use Rattle.mig_mem.specs.RamTable.{Block, block_of, is_id, max_blocks}
 use Rattle.mig_stream.specs.declared.item.Mode.{Mode}
 use Rattle.mig_stream.specs.declared.item.Mode.TheVariants.{Single, Main}
 use Rattle.mig_stream.specs.declared.item.Filling.TheVariants.{Zero, Normal}
@@ -14,47 +14,47 @@ use Rattle.mig_stream.specs.declared.item.RecordKind.{RecordKind}
 use Rattle.mig_stream.specs.declared.item.RecordKind.TheVariants.{SizeList, Named, Continued, EndOfSection, Flush}
 use Rattle.mig_stream.specs.declared.fault.StreamFault.{StreamFault}
 use Rattle.mig_stream.specs.declared.fault.StreamFault.TheVariants as fault
-use Rattle.mig_stream.specs.Format.{most_blocks}
 use Rattle.mig_stream.specs.PageRecord.{PageRecord}
-use Rattle.mig_stream.specs.Progress.{Progress, is_used_up}
-use Rattle.mig_stream.specs.Items.{id_in, length_in, head_faults, faults, first_of, first_fault, after_type, after_kind, after_head, open_records, whole_rounds, end_section, after_item, after}
+use Rattle.mig_stream.specs.Progress.{StreamProgress, is_used_up}
+use Rattle.mig_mem.specs.First.{first_of}
+use Rattle.mig_stream.specs.Items.{id_in, length_in, head_faults, faults, first_fault, after_type, after_kind, after_head, open_records, whole_rounds, end_section, after_item, after}
 use Rattle.mig_stream.specs.Reading.{AreFaultless, after_all, Front}
 use Rattle.mig_stream.specs.Later.{HasGrown, IsLater}
 
 -- ---- the lists grow
 
-same_log : (old new : Progress) → new.rounds ≡ old.rounds → new.records ≡ old.records → HasGrown old new
+same_log : (old new : StreamProgress) → new.rounds ≡ old.rounds → new.records ≡ old.records → HasGrown old new
 same_log old new e f = inl (e, [], f ∙ sym (append-nil old.records))
 
-grown_record : (old mid : Progress) (r : PageRecord) (new : Progress) → new.rounds ≡ mid.rounds → new.records ≡ mid.records ++ r ∷ [] → HasGrown old mid → HasGrown old new
+grown_record : (old mid : StreamProgress) (r : PageRecord) (new : StreamProgress) → new.rounds ≡ mid.rounds → new.records ≡ mid.records ++ r ∷ [] → HasGrown old mid → HasGrown old new
 grown_record old mid r new e f (inl h) = inl (e ∙ h.0, h.1 ++ r ∷ [], f ∙ ap (λ (x : List PageRecord). x ++ r ∷ []) h.2 ∙ append_assoc old.records h.1 (r ∷ []))
 grown_record old mid r new e f (inr h) = inr (h.0, h.1, e ∙ h.2)
 
-grown_round : (old mid new : Progress) → new.rounds ≡ mid.rounds ++ mid.records ∷ [] → HasGrown old mid → HasGrown old new
+grown_round : (old mid new : StreamProgress) → new.rounds ≡ mid.rounds ++ mid.records ∷ [] → HasGrown old mid → HasGrown old new
 grown_round old mid new e (inl h) = inr (h.1, [], e ∙ ap (λ (x : List (List PageRecord)). x ++ mid.records ∷ []) h.0 ∙ ap (λ (x : List PageRecord). old.rounds ++ x ∷ []) h.2)
 grown_round old mid new e (inr h) = inr (h.0, h.1 ++ mid.records ∷ [], e ∙ ap (λ (x : List (List PageRecord)). x ++ mid.records ∷ []) h.2 ∙ append_assoc old.rounds ((old.records ++ h.0) ∷ h.1) (mid.records ∷ []))
 
-grown_same : (old mid new : Progress) → new.rounds ≡ mid.rounds → new.records ≡ mid.records → HasGrown old mid → HasGrown old new
+grown_same : (old mid new : StreamProgress) → new.rounds ≡ mid.rounds → new.records ≡ mid.records → HasGrown old mid → HasGrown old new
 grown_same old mid new e f (inl h) = inl (e ∙ h.0, h.1, f ∙ h.2)
 grown_same old mid new e f (inr h) = inr (h.0, h.1, e ∙ h.2)
 
 -- what an item changes of the lists
-data Change (old new : Progress) : Type 0 where
+data Change (old new : StreamProgress) : Type 0 where
   none : new.blocks ≡ old.blocks → new.rounds ≡ old.rounds → new.records ≡ old.records → Change old new
   block : (b : Block) → new.blocks ≡ old.blocks ++ b ∷ [] → new.rounds ≡ old.rounds → new.records ≡ old.records → Change old new
   one : (r : PageRecord) → new.blocks ≡ old.blocks → new.rounds ≡ old.rounds → new.records ≡ old.records ++ r ∷ [] → Change old new
   whole : new.blocks ≡ old.blocks → new.rounds ≡ old.rounds ++ old.records ∷ [] → Change old new
 
-record Step (old new : Progress) : Type 0 where
+record Step (old new : StreamProgress) : Type 0 where
   mode : new.mode ≡ old.mode
   page_size : new.page_size ≡ old.page_size
   limit : new.limit ≡ old.limit
   change : Change old new
 
-no_change : (c : Progress) → Step c c
+no_change : (c : StreamProgress) → Step c c
 no_change c = record { mode = refl; page_size = refl; limit = refl; change = none refl refl refl }
 
-type_step : (c : Progress) (b : ℕ) → Step c (after_type c b)
+type_step : (c : StreamProgress) (b : ℕ) → Step c (after_type c b)
 type_step c b =
     cond_both (eqb b 7) _ _ (Step c) (λ _. record { mode = refl; page_size = refl; limit = refl; change = none refl refl refl }) (λ _.
     cond_both (eqb b 1) _ _ (Step c) (λ _. record { mode = refl; page_size = refl; limit = refl; change = none refl refl refl }) (λ _.
@@ -62,22 +62,22 @@ type_step c b =
     cond_both (eqb b 3) _ _ (Step c) (λ _. record { mode = refl; page_size = refl; limit = refl; change = none refl refl refl }) (λ _.
     record { mode = refl; page_size = refl; limit = refl; change = none refl refl refl }))))
 
-kind_step : (c : Progress) (k : RecordKind) (page : ℕ) → Step c (after_kind c k page)
+kind_step : (c : StreamProgress) (k : RecordKind) (page : ℕ) → Step c (after_kind c k page)
 kind_step c SizeList page = record { mode = refl; page_size = refl; limit = refl; change = none refl refl refl }
 kind_step c (Named f) page = record { mode = refl; page_size = refl; limit = refl; change = none refl refl refl }
 kind_step c (Continued f) page = record { mode = refl; page_size = refl; limit = refl; change = none refl refl refl }
 kind_step c EndOfSection page = record { mode = refl; page_size = refl; limit = refl; change = none refl refl refl }
 kind_step c Flush page = record { mode = refl; page_size = refl; limit = refl; change = whole refl refl }
 
-head_step : (c : Progress) (k : Option RecordKind) (page : ℕ) → Step c (after_head c k page)
+head_step : (c : StreamProgress) (k : Option RecordKind) (page : ℕ) → Step c (after_head c k page)
 head_step c None page = no_change c
 head_step c (Some k) page = kind_step c k page
 
-footer_change : (c new : Progress) (m : Mode) → new.blocks ≡ c.blocks → new.records ≡ open_records m c.records → new.rounds ≡ whole_rounds m c.rounds c.records → Change c new
+footer_change : (c new : StreamProgress) (m : Mode) → new.blocks ≡ c.blocks → new.records ≡ open_records m c.records → new.rounds ≡ whole_rounds m c.rounds c.records → Change c new
 footer_change c new Single b r s = whole b s
 footer_change c new Main b r s = none b s r
 
-item_step : (c : Progress) (d : Due) (item : List ℕ) → Step c (after_item c d item)
+item_step : (c : StreamProgress) (d : Due) (item : List ℕ) → Step c (after_item c d item)
 item_step c FileHeader item = record { mode = refl; page_size = refl; limit = refl; change = none refl refl refl }
 item_step c (TypeByte b) item = type_step c (slice_index item 0)
 item_step c ConfigLength item = record { mode = refl; page_size = refl; limit = refl; change = none refl refl refl }
@@ -92,13 +92,13 @@ item_step c (Content Normal place) item = record { mode = refl; page_size = refl
 item_step c Footer item = record { mode = refl; page_size = refl; limit = refl; change = footer_change c (end_section c) c.mode refl refl refl }
 item_step c Nothing item = no_change c
 
-grown_by : (old mid new : Progress) → Change mid new → HasGrown old mid → HasGrown old new
+grown_by : (old mid new : StreamProgress) → Change mid new → HasGrown old mid → HasGrown old new
 grown_by old mid new (none b r s) h = grown_same old mid new r s h
 grown_by old mid new (block x b r s) h = grown_same old mid new r s h
 grown_by old mid new (one x b r s) h = grown_record old mid x new r s h
 grown_by old mid new (whole b r) h = grown_round old mid new r h
 
-blocks_by : (mid new : Progress) → Change mid new → (more : List Block) × (new.blocks ≡ mid.blocks ++ more)
+blocks_by : (mid new : StreamProgress) → Change mid new → (more : List Block) × (new.blocks ≡ mid.blocks ++ more)
 blocks_by mid new (none b r s) = ([], b ∙ sym (append-nil mid.blocks))
 blocks_by mid new (block x b r s) = (x ∷ [], b)
 blocks_by mid new (one x b r s) = ([], b ∙ sym (append-nil mid.blocks))
@@ -116,10 +116,10 @@ used_up None e = absurd cc
 used_up (Some n) e = ap (λ (x : ℕ). Some x) (eqb-true n 0 e)
 
 -- the total and the blocks are the same
-abbrev pub SameEntries : Progress → Progress → Type 0
+abbrev pub SameEntries : StreamProgress → StreamProgress → Type 0
 SameEntries old new = (new.left ≡ old.left) × (new.blocks ≡ old.blocks)
 
-type_entries : (c : Progress) (b : ℕ) → SameEntries c (after_type c b)
+type_entries : (c : StreamProgress) (b : ℕ) → SameEntries c (after_type c b)
 type_entries c b =
     cond_both (eqb b 7) _ _ (SameEntries c) (λ _. (refl, refl)) (λ _.
     cond_both (eqb b 1) _ _ (SameEntries c) (λ _. (refl, refl)) (λ _.
@@ -132,7 +132,7 @@ no_list o more e free =
     let none : is_some o ≡ false = (passed (is_some o) fault.SizePlace more free).0 in
     let clash : true ≡ false = ap is_some (sym e) ∙ none in absurd cc
 
-head_entries : (c : Progress) (flags : ℕ) (k : Option RecordKind) (page : ℕ) → c.left ≡ Some 0 → first_of (head_faults c flags k page) ≡ None → SameEntries c (after_head c k page)
+head_entries : (c : StreamProgress) (flags : ℕ) (k : Option RecordKind) (page : ℕ) → c.left ≡ Some 0 → first_of (head_faults c flags k page) ≡ None → SameEntries c (after_head c k page)
 head_entries c flags None page e free = (refl, refl)
 head_entries c flags (Some SizeList) page e free = absurd (no_list c.left ((page == 0 || nat_lt c.limit (page * c.page_size), fault.Total) ∷ []) e free)
 head_entries c flags (Some (Named f)) page e free = (refl, refl)
@@ -158,7 +158,7 @@ no_entry a b d n m left nothing free =
     first_false true y e = absurd cc
     first_false false y e = refl
 
-item_entries : (c : Progress) (d : Due) (item : List ℕ) → c.left ≡ Some 0 → first_of (faults c d item) ≡ None → SameEntries c (after_item c d item)
+item_entries : (c : StreamProgress) (d : Due) (item : List ℕ) → c.left ≡ Some 0 → first_of (faults c d item) ≡ None → SameEntries c (after_item c d item)
 item_entries c FileHeader item e free = (refl, refl)
 item_entries c (TypeByte b) item e free = type_entries c (slice_index item 0)
 item_entries c ConfigLength item e free = (refl, refl)
@@ -167,7 +167,7 @@ item_entries c StartHead item e free = (refl, refl)
 item_entries c SectionHead item e free = (refl, refl)
 item_entries c RecordHead item e free = head_entries c _ _ _ e free
 item_entries c ListEntry item e free =
-    absurd (no_entry (nat_le most_blocks (length c.blocks)) (not (is_id (id_in item))) (is_some (block_of c.blocks (id_in item))) (length_in item) (length_in item % c.page_size) (unwrap_or c.left 0)
+    absurd (no_entry (nat_le max_blocks (length c.blocks)) (not (is_id (id_in item))) (is_some (block_of c.blocks (id_in item))) (length_in item) (length_in item % c.page_size) (unwrap_or c.left 0)
     (ap (λ (o : Option ℕ). unwrap_or o 0) e) free)
 item_entries c (BlockName f page) item e free = (refl, refl)
 item_entries c (Content Zero place) item e free = (refl, refl)
@@ -177,9 +177,9 @@ item_entries c Nothing item e free = (refl, refl)
 
 -- ---- items one after another
 
-later_step : (old mid : Progress) (item : List ℕ) → IsLater old mid → first_fault mid item ≡ None → IsLater old (after mid item)
+later_step : (old mid : StreamProgress) (item : List ℕ) → IsLater old mid → first_fault mid item ≡ None → IsLater old (after mid item)
 later_step old mid item l free =
-    let new : Progress = after mid item in
+    let new : StreamProgress = after mid item in
     let s = item_step mid mid.due item in
     let b = blocks_by mid new s.change in
     record {
@@ -195,13 +195,13 @@ later_step old mid item l free =
           (here.0 ∙ so_far.0, here.1 ∙ so_far.1);
     }
 
-later_all : (old mid : Progress) (items : List (List ℕ)) → IsLater old mid → AreFaultless mid items → IsLater old (after_all mid items)
+later_all : (old mid : StreamProgress) (items : List (List ℕ)) → IsLater old mid → AreFaultless mid items → IsLater old (after_all mid items)
 later_all old mid [] l free = l
 later_all old mid (item ∷ items) l free = later_all old (after mid item) items (later_step old mid item l free.1) free.2
 
-later_self : (c : Progress) → IsLater c c
+later_self : (c : StreamProgress) → IsLater c c
 later_self c = record { same_mode = refl; same_page_size = refl; same_limit = refl; more_blocks = []; has_blocks = sym (append-nil c.blocks); has_grown = same_log c c refl refl; same_table = λ _. (refl, refl) }
 
 -- A front leads to what is later.
-pub IsLater-front : (c d : Progress) (bytes : List ℕ) → Front c bytes d → IsLater c d
-IsLater-front c d bytes f = subst (λ (x : Progress). IsLater c x) (sym f.leads_to) (later_all c c f.items (later_self c) f.are_faultless)
+pub IsLater-front : (c d : StreamProgress) (bytes : List ℕ) → Front c bytes d → IsLater c d
+IsLater-front c d bytes f = subst (λ (x : StreamProgress). IsLater c x) (sym f.leads_to) (later_all c c f.items (later_self c) f.are_faultless)

@@ -8,12 +8,12 @@ use Rattle.mig_stream.specs.declared.item.Mode.{Mode}
 use Rattle.mig_stream.specs.declared.item.Section.{Section}
 use Rattle.mig_stream.specs.declared.item.Due.{Due}
 use Rattle.mig_stream.specs.PageRecord.{PageRecord}
-use Rattle.mig_stream.specs.Progress.{Progress, is_used_up}
+use Rattle.mig_stream.specs.Progress.{StreamProgress, is_used_up}
 use Rattle.mig_stream.specs.Entries.{Listed, AreListed, WereListed}
 use Rattle.mig_stream.specs.Later.{mark_of, HasGrown, IsLater, WasMarked}
 
 -- where a round ended behind the mark, its first records are those of the mark
-pub open_round : (c now : Progress) (n m : ℕ) (x : List PageRecord) (left : List (List PageRecord)) → n ≡ length c.rounds → m ≡ length c.records → HasGrown c now → n < length now.rounds
+pub open_round : (c now : StreamProgress) (n m : ℕ) (x : List PageRecord) (left : List (List PageRecord)) → n ≡ length c.rounds → m ≡ length c.records → HasGrown c now → n < length now.rounds
     → x ≡ get_or now.rounds n x → left ≡ take n (remove now.rounds n) → (take m x ≡ c.records) × (left ≡ c.rounds)
 open_round c now n m x left n_is m_is (inl h) lt is left_is = absurd (omega (arith, ap length h.0))
 open_round c now n m x left n_is m_is (inr h) lt is left_is =
@@ -25,17 +25,17 @@ open_round c now n m x left n_is m_is (inr h) lt is left_is =
     )
 
 -- where none ended, its records are the first of those that are there
-pub same_round : (c now : Progress) (n m : ℕ) → n ≡ length c.rounds → m ≡ length c.records → HasGrown c now → length now.rounds ≤ n → (take m now.records ≡ c.records) × (now.rounds ≡ c.rounds)
+pub same_round : (c now : StreamProgress) (n m : ℕ) → n ≡ length c.rounds → m ≡ length c.records → HasGrown c now → length now.rounds ≤ n → (take m now.records ≡ c.records) × (now.rounds ≡ c.rounds)
 same_round c now n m n_is m_is (inl h) le = (ap (take m) h.2 ∙ take_at c.records h.1 m (sym m_is), h.0)
 same_round c now n m n_is m_is (inr h) le = absurd (omega (arith, ap length h.2, length-append c.rounds ((c.records ++ h.0) ∷ h.1)))
 
 -- the entries of the mark are the first of those that are there
-pub same_entries : (c now : Progress) → IsLater c now → take (length c.blocks) now.blocks ≡ c.blocks
+pub same_entries : (c now : StreamProgress) → IsLater c now → take (length c.blocks) now.blocks ≡ c.blocks
 same_entries c now l = ap (take (length c.blocks)) l.has_blocks ∙ take_at c.blocks l.more_blocks (length c.blocks) refl
 
-pub were_listed : (mark : Mark) (now : Progress) (e : Listed) → WasMarked mark now → e.page_size ≡ now.page_size → e.limit ≡ now.limit → e.left ≡ now.left → e.blocks ≡ now.blocks → WereListed e mark.left mark.blocks
+pub were_listed : (mark : Mark) (now : StreamProgress) (e : Listed) → WasMarked mark now → e.page_size ≡ now.page_size → e.limit ≡ now.limit → e.left ≡ now.left → e.blocks ≡ now.blocks → WereListed e mark.left mark.blocks
 were_listed mark now e w same_size same_limit same_left same_blocks =
-    let c : Progress = w.before in
+    let c : StreamProgress = w.before in
     let left : mark.left ≡ c.left = ap (λ (m : Mark). m.left) w.is_mark in
     let count : mark.blocks ≡ length c.blocks = ap (λ (m : Mark). m.blocks) w.is_mark in
     let blocks : take mark.blocks e.blocks ≡ c.blocks = ap (λ (n : ℕ). take n e.blocks) count ∙ ap (take (length c.blocks)) same_blocks ∙ same_entries c now w.is_later in
@@ -50,7 +50,7 @@ were_listed mark now e w same_size same_limit same_left same_blocks =
     }
 
 -- what was read to there, field by field
-pub is_back : (c now new : Progress) (mark : Mark) → mark ≡ mark_of c → IsLater c now → new.mode ≡ now.mode → new.page_size ≡ now.page_size → new.limit ≡ now.limit
+pub is_back : (c now new : StreamProgress) (mark : Mark) → mark ≡ mark_of c → IsLater c now → new.mode ≡ now.mode → new.page_size ≡ now.page_size → new.limit ≡ now.limit
     → new.due ≡ mark.due → new.section ≡ mark.section → new.section_id ≡ mark.section_id → new.left ≡ mark.left → new.named ≡ mark.named
     → new.blocks ≡ take mark.blocks now.blocks → new.records ≡ c.records → new.rounds ≡ c.rounds → new ≡ c
 is_back c now new mark is l mode page_size limit due section section_id left named blocks records rounds =

@@ -3,8 +3,7 @@ use Rattle.std.specs.Prelude.{◌≡◌, ◌≢◌, ℕ, ◌+◌, ◌-◌, ◌*�
 use Rattle.std.specs.Bool.{then_some}
 use Rattle.std.specs.Option.{unwrap_or}
 use Rattle.mig_mem.specs.PageSize.{IsPageSize}
-use Rattle.mig_mem.specs.RamTable.{Block, RamTable, block_of, is_id, total_pages}
-use Rattle.mig_stream.specs.Format.{most_blocks}
+use Rattle.mig_mem.specs.RamTable.{Block, RamTable, block_of, is_id, total_pages, max_blocks}
 use Rattle.mig_stream.specs.Progress.{is_used_up}
 
 -- the page size, the limit on the total, how many bytes of the total are left (None before the list), and the blocks
@@ -22,7 +21,7 @@ listed_table page_size left blocks = then_some (is_used_up left) (record { page_
 pub record AreListed (page_size limit : ℕ) (left : Option ℕ) (blocks : List Block) : Type 0 where
   pub has_page_size : IsPageSize page_size
   pub has_limit : limit ≤ 2 ^ 40
-  pub has_few : length blocks ≤ most_blocks
+  pub has_few : length blocks ≤ max_blocks
   pub has_ids : All (λ b. IsTrue (is_id b.id)) blocks
   pub has_own_ids : AllPairs (λ a b. a.id ≢ b.id) blocks
   pub has_pages : All (λ b. 0 < b.pages) blocks
@@ -31,7 +30,7 @@ pub record AreListed (page_size limit : ℕ) (left : Option ℕ) (blocks : List 
 
 -- an entry with this id and this many bytes may follow
 pub record IsNext (e : Listed) (id : List ℕ) (len : ℕ) : Type 0 where
-  pub has_room : length e.blocks < most_blocks
+  pub has_room : length e.blocks < max_blocks
   pub has_id : IsTrue (is_id id)
   pub has_own_id : block_of e.blocks id ≡ None
   pub has_pages : 0 < len

@@ -64,9 +64,6 @@ flags_of Flush = 0x200
 abbrev pub record_kinds : List RecordKind
 record_kinds = SizeList ∷ Named Zero ∷ Named Normal ∷ Continued Zero ∷ Continued Normal ∷ EndOfSection ∷ Flush ∷ []
 
--- Limits of this project: how many blocks a size list has, and how many bytes the name in a configuration.
-abbrev pub most_blocks : ℕ
-most_blocks = 256
-
+-- A limit of this project: how many bytes the name in a configuration has.
 abbrev pub most_name_bytes : ℕ
 most_name_bytes = 1024

@@ -4,7 +4,8 @@ use Rattle.std.specs.Option.{unwrap_or}
 use Rattle.std.specs.Str.{bytes_eq}
 use Rattle.mig_mem.specs.declared.place.Place.{Place}
 use Rattle.mig_mem.specs.Place.{place_at}
-use Rattle.mig_mem.specs.RamTable.{Block, block, block_of, is_id}
+use Rattle.mig_mem.specs.First.{first_of}
+use Rattle.mig_mem.specs.RamTable.{Block, block, block_of, is_id, max_blocks}
 use Rattle.mig_stream.specs.declared.fault.StreamFault.{StreamFault}
 use Rattle.mig_stream.specs.declared.fault.StreamFault.TheVariants as fault
 use Rattle.mig_stream.specs.declared.item.Mode.{Mode}
@@ -19,9 +20,9 @@ use Rattle.mig_stream.specs.declared.item.RecordKind.TheVariants.{SizeList, Name
 use Rattle.mig_stream.specs.declared.item.Due.{Due}
 use Rattle.mig_stream.specs.declared.item.Due.TheVariants.{FileHeader, TypeByte, ConfigLength, ConfigName, StartHead, SectionHead, RecordHead, ListEntry, BlockName, Content, Footer, Nothing}
 use Rattle.mig_stream.specs.Fields.{be32_at, be64_at}
-use Rattle.mig_stream.specs.Format.{magic, version, end_byte, section_type, configuration_type, footer_type, ram_name, ram_instance, ram_version, flags_of, record_kinds, most_blocks, most_name_bytes}
+use Rattle.mig_stream.specs.Format.{magic, version, end_byte, section_type, configuration_type, footer_type, ram_name, ram_instance, ram_version, flags_of, record_kinds, most_name_bytes}
 use Rattle.mig_stream.specs.PageRecord.{PageRecord}
-use Rattle.mig_stream.specs.Progress.{Progress}
+use Rattle.mig_stream.specs.Progress.{StreamProgress}
 
 -- ---- how many bytes an item has, as its first bytes say
 
@@ -71,13 +72,8 @@ is_allowed before.Configuration byte = byte == section_type section.Start
 is_allowed before.Footer byte = byte == section_type section.Part || byte == section_type section.End
 is_allowed before.LastFooter byte = byte == end_byte
 
--- the fault of the first test that holds
-abbrev pub first_of : List (Bool × StreamFault) → Option StreamFault
-first_of [] = None
-first_of (test ∷ tests) = if test.0 then Some test.1 else first_of tests
-
 -- the tests of a record head with this page number, after that of its flags
-abbrev pub kind_faults : Progress → RecordKind → ℕ → List (Bool × StreamFault)
+abbrev pub kind_faults : StreamProgress → RecordKind → ℕ → List (Bool × StreamFault)
 kind_faults c SizeList page =
     (is_some c.left, fault.SizePlace) ∷
     (page == 0 || nat_lt c.limit (page * c.page_size), fault.Total) ∷ []
@@ -94,12 +90,12 @@ kind_faults c Flush page =
     (is_single c.mode, fault.Flush) ∷
     (not (page == 0), fault.OffsetOut) ∷ []
 
-abbrev pub head_faults : Progress → ℕ → Option RecordKind → ℕ → List (Bool × StreamFault)
+abbrev pub head_faults : StreamProgress → ℕ → Option RecordKind → ℕ → List (Bool × StreamFault)
 head_faults c flags None page = (true, fault.Flags flags) ∷ []
 head_faults c flags (Some kind) page = kind_faults c kind page
 
 -- Each test of an item, with the fault that it is where the test holds, in the order of judging.
-abbrev pub faults : Progress → Due → List ℕ → List (Bool × StreamFault)
+abbrev pub faults : StreamProgress → Due → List ℕ → List (Bool × StreamFault)
 faults c FileHeader item =
     (not (be32_at 0 item == magic), fault.Magic) ∷
     (not (be32_at 4 item == version), fault.Version) ∷ []
@@ -119,7 +115,7 @@ faults c RecordHead item =
     let flags = be64_at 0 item % c.page_size in
     head_faults c flags (record_kind flags) (be64_at 0 item / c.page_size)
 faults c ListEntry item =
-    (nat_le most_blocks (length c.blocks), fault.TooManyBlocks) ∷
+    (nat_le max_blocks (length c.blocks), fault.TooManyBlocks) ∷
     (not (is_id (id_in item)), fault.Id) ∷
     (is_some (block_of c.blocks (id_in item)), fault.IdTwice) ∷
     (length_in item == 0 || not (length_in item % c.page_size == 0), fault.Length) ∷
@@ -133,13 +129,13 @@ faults c (Content Normal place) item = []
 faults c Footer item = (not (slice_index item 0 == footer_type && be32_at 1 item == c.section_id), fault.Footer) ∷ []
 faults c Nothing item = []
 
-abbrev pub first_fault : Progress → List ℕ → Option StreamFault
+abbrev pub first_fault : StreamProgress → List ℕ → Option StreamFault
 first_fault c item = first_of (faults c c.due item)
 
 -- ---- how far the stream has been read after an item without a fault
 
 -- the item after a type byte, and the section that it begins
-abbrev pub after_type : Progress → ℕ → Progress
+abbrev pub after_type : StreamProgress → ℕ → StreamProgress
 after_type c byte =
     if byte == configuration_type then record c { due = ConfigLength } else
     if byte == section_type section.Start then record c { due = StartHead; section = section.Start } else
@@ -148,21 +144,21 @@ after_type c byte =
     record c { due = Nothing }
 
 -- the records so far are a whole round
-abbrev pub end_round : Progress → Progress
+abbrev pub end_round : StreamProgress → StreamProgress
 end_round c = record c { records = []; rounds = c.rounds ++ c.records ∷ [] }
 
-abbrev pub after_kind : Progress → RecordKind → ℕ → Progress
+abbrev pub after_kind : StreamProgress → RecordKind → ℕ → StreamProgress
 after_kind c SizeList page = record c { due = ListEntry; left = Some (page * c.page_size) }
 after_kind c (Named filling) page = record c { due = BlockName filling page }
 after_kind c (Continued filling) page = record c { due = Content filling (place_at (unwrap_or c.named 0) page) }
 after_kind c EndOfSection page = record c { due = Footer }
 after_kind c Flush page = end_round c
 
-abbrev pub after_head : Progress → Option RecordKind → ℕ → Progress
+abbrev pub after_head : StreamProgress → Option RecordKind → ℕ → StreamProgress
 after_head c None page = c
 after_head c (Some kind) page = after_kind c kind page
 
-abbrev pub with_record : Progress → Place → Option (List ℕ) → Progress
+abbrev pub with_record : StreamProgress → Place → Option (List ℕ) → StreamProgress
 with_record c place content = record c { due = RecordHead; records = c.records ++ record { place = place; content = content } ∷ [] }
 
 abbrev pub footer_of : Section → Before
@@ -179,14 +175,14 @@ abbrev pub whole_rounds : Mode → List (List PageRecord) → List PageRecord �
 whole_rounds Single rounds records = rounds ++ records ∷ []
 whole_rounds Main rounds records = rounds
 
-abbrev pub end_section : Progress → Progress
+abbrev pub end_section : StreamProgress → StreamProgress
 end_section c = record c {
   due = TypeByte (footer_of c.section);
   records = open_records c.mode c.records;
   rounds = whole_rounds c.mode c.rounds c.records;
 }
 
-abbrev pub after_item : Progress → Due → List ℕ → Progress
+abbrev pub after_item : StreamProgress → Due → List ℕ → StreamProgress
 after_item c FileHeader item = record c { due = TypeByte before.FileHeader }
 after_item c (TypeByte before) item = after_type c (slice_index item 0)
 -- a name of no bytes is no item
@@ -212,5 +208,5 @@ after_item c (Content Normal place) item = with_record c place (Some item)
 after_item c Footer item = end_section c
 after_item c Nothing item = c
 
-abbrev pub after : Progress → List ℕ → Progress
+abbrev pub after : StreamProgress → List ℕ → StreamProgress
 after c item = after_item c c.due item

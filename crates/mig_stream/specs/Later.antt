@@ -3,11 +3,11 @@ use Rattle.std.specs.Prelude.{◌≡◌, ◌⊎◌, List, ◌∷◌, ◌++◌, l
 use Rattle.mig_mem.specs.RamTable.{Block}
 use Rattle.mig_stream.specs.declared.progress.Mark.{Mark}
 use Rattle.mig_stream.specs.PageRecord.{PageRecord}
-use Rattle.mig_stream.specs.Progress.{Progress, is_used_up}
+use Rattle.mig_stream.specs.Progress.{StreamProgress, is_used_up}
 use Rattle.mig_stream.specs.Entries.{AreListed}
 
 -- the mark that is made there
-abbrev pub mark_of : Progress → Mark
+abbrev pub mark_of : StreamProgress → Mark
 mark_of c = record {
   due = c.due;
   section = c.section;
@@ -20,13 +20,13 @@ mark_of c = record {
 }
 
 -- the round that wasn't whole has grown, or is whole and others have followed it
-abbrev pub HasGrown : Progress → Progress → Type 0
+abbrev pub HasGrown : StreamProgress → StreamProgress → Type 0
 HasGrown old new =
     ((new.rounds ≡ old.rounds) × (more : List PageRecord) × (new.records ≡ old.records ++ more))
     ⊎ ((more : List PageRecord) × (others : List (List PageRecord)) × (new.rounds ≡ old.rounds ++ (old.records ++ more) ∷ others))
 
 -- Items only add to what was read before them, and a whole table stays.
-pub record IsLater (old new : Progress) : Type 0 where
+pub record IsLater (old new : StreamProgress) : Type 0 where
   pub same_mode : new.mode ≡ old.mode
   pub same_page_size : new.page_size ≡ old.page_size
   pub same_limit : new.limit ≡ old.limit
@@ -36,8 +36,8 @@ pub record IsLater (old new : Progress) : Type 0 where
   pub same_table : is_used_up old.left ≡ true → (new.left ≡ old.left) × (new.blocks ≡ old.blocks)
 
 -- the mark was made before items that led here
-pub record WasMarked (mark : Mark) (now : Progress) : Type 0 where
-  pub before : Progress
+pub record WasMarked (mark : Mark) (now : StreamProgress) : Type 0 where
+  pub before : StreamProgress
   pub is_mark : mark ≡ mark_of before
   pub is_later : IsLater before now
   pub are_listed : AreListed before.page_size before.limit before.left before.blocks

@@ -8,7 +8,7 @@ use Rattle.mig_stream.specs.declared.item.Mode.{Mode}
 use Rattle.mig_stream.specs.declared.item.Mode.TheVariants.{Single, Main}
 use Rattle.mig_stream.specs.declared.item.StreamState.TheVariants.{Closed}
 use Rattle.mig_stream.specs.PageRecord.{PageRecord, page_of}
-use Rattle.mig_stream.specs.Reading.{StreamReading, IsReading}
+use Rattle.mig_stream.specs.Reading.{Settings, settings, StreamReading, IsReading}
 use Rattle.mig_stream.specs.Text.{IsText, total_bytes}
 use Rattle.mig_stream.specs.Written.{written_record, single, main}
 
@@ -18,14 +18,13 @@ closed table rounds = record { table = Some table; rounds = rounds; state = Clos
 
 -- Each text has exactly one reading.
 abbrev pub HasOneReading : Type 0
-HasOneReading = (mode : Mode) (page_size limit : ℕ) (text : List ℕ) → IsPageSize page_size
-    → (reading : StreamReading) × IsReading mode page_size limit text reading
-    × ((other : StreamReading) → IsReading mode page_size limit text other → other ≡ reading)
+HasOneReading = (given : Settings) (text : List ℕ) → IsPageSize given.page_size
+    → (reading : StreamReading) × IsReading given text reading × ((other : StreamReading) → IsReading given text other → other ≡ reading)
 
 -- Whatever is spelled is read so, whatever follows it.
 abbrev pub SpelledIsRead : Type 0
 SpelledIsRead = (mode : Mode) (limit : ℕ) (text rest : List ℕ) (table : RamTable) (rounds : List (List PageRecord))
-    → IsText mode limit text table rounds → IsReading mode table.page_size limit (text ++ rest) (closed table rounds)
+    → IsText mode limit text table rounds → IsReading (settings mode table.page_size limit) (text ++ rest) (closed table rounds)
 
 -- a prefix of these bytes is a text of this table and these rounds
 abbrev pub HasText : Mode → ℕ → List ℕ → RamTable → List (List PageRecord) → Type 0
@@ -33,16 +32,15 @@ HasText mode limit bytes table rounds = (text rest : List ℕ) × (bytes ≡ tex
 
 -- Whatever is read to its end byte is spelled so.
 abbrev pub ReadIsSpelled : Type 0
-ReadIsSpelled = (mode : Mode) (page_size limit : ℕ) (bytes : List ℕ) (reading : StreamReading)
-    → IsPageSize page_size → limit ≤ 2 ^ 40 → All (λ byte. byte < 2 ^ 8) bytes
-    → IsReading mode page_size limit bytes reading → reading.state ≡ Closed
-    → (table : RamTable) × (table.page_size ≡ page_size) × (reading.table ≡ Some table) × HasText mode limit bytes table reading.rounds
+ReadIsSpelled = (given : Settings) (bytes : List ℕ) (reading : StreamReading)
+    → IsPageSize given.page_size → given.limit ≤ 2 ^ 40 → All (λ byte. byte < 2 ^ 8) bytes → IsReading given bytes reading → reading.state ≡ Closed
+    → (table : RamTable) × (table.page_size ≡ given.page_size) × (reading.table ≡ Some table) × HasText given.mode given.limit bytes table reading.rounds
 
 -- So bytes are read to an end byte exactly where a prefix of them is a text of that table and those rounds.
 abbrev pub ClosedIsText : Type 0
 ClosedIsText = (mode : Mode) (limit : ℕ) (bytes : List ℕ) (table : RamTable) (rounds : List (List PageRecord))
     → IsPageSize table.page_size → limit ≤ 2 ^ 40 → All (λ byte. byte < 2 ^ 8) bytes
-    → IsReading mode table.page_size limit bytes (closed table rounds) ↔ HasText mode limit bytes table rounds
+    → IsReading (settings mode table.page_size limit) bytes (closed table rounds) ↔ HasText mode limit bytes table rounds
 
 -- And no bytes have two prefixes that are texts.
 abbrev pub HasOneText : Type 0
@@ -70,5 +68,5 @@ pub record KeepsLimits (page_size : ℕ) (text : List ℕ) (reading : StreamRead
   pub has_page_size : (table : RamTable) → reading.table ≡ Some table → table.page_size ≡ page_size
 
 abbrev pub ReadingsKeepLimits : Type 0
-ReadingsKeepLimits = (mode : Mode) (page_size limit : ℕ) (text : List ℕ) (reading : StreamReading) → IsPageSize page_size
-    → IsReading mode page_size limit text reading → KeepsLimits page_size text reading
+ReadingsKeepLimits = (given : Settings) (text : List ℕ) (reading : StreamReading) → IsPageSize given.page_size
+    → IsReading given text reading → KeepsLimits given.page_size text reading

@@ -1,6 +1,6 @@
+-- To be read first, in this order.
 pub mod Format
 pub mod Fields
-pub mod FaultNumber
 pub mod PageRecord
 pub mod Progress
 pub mod Items
@@ -8,10 +8,12 @@ pub mod Reading
 pub mod Text
 pub mod Written
 pub mod Writer
+pub mod Round
+pub mod Reader
 pub mod Law
+pub mod FaultNumber
+-- How reading keeps and goes back: only contracts of the inside cite these.
 pub mod Taking
 pub mod Entries
-pub mod Round
 pub mod Later
-pub mod Reader
 pub mod Kept

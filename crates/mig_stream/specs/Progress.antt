@@ -9,7 +9,7 @@ use Rattle.mig_stream.specs.declared.item.Due.{Due}
 use Rattle.mig_stream.specs.declared.item.Due.TheVariants as due
 use Rattle.mig_stream.specs.PageRecord.{PageRecord}
 
-pub record Progress : Type 0 where
+pub record StreamProgress : Type 0 where
   -- what no text tells: which stream it is, the size of a page, and the limit on the table's total
   pub mode : Mode
   pub page_size : ℕ
@@ -30,7 +30,7 @@ pub record Progress : Type 0 where
   pub rounds : List (List PageRecord)
 
 -- before the first byte
-abbrev pub start : Mode → ℕ → ℕ → Progress
+abbrev pub start : Mode → ℕ → ℕ → StreamProgress
 start mode page_size limit = record {
   mode = mode;
   page_size = page_size;
@@ -46,7 +46,7 @@ start mode page_size limit = record {
 }
 
 -- the table of the entries so far
-abbrev pub table_of : Progress → RamTable
+abbrev pub table_of : StreamProgress → RamTable
 table_of c = record { page_size = c.page_size; blocks = c.blocks }
 
 abbrev pub is_used_up : Option ℕ → Bool
@@ -54,5 +54,5 @@ is_used_up None = false
 is_used_up (Some left) = left == 0
 
 -- the table, once the size list is whole
-abbrev pub whole_table : Progress → Option RamTable
+abbrev pub whole_table : StreamProgress → Option RamTable
 whole_table c = then_some (is_used_up c.left) (table_of c)

@@ -1,18 +1,17 @@
 -- What a reader holds, and the bytes that it stands for.
-use Rattle.std.specs.Prelude.{◌≡◌, ℕ, ◌<◌, Bool, List, [], ◌++◌, length, slice_index_or, Option}
+use Rattle.std.specs.Prelude.{◌≡◌, ◌≢◌, ℕ, ◌+◌, ◌<◌, Bool, true, false, List, [], ◌++◌, length, slice_index_or, Option}
 use Rattle.mig_mem.specs.RamTable.{RamTable}
-use Rattle.mig_stream.specs.declared.item.Mode.{Mode}
 use Rattle.mig_stream.specs.declared.item.StreamState.{StreamState}
 use Rattle.mig_stream.specs.declared.item.StreamState.TheVariants.{Reading}
 use Rattle.mig_stream.specs.PageRecord.{PageRecord}
-use Rattle.mig_stream.specs.Progress.{Progress, start}
+use Rattle.mig_stream.specs.Progress.{StreamProgress, start}
 use Rattle.mig_stream.specs.Items.{size}
-use Rattle.mig_stream.specs.Reading.{Reads, StreamReading, IsReading, state_at}
+use Rattle.mig_stream.specs.Reading.{Reads, Settings, StreamReading, IsReading, state_at}
 
 -- what a reader holds
 pub record Reader : Type 0 where
   -- how far it has read; its rounds are those that were not taken yet
-  pub progress : Progress
+  pub progress : StreamProgress
   -- the bytes after it: a part of an item
   pub pending : List ℕ
   -- how the bytes fed stand, whether or not the text is over
@@ -21,43 +20,78 @@ pub record Reader : Type 0 where
   pub ended : Bool
 
 -- these bytes are a part of the item that is due, and not the whole of it
-abbrev pub IsUnfinished : Progress → List ℕ → Type 0
+abbrev pub IsUnfinished : StreamProgress → List ℕ → Type 0
 IsUnfinished c bytes = length bytes < size c.page_size c.due bytes
 
 -- bytes are read to there, and of an item that isn't whole these bytes are kept
-pub record ReadsOn (from : Progress) (bytes : List ℕ) (to : Progress) (pending : List ℕ) (state : StreamState) : Type 0 where
+pub record ReadsOn (from : StreamProgress) (bytes : List ℕ) (to : StreamProgress) (pending : List ℕ) (state : StreamState) : Type 0 where
   pub rest : List ℕ
   pub reads : Reads from bytes to rest state
   pub has_rest : state ≡ Reading → rest ≡ pending
 
 -- with rounds that were taken before
-abbrev pub with_taken : List (List PageRecord) → Progress → Progress
+abbrev pub with_taken : List (List PageRecord) → StreamProgress → StreamProgress
 with_taken taken c = record c { rounds = taken ++ c.rounds }
 
--- The reader was made with this mode, page size and limit. It was fed this text, was told that the text is over or not, and
--- this many rounds were taken from it.
-pub record Stands (mode : Mode) (page_size limit : ℕ) (r : Reader) (text : List ℕ) (ended : Bool) (count : ℕ) : Type 0 where
-  pub has_fed : r.fed ≡ length text
-  pub has_ended : r.ended ≡ ended
-  pub taken : List (List PageRecord)
-  pub has_taken : length taken ≡ count
+-- ---- what a reader stands for
+
+-- what a reader was given so far: this text, whether it was told that the text is over, and how many rounds were taken from it
+pub record SoFar : Type 0 where
+  pub text : List ℕ
+  pub ended : Bool
+  pub taken : ℕ
+
+abbrev pub nothing_yet : SoFar
+nothing_yet = record { text = []; ended = false; taken = 0 }
+
+-- a piece of the text more
+abbrev pub with_piece : List ℕ → SoFar → SoFar
+with_piece piece so_far = record so_far { text = so_far.text ++ piece }
+
+-- it was told that the text is over
+abbrev pub over : SoFar → SoFar
+over so_far = record so_far { ended = true }
+
+-- a round more was taken
+abbrev pub one_taken : SoFar → SoFar
+one_taken so_far = record so_far { taken = so_far.taken + 1 }
+
+-- The reader was made with these settings, and was given this so far.
+pub record Stands (given : Settings) (so_far : SoFar) (r : Reader) : Type 0 where
+  pub has_fed : r.fed ≡ length so_far.text
+  pub has_ended : r.ended ≡ so_far.ended
+  pub rounds : List (List PageRecord)
+  pub has_taken : length rounds ≡ so_far.taken
   pub rest : List ℕ
-  pub reads : Reads (start mode page_size limit) text (with_taken taken r.progress) rest r.found
+  pub reads : Reads (start given.mode given.page_size given.limit) so_far.text (with_taken rounds r.progress) rest r.found
   pub has_pending : r.found ≡ Reading → rest ≡ r.pending
+
+-- A call takes this step: whatever the reader stood for before it, it stands for that with the step done.
+abbrev pub StepsOn : (SoFar → SoFar) → Reader → Reader → Type 0
+StepsOn step old new = (given : Settings) (so_far : SoFar) → Stands given so_far old → Stands given (step so_far) new
+
+-- what is said of a reader by what it stands for alone
+abbrev pub Tells : Reader → (Settings → SoFar → Type 0) → Type 0
+Tells r says = (given : Settings) (so_far : SoFar) → Stands given so_far r → says given so_far
+
+-- how many whole rounds wait to be taken
+abbrev pub waiting : Reader → ℕ
+waiting r = length r.progress.rounds
 
 -- ---- what the reading of a text tells
 
 -- the state of a text that may be over
-abbrev pub HasState : Mode → ℕ → ℕ → List ℕ → Bool → StreamState → Type 0
-HasState mode page_size limit text ended state =
-    (reading : StreamReading) × IsReading mode page_size limit text reading × (state ≡ state_at ended reading.state)
+abbrev pub HasState : Settings → List ℕ → Bool → StreamState → Type 0
+HasState given text ended state = (reading : StreamReading) × IsReading given text reading × (state ≡ state_at ended reading.state)
 
-abbrev pub HasTable : Mode → ℕ → ℕ → List ℕ → Option RamTable → Type 0
-HasTable mode page_size limit text table =
-    (reading : StreamReading) × IsReading mode page_size limit text reading × (table ≡ reading.table)
+-- no further byte changes how it stands: it is closed, or bad
+abbrev pub IsSettled : Settings → List ℕ → Type 0
+IsSettled given text = (reading : StreamReading) × IsReading given text reading × (reading.state ≢ Reading)
+
+abbrev pub HasTable : Settings → List ℕ → Option RamTable → Type 0
+HasTable given text table = (reading : StreamReading) × IsReading given text reading × (table ≡ reading.table)
 
 -- the whole round of a number
-abbrev pub HasRound : Mode → ℕ → ℕ → List ℕ → ℕ → List PageRecord → Type 0
-HasRound mode page_size limit text i round =
-    (reading : StreamReading) × IsReading mode page_size limit text reading
-    × (i < length reading.rounds) × (slice_index_or reading.rounds i [] ≡ round)
+abbrev pub HasRound : Settings → List ℕ → ℕ → List PageRecord → Type 0
+HasRound given text i round =
+    (reading : StreamReading) × IsReading given text reading × (i < length reading.rounds) × (slice_index_or reading.rounds i [] ≡ round)

@@ -9,7 +9,7 @@ use Rattle.mig_stream.specs.declared.item.StreamState.{StreamState}
 use Rattle.mig_stream.specs.declared.item.StreamState.TheVariants.{Reading, Closed, Bad}
 use Rattle.mig_stream.specs.declared.fault.StreamFault.TheVariants.{Truncated}
 use Rattle.mig_stream.specs.PageRecord.{PageRecord}
-use Rattle.mig_stream.specs.Progress.{Progress, start, whole_table}
+use Rattle.mig_stream.specs.Progress.{StreamProgress, start, whole_table}
 use Rattle.mig_stream.specs.Items.{size, first_fault, after}
 
 -- these bytes are one whole item
@@ -18,16 +18,16 @@ pub record IsItem (page_size : ℕ) (due : Due) (item : List ℕ) : Type 0 where
   pub is_whole : length item ≡ size page_size due item
 
 -- each item is whole and without a fault, after the items before it
-abbrev pub AreFaultless : Progress → List (List ℕ) → Type 0
+abbrev pub AreFaultless : StreamProgress → List (List ℕ) → Type 0
 AreFaultless c [] = ⊤
 AreFaultless c (item ∷ items) = IsItem c.page_size c.due item × (first_fault c item ≡ None) × AreFaultless (after c item) items
 
-abbrev pub after_all : Progress → List (List ℕ) → Progress
+abbrev pub after_all : StreamProgress → List (List ℕ) → StreamProgress
 after_all c [] = c
 after_all c (item ∷ items) = after_all (after c item) items
 
 -- these bytes are whole items without a fault, and lead from here to there
-pub record Front (from : Progress) (bytes : List ℕ) (to : Progress) : Type 0 where
+pub record Front (from : StreamProgress) (bytes : List ℕ) (to : StreamProgress) : Type 0 where
   pub items : List (List ℕ)
   pub has_bytes : bytes ≡ concat items
   pub are_faultless : AreFaultless from items
@@ -35,13 +35,13 @@ pub record Front (from : Progress) (bytes : List ℕ) (to : Progress) : Type 0 w
 
 -- How a text stands where these bytes follow a front: closed after the end byte, bad where a whole item with a fault
 -- follows, and else not whole.
-abbrev pub Ends : Progress → List ℕ → StreamState → Type 0
+abbrev pub Ends : StreamProgress → List ℕ → StreamState → Type 0
 Ends c rest Closed = c.due ≡ Nothing
 Ends c rest (Bad fault) = (item more : List ℕ) × (rest ≡ item ++ more) × IsItem c.page_size c.due item × (first_fault c item ≡ Some fault)
 Ends c rest Reading = (c.due ≢ Nothing) × ((item more : List ℕ) → rest ≡ item ++ more → IsItem c.page_size c.due item → ⊥)
 
 -- a text is read to there, with these bytes left, and stands so
-pub record Reads (from : Progress) (text : List ℕ) (to : Progress) (rest : List ℕ) (state : StreamState) : Type 0 where
+pub record Reads (from : StreamProgress) (text : List ℕ) (to : StreamProgress) (rest : List ℕ) (state : StreamState) : Type 0 where
   pub front : List ℕ
   pub has_text : text ≡ front ++ rest
   pub leads : Front from front to
@@ -60,9 +60,19 @@ pub record StreamReading : Type 0 where
   pub rounds : List (List PageRecord)
   pub state : StreamState
 
-pub record IsReading (mode : Mode) (page_size limit : ℕ) (text : List ℕ) (reading : StreamReading) : Type 0 where
-  pub to : Progress
+-- what no text tells: which stream it is, the size of a page, and the limit on the table's total
+pub record Settings : Type 0 where
+  pub mode : Mode
+  pub page_size : ℕ
+  pub limit : ℕ
+
+-- as a caller hands them in
+abbrev pub settings : Mode → ℕ → ℕ → Settings
+settings mode page_size limit = record { mode = mode; page_size = page_size; limit = limit }
+
+pub record IsReading (given : Settings) (text : List ℕ) (reading : StreamReading) : Type 0 where
+  pub to : StreamProgress
   pub rest : List ℕ
-  pub reads : Reads (start mode page_size limit) text to rest reading.state
+  pub reads : Reads (start given.mode given.page_size given.limit) text to rest reading.state
   pub has_table : reading.table ≡ whole_table to
   pub has_rounds : reading.rounds ≡ to.rounds

@@ -4,7 +4,7 @@ use Rattle.mig_mem.specs.Place.{place_at}
 use Rattle.mig_stream.specs.PageRecord.{PageRecord}
 
 -- the size of a page, and the page records in the order of the text
-pub record StreamRound : Type 0 where
+pub record RoundOfRecords : Type 0 where
   pub page_size : ℕ
   pub records : List PageRecord
 

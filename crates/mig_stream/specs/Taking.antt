@@ -4,25 +4,26 @@ use Rattle.mig_stream.specs.declared.item.Due.{Due}
 use Rattle.mig_stream.specs.declared.item.RecordKind.{RecordKind}
 use Rattle.mig_stream.specs.declared.stop.Stop.{Stop}
 use Rattle.mig_stream.specs.declared.stop.Stop.TheVariants as stop
-use Rattle.mig_stream.specs.Progress.{Progress}
-use Rattle.mig_stream.specs.Items.{first_of, faults, kind_faults, after_kind, after_item}
+use Rattle.mig_stream.specs.Progress.{StreamProgress}
+use Rattle.mig_mem.specs.First.{first_of}
+use Rattle.mig_stream.specs.Items.{faults, kind_faults, after_kind, after_item}
 use Rattle.mig_stream.specs.Reading.{Front}
 
 -- An item of this kind is taken where it has no fault, and else its first fault is told. Where memory was refused nothing is
 -- told. Without the item nothing changes.
-abbrev pub TakesAs : Progress → Due → List ℕ → Progress → Result ⊤ Stop → Type 0
+abbrev pub TakesAs : StreamProgress → Due → List ℕ → StreamProgress → Result ⊤ Stop → Type 0
 TakesAs old due item new (Ok done) = (first_of (faults old due item) ≡ None) × (new ≡ after_item old due item)
 TakesAs old due item new (Err (stop.Fault fault)) = (first_of (faults old due item) ≡ Some fault) × (new ≡ old)
 TakesAs old due item new (Err stop.Memory) = new ≡ old
 
 -- the same of a record head of this kind and page number, whose flags are accepted
-abbrev pub TakesHead : Progress → RecordKind → ℕ → Progress → Result ⊤ Stop → Type 0
+abbrev pub TakesHead : StreamProgress → RecordKind → ℕ → StreamProgress → Result ⊤ Stop → Type 0
 TakesHead old kind page new (Ok done) = (first_of (kind_faults old kind page) ≡ None) × (new ≡ after_kind old kind page)
 TakesHead old kind page new (Err (stop.Fault fault)) = (first_of (kind_faults old kind page) ≡ Some fault) × (new ≡ old)
 TakesHead old kind page new (Err stop.Memory) = new ≡ old
 
 -- some of these bytes, whole items without a fault, were taken
-pub record HasTaken (old : Progress) (bytes : List ℕ) (new : Progress) : Type 0 where
+pub record HasTaken (old : StreamProgress) (bytes : List ℕ) (new : StreamProgress) : Type 0 where
   pub front : List ℕ
   pub rest : List ℕ
   pub has_bytes : bytes ≡ front ++ rest

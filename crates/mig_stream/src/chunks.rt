@@ -78,7 +78,9 @@ impl<A: Allocator> Chunks<A> {
 
 impl<A: Allocator + Copy> Chunks<A> {
     /// Buffers that take no memory yet.
-    pub(crate) fn new(alloc: A) -> Chunks<A> {
+    pub(crate) fn new(alloc: A) -> Chunks<A>
+        ensures { result ≡ [] ∷ [] }
+    {
         Chunks {
             full: Vec::new(alloc),
             last: Vec::new(alloc),

@@ -2,10 +2,9 @@
 
 ghost use Rattle.std.specs.Prelude.{◌≡◌, ◌+◌, ◌*◌, ◌<◌, ◌≤◌, ◌^◌, length, take, None, Some, [], IfOk, OnOk, OnErr, IsTrue, IfSome, nat_lt};
 ghost use Rattle.std.specs.Option.{option_copied, unwrap_or};
-ghost use Rattle.std.specs.List.{list_all};
 ghost use Rattle.mig_mem.specs.declared.fault.TableFault.TheVariants as fault;
 ghost use Rattle.mig_mem.specs.PageSize.{IsPageSize};
-ghost use Rattle.mig_mem.specs.RamTable.{block, block_of, is_id, is_printable, IsTable};
+ghost use Rattle.mig_mem.specs.RamTable.{block, block_of, IsTable};
 ghost use Rattle.mig_stream.specs.Progress.{is_used_up};
 ghost use Rattle.mig_stream.specs.Entries.{listed_table, AreListed, WereListed, IsNext, with_entry};
 
@@ -16,15 +15,15 @@ use std::marker::Model;
 
 /// A block that an entry tells.
 #[derive(Drop)]
-pub(crate) struct Block<A: Allocator> {
+pub(crate) struct Entry<A: Allocator> {
     id: Bytes<A>,
     pages: u64,
 }
 
-impl<A: Allocator> Model for Block<A> {
-    ghost use Rattle.mig_mem.specs.RamTable.{Block as ListedBlock};
+impl<A: Allocator> Model for Entry<A> {
+    ghost use Rattle.mig_mem.specs.RamTable.{Block};
 
-    ghost Value = { ListedBlock };
+    ghost Value = { Block };
 
     ghost view = { λ b. record { id = b.id; pages = b.pages } };
 }
@@ -36,7 +35,7 @@ pub(crate) struct Entries<A: Allocator> {
     limit: u64,
     // how many bytes of the total no entry has: None before the size list
     left: Option<u64>,
-    blocks: Vec<Block<A>, A>,
+    blocks: Vec<Entry<A>, A>,
     table: Option<Table<A>>,
 }
 
@@ -63,7 +62,7 @@ fn no_memory(_fault: TableFault) -> NoMemory
 fn table_of<A: Allocator + Copy>(
     alloc: A,
     page_size: u64,
-    blocks: &[Block<A>],
+    blocks: &[Entry<A>],
 ) -> Result<Table<A>, NoMemory>
     requires { IsTable (record { page_size = page_size; blocks = blocks.now }) }
     ensures { IfOk result (λ t. t ≡ record { page_size = page_size; blocks = blocks.now }) }
@@ -83,7 +82,7 @@ fn whole_table<A: Allocator + Copy>(
     alloc: A,
     page_size: u64,
     left: u64,
-    blocks: &[Block<A>],
+    blocks: &[Entry<A>],
 ) -> Result<Option<Table<A>>, NoMemory>
     requires { IsTable (record { page_size = page_size; blocks = blocks.now }) }
     ensures { IfOk result (λ t. t ≡ listed_table page_size (Some left) blocks.now) }
@@ -92,24 +91,6 @@ fn whole_table<A: Allocator + Copy>(
         return Ok(None);
     }
     Ok(Some(table_of(alloc, page_size, blocks)?))
-}
-
-// Whether each byte is one of 0x20 to 0x7E.
-fn is_printable(bytes: &[u8]) -> bool
-    ensures { result ≡ list_all is_printable bytes.now }
-{
-    bytes.iter().all(|byte| 0x20 <= *byte && *byte <= 0x7E)
-}
-
-/// Whether these bytes may be a block's id.
-#[tactic(auto, unfolding(mig_mem::specs::RamTable::is_id))]
-pub(crate) fn is_id(id: &[u8]) -> bool
-    ensures { result ≡ is_id id.now }
-{
-    if id.is_empty() || id.len() > 255 {
-        return false;
-    }
-    is_printable(id)
 }
 
 impl<A: Allocator> Entries<A> {
@@ -218,7 +199,7 @@ impl<A: Allocator + Copy> Entries<A> {
         let left = self.left.unwrap_or(0) - len;
         let id = Bytes::copied(alloc, id)?;
         let pages = len / self.page_size;
-        self.blocks.push(Block { id, pages })?;
+        self.blocks.push(Entry { id, pages })?;
         match whole_table(alloc, self.page_size, left, &self.blocks) {
             Ok(table) => {
                 self.left = Some(left);

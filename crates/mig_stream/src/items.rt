@@ -10,13 +10,19 @@ ghost use Rattle.mig_stream.specs.Items.{is_allowed, record_kind, end_round};
 ghost use Rattle.mig_stream.specs.Taking.{TakesAs, TakesHead};
 
 use crate::StreamFault;
-use crate::entries::is_id;
 use crate::fields::{be32, be64};
+use crate::format::{
+    CONTINUED_PAGE, CONTINUED_ZERO, MAX_NAME_LEN, QEMU_VM_CONFIGURATION, QEMU_VM_EOF,
+    QEMU_VM_FILE_MAGIC, QEMU_VM_FILE_VERSION, QEMU_VM_SECTION_END, QEMU_VM_SECTION_FOOTER,
+    QEMU_VM_SECTION_PART, QEMU_VM_SECTION_START, RAM_INSTANCE, RAM_SAVE_FLAG_EOS,
+    RAM_SAVE_FLAG_MEM_SIZE, RAM_SAVE_FLAG_MULTIFD_FLUSH, RAM_SAVE_FLAG_PAGE, RAM_SAVE_FLAG_ZERO,
+    RAM_SECTION_NAME, RAM_VERSION,
+};
 use crate::item::{Before, Due, Filling, Mode, RecordKind, Section};
 use crate::progress::Progress;
 use crate::round::Records;
 use crate::stop::Stop;
-use mig_mem::{NoMemory, Place};
+use mig_mem::{MAX_BLOCKS, NoMemory, Place, is_id};
 use std::alloc::Allocator;
 use std::mem;
 
@@ -25,10 +31,10 @@ impl<A: Allocator> Progress<A> {
         requires { length item.now ≡ 8 }
         ensures { TakesAs self.old due.FileHeader item.now self.new result }
     {
-        if be32(item, 0) != 0x5145564D {
+        if be32(item, 0) != QEMU_VM_FILE_MAGIC {
             return Err(Stop::Fault(StreamFault::Magic));
         }
-        if be32(item, 4) != 3 {
+        if be32(item, 4) != QEMU_VM_FILE_VERSION {
             return Err(Stop::Fault(StreamFault::Version));
         }
         self.due = Due::TypeByte(Before::FileHeader);
@@ -43,20 +49,20 @@ impl<A: Allocator> Progress<A> {
         if !is_allowed(before, byte) {
             return Err(Stop::Fault(StreamFault::SectionType));
         }
-        if byte == 0 && self.mode == Mode::Main && self.records.len() != 0 {
+        if byte == QEMU_VM_EOF && self.mode == Mode::Main && self.records.len() != 0 {
             return Err(Stop::Fault(StreamFault::Tail));
         }
         match byte {
-            7 => self.due = Due::ConfigLength,
-            1 => {
+            QEMU_VM_CONFIGURATION => self.due = Due::ConfigLength,
+            QEMU_VM_SECTION_START => {
                 self.due = Due::StartHead;
                 self.section = Section::Start;
             }
-            2 => {
+            QEMU_VM_SECTION_PART => {
                 self.due = Due::SectionHead;
                 self.section = Section::Part;
             }
-            3 => {
+            QEMU_VM_SECTION_END => {
                 self.due = Due::SectionHead;
                 self.section = Section::End;
             }
@@ -70,7 +76,7 @@ impl<A: Allocator> Progress<A> {
         ensures { TakesAs self.old due.ConfigLength item.now self.new result }
     {
         let len = be32(item, 0);
-        if len > 1024 {
+        if len > MAX_NAME_LEN {
             return Err(Stop::Fault(StreamFault::ConfigLength));
         }
         self.due = if len == 0 {
@@ -95,13 +101,13 @@ impl<A: Allocator> Progress<A> {
     {
         let len = item[4] as usize;
         let name = &item[5..5 + len];
-        if name != b"ram".as_slice() {
+        if name != RAM_SECTION_NAME {
             return Err(Stop::Fault(StreamFault::SectionName));
         }
-        if be32(item, 5 + len) != 0 {
+        if be32(item, 5 + len) != RAM_INSTANCE {
             return Err(Stop::Fault(StreamFault::Instance));
         }
-        if be32(item, 9 + len) != 4 {
+        if be32(item, 9 + len) != RAM_VERSION {
             return Err(Stop::Fault(StreamFault::RamVersion));
         }
         self.section_id = be32(item, 0);
@@ -262,7 +268,7 @@ impl<A: Allocator + Copy> Progress<A> {
         let id_len = item[0] as usize;
         let id = &item[1..1 + id_len];
         let len = be64(item, 1 + id_len);
-        if self.entries.len() >= 256 {
+        if self.entries.len() >= MAX_BLOCKS {
             return Err(Stop::Fault(StreamFault::TooManyBlocks));
         }
         if !is_id(id) {
@@ -296,7 +302,7 @@ impl<A: Allocator + Copy> Progress<A> {
         requires { length item.now ≡ 5 }
         ensures { TakesAs self.old due.Footer item.now self.new result }
     {
-        if item[0] != 0x7E || be32(item, 1) != self.section_id {
+        if item[0] != QEMU_VM_SECTION_FOOTER || be32(item, 1) != self.section_id {
             return Err(Stop::Fault(StreamFault::Footer));
         }
         if self.mode == Mode::Single {
@@ -315,10 +321,10 @@ fn is_allowed(before: Before, byte: u8) -> bool
     ensures { result ≡ is_allowed before byte }
 {
     match before {
-        Before::FileHeader => byte == 7 || byte == 1,
-        Before::Configuration => byte == 1,
-        Before::Footer => byte == 2 || byte == 3,
-        Before::LastFooter => byte == 0,
+        Before::FileHeader => byte == QEMU_VM_CONFIGURATION || byte == QEMU_VM_SECTION_START,
+        Before::Configuration => byte == QEMU_VM_SECTION_START,
+        Before::Footer => byte == QEMU_VM_SECTION_PART || byte == QEMU_VM_SECTION_END,
+        Before::LastFooter => byte == QEMU_VM_EOF,
     }
 }
 
@@ -338,13 +344,13 @@ fn record_kind(flags: u16) -> Option<RecordKind>
     ensures { result ≡ record_kind flags }
 {
     match flags {
-        0x004 => Some(RecordKind::SizeList),
-        0x002 => Some(RecordKind::Named(Filling::Zero)),
-        0x008 => Some(RecordKind::Named(Filling::Normal)),
-        0x022 => Some(RecordKind::Continued(Filling::Zero)),
-        0x028 => Some(RecordKind::Continued(Filling::Normal)),
-        0x010 => Some(RecordKind::EndOfSection),
-        0x200 => Some(RecordKind::Flush),
+        RAM_SAVE_FLAG_MEM_SIZE => Some(RecordKind::SizeList),
+        RAM_SAVE_FLAG_ZERO => Some(RecordKind::Named(Filling::Zero)),
+        RAM_SAVE_FLAG_PAGE => Some(RecordKind::Named(Filling::Normal)),
+        CONTINUED_ZERO => Some(RecordKind::Continued(Filling::Zero)),
+        CONTINUED_PAGE => Some(RecordKind::Continued(Filling::Normal)),
+        RAM_SAVE_FLAG_EOS => Some(RecordKind::EndOfSection),
+        RAM_SAVE_FLAG_MULTIFD_FLUSH => Some(RecordKind::Flush),
         _ => None,
     }
 }

@@ -31,8 +31,9 @@ pub fn bytes_have_one_text()
     ensures { HasOneText }
 {}
 
-/// What a writer makes of rounds is a single stream, with a round for START and one for END around them, and its records
-/// stand for the pages of the rounds. What it makes of FLUSHes is a main stream with as many rounds.
+/// What a writer makes of rounds of a lawful table, which a limit admits, is a single stream, with a round for START and one
+/// for END around them, and its records stand for the pages of the rounds. What it makes of FLUSHes is a main stream with as
+/// many rounds.
 pub fn written_is_text()
     ensures single { SinglesAreTexts }
     ensures main { MainsAreTexts }

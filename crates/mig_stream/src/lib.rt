@@ -11,6 +11,7 @@ mod chunks;
 mod entries;
 mod fault;
 mod fields;
+mod format;
 mod item;
 mod items;
 mod laws;

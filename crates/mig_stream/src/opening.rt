@@ -6,16 +6,18 @@ ghost use Rattle.mig_mem.specs.RamTable.{block};
 ghost use Rattle.mig_stream.specs.Text.{entry, total_bytes, size_list};
 ghost use Rattle.mig_stream.specs.Written.{opening};
 
+use crate::format::RAM_SAVE_FLAG_MEM_SIZE;
 use mig_mem::{NoMemory, Table};
 use std::alloc::Allocator;
 
-// The file header and START's head.
+// The file header, QEMU_VM_FILE_MAGIC and QEMU_VM_FILE_VERSION; and START's head: QEMU_VM_SECTION_START, the section id 1, the
+// name, RAM_INSTANCE and RAM_VERSION.
 const HEAD: [u8; 25] = [
     0x51, 0x45, 0x56, 0x4D, 0, 0, 0, 3, 0x01, 0, 0, 0, 1, 3, 0x72, 0x61, 0x6D, 0, 0, 0, 0, 0, 0, 0,
     4,
 ];
 
-/// EOS and the footer, with which each section ends.
+/// RAM_SAVE_FLAG_EOS, and QEMU_VM_SECTION_FOOTER with the section id, with which each section ends.
 pub(crate) const SECTION_END: [u8; 13] = [0, 0, 0, 0, 0, 0, 0, 0x10, 0x7E, 0, 0, 0, 1];
 
 /// The text up to the first part.
@@ -28,7 +30,7 @@ pub(crate) fn opening_of<A: Allocator, B: Allocator>(
 {
     let mut text = Vec::new(alloc);
     text.extend_from_slice(&HEAD)?;
-    let head = total_of(table) + 0x004;
+    let head = total_of(table) + u64::from(RAM_SAVE_FLAG_MEM_SIZE);
     text.extend_from_slice(&head.to_be_bytes())?;
     put_entries(&mut text, table)?;
     text.extend_from_slice(&SECTION_END)?;

@@ -4,7 +4,7 @@ ghost use Rattle.std.specs.Prelude.{◌≡◌, ◌≢◌, ◌≤◌, ◌^◌, On
 ghost use Rattle.std.specs.Option.{option_copied};
 ghost use Rattle.mig_mem.specs.PageSize.{IsPageSize};
 ghost use Rattle.mig_stream.specs.declared.item.Due.TheVariants as due;
-ghost use Rattle.mig_stream.specs.Progress.{Progress as Read, start, whole_table};
+ghost use Rattle.mig_stream.specs.Progress.{StreamProgress, start, whole_table};
 ghost use Rattle.mig_stream.specs.Items.{size};
 ghost use Rattle.mig_stream.specs.Reading.{IsItem, Reads};
 ghost use Rattle.mig_stream.specs.Taking.{TakesAs, HasTaken};
@@ -37,10 +37,10 @@ pub(crate) struct Progress<A: Allocator> {
 
 impl<A: Allocator> Model for Progress<A> {
     ghost use Rattle.std.specs.Prelude.{All};
-    ghost use Rattle.mig_stream.specs.Progress.{Progress as Read};
+    ghost use Rattle.mig_stream.specs.Progress.{StreamProgress};
     ghost use Rattle.mig_stream.specs.Round.{AreWhole};
 
-    ghost Value = { Read };
+    ghost Value = { StreamProgress };
 
     ghost view = { λ c. record {
       mode = c.mode;
@@ -214,7 +214,7 @@ impl<A: Allocator> Progress<A> {
     /// Goes back to where the mark was made.
     pub(crate) fn undo(&mut self, mark: Mark)
         requires { WasMarked mark self.old }
-        ensures { (c : Read) → mark ≡ mark_of c → IsLater c self.old → self.new ≡ c }
+        ensures { (c : StreamProgress) → mark ≡ mark_of c → IsLater c self.old → self.new ≡ c }
     {
         self.due = mark.due;
         self.section = mark.section;

@@ -8,14 +8,12 @@ ghost use Rattle.std.specs.Option.{option_copied};
 ghost use Rattle.mig_mem.specs.PageSize.{IsPageSize};
 ghost use Rattle.mig_mem.specs.RamTable.{RamTable};
 ghost use Rattle.mig_mem.specs.Place.{IsPlace};
-ghost use Rattle.mig_stream.specs.declared.item.Mode.{Mode as StreamMode};
 ghost use Rattle.mig_stream.specs.declared.item.StreamState.TheVariants as state;
 ghost use Rattle.mig_stream.specs.PageRecord.{PageRecord};
-ghost use Rattle.mig_stream.specs.Progress.{whole_table};
 ghost use Rattle.mig_stream.specs.Items.{size};
 ghost use Rattle.mig_stream.specs.Taking.{HasTaken};
-ghost use Rattle.mig_stream.specs.Reading.{state_at};
-ghost use Rattle.mig_stream.specs.Reader.{IsUnfinished, ReadsOn, Stands, HasState, HasTable, HasRound};
+ghost use Rattle.mig_stream.specs.Reading.{settings, state_at};
+ghost use Rattle.mig_stream.specs.Reader.{IsUnfinished, ReadsOn, nothing_yet, with_piece, over, one_taken, Stands, StepsOn, Tells, waiting, HasState, IsSettled, HasTable, HasRound};
 
 use crate::StreamFault;
 use crate::item::{Mode, StreamState};
@@ -148,7 +146,7 @@ impl<A: Allocator + Copy> StreamReader<A> {
     pub fn new(alloc: A, mode: Mode, page_size: u64, limit: u64) -> StreamReader<A>
         requires page_size { IsPageSize page_size }
         requires limit { limit ≤ 2 ^ 40 }
-        ensures stands { Stands mode page_size limit result [] false 0 }
+        ensures stands { Stands (settings mode page_size limit) nothing_yet result }
         ensures open { IsFalse result.ended }
         ensures fed { result.fed ≡ 0 }
     {
@@ -161,13 +159,13 @@ impl<A: Allocator + Copy> StreamReader<A> {
         }
     }
 
-    /// Takes the next piece of the text. After the end byte, or a fault, its bytes are only counted. An `Err` changes nothing.
+    /// Takes the next piece of the text. After the end byte, or a fault, its bytes are only counted, which is never refused. An
+    /// `Err` changes nothing.
     pub fn feed(&mut self, piece: &[u8]) -> Result<(), NoMemory>
         requires open { IsFalse self.old.ended }
         requires room { self.old.fed + length piece.now < 2 ^ 64 }
-        ensures stands { OnOk result ((mode : StreamMode) (page_size limit : ℕ) (text : List ℕ) (count : ℕ) →
-            Stands mode page_size limit self.old text false count → Stands mode page_size limit self.new (text ++ piece.now) false count) }
-        ensures stays { OnOk result (self.old.found ≢ state.Reading → self.new ≡ record self.old { fed = self.old.fed + length piece.now }) }
+        ensures stands { OnOk result (StepsOn (with_piece piece.now) self.old self.new) }
+        ensures settled { Tells self.old (λ given so_far. IsSettled given so_far.text → IsOk result) }
         ensures fed { OnOk result (self.new.fed ≡ self.old.fed + length piece.now) }
         ensures open { IsFalse self.new.ended }
         ensures err { OnErr result (self.new ≡ self.old) }
@@ -218,8 +216,7 @@ impl<A: Allocator> StreamReader<A> {
     /// The text is over: a reader that isn't closed or bad is bad from now on, with `Truncated`. A second call changes nothing.
     pub fn end(&mut self)
         ensures value { self.new ≡ record self.old { ended = true } }
-        ensures stands { (mode : StreamMode) (page_size limit : ℕ) (text : List ℕ) (ended : Bool) (count : ℕ) →
-            Stands mode page_size limit self.old text ended count → Stands mode page_size limit self.new text true count }
+        ensures stands { StepsOn over self.old self.new }
     {
         self.ended = true;
     }
@@ -240,18 +237,14 @@ impl<A: Allocator> StreamReader<A> {
 
     /// How the text stands that was fed: still to be read on, closed, or bad.
     pub fn state(&self) -> StreamState
-        ensures value { result ≡ state_at self.now.ended self.now.found }
-        ensures reading { (mode : StreamMode) (page_size limit : ℕ) (text : List ℕ) (ended : Bool) (count : ℕ) →
-            Stands mode page_size limit self.now text ended count → HasState mode page_size limit text ended result }
+        ensures { Tells self.now (λ given so_far. HasState given so_far.text so_far.ended result) }
     {
         state_at(self.ended, self.found)
     }
 
     /// The table, as soon as the size list is whole. It stays, also where a fault follows.
     pub fn table(&self) -> Option<&Table<A>>
-        ensures value { option_copied result ≡ whole_table self.now.progress }
-        ensures reading { (mode : StreamMode) (page_size limit : ℕ) (text : List ℕ) (ended : Bool) (count : ℕ) →
-            Stands mode page_size limit self.now text ended count → HasTable mode page_size limit text (option_copied result) }
+        ensures { Tells self.now (λ given so_far. HasTable given so_far.text (option_copied result)) }
     {
         self.progress.table()
     }
@@ -260,16 +253,15 @@ impl<A: Allocator> StreamReader<A> {
     pub fn take_round(&mut self) -> Result<Option<StreamRound<A>>, NoMemory>
         ensures ok { IsOk result }
         ensures none { IfOk result (λ o. IfNone o (self.new ≡ self.old)) }
-        ensures last { IfOk result (λ o. IfNone o ((mode : StreamMode) (page_size limit : ℕ) (text : List ℕ) (ended : Bool) (count i : ℕ) (round : List PageRecord) →
-            Stands mode page_size limit self.old text ended count → HasRound mode page_size limit text i round → i < count)) }
-        ensures round { IfOk result (λ o. IfSome o (λ r. (mode : StreamMode) (page_size limit : ℕ) (text : List ℕ) (ended : Bool) (count : ℕ) →
-            Stands mode page_size limit self.old text ended count → (r.page_size ≡ page_size) × HasRound mode page_size limit text count r.records)) }
-        ensures places { IfOk result (λ o. IfSome o (λ r. (mode : StreamMode) (page_size limit : ℕ) (text : List ℕ) (ended : Bool) (count : ℕ) (table : RamTable) →
-            Stands mode page_size limit self.old text ended count → HasTable mode page_size limit text (Some table) → All (λ x. IsPlace table x.place) r.records)) }
-        ensures rest { IfOk result (λ o. IfSome o (λ r. self.old.progress.rounds ≡ r.records ∷ self.new.progress.rounds)) }
-        ensures stands { IfOk result (λ o. IfSome o (λ r. (mode : StreamMode) (page_size limit : ℕ) (text : List ℕ) (ended : Bool) (count : ℕ) →
-            Stands mode page_size limit self.old text ended count → Stands mode page_size limit self.new text ended (count + 1))) }
-        ensures same { (self.new.fed ≡ self.old.fed) × (self.new.ended ≡ self.old.ended) × (self.new.found ≡ self.old.found) }
+        ensures last { IfOk result (λ o. IfNone o (Tells self.old (λ given so_far. (i : ℕ) (round : List PageRecord) →
+            HasRound given so_far.text i round → i < so_far.taken))) }
+        ensures round { IfOk result (λ o. IfSome o (λ r. Tells self.old (λ given so_far.
+            (r.page_size ≡ given.page_size) × HasRound given so_far.text so_far.taken r.records))) }
+        ensures places { IfOk result (λ o. IfSome o (λ r. Tells self.old (λ given so_far. (table : RamTable) →
+            HasTable given so_far.text (Some table) → All (λ x. IsPlace table x.place) r.records))) }
+        ensures stands { IfOk result (λ o. IfSome o (λ r. StepsOn one_taken self.old self.new)) }
+        ensures fewer { IfOk result (λ o. IfSome o (λ r. waiting self.old ≡ waiting self.new + 1)) }
+        ensures same { (self.new.fed ≡ self.old.fed) × (self.new.ended ≡ self.old.ended) }
     {
         Ok(self.progress.take_round())
     }

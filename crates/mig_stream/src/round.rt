@@ -144,9 +144,9 @@ pub struct StreamRound<A: Allocator = Global> {
 }
 
 impl<A: Allocator> Model for StreamRound<A> {
-    ghost use Rattle.mig_stream.specs.Round.{StreamRound as Round, AreWhole};
+    ghost use Rattle.mig_stream.specs.Round.{RoundOfRecords, AreWhole};
 
-    ghost Value = { Round };
+    ghost Value = { RoundOfRecords };
 
     ghost view = { λ r. record { page_size = r.page_size; records = r.records } };
 

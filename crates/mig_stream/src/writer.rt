@@ -14,21 +14,22 @@ ghost use Rattle.mig_stream.specs.PageRecord.{page_kind};
 ghost use Rattle.mig_stream.specs.Written.{Part, RoundPart, FlushPart, is_named, opening, closing, written};
 ghost use Rattle.mig_stream.specs.Writer.{HasWritten, with_pages, with_part, KeepsFront};
 
+use crate::format::{CONTINUED_PAGE, CONTINUED_ZERO, RAM_SAVE_FLAG_PAGE, RAM_SAVE_FLAG_ZERO};
 use crate::opening::{SECTION_END, opening_of};
 use mig_mem::{Dirty, Memory, NoMemory, Place, Table};
 use mig_zero::is_zero;
 use std::alloc::{Allocator, Global};
 use std::marker::Model;
 
-// A PART's type byte and section id.
+// QEMU_VM_SECTION_PART and the section id.
 const PART_HEAD: [u8; 5] = [0x02, 0, 0, 0, 1];
 
-// A PART that holds FLUSH alone.
+// A PART that holds RAM_SAVE_FLAG_MULTIFD_FLUSH and RAM_SAVE_FLAG_EOS alone, with its footer.
 const FLUSH_PART: [u8; 26] = [
     0x02, 0, 0, 0, 1, 0, 0, 0, 0, 0, 0, 0x02, 0, 0, 0, 0, 0, 0, 0, 0, 0x10, 0x7E, 0, 0, 0, 1,
 ];
 
-// END without a record, and the end byte.
+// QEMU_VM_SECTION_END with RAM_SAVE_FLAG_EOS alone and its footer, and QEMU_VM_EOF.
 const CLOSING: [u8; 19] = [
     0x03, 0, 0, 0, 1, 0, 0, 0, 0, 0, 0, 0, 0x10, 0x7E, 0, 0, 0, 1, 0x00,
 ];
@@ -177,12 +178,12 @@ impl<A: Allocator> StreamWriter<A> {
     {
         let _pages = self.table.pages(place.block);
         let flags = match (is_named, is_zero) {
-            (false, true) => 0x002,
-            (false, false) => 0x008,
-            (true, true) => 0x022,
-            (true, false) => 0x028,
+            (false, true) => RAM_SAVE_FLAG_ZERO,
+            (false, false) => RAM_SAVE_FLAG_PAGE,
+            (true, true) => CONTINUED_ZERO,
+            (true, false) => CONTINUED_PAGE,
         };
-        place.page * self.table.page_size() + flags
+        place.page * self.table.page_size() + u64::from(flags)
     }
 
     // Writes the id of a block with its length.

@@ -1,14 +1,20 @@
-//! Tests of the whole path, from senders to loads: each call that takes memory with its growths refused, and what a refused
-//! round leaves.
+//! Tests of the stream and of the whole path, from senders to loads: each call that takes memory with its growths refused, and what
+//! a refused round leaves; the libraries in use; and what faults say of themselves.
 //!
 //! The worked examples are cases of `mig_rows`.
 #![tactic(auto)]
 
 #[cfg(test)]
-mod loading;
+mod building;
+#[cfg(test)]
+mod in_use;
 #[cfg(test)]
 mod refused;
 #[cfg(test)]
 mod rounds;
 #[cfg(test)]
 mod sender;
+#[cfg(test)]
+mod streams;
+#[cfg(test)]
+mod texts;

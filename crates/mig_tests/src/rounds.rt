@@ -1,39 +1,91 @@
 //! A round of packets, and the round of a stream beside it.
 
-use mig_fixtures::{empty, put_page_and_zeros};
+ghost use Rattle.std.specs.Prelude.{◌≡◌, All};
+
+use crate::building::{feed, finished};
+use mig_assemble::{Gathered, RoundFault, Target};
+use mig_fixtures::{put_page_and_zeros, table};
 use mig_mem::{MAX_TOTAL, PAGE_SIZE_4K};
 use mig_packet::{Packet, PacketRead, put_packet, read_packet};
-use mig_stream::{Mode, StreamReader, StreamRound};
-use std::alloc::Global;
+use mig_refusing::Refusing;
+use mig_stream::{Mode, StreamReader, StreamRound, StreamWriter};
+use std::alloc::AllocGlobal;
+use std::process::Abort;
 
 /// The text of two packets: page 1 of block `a` and page 0 as zeros, and a SYNC.
-pub(crate) fn text_of_packets(alloc: Global) -> Option<Vec<u8>> {
-    let mut text = Vec::new(alloc);
-    put_page_and_zeros(&mut text).ok()?;
-    put_packet(PAGE_SIZE_4K, &mut text, 1, true, &[], &[], &[], &[]).ok()?;
-    Some(text)
+pub(crate) fn text_of_packets(rt: &(impl AllocGlobal + Abort)) -> Vec<u8> {
+    let mut text = Vec::new(rt.alloc());
+    assert!(rt; put_page_and_zeros(&mut text) == Ok(()));
+    assert!(rt; put_packet(PAGE_SIZE_4K, &mut text, 1, true, &[], &[], &[], &[]) == Ok(()));
+    text
 }
 
-/// The packets of that text.
-pub(crate) fn packets_of(alloc: Global, text: &[u8]) -> Option<Vec<Packet<'_>>> {
-    let mut packets = Vec::new(alloc);
-    let mut rest = text;
-    for _ in 0..2 {
-        match read_packet(PAGE_SIZE_4K, rest) {
-            PacketRead::Whole(packet, len) => {
-                packets.push(packet).ok()?;
-                rest = rest.get(len..)?;
-            }
-            _ => return None,
+/// The packet at the front of a text, whose pages have 4096 bytes, and what follows it.
+pub(crate) fn next_packet<'a>(
+    rt: &(impl AllocGlobal + Abort),
+    text: &'a [u8],
+) -> (Packet<'a>, &'a [u8])
+    ensures { result.0.page_size ≡ 4096 }
+{
+    match read_packet(PAGE_SIZE_4K, text) {
+        PacketRead::Whole(packet, len) => {
+            assert!(rt; packet.page_size() == 4096);
+            (packet, text.get(len..).expect(rt, "the rest"))
         }
+        _ => panic!(rt; "no packet"),
     }
-    Some(packets)
+}
+
+/// The two packets of that text, gathered.
+pub(crate) fn both_packets<'a>(rt: &(impl AllocGlobal + Abort), text: &'a [u8]) -> Gathered<'a>
+    ensures { All (λ packet. packet.page_size ≡ 4096) result }
+{
+    let (first, rest) = next_packet(rt, text);
+    let (second, _rest) = next_packet(rt, rest);
+    let mut gathered = Gathered::new(rt.alloc());
+    assert!(rt; gathered.push(first) == Ok(()));
+    assert!(rt; gathered.push(second) == Ok(()));
+    gathered
+}
+
+// The text of a stream of one block, without a round.
+fn empty_text(rt: &(impl AllocGlobal + Abort)) -> Vec<u8> {
+    let table = table(rt.alloc(), &[("a", 1)]).expect(rt, "a table");
+    let writer = StreamWriter::new(rt.alloc(), &table).expect(rt, "a writer");
+    finished(rt, writer)
+}
+
+fn first_round(
+    rt: &(impl AllocGlobal + Abort),
+    reader: &mut StreamReader,
+    text: &[u8],
+) -> StreamRound {
+    assert!(rt; feed(rt, reader, text) == Ok(()));
+    match reader.take_round() {
+        Ok(Some(round)) => round,
+        _ => panic!(rt; "no round"),
+    }
 }
 
 /// A round without page records.
-pub(crate) fn records(alloc: Global) -> Option<StreamRound> {
-    let text = empty(alloc, PAGE_SIZE_4K)?;
-    let mut reader = StreamReader::new(alloc, Mode::Single, PAGE_SIZE_4K, MAX_TOTAL);
-    reader.feed(&text).ok()?;
-    reader.take_round().ok()?
+pub(crate) fn records(rt: &(impl AllocGlobal + Abort)) -> StreamRound {
+    let mut reader = StreamReader::new(rt.alloc(), Mode::Single, PAGE_SIZE_4K, MAX_TOTAL);
+    first_round(rt, &mut reader, &empty_text(rt))
+}
+
+/// Judges a round and puts it into a memory, whose conditions are met.
+pub(crate) fn put_round(
+    rt: &(impl AllocGlobal + Abort),
+    target: &mut Target<&Refusing>,
+    round: &StreamRound,
+    packets: &Gathered<'_>,
+) -> Result<(), RoundFault>
+    requires { All (λ packet. packet.page_size ≡ 4096) packets.now }
+{
+    assert!(rt; target.memory().table().page_size() == 4096);
+    assert!(rt; target.fits(round));
+    assert!(rt; packets.len() <= 1000);
+    assert!(rt; target.base() <= 1000);
+    assert!(rt; target.rounds() <= 1000);
+    target.round(round, packets)
 }

@@ -1,25 +1,46 @@
 //! The rounds that a sender refuses.
 
-use mig_fixtures::{at, marked, set_first, table, two_pages, zeroed};
+use crate::building::{finished, part};
+use crate::refused::assert_text;
+use mig_fixtures::{places_of, set, zeroed};
+use mig_mem::{Dirty, Memory, Place};
 use mig_send::{SendFault, SingleSender};
+use mig_stream::StreamWriter;
+use std::alloc::AllocGlobal;
+use std::process::Abort;
+
+const PLACES: [Place; 2] = [Place { block: 0, page: 0 }, Place { block: 0, page: 1 }];
+
+// Rounds of a memory, of a set and of both that are of another table.
+fn assert_others_refused(
+    rt: &(impl AllocGlobal + Abort),
+    sender: &mut SingleSender,
+    image: &Memory,
+    dirty: &Dirty,
+) {
+    let other_image = zeroed(rt.alloc(), &[("a", 3)]).expect(rt, "a memory");
+    let other_dirty = places_of(rt.alloc(), other_image.table(), &PLACES).expect(rt, "a set");
+    assert!(rt; sender.round(&other_image, dirty) == Err(SendFault::OtherTable));
+    assert!(rt; sender.round(image, &other_dirty) == Err(SendFault::OtherTable));
+    assert!(rt; sender.round(&other_image, &other_dirty) == Err(SendFault::OtherTable));
+}
+
+// The text of one round.
+fn text_of_round(rt: &(impl AllocGlobal + Abort), image: &Memory, dirty: &Dirty) -> Vec<u8> {
+    let mut writer = StreamWriter::new(rt.alloc(), image.table()).expect(rt, "a writer");
+    assert!(rt; part(rt, &mut writer, image, dirty) == Ok(()));
+    finished(rt, writer)
+}
 
 // A refused round leaves nothing in the text.
 #[test]
 fn other_tables(rt: HostRuntime) {
-    let places = [at(0, 0), at(0, 1)];
-    let table = table(rt.alloc(), &[("a", 2)]).expect(&rt, "a table");
     let mut image = zeroed(rt.alloc(), &[("a", 2)]).expect(&rt, "a memory");
-    assert!(rt; set_first(&mut image, at(0, 1), 9).is_some());
-    let dirty = marked(rt.alloc(), &[("a", 2)], &places).expect(&rt, "a set");
-    let other_image = zeroed(rt.alloc(), &[("a", 3)]).expect(&rt, "a memory");
-    let other_dirty = marked(rt.alloc(), &[("a", 3)], &places).expect(&rt, "a set");
-    let mut sender = SingleSender::new(rt.alloc(), &table).expect(&rt, "a sender");
-    assert!(rt; sender.round(&other_image, &dirty) == Err(SendFault::OtherTable));
-    assert!(rt; sender.round(&image, &other_dirty) == Err(SendFault::OtherTable));
-    assert!(rt; sender.round(&other_image, &other_dirty) == Err(SendFault::OtherTable));
+    assert!(rt; set(&mut image, 0, 4096, 9));
+    let dirty = places_of(rt.alloc(), image.table(), &PLACES).expect(&rt, "a set");
+    let mut sender = SingleSender::new(rt.alloc(), image.table()).expect(&rt, "a sender");
+    assert_others_refused(&rt, &mut sender, &image, &dirty);
     assert!(rt; sender.round(&image, &dirty) == Ok(()));
-    let text = sender.finish().ok().expect(&rt, "a text");
-    let wanted = two_pages(rt.alloc()).expect(&rt, "a text");
-    assert!(rt; text.as_slice() == wanted.as_slice());
+    assert_text(&rt, sender, &text_of_round(&rt, &image, &dirty));
     assert_eq!(rt; SendFault::OtherTable.number(), 63);
 }

@@ -18,9 +18,9 @@ use Rattle.mig_tool.specs.declared.check.Answer.TheVariants.{Checked, Refused, U
 use Rattle.mig_tool.specs.declared.check.Comparison.TheVariants.{Same, Differs}
 use Rattle.mig_tool.specs.declared.fault.ScenarioFault.{ScenarioFault}
 use Rattle.mig_tool.specs.declared.fault.ScenarioFault.TheVariants as fault
-use Rattle.mig_tool.specs.Line.{Line}
+use Rattle.mig_tool.specs.Line.{ScenarioLine}
 use Rattle.mig_tool.specs.Scenario.{lines_of, table_of, refusal, is_within, unsent}
-use Rattle.mig_tool.specs.Guest.{Guest, played, rounds_from}
+use Rattle.mig_tool.specs.Guest.{ScenarioGuest, played, rounds_from}
 use Rattle.mig_tool.specs.Report.{refused, report_as, single_line, same_line}
 use Rattle.mig_tool.specs.Answer.{comparison, Answers, IsRoundTrip}
 use Rattle.mig_tool.proofs.Faithful.{played_is_sent, played_are_rounds}
@@ -61,23 +61,23 @@ is_loaded sent limit table rounds a v (inl is) good = is
 is_loaded sent limit table rounds a v (inr want) good = let bad = want.has_verdict in absurd cc
 
 -- what is known once a scenario was played and its stream was loaded
-pub outcome : {A : Type 0} (text : List ℕ) (table : RamTable) (ls : List Line) (image : Image) (sent : List ℕ) (a : Loaded A)
+pub outcome : {A : Type 0} (text : List ℕ) (table : RamTable) (ls : List ScenarioLine) (image : Image) (sent : List ℕ) (a : Loaded A)
     → IsTable table → table ≡ table_of (lines_of text) → ls ≡ lines_of text → All (λ l. IsTrue (is_within table l)) ls → unsent (lines_of text) ≡ None
     → image ≡ (played table ls).image → sent ≡ single table (rounds_of (played table ls).snapshots)
     → ((t : RamTable) (rounds : List (List Page)) → IsTable t → t.page_size ≡ 4096 → total_bytes t ≤ 2 ^ 40 → All (IsRound t) rounds → sent ≡ single t rounds
     → (a ≡ loaded t rounds) ⊎ IsWithoutMemory 4096 (2 ^ 40) sent a)
     → IsRoundTrip text image sent a
 outcome text table ls image sent a is same_table same_lines within all_sent has_image has_text load =
-    let lines : List Line = lines_of text in
+    let lines : List ScenarioLine = lines_of text in
     let t : RamTable = table_of lines in
     let is_t : IsTable t = subst IsTable same_table is in
     let within_t : All (λ l. IsTrue (is_within t l)) lines =
-    subst (λ (x : List Line). All (λ l. IsTrue (is_within t l)) x) same_lines (subst (λ x. All (λ l. IsTrue (is_within x l)) ls) same_table within) in
-    let same : played table ls ≡ played t lines = ap (λ (x : RamTable). played x ls) same_table ∙ ap (λ (x : List Line). played t x) same_lines in
+    subst (λ (x : List ScenarioLine). All (λ l. IsTrue (is_within t l)) x) same_lines (subst (λ x. All (λ l. IsTrue (is_within x l)) ls) same_table within) in
+    let same : played table ls ≡ played t lines = ap (λ (x : RamTable). played x ls) same_table ∙ ap (λ (x : List ScenarioLine). played t x) same_lines in
     let text_is : sent ≡ single t (rounds_from lines) =
-    has_text ∙ ap (λ (x : RamTable). single x (rounds_of (played table ls).snapshots)) same_table ∙ ap (λ (g : Guest). single t (rounds_of g.snapshots)) same in record {
+    has_text ∙ ap (λ (x : RamTable). single x (rounds_of (played table ls).snapshots)) same_table ∙ ap (λ (g : ScenarioGuest). single t (rounds_of g.snapshots)) same in record {
       is_sent = text_is;
-      has_image = has_image ∙ ap (λ (g : Guest). g.image) same ∙ sym (played_is_sent t lines is_t within_t all_sent);
+      has_image = has_image ∙ ap (λ (g : ScenarioGuest). g.image) same ∙ sym (played_is_sent t lines is_t within_t all_sent);
       is_loaded = load t (rounds_from lines) is_t refl is_t.has_room (played_are_rounds t lines is_t within_t) text_is;
     }
 
@@ -85,7 +85,7 @@ outcome text table ls image sent a is same_table same_lines within all_sent has_
 pub is_checked : {A : Type 0} (text sent : List ℕ) (image : Image) (len : ℕ) (a : Loaded A) (v : ⊤) → IsRoundTrip text image sent a → refusal text ≡ None → len ≡ length sent
     → a.verdict ≡ Ok v → Answers text (Checked len a.rounds)
 is_checked text sent image len a v out none is_len good =
-    let ls : List Line = lines_of text in
+    let ls : List ScenarioLine = lines_of text in
     let whole : a ≡ loaded (table_of ls) (rounds_from ls) = is_loaded sent (2 ^ 40) (table_of ls) (rounds_from ls) a v out.is_loaded good in
     let n : a.rounds ≡ length (rounds_from ls) + 2 = ap (λ (x : Loaded _). x.rounds) whole in
     let len_is : len ≡ length (single (table_of ls) (rounds_from ls)) = is_len ∙ ap (λ (x : List ℕ). length x) out.is_sent in (
@@ -100,14 +100,14 @@ is_checked text sent image len a v out none is_len good =
 pub is_guest : {A : Type 0} (text sent : List ℕ) (image memory : Image) (a : Loaded A) (v : ⊤) → IsRoundTrip text image sent a → a.verdict ≡ Ok v → a.memory ≡ Some memory
     → memory ≡ image
 is_guest text sent image memory a v out good is =
-    let ls : List Line = lines_of text in
+    let ls : List ScenarioLine = lines_of text in
     let whole : a ≡ loaded (table_of ls) (rounds_from ls) = is_loaded sent (2 ^ 40) (table_of ls) (rounds_from ls) a v out.is_loaded good in
     let some : Some memory ≡ Some (after (table_of ls) (rounds_from ls)) = sym is ∙ ap (λ (x : Loaded _). x.memory) whole in
     some_same memory _ some ∙ sym out.has_image
 
 pub has_memory : {A : Type 0} (text sent : List ℕ) (image : Image) (a : Loaded A) (v : ⊤) → IsRoundTrip text image sent a → a.verdict ≡ Ok v → a.memory ≡ None → ⊥
 has_memory text sent image a v out good is =
-    let ls : List Line = lines_of text in
+    let ls : List ScenarioLine = lines_of text in
     let whole : a ≡ loaded (table_of ls) (rounds_from ls) = is_loaded sent (2 ^ 40) (table_of ls) (rounds_from ls) a v out.is_loaded good in
     let some : a.memory ≡ Some (after (table_of ls) (rounds_from ls)) = ap (λ (x : Loaded _). x.memory) whole in
     absurd cc

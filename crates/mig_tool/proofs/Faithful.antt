@@ -1,5 +1,5 @@
 -- The marks of a scenario's guest are faithful: what its rounds leave is its memory, where no step follows the last of them.
-use Rattle.std.proofs.Common.{ℕ, ◌≡◌, ◌*◌, ◌/◌, ◌%◌, List, [], ◌∷◌, ◌++◌, length, set, replicate, refl, sym, ap, ◌∙◌, inl, inr, append_assoc, append-nil, None, true, false, ◌||◌, ◌&&◌, cond}
+use Rattle.std.proofs.Common.{ℕ, ◌≡◌, ◌*◌, ◌/◌, ◌%◌, List, [], ◌∷◌, ◌++◌, length, set, replicate, refl, sym, ap, subst, ◌∙◌, inl, inr, append_assoc, append-nil, None, true, false, ◌||◌, ◌&&◌, cond}
 use Rattle.std.specs.Prelude.{All, Contains, IsTrue, position, nat_lt}
 use Rattle.std.specs.List.{fold, after_last}
 use Rattle.std.proofs.lemmas.Bool.{cases_Bool, cond-true, cond-false, and_parts, or_parts, ltb-true}
@@ -17,12 +17,13 @@ use Rattle.mig_mem.proofs.Images.{content_at-image_of, image_from, content_size}
 use Rattle.mig_mem.proofs.PageSizes.{page_size_some, page_of_offset}
 use Rattle.mig_mem.proofs.PlaceOrder.{place_eq-true}
 use Rattle.mig_mem.proofs.Sets.{has_place-where, where_set}
+use Rattle.mig_mem.proofs.Rounds.{image_round}
 use Rattle.mig_mem.proofs.Tracked.{tracked}
 use Rattle.mig_tool.specs.declared.line.Step.{Step}
 use Rattle.mig_tool.specs.declared.line.Step.TheVariants.{Set, Fill, Touch, Round}
-use Rattle.mig_tool.specs.Line.{Line, EmptyLine, BlockLine, StepLine}
+use Rattle.mig_tool.specs.Line.{ScenarioLine, EmptyLine, BlockLine, StepLine}
 use Rattle.mig_tool.specs.Scenario.{is_step, is_round, is_step_within, is_within, unsent}
-use Rattle.mig_tool.specs.Guest.{Guest, new_guest, after_step, after_line, played}
+use Rattle.mig_tool.specs.Guest.{ScenarioGuest, new_guest, after_step, after_line, played}
 use Rattle.mig_tool.proofs.Endings.{after_last-more, position-push_none, map_none}
 
 -- ---- one snapshot more
@@ -41,7 +42,7 @@ contains_from_has ps p h = Contains-from_any {eq = λ x y. place_eq y x} (λ x y
 -- ---- a guest whose marks are faithful
 
 -- the image before a round is the one of the round before it, or zeros
-abbrev pub sent_image : RamTable → Guest → Image
+abbrev pub sent_image : RamTable → ScenarioGuest → Image
 sent_image table g = last_image (zero_image table) g.snapshots
 
 -- a snapshot of the table
@@ -50,7 +51,7 @@ pub record IsSnapshot (table : RamTable) (s : Snapshot) : Type 0 where
   pub has_table : s.image.table ≡ table
   pub has_dirty : All (IsPlace table) s.dirty
 
-pub record IsTracked (table : RamTable) (g : Guest) : Type 0 where
+pub record IsTracked (table : RamTable) (g : ScenarioGuest) : Type 0 where
   pub is_image : IsImage g.image
   pub has_table : g.image.table ≡ table
   pub has_dirty_table : g.dirty.table ≡ table
@@ -85,7 +86,7 @@ marked_within table s p is same =
     All-weaker (IsPlace s.table) (IsPlace table) (λ q at. rw same at at) (with_place s p).marked set.is_within
 
 -- a page is marked
-touch_tracked : (table : RamTable) (g : Guest) (p : Place) → IsTable table → IsTracked table g → IsTracked table (record g { dirty = with_place g.dirty p })
+touch_tracked : (table : RamTable) (g : ScenarioGuest) (p : Place) → IsTable table → IsTracked table g → IsTracked table (record g { dirty = with_place g.dirty p })
 touch_tracked table g p is tracked = record {
   is_image = tracked.is_image;
   has_table = tracked.has_table;
@@ -97,7 +98,7 @@ touch_tracked table g p is tracked = record {
 }
 
 -- a page is written and marked
-write_tracked : (table : RamTable) (g : Guest) (p : Place) (bytes : List ℕ) → IsTable table → length bytes ≡ g.image.table.page_size → IsTracked table g
+write_tracked : (table : RamTable) (g : ScenarioGuest) (p : Place) (bytes : List ℕ) → IsTable table → length bytes ≡ g.image.table.page_size → IsTracked table g
     → IsTracked table (record g { image = with_page g.image p bytes; dirty = with_place g.dirty p })
 write_tracked table g p bytes is len tracked =
     let new : Place → List ℕ = λ q. cond (place_eq q p) bytes (content_at g.image q) in
@@ -118,7 +119,7 @@ write_tracked table g p bytes is len tracked =
     }
 
 -- a round
-round_tracked : (table : RamTable) (g : Guest) → IsTracked table g → IsTracked table (after_step g Round)
+round_tracked : (table : RamTable) (g : ScenarioGuest) → IsTracked table g → IsTracked table (after_step g Round)
 round_tracked table g tracked =
     let s : Snapshot = record { image = g.image; dirty = g.dirty.marked } in
     record {
@@ -148,7 +149,7 @@ set_within table b offset byte is within =
           (ltb-true offset ((block table.blocks b).pages * table.page_size) two.1);
     }
 
-step_tracked : (table : RamTable) (g : Guest) (step : Step) → IsTable table → IsTrue (is_step_within table step) → IsTracked table g → IsTracked table (after_step g step)
+step_tracked : (table : RamTable) (g : ScenarioGuest) (step : Step) → IsTable table → IsTrue (is_step_within table step) → IsTracked table g → IsTracked table (after_step g step)
 step_tracked table g (Set b offset byte) is within tracked =
     let size : ℕ = g.image.table.page_size in
     let p : Place = place_at b (offset / size) in
@@ -160,33 +161,33 @@ step_tracked table g (Fill b page byte) is within tracked =
 step_tracked table g (Touch b page) is within tracked = touch_tracked table g (place_at b page) is tracked
 step_tracked table g Round is within tracked = round_tracked table g tracked
 
-line_tracked : (table : RamTable) (g : Guest) (line : Line) → IsTable table → IsTrue (is_within table line) → IsTracked table g → IsTracked table (after_line g line)
+line_tracked : (table : RamTable) (g : ScenarioGuest) (line : ScenarioLine) → IsTable table → IsTrue (is_within table line) → IsTracked table g → IsTracked table (after_line g line)
 line_tracked table g EmptyLine is within tracked = tracked
 line_tracked table g (BlockLine pages id) is within tracked = tracked
 line_tracked table g (StepLine step) is within tracked = step_tracked table g step is within tracked
 
-lines_tracked : (table : RamTable) (g : Guest) (ls : List Line) → IsTable table → All (λ l. IsTrue (is_within table l)) ls → IsTracked table g → IsTracked table (fold after_line g ls)
+lines_tracked : (table : RamTable) (g : ScenarioGuest) (ls : List ScenarioLine) → IsTable table → All (λ l. IsTrue (is_within table l)) ls → IsTracked table g → IsTracked table (fold after_line g ls)
 lines_tracked table g [] is within tracked = tracked
 lines_tracked table g (l ∷ ls) is within tracked =
-    lines_tracked table (after_line g l) ls is (All-tail (λ (x : Line). IsTrue (is_within table x)) l ls within)
-    (line_tracked table g l is (All-head (λ (x : Line). IsTrue (is_within table x)) l ls within) tracked)
+    lines_tracked table (after_line g l) ls is (All-tail (λ (x : ScenarioLine). IsTrue (is_within table x)) l ls within)
+    (line_tracked table g l is (All-head (λ (x : ScenarioLine). IsTrue (is_within table x)) l ls within) tracked)
 
-played_tracked : (table : RamTable) (ls : List Line) → IsTable table → All (λ l. IsTrue (is_within table l)) ls → IsTracked table (played table ls)
+played_tracked : (table : RamTable) (ls : List ScenarioLine) → IsTable table → All (λ l. IsTrue (is_within table l)) ls → IsTracked table (played table ls)
 played_tracked table ls is within = lines_tracked table (new_guest table) ls is within (new_tracked table)
 
 -- ---- the last round
 
 -- where no step follows the last round of these lines, the guest's image was sent
-abbrev IsSent : RamTable → List Line → Guest → Type 0
+abbrev IsSent : RamTable → List ScenarioLine → ScenarioGuest → Type 0
 IsSent table ls g = position is_step (after_last is_round ls) ≡ None → g.image ≡ sent_image table g
 
 -- a line that is no round
-quiet_line : (table : RamTable) (before : List Line) (g new : Guest) (l : Line) → is_round l ≡ false → (is_step l ≡ false → new ≡ g) → IsSent table before g → IsSent table (before ++ l ∷ []) new
+quiet_line : (table : RamTable) (before : List ScenarioLine) (g new : ScenarioGuest) (l : ScenarioLine) → is_round l ≡ false → (is_step l ≡ false → new ≡ g) → IsSent table before g → IsSent table (before ++ l ∷ []) new
 quiet_line table before g new l other same sent none =
-    let two = position-push_none is_step (after_last is_round before) l (ap (λ (ls : List Line). position is_step ls) (sym (after_last-more is_round before l other)) ∙ none) in
+    let two = position-push_none is_step (after_last is_round before) l (ap (λ (ls : List ScenarioLine). position is_step ls) (sym (after_last-more is_round before l other)) ∙ none) in
     rw (same two.1) (sent two.0)
 
-line_sent : (table : RamTable) (before : List Line) (g : Guest) (l : Line) → IsSent table before g → IsSent table (before ++ l ∷ []) (after_line g l)
+line_sent : (table : RamTable) (before : List ScenarioLine) (g : ScenarioGuest) (l : ScenarioLine) → IsSent table before g → IsSent table (before ++ l ∷ []) (after_line g l)
 line_sent table before g EmptyLine sent none = quiet_line table before g g EmptyLine refl (λ _. refl) sent none
 line_sent table before g (BlockLine pages id) sent none = quiet_line table before g g (BlockLine pages id) refl (λ _. refl) sent none
 line_sent table before g (StepLine Round) sent none = sym (last_image-push (zero_image table) g.snapshots (record { image = g.image; dirty = g.dirty.marked }))
@@ -197,7 +198,7 @@ line_sent table before g (StepLine (Fill b page byte)) sent none =
 line_sent table before g (StepLine (Touch b page)) sent none =
     quiet_line table before g (after_step g (Touch b page)) (StepLine (Touch b page)) refl (λ no_step. absurd cc) sent none
 
-lines_sent : (table : RamTable) (before : List Line) (g : Guest) (ls : List Line) → IsSent table before g → IsSent table (before ++ ls) (fold after_line g ls)
+lines_sent : (table : RamTable) (before : List ScenarioLine) (g : ScenarioGuest) (ls : List ScenarioLine) → IsSent table before g → IsSent table (before ++ ls) (fold after_line g ls)
 lines_sent table before g [] sent = rw (append-nil before) sent
 lines_sent table before g (l ∷ ls) sent =
     let more : IsSent table ((before ++ l ∷ []) ++ ls) (fold after_line (after_line g l) ls) = lines_sent table (before ++ l ∷ []) (after_line g l) ls (line_sent table before g l sent) in
@@ -206,28 +207,22 @@ lines_sent table before g (l ∷ ls) sent =
 -- ---- the laws
 
 snapshot_round : (table : RamTable) (s : Snapshot) → IsSnapshot table s → IsRound table (round_of s.image s.dirty)
-unfolding pages_of
 snapshot_round table s is =
-    let page : Place → Page = λ p. record { place = p; content = content_at s.image p } in
-    record {
-      has_places = All-map (λ x. IsPlace table x.place) page s.dirty is.has_dirty;
-      has_sizes = All-map (λ x. length x.content ≡ table.page_size) page s.dirty
-          (All-weaker (IsPlace table) (λ p. length (content_at s.image p) ≡ table.page_size)
-          (λ p at. content_size s.image p is.is_image (rw is.has_table at) ∙ ap (λ (t : RamTable). t.page_size) is.has_table) s.dirty is.has_dirty);
-    }
+    let within : All (IsPlace s.image.table) s.dirty = rw is.has_table is.has_dirty in
+    subst (λ (t : RamTable). IsRound t (round_of s.image s.dirty)) is.has_table (image_round s.image s.dirty is.is_image within)
 
 -- A SCENARIO THAT HAS NO STEP AFTER ITS LAST ROUND leaves what its rounds make of a memory of zeros.
-pub played_is_sent : (table : RamTable) (ls : List Line) → IsTable table → All (λ l. IsTrue (is_within table l)) ls → unsent ls ≡ None
+pub played_is_sent : (table : RamTable) (ls : List ScenarioLine) → IsTable table → All (λ l. IsTrue (is_within table l)) ls → unsent ls ≡ None
     → after table (rounds_of (played table ls).snapshots) ≡ (played table ls).image
 played_is_sent table ls is within none =
-    let g : Guest = played table ls in
+    let g : ScenarioGuest = played table ls in
     let t : IsTracked table g = played_tracked table ls is within in
     let images : AreImagesOf table g.snapshots = All-weaker (IsSnapshot table) (λ s. IsImage s.image × (s.image.table ≡ table)) (λ s h. (h.is_image, h.has_table)) g.snapshots t.has_snapshots in
     tracked table g.snapshots images t.is_faithful ∙ sym (lines_sent table [] (new_guest table) ls (λ _. refl) (map_none _ (position is_step (after_last is_round ls)) none))
 
 -- Its rounds are rounds of its table.
-pub played_are_rounds : (table : RamTable) (ls : List Line) → IsTable table → All (λ l. IsTrue (is_within table l)) ls → All (IsRound table) (rounds_of (played table ls).snapshots)
+pub played_are_rounds : (table : RamTable) (ls : List ScenarioLine) → IsTable table → All (λ l. IsTrue (is_within table l)) ls → All (IsRound table) (rounds_of (played table ls).snapshots)
 played_are_rounds table ls is within =
-    let g : Guest = played table ls in
+    let g : ScenarioGuest = played table ls in
     All-map (IsRound table) (λ (s : Snapshot). round_of s.image s.dirty) g.snapshots
     (All-weaker (IsSnapshot table) (λ s. IsRound table (round_of s.image s.dirty)) (snapshot_round table) g.snapshots (played_tracked table ls is within).has_snapshots)

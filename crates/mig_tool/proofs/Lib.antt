@@ -11,3 +11,4 @@ pub mod Entries
 pub mod Verdicts
 pub mod Checking
 pub mod Reporting
+mod Made

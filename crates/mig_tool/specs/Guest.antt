@@ -8,22 +8,22 @@ use Rattle.mig_mem.specs.PlaceSet.{PlaceSet, with_place}
 use Rattle.mig_mem.specs.Tracking.{Snapshot, rounds_of}
 use Rattle.mig_tool.specs.declared.line.Step.{Step}
 use Rattle.mig_tool.specs.declared.line.Step.TheVariants.{Set, Fill, Touch, Round}
-use Rattle.mig_tool.specs.Line.{Line, EmptyLine, BlockLine, StepLine}
+use Rattle.mig_tool.specs.Line.{ScenarioLine, EmptyLine, BlockLine, StepLine}
 use Rattle.mig_tool.specs.Scenario.{table_of}
 
 -- a guest between two lines: its memory, the pages that are marked, and the rounds before
-pub record Guest : Type 0 where
+pub record ScenarioGuest : Type 0 where
   pub image : Image
   pub dirty : PlaceSet
   pub snapshots : List Snapshot
 
 -- zeros, without a mark
-abbrev pub new_guest : RamTable → Guest
+abbrev pub new_guest : RamTable → ScenarioGuest
 new_guest table = record { image = zero_image table; dirty = record { table = table; marked = [] }; snapshots = [] }
 
 -- A `set` writes one byte and marks its page, a `fill` writes and marks a page, a `touch` only marks it. A round takes the
 -- image with its marks, and the marks are cleared.
-abbrev pub after_step : Guest → Step → Guest
+abbrev pub after_step : ScenarioGuest → Step → ScenarioGuest
 after_step g (Set b offset byte) = record g {
   image = with_byte g.image b offset byte;
   dirty = with_place g.dirty (place_at b (offset / g.image.table.page_size));
@@ -38,15 +38,15 @@ after_step g Round = record g {
   snapshots = g.snapshots ++ record { image = g.image; dirty = g.dirty.marked } ∷ [];
 }
 
-abbrev pub after_line : Guest → Line → Guest
+abbrev pub after_line : ScenarioGuest → ScenarioLine → ScenarioGuest
 after_line g (StepLine step) = after_step g step
 after_line g EmptyLine = g
 after_line g (BlockLine pages id) = g
 
 -- the guest after some lines
-abbrev pub played : RamTable → List Line → Guest
+abbrev pub played : RamTable → List ScenarioLine → ScenarioGuest
 played table ls = fold after_line (new_guest table) ls
 
 -- the rounds of a scenario
-abbrev pub rounds_from : List Line → List (List Page)
+abbrev pub rounds_from : List ScenarioLine → List (List Page)
 rounds_from ls = rounds_of (played (table_of ls) ls).snapshots

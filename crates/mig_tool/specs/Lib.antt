@@ -6,3 +6,4 @@ pub mod Playing
 pub mod Report
 pub mod Answer
 pub mod Inputs
+pub mod Law

@@ -10,10 +10,10 @@ use Rattle.mig_tool.specs.declared.line.Step.{Step}
 use Rattle.mig_tool.specs.declared.line.Step.TheVariants.{Set, Fill, Touch, Round}
 
 -- what a line says: nothing, a block's number of pages and its id, or a step
-pub data Line : Type 0 where
-  EmptyLine : Line
-  BlockLine : ℕ → List ℕ → Line
-  StepLine : Step → Line
+pub data ScenarioLine : Type 0 where
+  EmptyLine : ScenarioLine
+  BlockLine : ℕ → List ℕ → ScenarioLine
+  StepLine : Step → ScenarioLine
 
 -- lines end with 0x0A, and what follows the last of these is a line too
 abbrev pub lines : List ℕ → List (List ℕ)
@@ -44,16 +44,16 @@ step_of name (block ∷ at ∷ byte ∷ []) =
 step_of name other = None
 
 -- `block PAGES ID`: the id is the rest of the line, with its spaces
-abbrev pub block_of : List (List ℕ) → Option Line
+abbrev pub block_of : List (List ℕ) → Option ScenarioLine
 block_of (pages ∷ id ∷ more) = option_map (λ n. BlockLine n (join_with_byte 0x20 (id ∷ more))) (number pages)
 block_of other = None
 
-abbrev pub form_of : List (List ℕ) → Option Line
+abbrev pub form_of : List (List ℕ) → Option ScenarioLine
 form_of [] = None
 form_of (name ∷ fields) =
     if bytes_eq name (codes "block") then block_of fields else option_map StepLine (option_and_then (step_of name) (numbers fields))
 
 -- what a line says, None where it has another form
-abbrev pub line_of : List ℕ → Option Line
+abbrev pub line_of : List ℕ → Option ScenarioLine
 line_of [] = Some EmptyLine
 line_of (byte ∷ bytes) = form_of (words (byte ∷ bytes))

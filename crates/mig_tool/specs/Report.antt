@@ -6,7 +6,7 @@ use Rattle.mig_mem.specs.Image.{Page}
 use Rattle.mig_stream.specs.Written.{single}
 use Rattle.mig_tool.specs.declared.fault.ScenarioFault.{ScenarioFault}
 use Rattle.mig_tool.specs.declared.fault.ScenarioFault.TheVariants as fault
-use Rattle.mig_tool.specs.Line.{Line}
+use Rattle.mig_tool.specs.Line.{ScenarioLine}
 use Rattle.mig_tool.specs.Scenario.{lines_of, table_of, refusal}
 use Rattle.mig_tool.specs.Guest.{rounds_from}
 
@@ -52,7 +52,7 @@ same_line = codes "same\n"
 abbrev pub checked : RamTable → List (List Page) → List ℕ
 checked table rounds = single_line (length (single table rounds)) (length rounds + 2) ++ same_line
 
-abbrev pub report_as : List Line → Option ScenarioFault → Report
+abbrev pub report_as : List ScenarioLine → Option ScenarioFault → Report
 report_as ls (Some f) = record { text = refused f; status = 1 }
 report_as ls None = record { text = checked (table_of ls) (rounds_from ls); status = 0 }
 
@@ -62,5 +62,5 @@ report text = report_as (lines_of text) (refusal text)
 
 -- the answers for want of memory: outside of a load, and in it, after so many rounds
 abbrev pub IsWantOfMemory : Report → Type 0
-IsWantOfMemory r = (r.status ≡ 1)
-    × ((r.text ≡ fault_line no_memory_number []) ⊎ ((rounds : ℕ) × (r.text ≡ fault_line no_memory_number (codes " round " ++ decimal rounds ++ codes " in round"))))
+IsWantOfMemory r = (r.status ≡ 1) × ((r.text ≡ fault_line no_memory_number [])
+    ⊎ ((rounds : ℕ) × (r.text ≡ fault_line no_memory_number (codes " round " ++ decimal rounds ++ codes " in round"))))

@@ -1,11 +1,11 @@
 -- How the lines that the tool keeps are seen as lines of a scenario.
 use Rattle.std.specs.Prelude.{ℕ, List, [], Option, None, Some}
 use Rattle.std.specs.Borrow.{Bor}
-use Rattle.mig_tool.specs.declared.line.Line.{Line as KeptLine}
+use Rattle.mig_tool.specs.declared.line.Line.{Line}
 use Rattle.mig_tool.specs.declared.line.Line.TheVariants as kept
-use Rattle.mig_tool.specs.Line.{Line, EmptyLine, BlockLine, StepLine, words}
+use Rattle.mig_tool.specs.Line.{ScenarioLine, EmptyLine, BlockLine, StepLine, words}
 
-abbrev pub seen : KeptLine → Line
+abbrev pub seen : Line → ScenarioLine
 seen kept.Empty = EmptyLine
 seen (kept.Block pages id) = BlockLine pages id.now
 seen (kept.Step step) = StepLine step

@@ -7,13 +7,13 @@ ghost use Rattle.mig_mem.specs.PlaceSet.{with_place};
 ghost use Rattle.mig_mem.specs.Tracking.{rounds_of};
 ghost use Rattle.mig_stream.specs.Written.{single};
 ghost use Rattle.mig_tool.specs.Scenario.{page_size, is_step_within, is_within};
-ghost use Rattle.mig_tool.specs.Guest.{Guest as ScenarioGuest, new_guest, after_step, played};
+ghost use Rattle.mig_tool.specs.Guest.{ScenarioGuest, new_guest, after_step, played};
 ghost use Rattle.mig_tool.specs.declared.line.Step.TheVariants.{Round};
 ghost use Rattle.mig_tool.specs.Playing.{AreOneTable, Holds};
 ghost use Rattle.mig_tool.specs.Seen.{seen};
 
 use crate::line::{Line, Step};
-use mig_mem::{Dirty, Memory, NoMemory, Place, Table};
+use mig_mem::{Dirty, Memory, NoMemory, PAGE_SIZE_4K, Place, Table};
 use mig_send::{SendFault, SingleSender};
 use std::alloc::{Allocator, Global};
 
@@ -33,10 +33,10 @@ pub(crate) struct Sent<A: Allocator = Global> {
 }
 
 // A page of one byte.
-fn page_of(byte: u8) -> [u8; 4096]
+fn page_of(byte: u8) -> [u8; PAGE_SIZE_4K as usize]
     ensures { result ≡ replicate page_size byte }
 {
-    [byte; 4096]
+    [byte; PAGE_SIZE_4K as usize]
 }
 
 impl<A: Allocator + Copy> Guest<A> {

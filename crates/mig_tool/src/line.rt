@@ -35,7 +35,8 @@ pub enum Line<'a> {
 // What stands before the first such byte, and what stands after it, where there is one.
 fn cut(bytes: &[u8], byte: u8) -> (&[u8], Option<&[u8]>)
     ensures { let pieces = slice_split (λ b. b == byte) in
-        MatchOption result.1 (pieces bytes.now ≡ result.0.now ∷ []) (λ rest. (pieces bytes.now ≡ result.0.now ∷ pieces rest.now) × (length rest.now < length bytes.now)) }
+        MatchOption result.1 (pieces bytes.now ≡ result.0.now ∷ [])
+        (λ rest. (pieces bytes.now ≡ result.0.now ∷ pieces rest.now) × (length rest.now < length bytes.now)) }
 {
     match bytes.iter().position(|b| *b == byte) {
         Some(at) => (&bytes[..at], Some(&bytes[at + 1..])),

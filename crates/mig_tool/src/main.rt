@@ -9,6 +9,7 @@ mod fault;
 mod guest;
 mod input;
 mod judge;
+mod laws;
 mod line;
 mod print;
 mod run;

@@ -1,7 +1,7 @@
 //! The tool as a function: its words, its input and its output, and the status that it ends with.
 
-ghost use Rattle.std.specs.Prelude.{◌≡◌, ◌≢◌, []};
-ghost use Rattle.mig_tool.specs.Answer.{AnswersInput, HasPrinted, HasReported};
+ghost use Rattle.std.specs.Prelude.{◌≡◌, ◌≢◌, ◌⊎◌, []};
+ghost use Rattle.mig_tool.specs.Answer.{AnswersInput, HasPrinted, HasReported, status_of};
 
 use crate::check::{Answer, check};
 use crate::fault::ToolFault;
@@ -24,7 +24,7 @@ pub fn run<H: Alloc<A = A>, A: Allocator + Copy, R: Read, W: Write>(
 ) -> u8
     ensures report { words.now ≡ [] → result ≢ 3
         → HasReported (R.remaining input.old) (R.remaining input.new) (W.contents output.old) (W.contents output.new) result }
-    ensures words { words.now ≢ [] → result ≢ 3 → (result ≡ 2) × (input.new ≡ input.old) }
+    ensures words { words.now ≢ [] → ((result ≡ 2) ⊎ (result ≡ 3)) × (input.new ≡ input.old) }
 {
     let answer = if words.is_empty() {
         answer(rt.alloc(), input)
@@ -36,7 +36,8 @@ pub fn run<H: Alloc<A = A>, A: Allocator + Copy, R: Read, W: Write>(
 
 /// Prints an answer, and gives the status that goes with it, or 3 where the output fails.
 pub(crate) fn end_with<W: Write>(output: &mut W, answer: Answer) -> u8
-    ensures { result ≢ 3 → HasPrinted (W.contents output.old) (W.contents output.new) answer result }
+    ensures printed { result ≢ 3 → HasPrinted (W.contents output.old) (W.contents output.new) answer result }
+    ensures status { (result ≡ status_of answer) ⊎ (result ≡ 3) }
 {
     match print(output, answer) {
         Ok(()) => status(answer),

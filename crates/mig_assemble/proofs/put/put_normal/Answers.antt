@@ -27,7 +27,8 @@ pub loop-i-preserved : goal.loop-i-preserved
 loop-i-preserved g c =
     let table : RamTable = c.args.memory.now.table in
     let packet = c.args.packet.now in
-    put_numbered c.args.memory.now c.loop-i.memory c.put_page.new.self (normal_page_at table c.args.block packet.page_size packet.bytes.now) 0 c.loop-i.i c.loop-i.i
+    put_numbered c.args.memory.now c.loop-i.memory c.put_page.new.self
+    (normal_page_at table c.args.block packet.page_size packet.bytes.now) 0 c.loop-i.i c.loop-i.i
     (place_at c.args.block (c.offset.result / c.page_size-page_size.result)) c.page.result.now c.loop-i.invariant (omega arith)
     (place_is table c.args.block packet.bytes.now c.loop-i.i c.offset.result c.page_size-page_size.result c.offset.ensures
     (c.page_size-page_size.ensures ∙ ap (λ (t : RamTable). t.page_size) c.table.ensures.value))

@@ -13,7 +13,8 @@ returns-in_default g c =
     let table : RamTable = c.args.memory.now.table in
     let packet : Fields = fields c.args.packet.now in
     let unknown : block_of table.blocks packet.id ≡ None =
-    ap (λ (t : RamTable). block_of t.blocks packet.id) (sym c.table.ensures.value) ∙ ap (λ (id : List ℕ). block_of c.table.result.now.blocks id) (sym c.id.ensures)
+    ap (λ (t : RamTable). block_of t.blocks packet.id) (sym c.table.ensures.value)
+    ∙ ap (λ (id : List ℕ). block_of c.table.result.now.blocks id) (sym c.id.ensures)
     ∙ sym c.find.ensures ∙ c.in_default.is in
     put_none c.args.memory.now c.table.ensures.image
     ∙ ap (λ (l : List Page). with_round c.args.memory.now l) (sym (unknown_has_none table packet c.requires.lawful unknown))
@@ -23,7 +24,8 @@ put_normal-requires-clause-lies g c =
     let table : RamTable = c.args.memory.now.table in
     let packet : Fields = fields c.args.packet.now in
     let known : block_of table.blocks packet.id ≡ Some c.in-Some.block =
-    ap (λ (t : RamTable). block_of t.blocks packet.id) (sym c.table.ensures.value) ∙ ap (λ (id : List ℕ). block_of c.table.result.now.blocks id) (sym c.id.ensures)
+    ap (λ (t : RamTable). block_of t.blocks packet.id) (sym c.table.ensures.value)
+    ∙ ap (λ (id : List ℕ). block_of c.table.result.now.blocks id) (sym c.id.ensures)
     ∙ sym c.find.ensures ∙ c.in-Some.is in
     lies table c.args.packet.now.page_size c.args.packet.now.bytes.now c.in-Some.block c.requires.lawful known
 
@@ -32,7 +34,8 @@ put_zeros-requires-clause-lies g c =
     let table : RamTable = c.args.memory.now.table in
     let packet : Fields = fields c.args.packet.now in
     let known : block_of table.blocks packet.id ≡ Some c.in-Some.block =
-    ap (λ (t : RamTable). block_of t.blocks packet.id) (sym c.table.ensures.value) ∙ ap (λ (id : List ℕ). block_of c.table.result.now.blocks id) (sym c.id.ensures)
+    ap (λ (t : RamTable). block_of t.blocks packet.id) (sym c.table.ensures.value)
+    ∙ ap (λ (id : List ℕ). block_of c.table.result.now.blocks id) (sym c.id.ensures)
     ∙ sym c.find.ensures ∙ c.in-Some.is in
     rw (ap (λ (m : Image). m.table) c.put_normal.ensures)
     (lies table c.args.packet.now.page_size c.args.packet.now.bytes.now c.in-Some.block c.requires.lawful known)
@@ -41,6 +44,7 @@ pub returns : goal.returns
 returns g c =
     let packet : Fields = fields c.args.packet.now in
     let known : block_of c.args.memory.now.table.blocks packet.id ≡ Some c.in-Some.block =
-    ap (λ (t : RamTable). block_of t.blocks packet.id) (sym c.table.ensures.value) ∙ ap (λ (id : List ℕ). block_of c.table.result.now.blocks id) (sym c.id.ensures)
+    ap (λ (t : RamTable). block_of t.blocks packet.id) (sym c.table.ensures.value)
+    ∙ ap (λ (id : List ℕ). block_of c.table.result.now.blocks id) (sym c.id.ensures)
     ∙ sym c.find.ensures ∙ c.in-Some.is in
     put_halves c.args.memory.now c.put_normal.new.memory c.put_zeros.new.memory packet c.in-Some.block known c.put_normal.ensures c.put_zeros.ensures

@@ -19,7 +19,8 @@ put_packet-requires-clause-zeros g c =
     let table : RamTable = c.args.memory.now.table in
     let few : c.page_size.result ≤ 8192 = search rules in
     take-replicate c.page_size.result 8192 0 few
-    ∙ ap (λ (n : ℕ). zero_page n) (c.page_size.ensures ∙ ap (λ (t : RamTable). t.page_size) c.table-2.ensures.value ∙ ap (λ (m : Image). m.table.page_size) (sym c.loop-packet.invariant))
+    ∙ ap (λ (n : ℕ). zero_page n) (c.page_size.ensures ∙ ap (λ (t : RamTable). t.page_size) c.table-2.ensures.value
+    ∙ ap (λ (m : Image). m.table.page_size) (sym c.loop-packet.invariant))
 
 pub loop-packet-preserved : goal.loop-packet-preserved
 loop-packet-preserved g c =
@@ -27,9 +28,11 @@ loop-packet-preserved g c =
     let i : ℕ = c.loop-packet.packet-index in
     let packet : Packet = c.packet-item.result in
     let put : c.put_packet.new.memory ≡ with_round c.loop-packet.memory (packet_pages table (fields (get_or c.args.packets.now i packet))) =
-    c.put_packet.ensures ∙ ap (λ (t : RamTable). with_round c.loop-packet.memory (packet_pages t (fields packet))) (ap (λ (m : Image). m.table) c.loop-packet.invariant)
+    c.put_packet.ensures ∙ ap (λ (t : RamTable). with_round c.loop-packet.memory (packet_pages t (fields packet)))
+    (ap (λ (m : Image). m.table) c.loop-packet.invariant)
     ∙ ap (λ (p : Packet). with_round c.loop-packet.memory (packet_pages table (fields p))) c.packet-item.is in
-    put_part_more c.args.memory.now c.loop-packet.memory c.put_packet.new.memory (λ (p : Packet). packet_pages table (fields p)) c.args.packets.now i packet c.loop-packet.invariant c.loop-packet-test.true put
+    put_part_more c.args.memory.now c.loop-packet.memory c.put_packet.new.memory
+    (λ (p : Packet). packet_pages table (fields p)) c.args.packets.now i packet c.loop-packet.invariant c.loop-packet-test.true put
 
 pub returns : goal.returns
 returns g c =

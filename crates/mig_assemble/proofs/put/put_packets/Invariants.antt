@@ -7,4 +7,5 @@ use Rattle.mig_assemble.specs.Judging.{packet_pages}
 use Rattle.mig_assemble.proofs.put.put_packets.Given as goal
 
 abbrev pub invariant-loop-packet : goal.invariant-loop-packet
-invariant-loop-packet g l = l.memory ≡ with_round l.fn.memory (flat_map (λ (p : Packet). packet_pages l.fn.memory.table (fields p)) (take l.packet-index l.packets))
+invariant-loop-packet g l =
+    l.memory ≡ with_round l.fn.memory (flat_map (λ (p : Packet). packet_pages l.fn.memory.table (fields p)) (take l.packet-index l.packets))

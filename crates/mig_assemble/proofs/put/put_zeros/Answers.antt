@@ -17,7 +17,8 @@ pub put_page-requires-clause-place : goal.put_page-requires-clause-place
 put_page-requires-clause-place g c =
     let table : RamTable = c.args.memory.now.table in
     let bytes : List ℕ = c.args.packet.now.bytes.now in
-    let low : c.normal_len-normal_count.result + c.loop-i.i < normal_count bytes + zero_count bytes = omega (arith, c.normal_len-normal_count.ensures, c.zero_len-zero_count.ensures, c.loop-i-test.true) in
+    let low : c.normal_len-normal_count.result + c.loop-i.i < normal_count bytes + zero_count bytes =
+    omega (arith, c.normal_len-normal_count.ensures, c.zero_len-zero_count.ensures, c.loop-i-test.true) in
     place_there table c.loop-i.memory.table c.args.block bytes (c.normal_len-normal_count.result + c.loop-i.i) c.offset.result c.page_size-page_size.result
     (ap (λ (m : Image). m.table) c.loop-i.invariant) c.requires.lies low c.offset.ensures
     (c.page_size-page_size.ensures ∙ ap (λ (t : RamTable). t.page_size) c.table.ensures.value)
@@ -44,6 +45,8 @@ returns g c =
     let packet = c.args.packet.now in
     let all : c.loop-i.i ≡ zero_count packet.bytes.now = omega (arith, c.zero_len-zero_count.ensures) in
     c.loop-i.invariant
-    ∙ ap (λ (n : ℕ). with_round c.args.memory.now (map (zero_page_at table c.args.block packet.bytes.now) (range_with_len c.normal_len-normal_count.result n))) all
-    ∙ ap (λ (n : ℕ). with_round c.args.memory.now (map (zero_page_at table c.args.block packet.bytes.now) (range_with_len n (zero_count packet.bytes.now)))) c.normal_len-normal_count.ensures
+    ∙ ap (λ (n : ℕ). with_round c.args.memory.now
+    (map (zero_page_at table c.args.block packet.bytes.now) (range_with_len c.normal_len-normal_count.result n))) all
+    ∙ ap (λ (n : ℕ). with_round c.args.memory.now
+    (map (zero_page_at table c.args.block packet.bytes.now) (range_with_len n (zero_count packet.bytes.now)))) c.normal_len-normal_count.ensures
     ∙ ap (λ (l : List Page). with_round c.args.memory.now l) (zero_by_number table c.args.block packet.page_size packet.bytes.now)

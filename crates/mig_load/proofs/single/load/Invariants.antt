@@ -1,4 +1,4 @@
-use Rattle.std.proofs.Common.{length}
+use Rattle.mig_stream.specs.Reader.{waiting}
 use Rattle.mig_load.proofs.Sections.{HasPut}
 use Rattle.mig_load.proofs.single.load.Given as goal
 
@@ -6,4 +6,4 @@ abbrev pub invariant-sections : goal.invariant-sections
 invariant-sections g l = HasPut l.page_size l.limit l.text l.reader l.target
 
 abbrev pub decreases-sections : goal.decreases-sections
-decreases-sections g l = length l.reader.progress.rounds
+decreases-sections g l = waiting l.reader

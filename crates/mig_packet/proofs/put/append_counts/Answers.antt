@@ -10,7 +10,8 @@ unfolding written_counts
 returns-clause-items g c =
     let size = c.args.page_size in
     let old = c.args.out.now.items in
-    let e : c.append.new.out.items ≡ ((((((((old ++ be32 0x11223344) ++ be32 1) ++ be32 (flags_of c.args.sync)) ++ be32 (page_limit size)) ++ be32 c.args.normals) ++ be32 (c.args.normals * size)) ++ be64 c.args.number) ++ be32 c.args.zeros) ++ replicate 28 0 =
+    let e : c.append.new.out.items ≡ ((((((((old ++ be32 0x11223344) ++ be32 1) ++ be32 (flags_of c.args.sync)) ++ be32 (page_limit size))
+    ++ be32 c.args.normals) ++ be32 (c.args.normals * size)) ++ be64 c.args.number) ++ be32 c.args.zeros) ++ replicate 28 0 =
     cc (
       c.append.ensures.items,
       c.zeros_of.ensures,
@@ -25,4 +26,5 @@ returns-clause-items g c =
       c.append_be64.ensures.items,
       c.append_be32-7.ensures.items,
     ) in
-    e ∙ regroup9 old (be32 0x11223344) (be32 1) (be32 (flags_of c.args.sync)) (be32 (page_limit size)) (be32 c.args.normals) (be32 (c.args.normals * size)) (be64 c.args.number) (be32 c.args.zeros) (replicate 28 0)
+    e ∙ regroup9 old (be32 0x11223344) (be32 1) (be32 (flags_of c.args.sync)) (be32 (page_limit size)) (be32 c.args.normals) (be32 (c.args.normals * size))
+    (be64 c.args.number) (be32 c.args.zeros) (replicate 28 0)

@@ -28,7 +28,8 @@ returns-then-len-clause-ok g c =
     let len : c.item_len-len.result ≡ item_len d.page_size d.hello mid = search rules in
     let short : length new < c.item_len-len.result = search rules in
     let rest : c.in_ok-rest.rest.now ≡ [] = c.in_ok-rest.ensures.short short in
-    let text : c.args.pending.now.items ++ c.args.piece.now ≡ new = sym c.in_ok-behind.ensures.text ∙ sym c.in_ok-rest.ensures.text ∙ ap (λ (x : List ℕ). new ++ x) rest ∙ append-nil new in
+    let text : c.args.pending.now.items ++ c.args.piece.now ≡ new =
+    sym c.in_ok-behind.ensures.text ∙ sym c.in_ok-rest.ensures.text ∙ ap (λ (x : List ℕ). new ++ x) rest ∙ append-nil new in
     (text, still_short d mid new judged none c.append_up_to-2.ensures.kept (omega (arith, short, len)))
 
 pub returns-clause-ok : goal.returns-clause-ok

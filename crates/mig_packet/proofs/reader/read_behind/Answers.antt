@@ -13,12 +13,15 @@ returns-clause-ok g c =
     let next : c.take.new.self ≡ after p item = subst (λ (x : List ℕ). c.take.new.self ≡ after p x) c.deref.ensures.value c.in_ok-take.ensures.ok in
     IfOk-weaker c.read_in_place.result (λ found. ReadsOn c.take.new.self c.args.rest.now c.read_in_place.new.progress c.read_in_place.new.pending.items found)
     (λ found. ReadsOn p (item ++ c.args.rest.now) c.read_in_place.new.progress c.read_in_place.new.pending.items found)
-    (λ found r. reads_behind p c.take.new.self c.read_in_place.new.progress item c.args.rest.now c.read_in_place.new.pending.items found c.requires.whole c.requires.faultless next r) c.read_in_place.ensures.ok
+    (λ found r. reads_behind p c.take.new.self c.read_in_place.new.progress item c.args.rest.now c.read_in_place.new.pending.items found c.requires.whole
+    c.requires.faultless next r) c.read_in_place.ensures.ok
 
 pub returns-clause-err : goal.returns-clause-err
 returns-clause-err g c =
     let p = c.args.progress.now in
     let item : List ℕ = c.args.pending.now.items in
     let next : c.take.new.self ≡ after p item = subst (λ (x : List ℕ). c.take.new.self ≡ after p x) c.deref.ensures.value c.in_ok-take.ensures.ok in
-    IfErr-weaker c.read_in_place.result (λ _. HasTaken c.take.new.self c.args.rest.now c.read_in_place.new.progress) (λ _. HasTaken p (item ++ c.args.rest.now) c.read_in_place.new.progress)
-    (λ _ t. taken_behind p c.take.new.self c.read_in_place.new.progress item c.args.rest.now c.requires.whole c.requires.faultless next t) c.read_in_place.ensures.err
+    IfErr-weaker c.read_in_place.result (λ _. HasTaken c.take.new.self c.args.rest.now c.read_in_place.new.progress)
+    (λ _. HasTaken p (item ++ c.args.rest.now) c.read_in_place.new.progress)
+    (λ _ t. taken_behind p c.take.new.self c.read_in_place.new.progress item c.args.rest.now c.requires.whole c.requires.faultless next t)
+    c.read_in_place.ensures.err

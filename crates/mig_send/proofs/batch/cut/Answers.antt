@@ -20,9 +20,12 @@ batches-init g c =
 pub batches-preserved : goal.batches-preserved
 batches-preserved g c =
     let marked = c.args.dirty.now.marked in
-    let first : IsFirstBatch c.args.limit (places_from marked c.batches.next) c.in_ok-batch.batch (places_from marked c.in_ok-batch.behind) = rw c.in-Some.is c.in_ok-batch.ensures.batch in
+    let first : IsFirstBatch c.args.limit (places_from marked c.batches.next) c.in_ok-batch.batch (places_from marked c.in_ok-batch.behind) =
+    rw c.in-Some.is c.in_ok-batch.ensures.batch in
     record {
-      cut = rw c.in_ok-push.ensures.items (cut_more c.args.limit marked (places_from marked c.batches.next) (places_from marked c.in_ok-batch.behind) c.batches.batches.items c.in_ok-batch.batch c.batches.invariant.cut first);
+      cut =
+          rw c.in_ok-push.ensures.items (cut_more c.args.limit marked (places_from marked c.batches.next)
+          (places_from marked c.in_ok-batch.behind) c.batches.batches.items c.in_ok-batch.batch c.batches.invariant.cut first);
       is_in_set = c.in_ok-batch.ensures.behind;
     }
 
@@ -33,5 +36,7 @@ pub returns-clause-batches : goal.returns-clause-batches
 returns-clause-batches g c =
     let marked = c.args.dirty.now.marked in
     let cut = cut_all c.args.limit marked c.batches.batches.items (rw c.in_default.is at c.batches.invariant.cut) in
-    let few : c.args.limit ≤ page_limit c.args.dirty.now.table.page_size = subst (λ (t : RamTable). c.args.limit ≤ page_limit t.page_size) (sym c.requires.table) c.requires.limit.1 in
-    subst (λ (t : RamTable). All (IsBatch t) c.batches.batches.items) c.requires.table (batches_fit c.args.dirty.now c.args.limit c.batches.batches.items c.count-count.ensures.set few cut)
+    let few : c.args.limit ≤ page_limit c.args.dirty.now.table.page_size =
+    subst (λ (t : RamTable). c.args.limit ≤ page_limit t.page_size) (sym c.requires.table) c.requires.limit.1 in
+    subst (λ (t : RamTable). All (IsBatch t) c.batches.batches.items) c.requires.table
+    (batches_fit c.args.dirty.now c.args.limit c.batches.batches.items c.count-count.ensures.set few cut)

@@ -7,15 +7,18 @@ use Rattle.mig_send.proofs.packed.packet_text.Goals as goal
 pub overflow_mul-len : goal.overflow_mul-len
 overflow_mul-len g c =
     let m = c.args.memory.now in
-    let size : c.page_size-page_size.result ≡ m.table.page_size = c.page_size-page_size.ensures ∙ ap (λ (t : RamTable). t.page_size) c.table-table.ensures.value in
+    let size : c.page_size-page_size.result ≡ m.table.page_size =
+    c.page_size-page_size.ensures ∙ ap (λ (t : RamTable). t.page_size) c.table-table.ensures.value in
     let few : length c.args.normal.now ≤ page_limit m.table.page_size = omega (arith, c.requires.few) in
-    let product : length c.args.normal.now * c.page_size-page_size.result < 2 ^ 21 = rw size (packet_small m.table.page_size (length c.args.normal.now) c.requires.table.has_page_size few).1 in
+    let product : length c.args.normal.now * c.page_size-page_size.result < 2 ^ 21 =
+    rw size (packet_small m.table.page_size (length c.args.normal.now) c.requires.table.has_page_size few).1 in
     omega (arith, product)
 
 pub overflow_add-len : goal.overflow_add-len
 overflow_add-len g c =
     let m = c.args.memory.now in
-    let size : c.page_size-page_size.result ≡ m.table.page_size = c.page_size-page_size.ensures ∙ ap (λ (t : RamTable). t.page_size) c.table-table.ensures.value in
+    let size : c.page_size-page_size.result ≡ m.table.page_size =
+    c.page_size-page_size.ensures ∙ ap (λ (t : RamTable). t.page_size) c.table-table.ensures.value in
     let few : length c.args.normal.now ≤ page_limit m.table.page_size = omega (arith, c.requires.few) in
     let small = packet_small m.table.page_size (length c.args.normal.now) c.requires.table.has_page_size few in
     let product : length c.args.normal.now * c.page_size-page_size.result < 2 ^ 21 = rw size small.1 in

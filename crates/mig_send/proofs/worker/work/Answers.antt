@@ -12,11 +12,13 @@ draws-preserved g c =
     record {
       so_far = worked_more c.args.memory.now c.args.batches.now c.args.deal.now c.args.seat c.draws.seat c.in-Work.next c.in-Work.number batch
           c.draws.packets c.add-packets.result c.draws.invariant.so_far c.requires.own c.requires.dealt.as_many is.0.appended is.0.next is.1
-          (subst (λ (base : ℕ). batch ≡ get_or c.args.batches.now (c.in-Work.number - base) batch) c.base.ensures c.index-batches-number.is) c.add-packets.ensures;
+          (subst (λ (base : ℕ). batch ≡ get_or c.args.batches.now
+          (c.in-Work.number - base) batch) c.base.ensures c.index-batches-number.is) c.add-packets.ensures;
     }
 
 pub returns-in-Last : goal.returns-in-Last
 returns-in-Last g c =
     let is = c.in-Last.ensures in
-    worked_last c.args.memory.now c.args.batches.now c.args.deal.now c.args.seat c.draws.seat record { packets = c.draws.packets; last = c.in-Last.last; spent = c.in-Last.spent }
+    worked_last c.args.memory.now c.args.batches.now c.args.deal.now c.args.seat c.draws.seat
+    record { packets = c.draws.packets; last = c.in-Last.last; spent = c.in-Last.spent }
     c.draws.invariant.so_far c.requires.own is.0 is.1

@@ -2,4 +2,4 @@ use Rattle.mig_send.proofs.Dealings as dealings
 use Rattle.mig_send.proofs.worker.workers_make_a_dealing.Goals as goal
 
 pub returns : goal.returns
-returns c = dealings.workers_make_a_dealing
+returns c start = dealings.workers_make_a_dealing

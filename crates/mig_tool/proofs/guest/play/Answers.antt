@@ -7,32 +7,32 @@ use Rattle.mig_mem.specs.RamTable.{RamTable}
 use Rattle.mig_mem.specs.Tracking.{rounds_of}
 use Rattle.mig_stream.specs.Written.{single}
 use Rattle.mig_tool.specs.declared.line.Step.{Step}
-use Rattle.mig_tool.specs.declared.line.Line.{Line as KeptLine}
+use Rattle.mig_tool.specs.declared.line.Line.{Line}
 use Rattle.mig_tool.specs.declared.line.Line.TheVariants as kept
-use Rattle.mig_tool.specs.Line.{Line}
+use Rattle.mig_tool.specs.Line.{ScenarioLine}
 use Rattle.mig_tool.specs.Scenario.{is_within}
-use Rattle.mig_tool.specs.Guest.{Guest, new_guest, after_line, played}
+use Rattle.mig_tool.specs.Guest.{ScenarioGuest, new_guest, after_line, played}
 use Rattle.mig_tool.specs.Playing.{Holds}
 use Rattle.mig_tool.specs.Seen.{seen}
 use Rattle.mig_tool.proofs.guest.play.Goals as goal
 use Rattle.mig_tool.proofs.guest.play.Goals.{in-Step+in_ok-take, in_default}
 
 -- one line more
-played_more : (table : RamTable) (ls : List KeptLine) (i : ℕ) (l : KeptLine) → i < length ls → get_or ls i kept.Empty ≡ l
+played_more : (table : RamTable) (ls : List Line) (i : ℕ) (l : Line) → i < length ls → get_or ls i kept.Empty ≡ l
     → played table (map seen (take (i + 1) ls)) ≡ after_line (played table (map seen (take i ls))) (seen l)
 played_more table ls i l lt is =
     let front : map seen (take (i + 1) ls) ≡ map seen (take i ls) ++ seen l ∷ [] =
-    ap (λ (xs : List KeptLine). map seen xs) (take_more ls i kept.Empty lt) ∙ map-append seen (take i ls) (get_or ls i kept.Empty ∷ [])
-    ∙ ap (λ (x : KeptLine). map seen (take i ls) ++ seen x ∷ []) is in
-    ap (λ (xs : List Line). played table xs) front ∙ fold_push after_line (new_guest table) (map seen (take i ls)) (seen l)
+    ap (λ (xs : List Line). map seen xs) (take_more ls i kept.Empty lt) ∙ map-append seen (take i ls) (get_or ls i kept.Empty ∷ [])
+    ∙ ap (λ (x : Line). map seen (take i ls) ++ seen x ∷ []) is in
+    ap (λ (xs : List ScenarioLine). played table xs) front ∙ fold_push after_line (new_guest table) (map seen (take i ls)) (seen l)
 
 -- a line that is no step changes nothing
-same_guest : (g : Guest) (l : KeptLine) → ((step : Step) → l ≡ kept.Step step → ⊥) → after_line g (seen l) ≡ g
+same_guest : (g : ScenarioGuest) (l : Line) → ((step : Step) → l ≡ kept.Step step → ⊥) → after_line g (seen l) ≡ g
 same_guest g kept.Empty no_step = refl
 same_guest g (kept.Block pages id) no_step = refl
 same_guest g (kept.Step step) no_step = absurd (no_step step refl)
 
-line_within : (table : RamTable) (ls : List KeptLine) (i : ℕ) (l : KeptLine) → All (λ x. IsTrue (is_within table x)) (map seen ls) → i < length ls → get_or ls i kept.Empty ≡ l
+line_within : (table : RamTable) (ls : List Line) (i : ℕ) (l : Line) → All (λ x. IsTrue (is_within table x)) (map seen ls) → i < length ls → get_or ls i kept.Empty ≡ l
     → IsTrue (is_within table (seen l))
 line_within table ls i l all lt is =
     let at : IsTrue (is_within table (get_or (map seen ls) i (seen kept.Empty))) = All-get_or (λ x. IsTrue (is_within table x)) (map seen ls) i (seen kept.Empty) (omega (arith, length-map ls seen)) all in
@@ -46,7 +46,7 @@ take-requires-clause-within g c =
 pub loop-line-preserved : goal.loop-line-preserved
 loop-line-preserved g c =
     let table : RamTable = c.args.table.now in
-    let ls : List KeptLine = c.args.lines.now in
+    let ls : List Line = c.args.lines.now in
     let i : ℕ = c.loop-line.line-index in
     elim c.match-line.branch [
       | in-Step+in_ok-take w ↦
@@ -63,7 +63,7 @@ loop-line-preserved g c =
 pub returns-in-Ok-clause-text : goal.returns-in-Ok-clause-text
 returns-in-Ok-clause-text g c =
     let table : RamTable = c.args.table.now in
-    let ls : List KeptLine = c.args.lines.now in
+    let ls : List Line = c.args.lines.now in
     let i : ℕ = c.loop-line.line-index in
     let all : take i ls ≡ ls = take_all i ls c.loop-line-test.false in
     let h : Holds c.loop-line.guest (played table (map seen ls)) = rw all at c.loop-line.invariant.holds in

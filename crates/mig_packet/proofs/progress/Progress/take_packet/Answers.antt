@@ -1,5 +1,5 @@
 use Rattle.std.proofs.Common.{◌∙◌, sym, ap, rules}
-use Rattle.mig_packet.specs.Progress.{Progress as Read}
+use Rattle.mig_packet.specs.Progress.{ChannelProgress as Read}
 use Rattle.mig_packet.proofs.Rounds.{made_whole}
 use Rattle.mig_packet.proofs.progress.Progress.take_packet.Goals as goal
 

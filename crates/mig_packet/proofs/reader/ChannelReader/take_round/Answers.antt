@@ -1,6 +1,6 @@
-use Rattle.std.proofs.Common.{sym, ap}
+use Rattle.std.proofs.Common.{refl, sym, ap}
 use Rattle.mig_packet.specs.Reader.{Reader}
-use Rattle.mig_packet.proofs.Standing.{taken_each, round_each, none_each}
+use Rattle.mig_packet.proofs.Standing.{taken_each, fewer_each, round_each, none_each}
 use Rattle.mig_packet.proofs.reader.ChannelReader.take_round.Goals as goal
 
 pub returns-clause-last : goal.returns-clause-last
@@ -11,6 +11,12 @@ pub returns-clause-round : goal.returns-clause-round
 returns-clause-round g c =
     round_each c.take_round.result c.args.self.now c.self.inside.progress c.take_round.new.self (ap (λ (x : Reader). x.progress) (sym c.self.view_is))
     c.take_round.ensures.some c.take_round.ensures.page_size
+
+pub returns-clause-fewer : goal.returns-clause-fewer
+returns-clause-fewer g c =
+    let old : Reader = c.args.self.now in
+    fewer_each c.take_round.result old (record old { progress = c.take_round.new.self }) c.self.inside.progress c.take_round.new.self
+    (ap (λ (x : Reader). x.progress) (sym c.self.view_is)) refl c.take_round.ensures.some
 
 pub returns-clause-stands : goal.returns-clause-stands
 returns-clause-stands g c =

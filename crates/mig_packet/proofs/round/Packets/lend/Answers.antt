@@ -15,5 +15,6 @@ loop-text-preserved g c =
       texts = ap (map lends) c.in_ok-push.ensures.items ∙ map-append lends c.loop-text.packets.items _
           ∙ ap (λ (x : List (List ℕ)). x ++ c.as_slice.result.now ∷ []) c.loop-text.invariant.texts
           ∙ ap (λ (x : List ℕ). take i texts ++ x ∷ []) text ∙ sym (take_more texts i c.text-item.result lt);
-      page_sizes = rw c.in_ok-push.ensures.items (All-push (λ (p : Packet). p.page_size ≡ c.args.page_size) c.loop-text.packets.items _ c.loop-text.invariant.page_sizes refl);
+      page_sizes = rw c.in_ok-push.ensures.items
+          (All-push (λ (p : Packet). p.page_size ≡ c.args.page_size) c.loop-text.packets.items _ c.loop-text.invariant.page_sizes refl);
     }

@@ -2,7 +2,7 @@ use Rattle.std.proofs.Common.{◌≡◌, ◌<◌, ◌≤◌, ◌∙◌, sym, ap,
 use Rattle.std.proofs.lemmas.Bool.{cases_lt}
 use Rattle.mig_stream.specs.declared.progress.Mark.{Mark}
 use Rattle.mig_stream.specs.Entries.{Listed}
-use Rattle.mig_stream.specs.Progress.{Progress as Read}
+use Rattle.mig_stream.specs.Progress.{StreamProgress as Read}
 use Rattle.mig_stream.specs.Later.{IsLater}
 use Rattle.mig_stream.proofs.Undoing.{open_round, same_round, is_back}
 use Rattle.mig_stream.proofs.progress.Progress.undo.Goals.{in-Some, in_default}

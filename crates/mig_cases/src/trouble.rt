@@ -2,10 +2,9 @@
 
 use mig_mem::NoMemory;
 use std::alloc::{AllocError, AllocFailed};
-use std::fmt;
 
 /// Why a line can't be followed.
-#[derive(Clone, Copy, Debug, PartialEq, Eq)]
+#[derive(Clone, Copy)]
 pub enum Trouble {
     /// Its words aren't those of any line, or a call's conditions aren't met.
     Line,
@@ -14,11 +13,12 @@ pub enum Trouble {
 
 pub type Done = Result<(), Trouble>;
 
-impl fmt::Display for Trouble {
-    fn fmt<W: fmt::Write>(&self, f: &mut fmt::Formatter<W>) -> fmt::Result {
+impl Trouble {
+    /// What is written of it.
+    pub fn text(self) -> &'static str {
         match self {
-            Trouble::Line => f.write_str("the line can't be followed"),
-            Trouble::NoMemory => f.write_str("no memory"),
+            Trouble::Line => "the line can't be followed",
+            Trouble::NoMemory => "no memory",
         }
     }
 }

@@ -1,24 +1,22 @@
 //! Each call on streams that takes memory, with its first growth refused, then its second, until a run has no refusal. A refused
 //! run answers want of memory and leaves what it was handed as it was; the run with memory answers as ever.
 
-use mig_fixtures::{
-    SINGLE, Step, at, feed, has_no_round, has_round, marked, part, reader, set_first, table,
-    written, zeroed,
-};
-use mig_mem::PAGE_SIZE_4K;
+use crate::building::{BLOCKS, dirty_of, feed, finished, image_with, part, text_of, two_rounds};
+use mig_fixtures::{at, table};
+use mig_mem::{MAX_TOTAL, PAGE_SIZE_4K, Place};
 use mig_refusing::{Refusing, with_each_growth_refused};
-use mig_stream::{StreamReader, StreamState, StreamWriter};
-use std::alloc::Allocator;
+use mig_stream::{Mode, StreamReader, StreamState, StreamWriter};
+use std::alloc::{AllocGlobal, Allocator};
+use std::process::Abort;
 use std::test::Fail;
 
-const BLOCKS: [(&str, u64); 2] = [("a", 2), ("pc.ram", 65)];
-
-// The text of a writer that was given nothing.
-fn is_empty_text<A: Allocator + Copy>(alloc: A, writer: StreamWriter<A>) -> bool {
-    match (writer.finish(), written(alloc, PAGE_SIZE_4K, &BLOCKS, &[])) {
-        (Ok(text), Some(wanted)) => text.as_slice() == wanted.as_slice(),
-        _ => false,
-    }
+// Asserts that a writer's text is this one.
+fn assert_text<A: Allocator>(
+    rt: &(impl AllocGlobal + Abort),
+    writer: StreamWriter<A>,
+    wanted: &[u8],
+) {
+    assert!(rt; finished(rt, writer).as_slice() == wanted);
 }
 
 #[test]
@@ -27,7 +25,7 @@ fn writer_new(rt: HostRuntime) -> Result<(), Fail> {
     let table = table(&heap, &BLOCKS).expect(&rt, "a table");
     with_each_growth_refused!(rt, heap, StreamWriter::new(&heap, &table), writer => {
         assert!(rt; writer.table().same(&table));
-        assert!(rt; is_empty_text(&heap, writer));
+        assert_text(&rt, writer, &text_of(&rt, &image_with(&rt, 0, 0), &[]));
     });
 }
 
@@ -35,26 +33,34 @@ fn writer_new(rt: HostRuntime) -> Result<(), Fail> {
 #[test]
 fn writer_part(rt: HostRuntime) -> Result<(), Fail> {
     let heap = Refusing::new(rt.alloc(), 0);
-    let others = rt.alloc();
-    let table = table(&heap, &BLOCKS).expect(&rt, "a table");
-    let mut writer = StreamWriter::new(&heap, &table).expect(&rt, "a writer");
-    let mut image = zeroed(others, &BLOCKS).expect(&rt, "a memory");
-    assert!(rt; set_first(&mut image, at(1, 64), 7).is_some());
-    let dirty = marked(others, &BLOCKS, &[at(0, 1), at(1, 64)]).expect(&rt, "a set");
-    with_each_growth_refused!(rt, heap, part(&mut writer, &image, &dirty).expect(&rt, "one table"), _done => {
-        let text = writer.finish().ok().expect(&rt, "its text");
-        let steps = [Step::Set(at(1, 64), 7), Step::Round(&[at(0, 1), at(1, 64)])];
-        let wanted = written(others, PAGE_SIZE_4K, &BLOCKS, &steps).expect(&rt, "a text");
-        assert!(rt; text.as_slice() == wanted.as_slice());
+    let image = image_with(&rt, 1, 262_144);
+    let places = [at(0, 1), at(1, 64)];
+    let dirty = dirty_of(&rt, &places);
+    let mut writer = flushed(&rt, &heap, 0);
+    with_each_growth_refused!(rt, heap, part(&rt, &mut writer, &image, &dirty), _done => {
+        assert_text(&rt, writer, &text_of(&rt, &image, &[&places]));
     });
+}
+
+// A writer of so many FLUSHes.
+fn flushed<'a>(
+    rt: &(impl AllocGlobal + Abort),
+    heap: &'a Refusing,
+    count: usize,
+) -> StreamWriter<&'a Refusing> {
+    let table = table(heap, &BLOCKS).expect(rt, "a table");
+    let mut writer = StreamWriter::new(heap, &table).expect(rt, "a writer");
+    for _ in 0..count {
+        assert!(rt; writer.flush_part() == Ok(()));
+    }
+    writer
 }
 
 // A writer whose text is full to its capacity refuses the FLUSH that doesn't fit, and takes it when there is memory.
 #[test]
 fn writer_flush(rt: HostRuntime) {
     let heap = Refusing::new(rt.alloc(), 0);
-    let table = table(&heap, &BLOCKS).expect(&rt, "a table");
-    let mut writer = StreamWriter::new(&heap, &table).expect(&rt, "a writer");
+    let mut writer = flushed(&rt, &heap, 0);
     heap.refuse(1);
     let mut count = 0;
     for done in 1..100 {
@@ -65,31 +71,7 @@ fn writer_flush(rt: HostRuntime) {
     }
     assert!(rt; count < 99);
     assert!(rt; !heap.is_waiting());
-    assert!(rt; has_flushes(&rt, writer, count));
-}
-
-// Whether a writer finishes the text of so many FLUSHes.
-fn has_flushes<A: Allocator>(rt: &HostRuntime, writer: StreamWriter<A>, count: usize) -> bool {
-    let Ok(steps) = vec![in rt.alloc(); Step::Flush; count] else {
-        return false;
-    };
-    match (
-        writer.finish(),
-        written(rt.alloc(), PAGE_SIZE_4K, &BLOCKS, &steps),
-    ) {
-        (Ok(text), Some(wanted)) => text.as_slice() == wanted.as_slice(),
-        _ => false,
-    }
-}
-
-// A writer of so many FLUSHes.
-fn flushed<'a>(heap: &'a Refusing, count: usize) -> Option<StreamWriter<&'a Refusing>> {
-    let table = table(heap, &BLOCKS)?;
-    let mut writer = StreamWriter::new(heap, &table).ok()?;
-    for _ in 0..count {
-        writer.flush_part().ok()?;
-    }
-    Some(writer)
+    assert_text(&rt, writer, &finished(&rt, flushed(&rt, &heap, count)));
 }
 
 // Of some texts one is full to its capacity. Its writer is given back, and finishes when there is memory.
@@ -97,16 +79,47 @@ fn flushed<'a>(heap: &'a Refusing, count: usize) -> Option<StreamWriter<&'a Refu
 fn writer_finish(rt: HostRuntime) {
     let heap = Refusing::new(rt.alloc(), 0);
     for count in 0..100 {
-        let writer = flushed(&heap, count).expect(&rt, "a writer");
+        let writer = flushed(&rt, &heap, count);
         heap.refuse(1);
         let run = writer.finish();
         heap.refuse(0);
         if let Err(writer) = run {
-            assert!(rt; has_flushes(&rt, writer, count));
+            assert_text(&rt, writer, &finished(&rt, flushed(&rt, &heap, count)));
             return;
         }
     }
     panic!(rt; "no text was full");
+}
+
+// Whether the next round has these pages: each a place and the first byte of its content, None where it is a mark of zeros.
+fn has_round<A: Allocator + Copy>(
+    reader: &mut StreamReader<A>,
+    pages: &[(Place, Option<u8>)],
+) -> bool {
+    let Ok(Some(round)) = reader.take_round() else {
+        return false;
+    };
+    if round.len() != pages.len() {
+        return false;
+    }
+    for (i, (place, first)) in pages.iter().enumerate() {
+        if round.place(i) != *place || first_byte(round.content(i)) != *first {
+            return false;
+        }
+    }
+    true
+}
+
+fn first_byte(content: Option<&[u8]>) -> Option<u8> {
+    content?.first().copied()
+}
+
+// Whether there is no further round.
+fn has_no_round<A: Allocator + Copy>(reader: &mut StreamReader<A>) -> bool {
+    match reader.take_round() {
+        Ok(None) => true,
+        _ => false,
+    }
 }
 
 // Whether a reader was fed 40 bytes, is reading, and has no table and no round.
@@ -133,22 +146,13 @@ fn has_both_rounds<A: Allocator + Copy>(reader: &mut StreamReader<A>) -> bool {
 #[test]
 fn reader_feed(rt: HostRuntime) {
     let heap = Refusing::new(rt.alloc(), 0);
-    let steps = [
-        Step::Set(at(0, 1), 7),
-        Step::Round(&[at(0, 0), at(0, 1), at(1, 64)]),
-        Step::Round(&[at(1, 64)]),
-    ];
-    let text = written(rt.alloc(), PAGE_SIZE_4K, &BLOCKS, &steps).expect(&rt, "a text");
+    let text = two_rounds(&rt);
     let (front, rest) = text.split_at_checked(40).expect(&rt, "two pieces");
-    let mut reader = reader(&heap, SINGLE).expect(&rt, "a reader");
-    assert!(rt;
-        feed(&mut reader, front)
-            .expect(&rt, "it isn't over")
-            .is_ok()
-    );
+    let mut reader = StreamReader::new(&heap, Mode::Single, PAGE_SIZE_4K, MAX_TOTAL);
+    assert!(rt; feed(&rt, &mut reader, front) == Ok(()));
     for nth in 1..1000u64 {
         heap.refuse(nth);
-        let run = feed(&mut reader, rest).expect(&rt, "it isn't over");
+        let run = feed(&rt, &mut reader, rest);
         let is_waiting = heap.is_waiting();
         heap.refuse(0);
         if run.is_ok() {

@@ -1,0 +1,87 @@
+//! What a packet of a case is to say.
+
+use crate::trouble::{Done, Trouble};
+use crate::words::{Words, id_of, offsets_of};
+use mig_mem::{PAGE_SIZE_4K, is_page_size};
+use mig_packet::put_packet;
+use std::alloc::Global;
+
+/// What a packet is to say. Each of its pages has this first byte, and is filled with the other.
+#[derive(Drop)]
+pub(crate) struct Fields {
+    number: u64,
+    sync: bool,
+    id: Vec<u8>,
+    normal: Vec<u64>,
+    zero: Vec<u64>,
+    first: Option<u8>,
+    fill: u8,
+}
+
+impl Fields {
+    /// `NUMBER`, and then any of `sync`, `id ID`, `normal OFFSETS`, `zero OFFSETS`, `first BYTE` and `fill BYTE`
+    pub fn read(alloc: Global, page_size: u64, words: &mut Words) -> Result<Fields, Trouble> {
+        let mut packet = Fields {
+            number: words.number()?,
+            sync: false,
+            id: Vec::new(alloc),
+            normal: Vec::new(alloc),
+            zero: Vec::new(alloc),
+            first: None,
+            fill: 0,
+        };
+        for _ in 0..6 {
+            if words.is_empty() {
+                break;
+            }
+            match words.word()? {
+                "sync" => packet.sync = true,
+                "id" => packet.id = id_of(alloc, words.word()?)?,
+                "normal" => packet.normal = offsets_of(alloc, words.word()?, page_size)?,
+                "zero" => packet.zero = offsets_of(alloc, words.word()?, page_size)?,
+                "first" => packet.first = Some(words.byte()?),
+                "fill" => packet.fill = words.byte()?,
+                _ => return Err(Trouble::Line),
+            }
+        }
+        Ok(packet)
+    }
+
+    /// The contents of its normal pages.
+    pub fn contents(&self, alloc: Global, page_size: u64) -> Result<Vec<u8>, Trouble> {
+        let mut page = vec![in alloc; self.fill; page_size as usize]?;
+        if let (Some(first), Some(place)) = (self.first, page.first_mut()) {
+            *place = first;
+        }
+        let mut contents = Vec::new(alloc);
+        for _ in &self.normal {
+            contents.extend_from_slice(&page)?;
+        }
+        Ok(contents)
+    }
+
+    /// Appends the packet to a text.
+    pub fn put(&self, page_size: u64, text: &mut Vec<u8>, contents: &[u8]) -> Done {
+        if !is_page_size(page_size) {
+            return Err(Trouble::Line);
+        }
+        let most = if page_size == PAGE_SIZE_4K { 128 } else { 64 };
+        let has_room = most >= self.normal.len() && most - self.normal.len() >= self.zero.len();
+        let is_whole = Some(contents.len() as u64)
+            == (self.normal.len() as u64).checked_mul(page_size);
+        if !has_room || !is_whole || self.id.len() > 255 {
+            return Err(Trouble::Line);
+        }
+        put_packet(
+            page_size,
+            text,
+            self.number,
+            self.sync,
+            &self.id,
+            &self.normal,
+            contents,
+            &self.zero,
+        )?;
+        Ok(())
+    }
+}

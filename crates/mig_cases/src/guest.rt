@@ -1,0 +1,80 @@
+//! The guest of a case: its memory and its marks.
+
+use crate::trouble::{Done, Trouble};
+use crate::words::Words;
+use mig_mem::{Dirty, Memory, Place, Table};
+use std::alloc::Global;
+
+/// A guest between two lines.
+#[derive(Drop)]
+pub struct Guest {
+    pub image: Memory,
+    pub dirty: Dirty,
+}
+
+impl Guest {
+    /// Zeros, without a mark.
+    pub fn new(alloc: Global, table: &Table) -> Result<Guest, Trouble> {
+        Ok(Guest {
+            image: Memory::zeroed(alloc, table)?,
+            dirty: Dirty::none(alloc, table)?,
+        })
+    }
+
+    /// Marks a page, and says whether it is new; None where the table lacks it.
+    pub fn mark(&mut self, place: Place) -> Option<bool> {
+        if !self.dirty.table().holds(place) {
+            return None;
+        }
+        self.dirty.mark(place).ok()
+    }
+
+    /// `set BLOCK OFFSET BYTE`: its page is marked.
+    pub fn set(&mut self, mut words: Words) -> Done {
+        let block = words.size()?;
+        let offset = words.number()?;
+        let byte = words.byte()?;
+        let table = self.image.table();
+        let page_size = table.page_size();
+        if block >= table.len() || offset >= table.pages(block) * page_size {
+            return Err(Trouble::Line);
+        }
+        self.image.set(block, offset, byte);
+        let page = offset.checked_div(page_size).ok_or(Trouble::Line)?;
+        let _ = self.mark(Place { block, page });
+        Ok(())
+    }
+
+    /// `fill BLOCK PAGES BYTE`: the pages are marked.
+    pub fn fill(&mut self, alloc: Global, mut words: Words) -> Done {
+        let block = words.size()?;
+        let (first, last) = words.range()?;
+        let byte = words.byte()?;
+        for page in first..=last {
+            let place = Place { block, page };
+            let _ = self.mark(place).ok_or(Trouble::Line)?;
+            self.fill_page(alloc, place, byte)?;
+        }
+        Ok(())
+    }
+
+    fn fill_page(&mut self, alloc: Global, place: Place, byte: u8) -> Done {
+        let table = self.image.table();
+        if !table.holds(place) {
+            return Err(Trouble::Line);
+        }
+        let page = vec![in alloc; byte; table.page_size() as usize]?;
+        self.image.put_page(place, &page);
+        Ok(())
+    }
+
+    /// `touch BLOCK PAGES`: marks them.
+    pub fn touch(&mut self, mut words: Words) -> Done {
+        let block = words.size()?;
+        let (first, last) = words.range()?;
+        for page in first..=last {
+            let _ = self.mark(Place { block, page }).ok_or(Trouble::Line)?;
+        }
+        Ok(())
+    }
+}

@@ -1,0 +1,27 @@
+//! Worked examples as data: what a case is. A file of cases and its words; the guest and the texts that a case's lines build; and
+//! the questions that guest memory and packets answer.
+//!
+//! `mig_rows` runs such files: it adds rounds, streams and loads, and compares the answers. `docs/EXAMPLES.md` has all the lines. The
+//! two are crates of their own because this one stands on guest memory and packets alone, and is proved beside the stream. It
+//! is no part of the product, and no function here has a contract.
+#![tactic(auto)]
+
+mod book;
+mod case;
+mod fields;
+mod guest;
+mod of_memory;
+mod of_packets;
+mod show;
+mod texts;
+mod trouble;
+mod words;
+
+pub use book::{Book, Section};
+pub use case::Case;
+pub use guest::Guest;
+pub use of_memory::{ask_memory, difference};
+pub use of_packets::{agree, ask_packets, put_fed};
+pub use show::{Pages, put_memory, put_number, put_packet, put_place, put_table};
+pub use trouble::{Done, Trouble};
+pub use words::{Words, bytes_of};

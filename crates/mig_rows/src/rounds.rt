@@ -1,0 +1,179 @@
+//! The rounds of a case: the senders that they go to, and the texts that these make of them.
+
+use mig_cases::{Case, Done, Trouble, Words, put_number};
+use mig_send::{SingleSender, cut, pack};
+use mig_stream::StreamWriter;
+use std::alloc::Global;
+use std::rt::Files;
+
+/// A writer and a sender are given the same rounds; a FLUSH goes to the writer alone.
+#[derive(Drop)]
+struct Senders {
+    writer: Option<StreamWriter>,
+    sender: Option<SingleSender>,
+}
+
+/// A case with its rounds. The first line that needs senders makes them of the guest's table.
+#[derive(Drop)]
+pub struct Rounds {
+    pub case: Case,
+    senders: Option<Senders>,
+}
+
+impl Rounds {
+    pub fn new(alloc: Global) -> Result<Rounds, Trouble> {
+        Ok(Rounds {
+            case: Case::new(alloc)?,
+            senders: None,
+        })
+    }
+
+    /// Takes a line that builds something; false where the line is no such line.
+    pub fn take<R: Files>(&mut self, rt: &R, name: &str, words: Words) -> Result<bool, Trouble> {
+        match name {
+            "round" => self.round()?,
+            "flush" => self.flush()?,
+            "stream" => self.stream()?,
+            "sent" => self.sent()?,
+            "pack" => self.pack(words)?,
+            _ => {
+                if name == "anew" {
+                    self.senders = None;
+                }
+                return self.case.take(rt, name, words);
+            }
+        }
+        Ok(true)
+    }
+
+    fn senders(&mut self) -> Result<&mut Senders, Trouble> {
+        if self.senders.is_none() {
+            let alloc = self.case.alloc;
+            let table = self.case.guest()?.image.table();
+            self.senders = Some(Senders {
+                writer: Some(StreamWriter::new(alloc, table)?),
+                sender: Some(SingleSender::new(alloc, table)?),
+            });
+        }
+        self.senders.as_mut().ok_or(Trouble::Line)
+    }
+
+    // `round`: of the marked pages, which aren't marked afterwards
+    fn round(&mut self) -> Done {
+        let _ = self.senders()?;
+        let senders = self.senders.as_mut().ok_or(Trouble::Line)?;
+        let guest = self.case.guest()?;
+        if let Some(writer) = senders.writer.as_mut() {
+            let table = writer.table();
+            if !guest.image.table().same(table) || !guest.dirty.table().same(table) {
+                return Err(Trouble::Line);
+            }
+            writer.part(&guest.image, &guest.dirty)?;
+        }
+        if let Some(sender) = senders.sender.as_mut() {
+            if sender.round(&guest.image, &guest.dirty).is_err() {
+                return Err(Trouble::NoMemory);
+            }
+        }
+        guest.dirty.clear();
+        Ok(())
+    }
+
+    fn flush(&mut self) -> Done {
+        if let Some(writer) = self.senders()?.writer.as_mut() {
+            writer.flush_part()?;
+        }
+        Ok(())
+    }
+
+    // `stream`: what the writer made of the rounds
+    fn stream(&mut self) -> Done {
+        let writer = self.senders()?.writer.take().ok_or(Trouble::Line)?;
+        match writer.finish() {
+            Ok(text) => self.case.texts.push(text)?,
+            Err(_) => return Err(Trouble::NoMemory),
+        }
+        Ok(())
+    }
+
+    // `sent`: what the sender made of the rounds
+    fn sent(&mut self) -> Done {
+        let sender = self.senders()?.sender.take().ok_or(Trouble::Line)?;
+        match sender.finish() {
+            Ok(text) => self.case.texts.push(text)?,
+            Err(_) => return Err(Trouble::NoMemory),
+        }
+        Ok(())
+    }
+
+    // `pack LIMIT NUMBER`: the packets of the marked pages, in batches of at most so many, numbered from there on
+    fn pack(&mut self, mut words: Words) -> Done {
+        let limit = words.size()?;
+        let mut number = words.number()?;
+        let alloc = self.case.alloc;
+        let guest = self.case.guest()?;
+        let table = guest.image.table();
+        // only for what it says: the page size is one
+        let _blocks = table.len();
+        let most = (524_288 / table.page_size()) as usize;
+        if limit == 0 || limit > most || !guest.dirty.table().same(table) {
+            return Err(Trouble::Line);
+        }
+        let mut text = Vec::new(alloc);
+        for batch in &cut(alloc, table, &guest.dirty, limit)? {
+            let packed = pack(alloc, &guest.image, batch, number)?;
+            if packed.number() != number {
+                return Err(Trouble::Line);
+            }
+            text.extend_from_slice(packed.bytes())?;
+            number = number.wrapping_add(1);
+        }
+        self.case.texts.push(text)?;
+        Ok(())
+    }
+
+    /// `batches LIMIT`: the marked pages, cut.
+    pub fn batches(&mut self, out: &mut String, mut words: Words) -> Done {
+        let limit = words.size()?;
+        let alloc = self.case.alloc;
+        let guest = self.case.guest()?;
+        let table = guest.image.table();
+        // only for what it says: the page size is one
+        let _blocks = table.len();
+        let most = (524_288 / table.page_size()) as usize;
+        if limit == 0 || limit > most || !guest.dirty.table().same(table) {
+            return Err(Trouble::Line);
+        }
+        let batches = cut(alloc, table, &guest.dirty, limit)?;
+        put_number(out, batches.len() as u64)?;
+        for batch in &batches {
+            write!(out, " {}:", batch.block)?;
+            put_numbers(out, &batch.pages)?;
+        }
+        Ok(())
+    }
+}
+
+// Ascending numbers, those that follow one another as a range.
+fn put_numbers(out: &mut String, numbers: &[u64]) -> Done {
+    let mut before = None;
+    let mut is_range = false;
+    for number in numbers {
+        match before {
+            Some(last) if number.checked_sub(1) == Some(last) => is_range = true,
+            Some(last) => {
+                if is_range {
+                    write!(out, "-{last}")?;
+                }
+                is_range = false;
+                write!(out, ",{number}")?;
+            }
+            None => put_number(out, *number)?,
+        }
+        before = Some(*number);
+    }
+    if let (true, Some(last)) = (is_range, before) {
+        write!(out, "-{last}")?;
+    }
+    Ok(())
+}

@@ -1,0 +1,97 @@
+//! Questions about the last text as a stream.
+
+use crate::show::{put_loaded, put_records, put_stream_state};
+use mig_cases::{Case, Done, Trouble, agree, put_fed, put_table};
+use mig_load::load_single;
+use mig_mem::{MAX_TOTAL, is_page_size};
+use mig_stream::{Mode, StreamReader, StreamRound};
+use std::alloc::Global;
+
+/// Writes down what such a question is answered; false where it is none of them.
+pub fn ask_stream(out: &mut String, case: &Case, name: &str) -> Result<bool, Trouble> {
+    let text: &[u8] = case.texts.last().ok_or(Trouble::Line)?;
+    match name {
+        "read_single" => read(out, case, Mode::Single, text)?,
+        "read_main" => read(out, case, Mode::Main, text)?,
+        "load_single" => load(out, case, text)?,
+        _ => return Ok(false),
+    }
+    Ok(true)
+}
+
+fn load(out: &mut String, case: &Case, text: &[u8]) -> Done {
+    if !is_page_size(case.page_size) || case.limit > MAX_TOTAL {
+        return Err(Trouble::Line);
+    }
+    let loaded = load_single(case.alloc, case.page_size, text, case.limit);
+    put_loaded(out, &loaded)
+}
+
+/// A reader, as the case tells it.
+pub fn reader_of(case: &Case, mode: Mode) -> Result<StreamReader, Trouble> {
+    if !is_page_size(case.page_size) || case.limit > MAX_TOTAL {
+        return Err(Trouble::Line);
+    }
+    Ok(StreamReader::new(case.alloc, mode, case.page_size, case.limit))
+}
+
+/// Feeds a piece, where the text isn't over or too long.
+pub fn feed(reader: &mut StreamReader, piece: &[u8]) -> Done {
+    if reader.ended() || reader.fed().checked_add(piece.len() as u64).is_none() {
+        return Err(Trouble::Line);
+    }
+    reader.feed(piece)?;
+    Ok(())
+}
+
+/// The whole rounds that a reader has, START's first.
+pub fn rounds_of(alloc: Global, reader: &mut StreamReader) -> Result<Vec<StreamRound>, Trouble> {
+    let mut rounds = Vec::new(alloc);
+    for _ in 0..u64::MAX {
+        match reader.take_round()? {
+            Some(round) => rounds.push(round)?,
+            None => return Ok(rounds),
+        }
+    }
+    Err(Trouble::Line)
+}
+
+fn read(out: &mut String, case: &Case, mode: Mode, text: &[u8]) -> Done {
+    for len in &case.pieces {
+        let len = if *len == 0 { text.len().max(1) } else { *len };
+        let mut reader = reader_of(case, mode)?;
+        for piece in text.chunks(len) {
+            feed(&mut reader, piece)?;
+        }
+        if case.is_over {
+            reader.end();
+        }
+        let mut answer = String::new(case.alloc);
+        put_stream(&mut answer, &mut reader)?;
+        put_fed(&mut answer, reader.fed(), text)?;
+        agree(out, &answer, len)?;
+    }
+    Ok(())
+}
+
+// What a reader of a stream has found.
+fn put_stream(out: &mut String, reader: &mut StreamReader) -> Done {
+    put_stream_state(out, reader.state())?;
+    out.push_str(";")?;
+    match reader.table() {
+        Some(table) => put_table(out, table)?,
+        None => out.push_str(" no table")?,
+    }
+    out.push_str(";")?;
+    let rounds = rounds_of(*out.allocator(), reader)?;
+    if rounds.is_empty() {
+        out.push_str(" no round")?;
+    }
+    for (i, round) in rounds.iter().enumerate() {
+        if i > 0 {
+            out.push_str(" |")?;
+        }
+        put_records(out, round)?;
+    }
+    Ok(())
+}

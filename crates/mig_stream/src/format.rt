@@ -1,0 +1,59 @@
+//! The numbers of QEMU's migration stream, by their names there. `specs/Format` has them for contracts, which tie the two.
+
+/// The first four bytes of a stream, "QEVM" (`migration/savevm.h`).
+pub(crate) const QEMU_VM_FILE_MAGIC: u32 = 0x5145_564D;
+
+pub(crate) const QEMU_VM_FILE_VERSION: u32 = 3;
+
+// ---- type bytes (`migration/savevm.h`)
+
+/// The end byte.
+pub(crate) const QEMU_VM_EOF: u8 = 0x00;
+
+pub(crate) const QEMU_VM_SECTION_START: u8 = 0x01;
+
+pub(crate) const QEMU_VM_SECTION_PART: u8 = 0x02;
+
+pub(crate) const QEMU_VM_SECTION_END: u8 = 0x03;
+
+pub(crate) const QEMU_VM_CONFIGURATION: u8 = 0x07;
+
+pub(crate) const QEMU_VM_SECTION_FOOTER: u8 = 0x7E;
+
+// ---- RAM's section (`ram_mig_init` in `migration/ram.c`)
+
+pub(crate) const RAM_SECTION_NAME: &[u8] = b"ram";
+
+pub(crate) const RAM_INSTANCE: u32 = 0;
+
+pub(crate) const RAM_VERSION: u32 = 4;
+
+// ---- flags of a record's head (`migration/ram.c`, in newer versions `ram.h`)
+
+pub(crate) const RAM_SAVE_FLAG_ZERO: u16 = 0x002;
+
+pub(crate) const RAM_SAVE_FLAG_MEM_SIZE: u16 = 0x004;
+
+pub(crate) const RAM_SAVE_FLAG_PAGE: u16 = 0x008;
+
+pub(crate) const RAM_SAVE_FLAG_EOS: u16 = 0x010;
+
+/// The block is the one that a page record named last.
+pub(crate) const RAM_SAVE_FLAG_CONTINUE: u16 = 0x020;
+
+pub(crate) const RAM_SAVE_FLAG_MULTIFD_FLUSH: u16 = 0x200;
+
+/// Zeros, and a page, of the block named last.
+pub(crate) const CONTINUED_ZERO: u16 = 0x022;
+
+pub(crate) const CONTINUED_PAGE: u16 = 0x028;
+
+// ---- a limit of this project
+
+/// The most bytes of the name in a configuration.
+pub(crate) const MAX_NAME_LEN: u32 = 1024;
+
+const _: () = prove!(
+    CONTINUED_ZERO == RAM_SAVE_FLAG_ZERO + RAM_SAVE_FLAG_CONTINUE
+        && CONTINUED_PAGE == RAM_SAVE_FLAG_PAGE + RAM_SAVE_FLAG_CONTINUE
+);
