@@ -1,15 +1,17 @@
 //! Writing pages into a memory, each over what was there. It takes no memory and can't fail: whoever calls has judged.
 
-ghost use Rattle.std.specs.Prelude.{◌≡◌, None, All, map};
+ghost use Rattle.std.specs.Prelude.{◌≡◌, None, All, map, length, IfSome};
+ghost use Rattle.std.specs.Option.{option_copied, unwrap_or};
+ghost use Rattle.mig_mem.specs.Place.{IsPlace};
 ghost use Rattle.std.specs.List.{flat_map};
-ghost use Rattle.mig_mem.specs.Image.{zero_page};
+ghost use Rattle.mig_mem.specs.Image.{zero_page, with_page};
 ghost use Rattle.mig_mem.specs.Round.{with_round};
 ghost use Rattle.mig_packet.specs.Lent.{fields};
 ghost use Rattle.mig_assemble.specs.Judging.{place_fault, packet_pages, pages_in};
 ghost use Rattle.mig_assemble.specs.Target.{pages_of_round, Fits};
 ghost use Rattle.mig_assemble.specs.PacketPages.{normal_pages, zero_pages, LiesIn};
 
-use mig_mem::{Memory, PAGE_SIZE_8K, Place};
+use mig_mem::{Memory, Place};
 use mig_packet::Packet;
 use mig_stream::StreamRound;
 use std::alloc::Allocator;
@@ -22,15 +24,23 @@ pub(crate) fn put_records<A: Allocator, B: Allocator>(
     requires { Fits memory.old.table round.now }
     ensures { memory.new ≡ with_round memory.old (pages_of_round round.now) }
 {
-    // For what `len` tells of the table (`IsTable`): it keeps the limits, so that a page has at most 8192 bytes. And `table` tells
-    // that each content of the memory has the page size (`IsImage`).
-    let _blocks = memory.table().len();
-    let zeros = [0u8; PAGE_SIZE_8K as usize];
-    let zero_page = &zeros[..round.page_size() as usize];
+    // for what `table` tells of the memory (`IsImage`): each of its contents has the page size
+    let _table = memory.table();
     let count = round.len();
     for i in 0..count {
-        let content = round.content(i).unwrap_or(zero_page);
-        memory.put_page(round.place(i), content);
+        put_record(memory, round.place(i), round.content(i));
+    }
+}
+
+// Writes the page of a record: what it holds, or zeros.
+fn put_record<A: Allocator>(memory: &mut Memory<A>, place: Place, content: Option<&[u8]>)
+    requires place { IsPlace memory.old.table place }
+    requires size { IfSome content (λ bytes. length bytes.now ≡ memory.old.table.page_size) }
+    ensures { memory.new ≡ with_page memory.old place (unwrap_or (option_copied content.entry) (zero_page memory.old.table.page_size)) }
+{
+    match content {
+        Some(bytes) => memory.put_page(place, bytes),
+        None => memory.put_zero_page(place),
     }
 }
 
@@ -40,28 +50,24 @@ pub(crate) fn put_packets<A: Allocator>(memory: &mut Memory<A>, packets: &[Packe
     requires lawful { All (λ p. place_fault memory.old.table (fields p) ≡ None) packets.now }
     ensures { memory.new ≡ with_round memory.old (flat_map (packet_pages memory.old.table) (map fields packets.now)) }
 {
-    // For what `len` tells of the table (`IsTable`): it keeps the limits, so that a page has at most 8192 bytes. And `table` tells
-    // that each content of the memory has the page size (`IsImage`).
-    let _blocks = memory.table().len();
-    let page = [0u8; PAGE_SIZE_8K as usize];
-    let zeros = &page[..memory.table().page_size() as usize];
+    // for what `table` tells of the memory (`IsImage`): each of its contents has the page size
+    let _table = memory.table();
     for packet in packets {
-        put_packet(memory, packet, zeros);
+        put_packet(memory, packet);
     }
 }
 
 // Writes the pages of a packet into the block that it names. Where there is no such block it has no pages.
-fn put_packet<A: Allocator>(memory: &mut Memory<A>, packet: &Packet<'_>, zeros: &[u8])
+fn put_packet<A: Allocator>(memory: &mut Memory<A>, packet: &Packet<'_>)
     requires page_size { packet.now.page_size ≡ memory.old.table.page_size }
     requires lawful { place_fault memory.old.table (fields packet.now) ≡ None }
-    requires zeros { zeros.now ≡ zero_page memory.old.table.page_size }
     ensures { memory.new ≡ with_round memory.old (packet_pages memory.old.table (fields packet.now)) }
 {
     let Some(block) = memory.table().find(packet.id()) else {
         return;
     };
     put_normal(memory, block, packet);
-    put_zeros(memory, block, packet, zeros);
+    put_zeros(memory, block, packet);
 }
 
 // Writes the pages that a packet brings with their contents.
@@ -82,10 +88,9 @@ fn put_normal<A: Allocator>(memory: &mut Memory<A>, block: usize, packet: &Packe
 }
 
 // Writes the pages that a packet says to be zeros.
-fn put_zeros<A: Allocator>(memory: &mut Memory<A>, block: usize, packet: &Packet<'_>, zeros: &[u8])
+fn put_zeros<A: Allocator>(memory: &mut Memory<A>, block: usize, packet: &Packet<'_>)
     requires page_size { packet.now.page_size ≡ memory.old.table.page_size }
     requires lies { LiesIn memory.old.table block packet.now.bytes.now }
-    requires zeros { zeros.now ≡ zero_page memory.old.table.page_size }
     ensures { memory.new ≡ with_round memory.old (zero_pages memory.old.table block (fields packet.now)) }
 {
     let page_size = memory.table().page_size();
@@ -96,6 +101,6 @@ fn put_zeros<A: Allocator>(memory: &mut Memory<A>, block: usize, packet: &Packet
             block,
             page: packet.offset(normal_count + i) / page_size,
         };
-        memory.put_page(place, zeros);
+        memory.put_zero_page(place);
     }
 }

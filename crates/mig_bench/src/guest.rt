@@ -1,24 +1,44 @@
 //! The guest that the works send and load.
 
 use crate::yardstick::PAGE_SIZE;
-use mig_mem::{Dirty, Memory, NoMemory, PAGE_SIZE_4K, Place, Table, TableFault};
+use mig_mem::{Dirty, Memory, PAGE_SIZE_4K, Place, Table};
 use std::alloc::Global;
 
 /// A guest of one block, and the set of all its pages.
-pub fn guest(alloc: Global, pages: u64) -> Result<(Memory, Dirty), TableFault> {
+#[derive(Drop)]
+pub struct Guest {
+    pub image: Memory,
+    pub dirty: Dirty,
+}
+
+impl Guest {
+    /// None where memory is refused, or the guest has no page.
+    pub fn new(alloc: Global, pages: u64) -> Option<Guest> {
+        let table = table(alloc, pages)?;
+        let image = Memory::zeroed(alloc, &table).ok()?;
+        let dirty = all_pages(alloc, &table, pages)?;
+        Some(Guest { image, dirty })
+    }
+}
+
+// The table of one block.
+fn table(alloc: Global, pages: u64) -> Option<Table> {
     let mut list = Vec::new(alloc);
-    let id = Vec::from_slice(alloc, b"pc.ram").map_err(NoMemory::from)?;
-    list.push((id, pages)).map_err(NoMemory::from)?;
-    let table = Table::new(alloc, PAGE_SIZE_4K, list)?;
-    let image = Memory::zeroed(alloc, &table)?;
-    let mut dirty = Dirty::none(alloc, &table)?;
+    let id = Vec::from_slice(alloc, b"pc.ram").ok()?;
+    list.push((id, pages)).ok()?;
+    Table::new(alloc, PAGE_SIZE_4K, list).ok()
+}
+
+// The set of so many pages of the first block.
+fn all_pages(alloc: Global, table: &Table, pages: u64) -> Option<Dirty> {
+    let mut dirty = Dirty::none(alloc, table).ok()?;
     for page in 0..pages {
         let place = Place { block: 0, page };
         if dirty.table().holds(place) {
-            dirty.mark(place)?;
+            dirty.mark(place).ok()?;
         }
     }
-    Ok((image, dirty))
+    Some(dirty)
 }
 
 /// How many of each ten pages are zeros, in the order in which works are measured, with a name for each.

@@ -1,6 +1,6 @@
 //! Benchmarks of the migration crates. Each figure is the time of a work as a ratio to that of a copy of the same bytes
 //! in the same run, since times alone say nothing from one machine to another. A draw from a deal is compared with the bare
-//! step on a shared word.
+//! step on a shared word. `hostile` alone tells nanoseconds as they are, and the memory beside them.
 //!
 //! The first argument names the benchmark, and each is a module: what is measured stands there, how in `measure`, and
 //! the copies in `yardstick`. Nothing here is part of the library, and no test compares a figure.
@@ -8,6 +8,7 @@
 
 mod deal;
 mod guest;
+mod hostile;
 mod load;
 mod measure;
 mod pack;
@@ -18,19 +19,31 @@ mod yardstick;
 mod zero;
 
 use crate::round::Carried;
+use std::alloc::Global;
+use std::rt::{Clock, Files};
 use std::{env, io};
 
 fn main(rt: HostRuntime) -> io::Result<()> {
     let word = env::args(&rt)?.nth(1);
-    match word.as_ref().map(|word| word.as_str()) {
-        Some("zero") => zero::run(&rt, rt.alloc(), 1 << 28, 1 << 17),
-        Some("stream") => stream::run(&rt, rt.alloc(), 1 << 16),
-        Some("load") => load::run(&rt, rt.alloc(), 1 << 18),
-        Some("packet") => packet::run(&rt, rt.alloc(), 1 << 9),
-        Some("pack") => pack::run(&rt, rt.alloc(), 1 << 17),
-        Some("round") => round::run(&rt, rt.alloc(), 1 << 9, Carried::Normal),
-        Some("judge") => round::run(&rt, rt.alloc(), 1 << 13, Carried::Zero),
-        Some("deal") => deal::run(&rt, rt.alloc(), 1 << 24),
-        _ => println!(rt; "usage: mig_bench zero|stream|load|packet|pack|round|judge|deal"),
+    run(&rt, rt.alloc(), word.as_deref())
+}
+
+// Runs the benchmark that a word names.
+fn run<R: Clock + Print + Files + AllocGlobal>(
+    rt: &R,
+    alloc: Global,
+    word: Option<&str>,
+) -> io::Result<()> {
+    match word {
+        Some("zero") => zero::run(rt, alloc, 1 << 28, 1 << 17),
+        Some("stream") => stream::run(rt, alloc, 1 << 16),
+        Some("load") => load::run(rt, alloc, 1 << 18),
+        Some("packet") => packet::run(rt, alloc, 1 << 9),
+        Some("pack") => pack::run(rt, alloc, 1 << 17),
+        Some("round") => round::run(rt, alloc, 1 << 9, Carried::Normal),
+        Some("judge") => round::run(rt, alloc, 1 << 13, Carried::Zero),
+        Some("deal") => deal::run(rt, alloc, 1 << 24),
+        Some("hostile") => hostile::run(rt, alloc),
+        _ => println!(rt; "usage: mig_bench zero|stream|load|packet|pack|round|judge|deal|hostile"),
     }
 }

@@ -9,7 +9,7 @@ use std::{fmt, io};
 const RUNS: usize = 5;
 
 /// The least time of the runs of a work, and what the last of them returned.
-#[derive(Drop)]
+#[derive(Clone, Copy)]
 pub struct Measured {
     pub nanos: u64,
     pub answer: usize,
@@ -33,10 +33,20 @@ pub fn best_of_five<F: FnMut() -> usize>(rt: &impl Clock, mut work: F) -> io::Re
     Ok(Measured { nanos, answer })
 }
 
-/// The ratio of two times, rounded to hundredths.
+/// The ratio of two numbers, as of two times, rounded to hundredths.
 #[derive(Clone, Copy)]
 pub struct Ratio {
     hundredths: u128,
+}
+
+impl Ratio {
+    /// The ratio of two numbers; a number to 0 is as that to 1.
+    pub fn of(number: u64, unit: u64) -> Ratio {
+        let unit = u128::from(unit.max(1));
+        Ratio {
+            hundredths: (100 * u128::from(number) + unit / 2) / unit,
+        }
+    }
 }
 
 impl Measured {

@@ -1,11 +1,11 @@
 //! The packing of a round: its dirty pages in batches, and the packet of each batch.
-ghost use Rattle.std.specs.Prelude.{◌≤◌, ◌*◌, ◌^◌};
+ghost use Rattle.std.specs.Prelude.{◌≤◌, ◌*◌, ◌^◌, All, IfSome};
+ghost use Rattle.mig_send.specs.Batches.{IsBatch};
 
-use crate::guest::{ZERO_TENTHS, fill, guest};
-use crate::measure::best_of_five;
-use crate::yardstick::{PAGE_SIZE, Yardstick, put_row, put_title};
-use mig_mem::{Dirty, Memory};
-use mig_send::{cut, pack};
+use crate::guest::{Guest, ZERO_TENTHS, fill};
+use crate::yardstick::{PAGE_SIZE, Yardstick, put_title, report};
+use mig_mem::Memory;
+use mig_send::{Batch, cut, pack};
 use std::alloc::Global;
 use std::io;
 use std::rt::Clock;
@@ -18,42 +18,77 @@ const LIMIT: usize = 524_288 / PAGE_SIZE;
 pub fn run(rt: &(impl Clock + Print), alloc: Global, pages: u64) -> io::Result<()>
     requires { pages * PAGE_SIZE ≤ 2 ^ 40 }
 {
-    let Ok((mut image, dirty)) = guest(alloc, pages) else {
+    let Some(mut guest) = Guest::new(alloc, pages) else {
         return println!(rt; "no memory for the guest");
     };
+    report_guest(rt, alloc, &mut guest, pages)
+}
+
+// Cuts a guest, and packs it as often as there are amounts of zeros.
+fn report_guest(
+    rt: &(impl Clock + Print),
+    alloc: Global,
+    guest: &mut Guest,
+    pages: u64,
+) -> io::Result<()>
+    requires { pages * PAGE_SIZE ≤ 2 ^ 40 }
+{
     let copies = Yardstick::in_buffers(rt, alloc, pages as usize * PAGE_SIZE)?;
     put_title(rt, "packing dirty pages", pages)?;
-    let measured = best_of_five(rt, || batches_in(alloc, &image, &dirty))?;
-    put_row(rt, "cut alone", &measured, &copies, "batches")?;
-    for (tenths, name) in ZERO_TENTHS {
-        fill(&mut image, pages, tenths);
-        let measured = best_of_five(rt, || packed_len(alloc, &image, &dirty))?;
-        put_row(rt, name, &measured, &copies, "bytes packed")?;
+    report(
+        rt,
+        "cut alone",
+        "batches",
+        &copies,
+        || batches_in(alloc, guest),
+    )?;
+    for (tenths, name) in &ZERO_TENTHS {
+        fill(&mut guest.image, pages, *tenths);
+        report(
+            rt,
+            name,
+            "bytes packed",
+            &copies,
+            || packed_len(alloc, guest),
+        )?;
     }
     Ok(())
 }
 
 // The number of batches; 0 where memory is refused.
-fn batches_in(alloc: Global, image: &Memory, dirty: &Dirty) -> usize {
-    let table = image.table();
-    if !dirty.table().same(table) || table.page_size() != PAGE_SIZE as u64 {
-        return 0;
+fn batches_in(alloc: Global, guest: &Guest) -> usize {
+    match batches(alloc, guest) {
+        Some(batches) => batches.len(),
+        None => 0,
     }
-    cut(alloc, table, dirty, LIMIT).map_or(0, |batches| batches.len())
 }
 
 // The length of all packets of the round; 0 where memory is refused.
-fn packed_len(alloc: Global, image: &Memory, dirty: &Dirty) -> usize {
-    let table = image.table();
-    if !dirty.table().same(table) || table.page_size() != PAGE_SIZE as u64 {
-        return 0;
+fn packed_len(alloc: Global, guest: &Guest) -> usize {
+    match batches(alloc, guest) {
+        Some(batches) => packets_len(alloc, &guest.image, &batches),
+        None => 0,
     }
-    let Ok(batches) = cut(alloc, table, dirty, LIMIT) else {
-        return 0;
-    };
+}
+
+// The batches of the round; None where memory is refused.
+fn batches(alloc: Global, guest: &Guest) -> Option<Vec<Batch>>
+    ensures { IfSome result (λ v. All (IsBatch guest.now.image.table) v.items) }
+{
+    let table = guest.image.table();
+    if !guest.dirty.table().same(table) || table.page_size() != PAGE_SIZE as u64 {
+        return None;
+    }
+    cut(alloc, table, &guest.dirty, LIMIT).ok()
+}
+
+// The length of the packets of these batches; 0 where memory is refused.
+fn packets_len(alloc: Global, image: &Memory, batches: &[Batch]) -> usize
+    requires { All (IsBatch image.now.table) batches.now }
+{
     let mut len = 0usize;
     let mut number = 0u64;
-    for batch in &batches {
+    for batch in batches {
         let Ok(packed) = pack(alloc, image, batch, number) else {
             return 0;
         };

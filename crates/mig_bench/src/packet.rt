@@ -1,8 +1,7 @@
 //! The writing of packets.
 ghost use Rattle.std.specs.Prelude.{◌≤◌};
 
-use crate::measure::best_of_five;
-use crate::yardstick::{PAGE_SIZE, Yardstick, put_row, put_title};
+use crate::yardstick::{PAGE_SIZE, Yardstick, put_title, report};
 use mig_packet::put_packet;
 use std::alloc::Global;
 use std::io;
@@ -21,15 +20,24 @@ pub fn run(rt: &(impl Clock + Print), alloc: Global, packets: usize) -> io::Resu
     let len = packets * PAGES * PAGE_SIZE;
     let contents = vec![in alloc; 1u8; len]?;
     let mut text = vec![in alloc; 1u8; len + packets * HEAD_LEN]?;
-    let copies = Yardstick::in_buffers(rt, alloc, len)?;
-    put_title(rt, "writing packets", (packets * PAGES) as u64)?;
-    let measured = best_of_five(rt, || written_len(&mut text, &contents))?;
-    put_row(
+    report_writing(rt, alloc, &mut text, &contents)
+}
+
+// Writes the packets of these contents over a text.
+fn report_writing(
+    rt: &(impl Clock + Print),
+    alloc: Global,
+    text: &mut Vec<u8>,
+    contents: &[u8],
+) -> io::Result<()> {
+    let copies = Yardstick::in_buffers(rt, alloc, contents.len())?;
+    put_title(rt, "writing packets", (contents.len() / PAGE_SIZE) as u64)?;
+    report(
         rt,
         "packets of 128 pages",
-        &measured,
-        &copies,
         "bytes written",
+        &copies,
+        || written_len(text, contents),
     )
 }
 

@@ -1,9 +1,8 @@
 //! The judging of a round of packets, and the putting of it into a memory.
-ghost use Rattle.std.specs.Prelude.{◌≡◌, ◌≤◌, All, IfSome};
+ghost use Rattle.std.specs.Prelude.{◌≡◌, ◌≤◌, ◌*◌, All, IfSome, length};
 
-use crate::guest::guest;
-use crate::measure::best_of_five;
-use crate::yardstick::{PAGE_SIZE, Yardstick, put_row, put_title};
+use crate::guest::Guest;
+use crate::yardstick::{PAGE_SIZE, Yardstick, put_title, report};
 use mig_assemble::{Gathered, RoundFault, Target};
 use mig_mem::{MAX_TOTAL, PAGE_SIZE_4K, Table};
 use mig_packet::{PacketRead, put_packet, read_packet};
@@ -56,45 +55,86 @@ pub fn run(
 {
     let copies = Yardstick::in_buffers(rt, alloc, packets * PAGES * PAGE_SIZE)?;
     let pages = (packets * PAGES) as u64;
-    let Some((mut target, records, mut text)) = prepared(alloc, pages, carried) else {
+    let Some(mut round) = Round::new(alloc, pages, carried) else {
         return println!(rt; "no memory for the guest");
     };
+    report_round(rt, alloc, &mut round, pages, &copies)
+}
+
+// Puts the round as it is, and then judges it with its last page again the first.
+fn report_round(
+    rt: &(impl Clock + Print),
+    alloc: Global,
+    round: &mut Round,
+    pages: u64,
+    copies: &Yardstick,
+) -> io::Result<()> {
     put_title(rt, "a round judged and put", pages)?;
-    let put = best_of_five(
-        rt,
-        || answer_of(alloc, &mut target, &records, &mut text, carried),
-    )?;
-    put_row(rt, "lawful", &put, &copies, "packets put")?;
-    if !repeat_last_page(&mut text, carried) {
+    report_answer(rt, alloc, "lawful", "packets put", round, copies)?;
+    if !repeat_last_page(&mut round.text, round.carried) {
         return println!(rt; "no packet");
     }
-    let judged = best_of_five(
+    report_answer(
         rt,
-        || answer_of(alloc, &mut target, &records, &mut text, carried),
-    )?;
-    put_row(
-        rt,
+        alloc,
         "refused",
-        &judged,
-        &copies,
         "is the page that comes twice",
+        round,
+        copies,
     )
 }
 
-// A memory of one block, a round without page records, and the packets of all its pages.
-fn prepared(alloc: Global, pages: u64, carried: Carried) -> Option<(Target, StreamRound, Vec<u8>)> {
-    let (image, _) = guest(alloc, pages).ok()?;
-    let target = Target::new(alloc, image.table()).ok()?;
-    let records = no_records(alloc, image.table())?;
-    let text = packets(alloc, pages, carried)?;
-    Some((target, records, text))
+fn report_answer(
+    rt: &(impl Clock + Print),
+    alloc: Global,
+    name: &str,
+    unit: &str,
+    round: &mut Round,
+    copies: &Yardstick,
+) -> io::Result<()> {
+    report(rt, name, unit, copies, || answer_of(alloc, round))
+}
+
+// A round without page records, the text of its packets, and the memory that it is put into.
+#[derive(Drop)]
+struct Round {
+    target: Target,
+    records: StreamRound<'static>,
+    text: Vec<u8>,
+    carried: Carried,
+}
+
+impl Round {
+    // The round of all pages of a memory of one block.
+    fn new(alloc: Global, pages: u64, carried: Carried) -> Option<Round> {
+        let guest = Guest::new(alloc, pages)?;
+        Round::in_table(alloc, guest.image.table(), pages, carried)
+    }
+
+    // The same in a table of that block.
+    fn in_table(alloc: Global, table: &Table, pages: u64, carried: Carried) -> Option<Round> {
+        let target = Target::new(alloc, table).ok()?;
+        let records = no_records(alloc, table)?;
+        let text = packets(alloc, pages, carried)?;
+        Some(Round {
+            target,
+            records,
+            text,
+            carried,
+        })
+    }
 }
 
 // The round of a stream's start.
-fn no_records(alloc: Global, table: &Table) -> Option<StreamRound> {
+fn no_records(alloc: Global, table: &Table) -> Option<StreamRound<'static>> {
     let text = StreamWriter::new(alloc, table).ok()?.finish().ok()?;
+    first_round(alloc, &text)
+}
+
+// The first round of a stream.
+fn first_round(alloc: Global, text: &[u8]) -> Option<StreamRound<'static>> {
     let mut reader = StreamReader::new(alloc, Mode::Single, PAGE_SIZE_4K, MAX_TOTAL);
-    reader.feed(&text).ok()?;
+    reader.feed(text).ok()?;
     reader.take_round().ok()?
 }
 
@@ -102,18 +142,23 @@ fn no_records(alloc: Global, table: &Table) -> Option<StreamRound> {
 fn packets(alloc: Global, pages: u64, carried: Carried) -> Option<Vec<u8>> {
     let ones = vec![in alloc; 1u8; PAGES * PAGE_SIZE].ok()?;
     let mut text = Vec::new(alloc);
-    let mut offsets = [0u64; PAGES];
+    put_packets(&mut text, &ones, pages, carried)?;
+    Some(text)
+}
+
+// Writes those packets, with these contents for the pages of each.
+fn put_packets(text: &mut Vec<u8>, ones: &[u8], pages: u64, carried: Carried) -> Option<()>
+    requires { length ones.now ≡ PAGES * PAGE_SIZE }
+{
     for first in (0..pages).step_by(PAGES) {
-        for (i, offset) in offsets.iter_mut().enumerate() {
-            *offset = first.checked_add(i as u64)?.checked_mul(PAGE_SIZE as u64)?;
-        }
+        let offsets = offsets_from(first)?;
         let (normal, contents, zero) = match carried {
-            Carried::Normal => (&offsets[..], &ones[..], &offsets[..0]),
+            Carried::Normal => (&offsets[..], ones, &offsets[..0]),
             Carried::Zero => (&offsets[..0], &ones[..0], &offsets[..]),
         };
         put_packet(
             PAGE_SIZE_4K,
-            &mut text,
+            text,
             0,
             false,
             b"pc.ram",
@@ -123,29 +168,39 @@ fn packets(alloc: Global, pages: u64, carried: Carried) -> Option<Vec<u8>> {
         )
         .ok()?;
     }
-    Some(text)
+    Some(())
+}
+
+// The offsets of the pages of a packet, from a page of the block on.
+fn offsets_from(first: u64) -> Option<[u64; PAGES]> {
+    let mut offsets = [0u64; PAGES];
+    for (i, offset) in offsets.iter_mut().enumerate() {
+        *offset = first.checked_add(i as u64)?.checked_mul(PAGE_SIZE as u64)?;
+    }
+    Some(offsets)
 }
 
 // Puts a round whose packets are numbered on from the memory's base. Gives how many packets it has, or the page that comes
 // twice; 0 where anything else is the matter.
-fn answer_of(
-    alloc: Global,
-    target: &mut Target,
-    records: &StreamRound,
-    text: &mut [u8],
-    carried: Carried,
-) -> usize {
-    number_from(text, carried, target.base());
-    let Some(gathered) = gathered(alloc, text, carried) else {
-        return 0;
-    };
+fn answer_of(alloc: Global, round: &mut Round) -> usize {
+    number_from(&mut round.text, round.carried, round.target.base());
+    match gathered(alloc, &round.text, round.carried) {
+        Some(gathered) => answer_to(&mut round.target, &round.records, &gathered),
+        None => 0,
+    }
+}
+
+// The same of the packets of a round, once they are gathered.
+fn answer_to(target: &mut Target, records: &StreamRound, gathered: &Gathered<'_>) -> usize
+    requires { All (λ p. p.page_size ≡ PAGE_SIZE) gathered.now }
+{
     if target.memory().table().page_size() != PAGE_SIZE_4K || !target.fits(records) {
         return 0;
     }
     if target.base() > 1 << 40 || gathered.len() > 1 << 40 || target.rounds() > 1 << 40 {
         return 0;
     }
-    match target.round(records, &gathered) {
+    match target.round(records, gathered) {
         Ok(()) => gathered.len(),
         Err(RoundFault::DoublePage(place)) => place.page as usize,
         Err(_) => 0,

@@ -7,7 +7,7 @@ use std::rt::Clock;
 pub const PAGE_SIZE: usize = 4096;
 
 /// The times of copies of the same bytes: page by page, as a guest's pages are handled, and all at once.
-#[derive(Drop)]
+#[derive(Clone, Copy)]
 pub struct Yardstick {
     pub by_pages: Measured,
     pub at_once: Measured,
@@ -37,14 +37,17 @@ pub fn put_title(rt: &impl Print, title: &str, pages: u64) -> io::Result<()> {
     )
 }
 
-/// Prints the time of a work beside those of the copies, and what the work returned.
-pub fn put_row(
-    rt: &impl Print,
+/// Measures a work, and prints its time beside those of the copies, and what it returned.
+pub fn report<F: FnMut() -> usize>(
+    rt: &(impl Clock + Print),
     name: &str,
-    measured: &Measured,
-    copies: &Yardstick,
     unit: &str,
-) -> io::Result<()> {
+    copies: &Yardstick,
+    work: F,
+) -> io::Result<()>
+    requires { F.IsAlwaysCallable work }
+{
+    let measured = best_of_five(rt, work)?;
     println!(rt;
         "{name:<22}{} by pages, {} at once; {} {unit}",
         measured.ratio_to(&copies.by_pages),
@@ -74,5 +77,8 @@ fn copy_at_once(from: &[u8], to: &mut [u8], times: usize) -> usize {
 }
 
 fn last_byte(bytes: &[u8]) -> usize {
-    bytes.last().map_or(0, |byte| usize::from(*byte))
+    match bytes.last() {
+        Some(byte) => usize::from(*byte),
+        None => 0,
+    }
 }

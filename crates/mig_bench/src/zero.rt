@@ -1,8 +1,7 @@
 //! The zero test of each page of a guest's memory.
 ghost use Rattle.std.specs.Prelude.{◌<◌, ◌≤◌};
 
-use crate::measure::best_of_five;
-use crate::yardstick::{PAGE_SIZE, Yardstick, put_row, put_title};
+use crate::yardstick::{PAGE_SIZE, Yardstick, put_title, report};
 use mig_zero::is_zero;
 use std::alloc::Global;
 use std::io;
@@ -21,31 +20,59 @@ pub fn run(
 {
     let mut memory = vec![in alloc; 0u8; len]?;
     let mut other = vec![in alloc; 0u8; len]?;
-    let copies = Yardstick::new(rt, &memory, &mut other, 1)?;
-    put_title(rt, "the zero test", (len / PAGE_SIZE) as u64)?;
-    report(rt, "pages of zeros", &memory, 1, &copies)?;
-    set_in_each_page(&mut memory, 0, 1);
-    report(rt, "first byte set", &memory, 1, &copies)?;
-    set_in_each_page(&mut memory, 0, 0);
-    set_in_each_page(&mut memory, PAGE_SIZE - 1, 1);
-    report(rt, "last byte set", &memory, 1, &copies)?;
-    set_in_each_page(&mut memory, PAGE_SIZE - 1, 0);
-
+    report_in_memory(rt, &mut memory, &mut other)?;
     let times = len / cached_len;
-    let part = &memory[..cached_len];
-    let copies = Yardstick::new(rt, part, &mut other[..cached_len], times)?;
-    report(rt, "zeros in a cache", part, times, &copies)
+    report_in_cache(rt, &memory[..cached_len], &mut other[..cached_len], times)
 }
 
-fn report(
+// Tests memory that no cache holds: zeros, and pages with one byte set.
+fn report_in_memory(
+    rt: &(impl Clock + Print),
+    memory: &mut [u8],
+    other: &mut [u8],
+) -> io::Result<()> {
+    let copies = Yardstick::new(rt, memory, other, 1)?;
+    put_title(rt, "the zero test", (memory.len() / PAGE_SIZE) as u64)?;
+    report_test(rt, "pages of zeros", memory, 1, &copies)?;
+    report_set(rt, "first byte set", memory, 0, &copies)?;
+    report_set(rt, "last byte set", memory, PAGE_SIZE - 1, &copies)
+}
+
+// Tests pages of zeros while one byte of each is set.
+fn report_set(
+    rt: &(impl Clock + Print),
+    name: &str,
+    memory: &mut [u8],
+    at: usize,
+    copies: &Yardstick,
+) -> io::Result<()>
+    requires { at < PAGE_SIZE }
+{
+    set_in_each_page(memory, at, 1);
+    report_test(rt, name, memory, 1, copies)?;
+    set_in_each_page(memory, at, 0);
+    Ok(())
+}
+
+// Tests a part that a cache holds, so many times in each run.
+fn report_in_cache(
+    rt: &(impl Clock + Print),
+    part: &[u8],
+    other: &mut [u8],
+    times: usize,
+) -> io::Result<()> {
+    let copies = Yardstick::new(rt, part, other, times)?;
+    report_test(rt, "zeros in a cache", part, times, &copies)
+}
+
+fn report_test(
     rt: &(impl Clock + Print),
     name: &str,
     memory: &[u8],
     times: usize,
     copies: &Yardstick,
 ) -> io::Result<()> {
-    let measured = best_of_five(rt, || zero_pages(memory, times))?;
-    put_row(rt, name, &measured, copies, "found zero")
+    report(rt, name, "found zero", copies, || zero_pages(memory, times))
 }
 
 fn zero_pages(memory: &[u8], times: usize) -> usize {

@@ -61,8 +61,7 @@ impl<'a> Book<'a> {
 
     // Adds the lines of a name to the last section.
     fn add_shared(&mut self, alloc: Global, name: &str) -> Done {
-        let mut shared = Vec::new(alloc);
-        shared.extend_from_slice(self.lines_of(name)?)?;
+        let shared = Vec::from_slice(alloc, self.lines_of(name)?)?;
         let section = self.sections.last_mut().ok_or(Trouble::Line)?;
         section.lines.extend_from_slice(&shared)?;
         Ok(())

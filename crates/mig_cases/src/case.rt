@@ -95,6 +95,8 @@ impl Case {
             }
             "set" => self.guest()?.set(words)?,
             "fill" => self.guest()?.fill(alloc, words)?,
+            "wipe" => self.guest()?.wipe(words)?,
+            "copy" => self.guest()?.copy_image()?,
             "touch" => self.guest()?.touch(words)?,
             "clear" => self.guest()?.dirty.clear(),
             _ => return Ok(false),

@@ -34,17 +34,22 @@ impl Fields {
             if words.is_empty() {
                 break;
             }
-            match words.word()? {
-                "sync" => packet.sync = true,
-                "id" => packet.id = id_of(alloc, words.word()?)?,
-                "normal" => packet.normal = offsets_of(alloc, words.word()?, page_size)?,
-                "zero" => packet.zero = offsets_of(alloc, words.word()?, page_size)?,
-                "first" => packet.first = Some(words.byte()?),
-                "fill" => packet.fill = words.byte()?,
-                _ => return Err(Trouble::Line),
-            }
+            packet.read_field(alloc, page_size, words)?;
         }
         Ok(packet)
+    }
+
+    fn read_field(&mut self, alloc: Global, page_size: u64, words: &mut Words) -> Done {
+        match words.word()? {
+            "sync" => self.sync = true,
+            "id" => self.id = id_of(alloc, words.word()?)?,
+            "normal" => self.normal = offsets_of(alloc, words.word()?, page_size)?,
+            "zero" => self.zero = offsets_of(alloc, words.word()?, page_size)?,
+            "first" => self.first = Some(words.byte()?),
+            "fill" => self.fill = words.byte()?,
+            _ => return Err(Trouble::Line),
+        }
+        Ok(())
     }
 
     /// The contents of its normal pages.

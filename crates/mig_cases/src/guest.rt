@@ -68,6 +68,32 @@ impl Guest {
         Ok(())
     }
 
+    /// `wipe BLOCK PAGES`: makes them zeros. The pages are marked.
+    pub fn wipe(&mut self, mut words: Words) -> Done {
+        let block = words.size()?;
+        let (first, last) = words.range()?;
+        for page in first..=last {
+            let place = Place { block, page };
+            let _ = self.mark(place).ok_or(Trouble::Line)?;
+            self.wipe_page(place)?;
+        }
+        Ok(())
+    }
+
+    fn wipe_page(&mut self, place: Place) -> Done {
+        if !self.image.table().holds(place) {
+            return Err(Trouble::Line);
+        }
+        self.image.put_zero_page(place);
+        Ok(())
+    }
+
+    /// `copy`: from here on the memory is a copy of what it was.
+    pub fn copy_image(&mut self) -> Done {
+        self.image = self.image.try_copy()?;
+        Ok(())
+    }
+
     /// `touch BLOCK PAGES`: marks them.
     pub fn touch(&mut self, mut words: Words) -> Done {
         let block = words.size()?;

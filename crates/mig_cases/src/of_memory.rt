@@ -13,15 +13,16 @@ pub fn ask_memory(
     name: &str,
     words: Words,
 ) -> Result<bool, Trouble> {
-    match name {
-        "is_page_size" => page_size(out, words)?,
-        "is_before" => is_before(out, words)?,
-        "table" => table(out, case)?,
-        "find" => find(out, case, words)?,
-        "dirty" => dirty(out, case)?,
-        "memory" => put_memory(out, &case.guest()?.image)?,
+    let answered = match name {
+        "is_page_size" => page_size(out, words),
+        "is_before" => is_before(out, words),
+        "table" => table(out, case),
+        "find" => find(out, case, words),
+        "dirty" => dirty(out, case),
+        "memory" => put_memory(out, &case.guest()?.image),
         _ => return ask_place(out, case, name, words),
-    }
+    };
+    answered?;
     Ok(true)
 }
 
@@ -42,11 +43,11 @@ fn ask_place(
         "holds" => put_answer(out, guest.image.table().holds(place))?,
         "has" => put_answer(out, guest.dirty.has(place))?,
         "first_from" => put_place(out, guest.dirty.first_from(place))?,
-        "mark" => match guest.mark(place) {
-            Some(true) => out.push_str("new")?,
-            Some(false) => out.push_str("there")?,
-            None => out.push_str("outside")?,
-        },
+        "mark" => out.push_str(match guest.mark(place) {
+            Some(true) => "new",
+            Some(false) => "there",
+            None => "outside",
+        })?,
         _ => match guest.image.page(place) {
             Some(bytes) => put_bytes(out, bytes)?,
             None => out.push_str("none")?,

@@ -9,14 +9,15 @@ use mig_packet::{ChannelReader, HelloRead, PacketRead, read_hello, read_packet};
 /// Writes down what such a question is answered; false where it is none of them.
 pub fn ask_packets(out: &mut String, case: &Case, name: &str) -> Result<bool, Trouble> {
     let text: &[u8] = case.texts.last().ok_or(Trouble::Line)?;
-    match name {
-        "length" => put_number(out, text.len() as u64)?,
-        "bytes" => put_bytes(out, text)?,
-        "read_channel" => read_channel(out, case, text)?,
-        "read_hello" => ask_hello(out, case, text)?,
-        "read_packet" => ask_packet(out, case, text)?,
+    let answered = match name {
+        "length" => put_number(out, text.len() as u64),
+        "bytes" => put_bytes(out, text),
+        "read_channel" => read_channel(out, case, text),
+        "read_hello" => ask_hello(out, case, text),
+        "read_packet" => ask_packet(out, case, text),
         _ => return Ok(false),
-    }
+    };
+    answered?;
     Ok(true)
 }
 

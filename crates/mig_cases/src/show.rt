@@ -149,21 +149,19 @@ impl Pages {
 pub fn put_memory(out: &mut String, memory: &Memory) -> Done {
     let alloc = *out.allocator();
     let mut pages = Pages::new(alloc, 1);
-    let mut has_pages = false;
     let table = memory.table();
     for block in 0..table.len() {
         let before = format!(in alloc; "{block}.")?;
         for page in 0..table.pages(block) {
             match memory.page(Place { block, page }) {
                 Some(bytes) if bytes.iter().any(|byte| *byte != 0) => {
-                    has_pages = true;
                     pages.add(out, &before, page, Some(bytes))?;
                 }
                 _ => {}
             }
         }
     }
-    if !has_pages {
+    if !pages.has_entry {
         out.push_str(" zeros")?;
     }
     pages.end(out)

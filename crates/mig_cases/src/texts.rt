@@ -17,17 +17,18 @@ impl Case {
 
     // Takes a line on the texts; false where the line is no such line.
     pub(crate) fn change(&mut self, name: &str, words: Words) -> Result<bool, Trouble> {
-        match name {
-            "new" => self.texts.push(Vec::new(self.alloc))?,
-            "hello" => self.hello(words)?,
-            "packet" => self.packet(words)?,
-            "put" => self.put(words)?,
-            "at" => self.put_over(words)?,
-            "insert" => self.insert(words)?,
-            "cut" => self.cut(words)?,
-            "repeat" => self.repeat(words)?,
+        let changed = match name {
+            "new" => Ok(self.texts.push(Vec::new(self.alloc))?),
+            "hello" => self.hello(words),
+            "packet" => self.packet(words),
+            "put" => self.put(words),
+            "at" => self.put_over(words),
+            "insert" => self.insert(words),
+            "cut" => self.cut(words),
+            "repeat" => self.repeat(words),
             _ => return Ok(false),
-        }
+        };
+        changed?;
         Ok(true)
     }
 

@@ -3,6 +3,7 @@
 ghost use Rattle.std.specs.Prelude.{◌≡◌, All};
 ghost use Rattle.mig_send.specs.Batches.{IsBatch};
 
+use crate::deal::room;
 use crate::workers::put;
 use mig_deal::Deal;
 use mig_mem::{Memory, NoMemory};
@@ -33,9 +34,6 @@ pub(crate) fn work_alone<A: Allocator + Copy, B: Allocator, C: Allocator, G: Gat
 {
     assert!(rt; base <= 1 << 63);
     assert!(rt; batches.len() <= 1 << 28);
-    let Ok(mut spents) = Vec::with_capacity(rt.alloc(), 1) else {
-        panic!(rt; "memory")
-    };
     let Ok((deal, mut seats)) = Deal::new(rt.alloc(), base, batches.len() as u64, 1) else {
         panic!(rt; "memory")
     };
@@ -48,6 +46,7 @@ pub(crate) fn work_alone<A: Allocator + Copy, B: Allocator, C: Allocator, G: Gat
         last,
         spent,
     } = work(alloc, &deal, seat, channel, memory, batches, gate);
+    let mut spents = room(rt, 1);
     put(&mut spents, spent);
     let next = deal.close(spents);
     Alone {

@@ -1,14 +1,26 @@
 //! The deal: numbers drawn in turn by one thread, by 255 threads at once, and its growths refused.
 
-ghost use Rattle.std.specs.Prelude.{◌≡◌, All, vec_len};
+ghost use Rattle.std.specs.Prelude.{◌≡◌, ◌≤◌, [], All, vec_len, vec_capacity};
 
 use crate::workers::{Hall, gather, put, seat_all, work_all};
 use mig_deal::{Deal, Drawn, NoMemory, Seat, Spent};
 use mig_refusing::Refusing;
-use std::alloc::{Allocator, Global};
+use std::alloc::{AllocGlobal, Allocator};
 use std::process::Abort;
 use std::sync::atomic::{AtomicU64, Ordering};
 use std::test::Fail;
+use std::thread::Threads;
+
+/// A list with room for so many spent seats.
+pub(crate) fn room(rt: &(impl AllocGlobal + Abort), count: usize) -> Vec<Spent>
+    ensures none { result.items ≡ [] }
+    ensures room { count ≤ vec_capacity result }
+{
+    match Vec::with_capacity(rt.alloc(), count) {
+        Ok(spents) => spents,
+        Err(_) => panic!(rt; "memory"),
+    }
+}
 
 // Draws a number that has to be this one, and work.
 fn draw_work<A: Allocator>(rt: &impl Abort, deal: &Deal<A>, seat: Seat, number: u64) -> Seat
@@ -39,13 +51,14 @@ fn draw_last<A: Allocator>(rt: &impl Abort, deal: &Deal<A>, seat: Seat, number: 
 }
 
 // Seat a draws 5 as work, seat b draws 6 as its last number, and seat a 7. Answers what comes next.
-fn play<A: Allocator>(rt: &impl Abort, alloc: Global, deal: Deal<A>, mut seats: Vec<Seat, A>) -> u64
+fn play<A: Allocator>(
+    rt: &(impl AllocGlobal + Abort),
+    deal: Deal<A>,
+    mut seats: Vec<Seat, A>,
+) -> u64
     requires own { All (λ seat. seat.deal ≡ deal) seats.items }
     requires both { (vec_len seats ≡ 2) × (deal.seats ≡ 2) }
 {
-    let Ok(mut spents) = Vec::with_capacity(alloc, 2) else {
-        panic!(rt; "memory")
-    };
     let Some(b) = seats.pop() else {
         panic!(rt; "a seat")
     };
@@ -53,6 +66,7 @@ fn play<A: Allocator>(rt: &impl Abort, alloc: Global, deal: Deal<A>, mut seats: 
         panic!(rt; "a seat")
     };
     seats.destroy_empty();
+    let mut spents = room(rt, 2);
     let a = draw_work(rt, &deal, a, 5);
     put(&mut spents, draw_last(rt, &deal, b, 6));
     put(&mut spents, draw_last(rt, &deal, a, 7));
@@ -65,16 +79,13 @@ fn two_seats_and_one_batch(rt: HostRuntime) {
         panic!(rt; "memory")
     };
     assert_eq!(rt; deal.base(), 5);
-    let next = play(&rt, rt.alloc(), deal, seats);
+    let next = play(&rt, deal, seats);
     assert_eq!(rt; next, 8);
 }
 
 // The seats draw in another order than they were made in.
 #[test]
 fn three_seats_and_no_batch(rt: HostRuntime) {
-    let Ok(mut spents) = Vec::with_capacity(rt.alloc(), 3) else {
-        panic!(rt; "memory")
-    };
     let Ok((deal, mut seats)) = Deal::new(rt.alloc(), 0, 0, 3) else {
         panic!(rt; "memory")
     };
@@ -88,6 +99,7 @@ fn three_seats_and_no_batch(rt: HostRuntime) {
         panic!(rt; "a seat")
     };
     seats.destroy_empty();
+    let mut spents = room(&rt, 3);
     put(&mut spents, draw_last(&rt, &deal, b, 0));
     put(&mut spents, draw_last(&rt, &deal, c, 1));
     put(&mut spents, draw_last(&rt, &deal, a, 2));
@@ -101,22 +113,27 @@ fn wrong(times: &[AtomicU64]) -> usize {
     times.len() - times.iter().filter(once).count()
 }
 
-#[test]
-fn many_seats_on_threads(rt: HostRuntime) -> Result<(), Fail> {
-    let hall = Hall::new(rt.alloc(), 1255)?;
+// Runs 255 workers at once, on 1000 batches from number 7 on. Answers what comes next.
+fn draw_on_threads<R: AllocGlobal + Abort + Threads + Sync>(rt: &R, hall: &Hall) -> u64
+    requires { vec_len hall.now.times ≡ 1255 }
+{
     let Ok(mut slots) = Vec::with_capacity(rt.alloc(), 255) else {
-        panic!(rt; "memory")
-    };
-    let Ok(mut spents) = Vec::with_capacity(rt.alloc(), 255) else {
         panic!(rt; "memory")
     };
     let Ok((deal, seats)) = Deal::new(rt.alloc(), 7, 1000, 255) else {
         panic!(rt; "memory")
     };
     seat_all(&deal, seats, &mut slots);
-    work_all(&rt, &deal, &hall, slots.as_mut_slice());
+    work_all(rt, &deal, hall, slots.as_mut_slice());
+    let mut spents = room(rt, 255);
     gather(&deal, slots, &mut spents);
-    let next = deal.close(spents);
+    deal.close(spents)
+}
+
+#[test]
+fn many_seats_on_threads(rt: HostRuntime) -> Result<(), Fail> {
+    let hall = Hall::new(rt.alloc(), 1255)?;
+    let next = draw_on_threads(&rt, &hall);
     assert_eq!(rt; next, 1262);
     assert_eq!(rt; hall.alone.load(Ordering::SeqCst), 0);
     assert_eq!(rt; wrong(&hall.times), 0);
@@ -134,7 +151,7 @@ fn growths_refused(rt: HostRuntime) {
             Err(NoMemory) => assert!(rt; !heap.is_waiting()),
             Ok((deal, seats)) => {
                 assert_eq!(rt; nth, 4);
-                let next = play(&rt, rt.alloc(), deal, seats);
+                let next = play(&rt, deal, seats);
                 assert_eq!(rt; next, 8);
                 assert!(rt; heap.is_waiting());
                 return;

@@ -1,8 +1,8 @@
 //! Workers: the packets of one that has a deal for itself, what it tells its gate, and what it does where memory is refused.
 
 use crate::alone::{Alone, work_alone};
-use crate::batches::cut_at;
-use mig_fixtures::{at, places_of, put_page_and_zeros, set, zeroed};
+use crate::batches::{assert_page_and_zeros, batches_of, memory_of};
+use mig_fixtures::at;
 use mig_mem::{Memory, NoMemory, Place};
 use mig_packet::{Gate, Step};
 use mig_refusing::Refusing;
@@ -33,11 +33,17 @@ impl Told {
     }
 
     fn is(&self, wanted: &[u64]) -> bool {
-        self.count.load(Ordering::SeqCst) == wanted.len() as u64
-            && wanted.iter().enumerate().all(|(i, step)| self
-                .steps
-                .get(i)
-                .is_some_and(|told| told.load(Ordering::SeqCst) == *step))
+        if self.count.load(Ordering::SeqCst) != wanted.len() as u64
+            || wanted.len() > self.steps.len()
+        {
+            return false;
+        }
+        for (told, step) in self.steps.iter().zip(wanted) {
+            if told.load(Ordering::SeqCst) != *step {
+                return false;
+            }
+        }
+        true
     }
 }
 
@@ -55,86 +61,135 @@ impl Gate for Told {
     }
 }
 
-// A memory of some blocks, whose page 1 of block 0 has the first byte 9.
-fn memory_of(rt: &(impl AllocGlobal + Abort), entries: &[(&str, u64)]) -> Memory {
-    let mut memory = zeroed(rt.alloc(), entries).expect(rt, "a memory");
-    assert!(rt; set(&mut memory, 0, 4096, 9));
-    memory
+// What a worker is given, and what it is to answer and to tell.
+#[derive(Clone, Copy)]
+struct Run<'a> {
+    base: u64,
+    places: &'a [Place],
+    limit: usize,
+    last: u64,
+    next: u64,
+    steps: &'a [u64],
 }
 
-// Runs a worker on the batches of some places.
-fn run<A: Allocator + Copy>(
+// Runs a worker on the batches of a run's places.
+fn work_on<A: Allocator + Copy>(
     rt: &(impl AllocGlobal + Abort),
     alloc: A,
-    base: u64,
     memory: &Memory,
-    places: &[Place],
-    limit: usize,
+    run: &Run<'_>,
     gate: &Told,
 ) -> Alone<A> {
-    let dirty = places_of(rt.alloc(), memory.table(), places).expect(rt, "a set");
-    let batches = cut_at(rt, rt.alloc(), memory.table(), &dirty, limit).expect(rt, "batches");
-    work_alone(rt, alloc, base, CHANNEL, memory, &batches, gate)
+    let batches = batches_of(rt, memory.table(), run.places, run.limit);
+    work_alone(rt, alloc, run.base, CHANNEL, memory, &batches, gate)
 }
 
-// Whether packets are of these numbers, with one zero page each: of a block with an id of this byte, at this offset's third
-// byte from the end.
+// The packets of a run, whose last number, the number after it and steps are asserted.
+fn packets_of<A: Allocator + Copy>(
+    rt: &(impl AllocGlobal + Abort),
+    alloc: A,
+    memory: &Memory,
+    run: &Run<'_>,
+) -> Result<Vec<Packed<A>, A>, NoMemory> {
+    let gate = Told::new(rt);
+    let alone = work_on(rt, alloc, memory, run, &gate);
+    assert_eq!(rt; alone.last, run.last);
+    assert_eq!(rt; alone.next, run.next);
+    assert!(rt; gate.is(run.steps));
+    alone.packets
+}
+
+// Whether a packet is of this number, with one zero page: of a block with an id of this byte, at this offset's third byte from
+// the end.
+fn is_zeros<A: Allocator>(packet: &Packed<A>, number: u64, id: u8, offset: u8) -> bool {
+    let bytes = packet.bytes();
+    packet.number() == number
+        && bytes.len() == 1344
+        && bytes.get(24..32) == Some(&number.to_be_bytes()[..])
+        && bytes.get(64) == Some(&id)
+        && bytes.get(320..328) == Some(&[0, 0, 0, 0, 0, 0, offset, 0][..])
+}
+
+// Whether packets are of these numbers, ids and offsets, with one zero page each.
 fn are_zeros<A: Allocator>(packets: &[Packed<A>], wanted: &[(u64, u8, u8)]) -> bool {
-    packets.len() == wanted.len()
-        && packets.iter().zip(wanted).all(|(packet, (number, id, offset))| packet.number()
-            == *number
-            && packet.bytes().len() == 1344
-            && packet.bytes().get(24..32) == Some(&number.to_be_bytes()[..])
-            && packet.bytes().get(64) == Some(id)
-            && packet.bytes().get(320..328) == Some(&[0, 0, 0, 0, 0, 0, *offset, 0][..]))
+    if packets.len() != wanted.len() {
+        return false;
+    }
+    for (packet, (number, id, offset)) in packets.iter().zip(wanted) {
+        if !is_zeros(packet, *number, *id, *offset) {
+            return false;
+        }
+    }
+    true
 }
 
 #[test]
 fn one_batch(rt: HostRuntime) {
-    let gate = Told::new(&rt);
     let memory = memory_of(&rt, &[("a", 2)]);
     let places = [at(0, 0), at(0, 1)];
-    let alone = run(&rt, rt.alloc(), 0, &memory, &places, 128, &gate);
-    let mut wanted = Vec::new(rt.alloc());
-    assert!(rt; put_page_and_zeros(&mut wanted) == Ok(()));
-    let packets = alone.packets.as_ref().ok().expect(&rt, "packets");
+    let run = Run {
+        base: 0,
+        places: &places,
+        limit: 128,
+        last: 1,
+        next: 2,
+        steps: &[0, 1, 2],
+    };
+    let packets = packets_of(&rt, rt.alloc(), &memory, &run).expect(&rt, "packets");
     assert!(rt; packets.len() == 1);
-    assert!(rt;
-        packets.first().is_some_and(|packet| packet.number() == 0
-            && packet.bytes() == wanted.as_slice())
-    );
-    assert_eq!(rt; alone.last, 1);
-    assert_eq!(rt; alone.next, 2);
-    assert!(rt; gate.is(&[0, 1, 2]));
+    let packet = packets.first().expect(&rt, "a packet");
+    assert!(rt; packet.number() == 0);
+    assert_page_and_zeros(&rt, packet.bytes());
 }
 
 #[test]
 fn batches_of_two_blocks(rt: HostRuntime) {
-    let gate = Told::new(&rt);
     let memory = memory_of(&rt, &[("a", 3), ("b", 2)]);
     let places = [at(0, 0), at(0, 2), at(1, 1)];
-    let alone = run(&rt, rt.alloc(), 7, &memory, &places, 1, &gate);
-    let packets = alone.packets.as_ref().ok().expect(&rt, "packets");
-    assert!(rt; are_zeros(packets, &[(7, b'a', 0), (8, b'a', 0x20), (9, b'b', 0x10)]));
-    assert_eq!(rt; alone.last, 10);
-    assert_eq!(rt; alone.next, 11);
-    assert!(rt; gate.is(&[14, 15, 16, 17, 18, 19, 20]));
+    let run = Run {
+        base: 7,
+        places: &places,
+        limit: 1,
+        last: 10,
+        next: 11,
+        steps: &[14, 15, 16, 17, 18, 19, 20],
+    };
+    let packets = packets_of(&rt, rt.alloc(), &memory, &run).expect(&rt, "packets");
+    assert!(rt; are_zeros(&packets, &[(7, b'a', 0), (8, b'a', 0x20), (9, b'b', 0x10)]));
 }
 
 #[test]
 fn no_batch(rt: HostRuntime) {
-    let gate = Told::new(&rt);
     let memory = memory_of(&rt, &[("a", 2)]);
-    let alone = run(&rt, rt.alloc(), 5, &memory, &[], 128, &gate);
-    assert!(rt;
-        alone
-            .packets
-            .as_ref()
-            .is_ok_and(|packets| packets.is_empty())
-    );
-    assert_eq!(rt; alone.last, 5);
-    assert_eq!(rt; alone.next, 6);
-    assert!(rt; gate.is(&[10]));
+    let run = Run {
+        base: 5,
+        places: &[],
+        limit: 128,
+        last: 5,
+        next: 6,
+        steps: &[10],
+    };
+    let packets = packets_of(&rt, rt.alloc(), &memory, &run).expect(&rt, "packets");
+    assert!(rt; packets.is_empty());
+}
+
+// The packets of two batches of a page each, where the worker tells these steps.
+fn two_packets<'a>(
+    rt: &(impl AllocGlobal + Abort),
+    heap: &'a Refusing,
+    memory: &Memory,
+    steps: &[u64],
+) -> Result<Vec<Packed<&'a Refusing>, &'a Refusing>, NoMemory> {
+    let places = [at(0, 0), at(0, 1)];
+    let run = Run {
+        base: 0,
+        places: &places,
+        limit: 1,
+        last: 2,
+        next: 3,
+        steps,
+    };
+    packets_of(rt, heap, memory, &run)
 }
 
 // A worker takes three growths for each packet and one for the list of two. After a refused one it draws on and packs no more.
@@ -142,22 +197,15 @@ fn no_batch(rt: HostRuntime) {
 fn work_with_each_growth_refused(rt: HostRuntime) {
     let heap = Refusing::new(rt.alloc(), 0);
     let memory = memory_of(&rt, &[("a", 2)]);
-    let places = [at(0, 0), at(0, 1)];
     for nth in 1..=7u64 {
-        let gate = Told::new(&rt);
-        heap.refuse(nth);
-        let alone = run(&rt, &heap, 0, &memory, &places, 1, &gate);
-        assert!(rt; !heap.is_waiting());
-        assert!(rt; alone.packets.err() == Some(NoMemory));
-        assert_eq!(rt; alone.last, 2);
-        assert_eq!(rt; alone.next, 3);
         let steps: &[u64] = if nth < 4 { &[0, 2, 4] } else { &[0, 1, 2, 4] };
-        assert!(rt; gate.is(steps));
+        heap.refuse(nth);
+        let run = two_packets(&rt, &heap, &memory, steps);
+        assert!(rt; !heap.is_waiting());
+        assert!(rt; run.err() == Some(NoMemory));
     }
-    let gate = Told::new(&rt);
     heap.refuse(8);
-    let alone = run(&rt, &heap, 0, &memory, &places, 1, &gate);
+    let packets = two_packets(&rt, &heap, &memory, &[0, 1, 2, 3, 4]).expect(&rt, "packets");
     assert!(rt; heap.is_waiting());
-    assert!(rt; alone.packets.is_ok_and(|packets| packets.len() == 2));
-    assert!(rt; gate.is(&[0, 1, 2, 3, 4]));
+    assert!(rt; packets.len() == 2);
 }

@@ -37,8 +37,7 @@ fn load<A: Allocator + Copy>(alloc: A, page_size: u64, text: &[u8], limit: u64) 
     requires limit { limit ≤ 2 ^ 40 }
     ensures { IsAnswer page_size limit text.now result ⊎ IsWithoutMemory page_size limit text.now result }
 {
-    let mut reader = StreamReader::new(alloc, Mode::Single, page_size, limit);
-    let Ok(()) = reader.feed(text) else {
+    let Ok(mut reader) = StreamReader::of_text(alloc, Mode::Single, page_size, limit, text) else {
         return without_memory();
     };
     reader.end();

@@ -1,11 +1,14 @@
 -- The blocks of a table, one by one.
-use Rattle.std.proofs.Common.{ℕ, ◌≡◌, ◌+◌, ◌<◌, ◌≤◌, ◌*◌, ◌^◌, List, [], ◌∷◌, ◌++◌, length, take, sym, ap, ◌∙◌, add-one, arith, true, ◌&&◌}
+use Rattle.std.proofs.Common.{ℕ, ◌≡◌, ◌+◌, ◌<◌, ◌≤◌, ◌*◌, ◌^◌, List, [], ◌∷◌, ◌++◌, length, take, sym, ap, ◌∙◌, add-one, arith, true, false, Some, ◌&&◌}
 use Rattle.std.proofs.Math.Seq.{take-suc}
-use Rattle.std.proofs.lemmas.Bool.{and_parts, ltb-true, leb-true}
+use Rattle.std.proofs.lemmas.Bool.{and_parts, ltb-true, leb-true, false_from_ne_true}
+use Rattle.std.proofs.lemmas.Slice.Eq.{bytes_eq-Decides}
+use Rattle.std.specs.Str.{bytes_eq}
 use Rattle.std.proofs.lemmas.List.Sums.{get_or-le-sum_by}
 use Rattle.std.specs.List.{list_all}
 use Rattle.std.specs.Prelude.{nat_lt, nat_le}
-use Rattle.mig_mem.specs.RamTable.{Block, RamTable, block, is_id, is_printable, IsTable, total_pages}
+use Rattle.mig_mem.specs.RamTable.{Block, RamTable, block, is_id, is_printable, IsTable, total_pages, block_of}
+use Rattle.mig_mem.proofs.Lists.{position_at}
 
 -- equal so far, and at one block more
 pub same_step : (xs ys : List Block) (i : ℕ) → i < length xs → i < length ys → take i xs ≡ take i ys → (block xs i).id ≡ (block ys i).id → (block xs i).pages ≡ (block ys i).pages
@@ -40,3 +43,11 @@ block_room table i is lt =
 
 pub block_some : (table : RamTable) (i : ℕ) → IsTable table → i < length table.blocks → 0 < (block table.blocks i).pages
 block_some table i is lt = is.has_pages i (record { id = []; pages = 0 }) lt
+
+-- a block is found by its id
+pub block_found : (table : RamTable) (i : ℕ) (id : List ℕ) → IsTable table → i < length table.blocks → (block table.blocks i).id ≡ id → block_of table.blocks id ≡ Some i
+block_found table i id is lt e =
+    let none : Block = record { id = []; pages = 0 } in
+    let other : (k : ℕ) → k < i → bytes_eq (block table.blocks k).id id ≡ false = λ k before.
+    false_from_ne_true (bytes_eq (block table.blocks k).id id) (λ t. is.has_own_ids k i none before lt ((bytes_eq-Decides (block table.blocks k).id id).0 t ∙ sym e)) in
+    position_at (λ (b : Block). bytes_eq b.id id) table.blocks i none lt other ((bytes_eq-Decides (block table.blocks i).id id).1 e)

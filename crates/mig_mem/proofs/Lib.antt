@@ -10,7 +10,9 @@ pub mod TablePlaces
 pub mod Images
 pub mod Rounds
 pub mod Tracked
-pub mod Parts
+pub mod PartWrites
+pub mod Slotted
+pub mod Leaves
 pub mod Kept
 pub mod Bits
 pub mod Sets

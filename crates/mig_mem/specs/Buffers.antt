@@ -1,35 +1,32 @@
--- A memory in buffers, one for each block.
-use Rattle.std.specs.Prelude.{ℕ, ◌≡◌, ◌≢◌, ◌<◌, ◌*◌, List, [], length, map, take, drop, slice_index_or}
+-- A memory in blocks of pages.
+use Rattle.std.specs.Prelude.{ℕ, ◌≡◌, ◌<◌, List, [], length, map, slice_index_or, All}
 use Rattle.std.specs.declared.vec.Vec.{Vec}
 use Rattle.mig_mem.specs.declared.place.Place.{Place}
 use Rattle.mig_mem.specs.RamTable.{RamTable, block, IsTable}
 use Rattle.mig_mem.specs.Image.{Image, image_of}
-
--- a page of a buffer
-abbrev pub buffer_page : ℕ → List ℕ → ℕ → List ℕ
-buffer_page size bytes page = take size (drop (page * size) bytes)
-
--- the buffer has this content at a page, and is as before at each other
-pub record ChangesPage (size : ℕ) (old new : List ℕ) (page : ℕ) (bytes : List ℕ) : Type 0 where
-  pub len : length new ≡ length old
-  pub here : buffer_page size new page ≡ bytes
-  pub others : (q : ℕ) → q ≢ page → buffer_page size new q ≡ buffer_page size old q
-
--- the bytes of a place
-abbrev pub bytes_at : ℕ → List (List ℕ) → Place → List ℕ
-bytes_at size buffers p = buffer_page size (slice_index_or buffers p.block []) p.page
+use Rattle.mig_mem.specs.BlockPages.{BlockPages, page_at}
 
 abbrev pub buffers_of : {A : Type 0} → List (Vec ℕ A) → List (List ℕ)
 buffers_of buffers = map (λ v. v.items) buffers
 
--- a buffer for each block, as long as its pages
-pub record HasBuffers (table : RamTable) (buffers : List (List ℕ)) : Type 0 where
-  pub blocks : length buffers ≡ length table.blocks
-  pub sizes : (i : ℕ) → i < length table.blocks → length (slice_index_or buffers i []) ≡ (block table.blocks i).pages * table.page_size
+-- the pages of a block, by its number
+abbrev pub pages_of_block : List BlockPages → ℕ → BlockPages
+pages_of_block blocks i = slice_index_or blocks i (record { size = 0; pages = [] })
 
-pub record IsBuffered {A : Type 0} (table : RamTable) (buffers : List (Vec ℕ A)) : Type 0 where
+-- the content of a place
+abbrev pub held_at : List BlockPages → Place → List ℕ
+held_at blocks p = page_at (pages_of_block blocks p.block) p.page
+
+-- as many pages as the table says, of its size
+pub record HasPages (size count : ℕ) (pages : BlockPages) : Type 0 where
+  pub same_size : pages.size ≡ size
+  pub same_count : length pages.pages ≡ count
+  pub has_sizes : All (λ content. length content ≡ size) pages.pages
+
+pub record IsHeld (table : RamTable) (blocks : List BlockPages) : Type 0 where
   pub is_table : IsTable table
-  pub fits : HasBuffers table (buffers_of buffers)
+  pub same_count : length blocks ≡ length table.blocks
+  pub has_pages : (i : ℕ) → i < length table.blocks → HasPages table.page_size (block table.blocks i).pages (pages_of_block blocks i)
 
-abbrev pub image_in : {A : Type 0} → RamTable → List (Vec ℕ A) → Image
-image_in table buffers = image_of table (bytes_at table.page_size (buffers_of buffers))
+abbrev pub image_in : RamTable → List BlockPages → Image
+image_in table blocks = image_of table (held_at blocks)

@@ -10,5 +10,8 @@ pub mod PlaceSet
 pub mod Tracking
 -- How the types keep their values: only contracts of the inside cite these.
 pub mod Packed
+pub mod Parts
+pub mod Leaves
+pub mod BlockPages
 pub mod Buffers
 pub mod Marks

@@ -1,8 +1,8 @@
 //! Where two memories differ.
 
-ghost use Rattle.std.specs.Prelude.{◌≡◌, ℕ, ◌<◌, length, find, IfSome, IfNone, false};
+ghost use Rattle.std.specs.Prelude.{◌≡◌, ℕ, ◌<◌, length, find, IfSome, IfNone, false, not};
 ghost use Rattle.mig_mem.specs.RamTable.{block as block_of_number};
-ghost use Rattle.mig_mem.specs.Place.{place_at, places};
+ghost use Rattle.mig_mem.specs.Place.{place_at, places, IsPlace};
 ghost use Rattle.mig_mem.specs.Image.{differs, IsFirstDifference};
 
 use crate::{Memory, Place};
@@ -30,9 +30,21 @@ fn first_page<A: Allocator, B: Allocator>(a: &Memory<A>, b: &Memory<B>, block: u
 {
     for page in 0..a.table().pages(block) {
         let place = Place { block, page };
-        if a.page_in(place) != b.page_in(place) {
+        if !is_same_at(a, b, place) {
             return Some(page);
         }
     }
     None
+}
+
+// Whether they have the same content at a place. Where neither was written there nothing is read.
+fn is_same_at<A: Allocator, B: Allocator>(a: &Memory<A>, b: &Memory<B>, place: Place) -> bool
+    requires same { a.now.table ≡ b.now.table }
+    requires place { IsPlace a.now.table place }
+    ensures { differs a.now b.now place ≡ not result }
+{
+    if a.is_blank(place) && b.is_blank(place) {
+        return true;
+    }
+    a.page_in(place) == b.page_in(place)
 }

@@ -12,8 +12,11 @@ mod laws;
 mod marks;
 mod memory;
 mod page_size;
+mod pages;
+mod parts;
 mod place;
 mod refusal;
+mod slots;
 mod table;
 
 pub use difference::first_difference;

@@ -1,12 +1,12 @@
 //! The content of a guest's pages.
 
-ghost use Rattle.std.specs.Prelude.{◌≡◌, ◌+◌, ◌*◌, ◌<◌, ◌≤◌, ◌↔◌, length, replicate, slice_set, IfOk, IfSome, IsSome};
+ghost use Rattle.std.specs.Prelude.{◌≡◌, ◌+◌, ◌*◌, ◌<◌, ◌≤◌, ◌↔◌, length, replicate, slice_set, IfOk, IfSome, IsSome, IsTrue};
 ghost use Rattle.std.specs.Option.{option_copied};
 ghost use Rattle.mig_mem.specs.RamTable.{block as block_at};
 ghost use Rattle.mig_mem.specs.Place.{IsPlace, places};
-ghost use Rattle.mig_mem.specs.Image.{IsImage, content, content_at, zero_image, with_page, with_byte, differs};
-ghost use Rattle.mig_mem.specs.Buffers.{buffer_page, ChangesPage};
+ghost use Rattle.mig_mem.specs.Image.{IsImage, content, content_at, zero_image, zero_page, with_page, with_byte, differs};
 
+use crate::pages::Pages;
 use crate::{NoMemory, Place, Table};
 use std::alloc::{Allocator, Global};
 use std::marker::Model;
@@ -15,8 +15,8 @@ use std::marker::Model;
 #[derive(Drop)]
 pub struct Memory<A: Allocator = Global> {
     table: Table<A>,
-    // the pages of each block, one after another
-    buffers: Vec<Vec<u8, A>, A>,
+    // the pages of each block
+    blocks: Vec<Pages<A>, A>,
 }
 
 impl<A: Allocator> Model for Memory<A> {
@@ -24,52 +24,11 @@ impl<A: Allocator> Model for Memory<A> {
 
     ghost Value = { Image };
 
-    ghost use Rattle.mig_mem.specs.Buffers.{image_in, IsBuffered};
+    ghost use Rattle.mig_mem.specs.Buffers.{image_in, IsHeld};
 
-    ghost view = { λ m. image_in m.table m.buffers.items };
+    ghost view = { λ m. image_in m.table m.blocks.items };
 
-    ghost invariant = { λ m. IsBuffered m.table m.buffers.items };
-}
-
-// A page of a block's bytes.
-fn page_of(bytes: &[u8], size: u64, page: u64) -> &[u8]
-    requires { page * size + size ≤ length bytes.now }
-    ensures { result.now ≡ buffer_page size bytes.now page }
-{
-    let start = (page * size) as usize;
-    &bytes[start..start + size as usize]
-}
-
-// Writes a page of a block's bytes.
-fn write_page(bytes: &mut [u8], size: u64, page: u64, content: &[u8])
-    requires room { page * size + size ≤ length bytes.old }
-    requires len { length content.now ≡ size }
-    ensures { ChangesPage size bytes.old bytes.new page content.now }
-{
-    let start = (page * size) as usize;
-    bytes[start..start + size as usize].copy_from_slice(content);
-}
-
-// Writes one byte.
-fn write_byte(bytes: &mut [u8], at: u64, byte: u8)
-    requires { at < length bytes.old }
-    ensures { bytes.new ≡ slice_set bytes.old at byte }
-{
-    bytes[at as usize] = byte;
-}
-
-// A buffer of zeros.
-fn zero_bytes<A: Allocator>(alloc: A, len: usize) -> Result<Vec<u8, A>, NoMemory>
-    ensures { IfOk result (λ v. v.items ≡ replicate len 0) }
-{
-    Ok(vec![in alloc; 0u8; len]?)
-}
-
-// A buffer with the same bytes.
-fn copied<A: Allocator>(alloc: A, bytes: &[u8]) -> Result<Vec<u8, A>, NoMemory>
-    ensures { IfOk result (λ v. v.items ≡ bytes.now) }
-{
-    Ok(Vec::from_slice(alloc, bytes)?)
+    ghost invariant = { λ m. IsHeld m.table m.blocks.items };
 }
 
 impl<A: Allocator + Copy> Memory<A> {
@@ -77,26 +36,25 @@ impl<A: Allocator + Copy> Memory<A> {
     pub fn zeroed<B: Allocator>(alloc: A, table: &Table<B>) -> Result<Memory<A>, NoMemory>
         ensures { IfOk result (λ m. m ≡ zero_image table.now) }
     {
-        let mut buffers = Vec::with_capacity(alloc, table.len())?;
+        let mut blocks = Vec::with_capacity(alloc, table.len())?;
         for i in 0..table.len() {
-            let len = (table.pages(i) * table.page_size()) as usize;
-            buffers.push(zero_bytes(alloc, len)?)?;
+            blocks.push(Pages::zeroed(alloc, table.page_size(), table.pages(i))?)?;
         }
         let table = table.copy_in(alloc)?;
-        Ok(Memory { table, buffers })
+        Ok(Memory { table, blocks })
     }
 
     /// A memory with the same table and the same content at each place.
     pub fn try_copy(&self) -> Result<Memory<A>, NoMemory>
         ensures { IfOk result (λ m. m ≡ self.now) }
     {
-        let alloc = *self.buffers.allocator();
-        let mut buffers = Vec::with_capacity(alloc, self.buffers.len())?;
-        for buffer in &self.buffers {
-            buffers.push(copied(alloc, buffer)?)?;
+        let alloc = *self.blocks.allocator();
+        let mut blocks = Vec::with_capacity(alloc, self.blocks.len())?;
+        for pages in &self.blocks {
+            blocks.push(pages.try_copy()?)?;
         }
         let table = self.table.copy_in(alloc)?;
-        Ok(Memory { table, buffers })
+        Ok(Memory { table, blocks })
     }
 }
 
@@ -114,8 +72,15 @@ impl<A: Allocator> Memory<A> {
         requires { IsPlace self.now.table place }
         ensures { result.now ≡ content_at self.now place }
     {
-        let buffer = &self.buffers[place.block];
-        page_of(buffer, self.table.page_size(), place.page)
+        self.blocks[place.block].page(place.page)
+    }
+
+    // Whether a page was never written, and so is zeros.
+    pub(crate) fn is_blank(&self, place: Place) -> bool
+        requires { IsPlace self.now.table place }
+        ensures { IsTrue result → content_at self.now place ≡ zero_page self.now.table.page_size }
+    {
+        self.blocks[place.block].is_blank(place.page)
     }
 
     /// The content of a page, where the table has it: as many bytes as the page size.
@@ -136,8 +101,15 @@ impl<A: Allocator> Memory<A> {
         requires bytes { length bytes.now ≡ self.old.table.page_size }
         ensures { self.new ≡ with_page self.old place bytes.now }
     {
-        let size = self.table.page_size();
-        write_page(&mut self.buffers[place.block], size, place.page, bytes);
+        self.blocks[place.block].put(place.page, bytes);
+    }
+
+    /// Makes a page zeros. It takes less time than writing zeros: a page that was never written is zeros already.
+    pub fn put_zero_page(&mut self, place: Place)
+        requires { IsPlace self.old.table place }
+        ensures { self.new ≡ with_page self.old place (zero_page self.old.table.page_size) }
+    {
+        self.blocks[place.block].put_zeros(place.page);
     }
 
     /// Writes one byte, `offset` bytes into a block.
@@ -146,6 +118,7 @@ impl<A: Allocator> Memory<A> {
         requires in_block { offset < (block_at self.old.table.blocks block).pages * self.old.table.page_size }
         ensures { self.new ≡ with_byte self.old block offset byte }
     {
-        write_byte(&mut self.buffers[block], offset, byte);
+        let size = self.table.page_size();
+        self.blocks[block].set(offset / size, offset % size, byte);
     }
 }

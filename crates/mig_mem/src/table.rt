@@ -1,6 +1,6 @@
 //! The table of a guest's memory: its page size and its RAM blocks.
 
-ghost use Rattle.std.specs.Prelude.{◌≡◌, ◌*◌, ◌^◌, ◌<◌, ◌≤◌, ◌⊎◌, ◌↔◌, length, IfOk, IfErr, OnOk, IsTrue, None, Some};
+ghost use Rattle.std.specs.Prelude.{◌≡◌, ◌*◌, ◌^◌, ◌<◌, ◌≤◌, ◌⊎◌, ◌↔◌, length, IfOk, IfErr, IfSome, OnOk, IsTrue, None, Some};
 ghost use Rattle.mig_mem.specs.PageSize.{IsPageSize};
 ghost use Rattle.mig_mem.specs.RamTable.{block, block_of, IsTable, table_from};
 ghost use Rattle.mig_mem.specs.Place.{IsPlace};
@@ -34,6 +34,8 @@ pub struct Table<A: Allocator = Global> {
     page_size: u64,
     ids: Vec<u8, A>,
     spans: Vec<Span, A>,
+    // the numbers of the blocks in the order of their ids. It only tells where to look for an id first: nothing rests on it
+    order: Vec<usize, A>,
 }
 
 impl<A: Allocator> Model for Table<A> {
@@ -46,6 +48,27 @@ impl<A: Allocator> Model for Table<A> {
     ghost view = { λ t. table_of_spans t.page_size t.ids.items t.spans.items };
 
     ghost invariant = { λ t. AllWithin t.ids.items t.spans.items × IsTable (table_of_spans t.page_size t.ids.items t.spans.items) };
+}
+
+// The id of a block; empty where there is no such block.
+fn id_of<'a>(ids: &'a [u8], spans: &[Span], i: usize) -> &'a [u8] {
+    let Some(span) = spans.get(i) else {
+        return &[];
+    };
+    let Some(rest) = ids.get(span.start..) else {
+        return &[];
+    };
+    rest.get(..span.len).unwrap_or_default()
+}
+
+// The numbers of the blocks in the order of their ids.
+fn order_of<A: Allocator>(alloc: A, ids: &[u8], spans: &[Span]) -> Result<Vec<usize, A>, NoMemory> {
+    let mut order = Vec::with_capacity(alloc, spans.len())?;
+    for i in 0..spans.len() {
+        order.push(i)?;
+    }
+    order.sort_unstable_by(|a, b| id_of(ids, spans, *a).cmp(id_of(ids, spans, *b)));
+    Ok(order)
 }
 
 // The list's ids in one buffer.
@@ -68,10 +91,12 @@ fn packed_from<A: Allocator + Copy>(
             pages: *pages,
         })?;
     }
+    let order = order_of(alloc, &ids, &spans)?;
     Ok(Table {
         page_size,
         ids,
         spans,
+        order,
     })
 }
 
@@ -103,12 +128,15 @@ impl<A: Allocator> Table<A> {
     {
         let mut ids = Vec::new(alloc);
         let mut spans = Vec::new(alloc);
+        let mut order = Vec::new(alloc);
         ids.extend_from_slice(&self.ids)?;
         spans.extend_from_slice(&self.spans)?;
+        order.extend_from_slice(&self.order)?;
         Ok(Table {
             page_size: self.page_size,
             ids,
             spans,
+            order,
         })
     }
 
@@ -159,6 +187,29 @@ impl<A: Allocator> Table<A> {
 
     /// The number of the block with an id.
     pub fn find(&self, id: &[u8]) -> Option<usize>
+        ensures { result ≡ block_of self.now.blocks id.now }
+    {
+        match self.find_ordered(id) {
+            Some(i) => Some(i),
+            None => self.find_in_turn(id),
+        }
+    }
+
+    // The same by halving the order of the ids. None says nothing.
+    fn find_ordered(&self, id: &[u8]) -> Option<usize>
+        ensures { IfSome result (λ i. block_of self.now.blocks id.now ≡ Some i) }
+    {
+        let order = &self.order;
+        let at = order.binary_search_by(|i| id_of(&self.ids, &self.spans, *i).cmp(id));
+        let i = *order.get(at.ok()?)?;
+        if i < self.len() && self.id(i) == id {
+            return Some(i);
+        }
+        None
+    }
+
+    // The same by asking each block.
+    fn find_in_turn(&self, id: &[u8]) -> Option<usize>
         ensures { result ≡ block_of self.now.blocks id.now }
     {
         for i in 0..self.len() {

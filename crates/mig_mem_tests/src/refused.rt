@@ -2,12 +2,16 @@
 //! answers want of memory and leaves what it was handed as it was; the run with memory answers as ever.
 
 use mig_fixtures::{at, has_byte, is_full, list, places_of, set, table, zeroed};
-use mig_mem::{Dirty, Memory, PAGE_SIZE_4K, Table, TableFault};
+use mig_mem::{Dirty, Memory, PAGE_SIZE_4K, Place, Table, TableFault, first_difference};
 use mig_refusing::{Refusing, with_each_growth_refused};
-use std::alloc::Allocator;
+use std::alloc::{AllocGlobal, Allocator};
+use std::process::Abort;
 use std::test::Fail;
 
 const BLOCKS: [(&str, u64); 2] = [("a", 2), ("pc.ram", 65)];
+
+// The content of a page.
+const NINES: [u8; 4096] = [9; 4096];
 
 fn has_blocks<A: Allocator>(table: &Table<A>) -> bool {
     table.len() == 2
@@ -56,16 +60,87 @@ fn memory_zeroed(rt: HostRuntime) -> Result<(), Fail> {
     });
 }
 
+// A memory of which one page was written and another made zeros again; the others were never written.
+fn written<'a>(rt: &(impl AllocGlobal + Abort), heap: &'a Refusing) -> Memory<&'a Refusing> {
+    let mut memory = zeroed(heap, &BLOCKS).expect(rt, "a memory");
+    assert!(rt; set(&mut memory, 1, 5, 7));
+    assert!(rt; set(&mut memory, 0, 4096, 8));
+    wipe(rt, &mut memory, at(0, 1));
+    memory
+}
+
+// Makes a page zeros.
+fn wipe<A: Allocator>(rt: &impl Abort, memory: &mut Memory<A>, place: Place) {
+    assert!(rt; memory.table().holds(place));
+    memory.put_zero_page(place);
+}
+
+// Asserts that a memory has the pages of `written`.
+fn assert_written<A: Allocator>(rt: &impl Abort, memory: &Memory<A>) {
+    assert!(rt; has_byte(memory, at(1, 0), 5, 7));
+    for place in [at(0, 0), at(0, 1), at(1, 1), at(1, 64)] {
+        assert!(rt; is_full(memory, place, 0));
+    }
+}
+
+// Asserts that a copy of a memory, made after refused growths, has the same pages.
+fn assert_copied(rt: &impl Abort, heap: &Refusing, memory: &Memory<&Refusing>) -> Result<(), Fail> {
+    with_each_growth_refused!(rt, heap, memory.try_copy(), copy => {
+        assert!(rt; copy.table().same(memory.table()));
+        assert!(rt; first_difference(memory, &copy).is_none());
+        assert_written(rt, &copy);
+    });
+}
+
 #[test]
 fn memory_copy(rt: HostRuntime) -> Result<(), Fail> {
     let heap = Refusing::new(rt.alloc(), 0);
+    let memory = written(&rt, &heap);
+    assert_written(&rt, &memory);
+    assert_copied(&rt, &heap, &memory)
+}
+
+// Fills a page with nines.
+fn fill<A: Allocator>(rt: &impl Abort, memory: &mut Memory<A>, place: Place) {
+    let page: &[u8] = &NINES;
+    assert!(rt; memory.table().holds(place));
+    assert!(rt; memory.table().page_size() == page.len() as u64);
+    memory.put_page(place, page);
+    assert!(rt; is_full(memory, place, 9));
+}
+
+// Writes pages for the first time and again, whole and by a byte, and makes some zeros, with the first growth refused. It
+// doesn't come.
+fn assert_writes_take_none(rt: &impl Abort, heap: &Refusing, memory: &mut Memory<&Refusing>) {
+    heap.refuse(1);
+    for place in [at(1, 64), at(0, 0), at(1, 64)] {
+        fill(rt, memory, place);
+    }
+    assert!(rt; set(memory, 1, 8192, 3));
+    assert!(rt; set(memory, 1, 8193, 4));
+    for place in [at(1, 64), at(1, 63)] {
+        wipe(rt, memory, place);
+        assert!(rt; is_full(memory, place, 0));
+    }
+    assert!(rt; heap.is_waiting());
+    heap.refuse(0);
+}
+
+#[test]
+fn memory_writes(rt: HostRuntime) {
+    let heap = Refusing::new(rt.alloc(), 0);
     let mut memory = zeroed(&heap, &BLOCKS).expect(&rt, "a memory");
-    assert!(rt; set(&mut memory, 1, 5, 7));
-    with_each_growth_refused!(rt, heap, memory.try_copy(), copy => {
-        assert!(rt; has_byte(&memory, at(1, 0), 5, 7));
-        assert!(rt; has_byte(&copy, at(1, 0), 5, 7));
-        assert!(rt; copy.table().same(memory.table()));
-    });
+    assert_writes_take_none(&rt, &heap, &mut memory);
+}
+
+// A copy has room for the pages that weren't written before it was made.
+#[test]
+fn memory_writes_in_a_copy(rt: HostRuntime) {
+    let heap = Refusing::new(rt.alloc(), 0);
+    let memory = written(&rt, &heap);
+    let mut copy = memory.try_copy().ok().expect(&rt, "a copy");
+    assert_writes_take_none(&rt, &heap, &mut copy);
+    assert_written(&rt, &memory);
 }
 
 #[test]

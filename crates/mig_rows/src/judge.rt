@@ -64,6 +64,15 @@ fn packets_of(alloc: Global, page_size: u64, text: &[u8]) -> Result<Vec<Packet<'
     Err(Trouble::Line)
 }
 
+// The packets of each of some texts.
+fn packets_of_each<'a>(case: &Case, texts: &'a [Vec<u8>]) -> Result<Vec<Vec<Packet<'a>>>, Trouble> {
+    let mut packets = Vec::new(case.alloc);
+    for text in texts {
+        packets.push(packets_of(case.alloc, case.page_size, text)?)?;
+    }
+    Ok(packets)
+}
+
 // Packets with pages of one size, in their order, as a memory takes them.
 fn gathered<'a>(
     alloc: Global,
@@ -102,7 +111,7 @@ fn put_round(
 /// are those of the PART of its number, where there is one.
 #[derive(Drop)]
 struct Rounds<'a> {
-    records: Vec<StreamRound>,
+    records: Vec<StreamRound<'static>>,
     packets: Vec<Vec<Packet<'a>>>,
     /// The number of orders in which they are put in.
     orders: usize,
@@ -111,7 +120,7 @@ struct Rounds<'a> {
 }
 
 impl<'a> Rounds<'a> {
-    fn new(records: Vec<StreamRound>, packets: Vec<Vec<Packet<'a>>>) -> Rounds<'a> {
+    fn new(records: Vec<StreamRound<'static>>, packets: Vec<Vec<Packet<'a>>>) -> Rounds<'a> {
         let mut most = 0;
         for round in &packets {
             most = most.max(round.len());
@@ -130,7 +139,17 @@ impl<'a> Rounds<'a> {
         }
     }
 
-    fn records_of(&self, round: usize) -> Result<&StreamRound, Trouble> {
+    // The packets of the texts, with the records that a reader of the single stream has.
+    fn read(
+        case: &Case,
+        reader: &mut StreamReader<'static>,
+        texts: &'a [Vec<u8>],
+    ) -> Result<Rounds<'a>, Trouble> {
+        let packets = packets_of_each(case, texts)?;
+        Ok(Rounds::new(rounds_of(case.alloc, reader)?, packets))
+    }
+
+    fn records_of(&self, round: usize) -> Result<&StreamRound<'static>, Trouble> {
         let part = round.checked_add(1).ok_or(Trouble::Line)?;
         // the last section is END
         let records = match part.checked_add(1) {
@@ -186,7 +205,7 @@ fn put_section(out: &mut String, target: &mut Target, section: &StreamRound) -> 
 }
 
 // A reader that was fed a single stream.
-fn reader_of_single(case: &Case, text: &[u8]) -> Result<StreamReader, Trouble> {
+fn reader_of_single(case: &Case, text: &[u8]) -> Result<StreamReader<'static>, Trouble> {
     let mut reader = reader_of(case, Mode::Single)?;
     feed(&mut reader, text)?;
     Ok(reader)
@@ -194,11 +213,19 @@ fn reader_of_single(case: &Case, text: &[u8]) -> Result<StreamReader, Trouble> {
 
 /// What comes of the sections of the last text, put one after another into a memory of the guest's table.
 pub fn sections(out: &mut String, case: &mut Case) -> Done {
-    let alloc = case.alloc;
+    let sections = sections_of(case)?;
+    put_sections(out, case.guest()?.image.table(), &sections)
+}
+
+// The sections of the last text.
+fn sections_of(case: &Case) -> Result<Vec<StreamRound<'static>>, Trouble> {
     let mut reader = reader_of_single(case, case.texts.last().ok_or(Trouble::Line)?)?;
-    let sections = rounds_of(alloc, &mut reader)?;
-    let mut target = Target::new(alloc, case.guest()?.image.table())?;
-    for section in &sections {
+    rounds_of(case.alloc, &mut reader)
+}
+
+fn put_sections(out: &mut String, table: &Table, sections: &[StreamRound]) -> Done {
+    let mut target = Target::new(*out.allocator(), table)?;
+    for section in sections {
         put_section(out, &mut target, section)?;
     }
     write!(out, "rounds {} base {};", target.rounds(), target.base())?;
@@ -233,13 +260,13 @@ fn judge_all(out: &mut String, alloc: Global, table: &Table, rounds: &Rounds<'_>
 
 /// What comes of the rounds, which is to be the same in every order.
 pub fn judge(out: &mut String, case: &Case) -> Done {
-    let alloc = case.alloc;
     let (stream, texts) = case.texts.split_first().ok_or(Trouble::Line)?;
     let mut reader = reader_of_single(case, stream)?;
-    let mut packets = Vec::new(alloc);
-    for text in texts {
-        packets.push(packets_of(alloc, case.page_size, text)?)?;
-    }
-    let rounds = Rounds::new(rounds_of(alloc, &mut reader)?, packets);
-    judge_all(out, alloc, reader.table().ok_or(Trouble::Line)?, &rounds)
+    let rounds = Rounds::read(case, &mut reader, texts)?;
+    judge_all(
+        out,
+        case.alloc,
+        reader.table().ok_or(Trouble::Line)?,
+        &rounds,
+    )
 }

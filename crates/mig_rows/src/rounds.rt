@@ -1,7 +1,11 @@
 //! The rounds of a case: the senders that they go to, and the texts that these make of them.
 
-use mig_cases::{Case, Done, Trouble, Words, put_number};
-use mig_send::{SingleSender, cut, pack};
+ghost use Rattle.std.specs.Prelude.{All, IfOk};
+ghost use Rattle.mig_send.specs.Batches.{IsBatch};
+
+use mig_cases::{Case, Done, Guest, Trouble, Words, put_number};
+use mig_mem::{Dirty, Memory};
+use mig_send::{Batch, SingleSender, cut, pack};
 use mig_stream::StreamWriter;
 use std::alloc::Global;
 use std::rt::Files;
@@ -30,19 +34,20 @@ impl Rounds {
 
     /// Takes a line that builds something; false where the line is no such line.
     pub fn take<R: Files>(&mut self, rt: &R, name: &str, words: Words) -> Result<bool, Trouble> {
-        match name {
-            "round" => self.round()?,
-            "flush" => self.flush()?,
-            "stream" => self.stream()?,
-            "sent" => self.sent()?,
-            "pack" => self.pack(words)?,
+        let taken = match name {
+            "round" => self.round(),
+            "flush" => self.flush(),
+            "stream" => self.stream(),
+            "sent" => self.sent(),
+            "pack" => self.pack(words),
             _ => {
                 if name == "anew" {
                     self.senders = None;
                 }
                 return self.case.take(rt, name, words);
             }
-        }
+        };
+        taken?;
         Ok(true)
     }
 
@@ -109,25 +114,9 @@ impl Rounds {
     // `pack LIMIT NUMBER`: the packets of the marked pages, in batches of at most so many, numbered from there on
     fn pack(&mut self, mut words: Words) -> Done {
         let limit = words.size()?;
-        let mut number = words.number()?;
-        let alloc = self.case.alloc;
-        let guest = self.case.guest()?;
-        let table = guest.image.table();
-        // only for what it says: the page size is one
-        let _blocks = table.len();
-        let most = (524_288 / table.page_size()) as usize;
-        if limit == 0 || limit > most || !guest.dirty.table().same(table) {
-            return Err(Trouble::Line);
-        }
-        let mut text = Vec::new(alloc);
-        for batch in &cut(alloc, table, &guest.dirty, limit)? {
-            let packed = pack(alloc, &guest.image, batch, number)?;
-            if packed.number() != number {
-                return Err(Trouble::Line);
-            }
-            text.extend_from_slice(packed.bytes())?;
-            number = number.wrapping_add(1);
-        }
+        let number = words.number()?;
+        let mut text = Vec::new(self.case.alloc);
+        put_packets(&mut text, self.case.guest()?, limit, number)?;
         self.case.texts.push(text)?;
         Ok(())
     }
@@ -137,14 +126,7 @@ impl Rounds {
         let limit = words.size()?;
         let alloc = self.case.alloc;
         let guest = self.case.guest()?;
-        let table = guest.image.table();
-        // only for what it says: the page size is one
-        let _blocks = table.len();
-        let most = (524_288 / table.page_size()) as usize;
-        if limit == 0 || limit > most || !guest.dirty.table().same(table) {
-            return Err(Trouble::Line);
-        }
-        let batches = cut(alloc, table, &guest.dirty, limit)?;
+        let batches = batches_of(alloc, &guest.image, &guest.dirty, limit)?;
         put_number(out, batches.len() as u64)?;
         for batch in &batches {
             write!(out, " {}:", batch.block)?;
@@ -152,6 +134,40 @@ impl Rounds {
         }
         Ok(())
     }
+}
+
+// The marked pages, in batches of at most so many.
+fn batches_of(
+    alloc: Global,
+    memory: &Memory,
+    dirty: &Dirty,
+    limit: usize,
+) -> Result<Vec<Batch>, Trouble>
+    ensures { IfOk result (λ v. All (IsBatch memory.now.table) v.items) }
+{
+    let table = memory.table();
+    // only for what it says: the page size is one
+    let _blocks = table.len();
+    let most = (524_288 / table.page_size()) as usize;
+    if limit == 0 || limit > most || !dirty.table().same(table) {
+        return Err(Trouble::Line);
+    }
+    Ok(cut(alloc, table, dirty, limit)?)
+}
+
+// Appends the packets of a guest's marked pages, in batches of at most so many, numbered from there on.
+fn put_packets(text: &mut Vec<u8>, guest: &Guest, limit: usize, first: u64) -> Done {
+    let alloc = *text.allocator();
+    let mut number = first;
+    for batch in &batches_of(alloc, &guest.image, &guest.dirty, limit)? {
+        let packed = pack(alloc, &guest.image, batch, number)?;
+        if packed.number() != number {
+            return Err(Trouble::Line);
+        }
+        text.extend_from_slice(packed.bytes())?;
+        number = number.wrapping_add(1);
+    }
+    Ok(())
 }
 
 // Ascending numbers, those that follow one another as a range.

@@ -4,7 +4,7 @@ use crate::judge::{judge, sections};
 use crate::rounds::Rounds;
 use crate::streams::ask_stream;
 use mig_cases::{
-    Book, Case, Section, Trouble, Words, ask_memory, ask_packets, bytes_of, difference,
+    Book, Case, Done, Section, Trouble, Words, ask_memory, ask_packets, bytes_of, difference,
 };
 use std::alloc::Global;
 use std::io::{self, Write};
@@ -67,25 +67,57 @@ fn run_case<R: Files, W: Write>(
     section: &Section<'_>,
     count: &mut Count,
 ) -> io::Result<()> {
-    let Ok(mut built) = Rounds::new(alloc) else {
-        count.add(false);
-        return writeln!(out, "{}: no memory", section.name);
-    };
+    match Rounds::new(alloc) {
+        Ok(mut built) => run_lines(rt, out, book, &mut built, section, count),
+        Err(_) => {
+            count.add(false);
+            writeln!(out, "{}: no memory", section.name)
+        }
+    }
+}
+
+// Follows the lines of a case, up to one that can't be followed.
+fn run_lines<R: Files, W: Write>(
+    rt: &R,
+    out: &mut W,
+    book: &Book<'_>,
+    built: &mut Rounds,
+    section: &Section<'_>,
+    count: &mut Count,
+) -> io::Result<()> {
     for line in &section.lines {
-        let (question, wanted) = match line.split_once(" = ") {
-            Some((question, wanted)) => (question, Some(wanted)),
-            None => (*line, None),
-        };
-        match answer_of(rt, book, &mut built, question, wanted) {
-            Ok(None) => {}
-            Ok(Some(answer)) => put_answer(out, section.name, question, wanted, &answer, count)?,
-            Err(trouble) => {
-                count.add(false);
-                return writeln!(out, "{}: {question}: {}", section.name, trouble.text());
-            }
+        if !run_line(rt, out, book, built, section.name, line, count)? {
+            break;
         }
     }
     Ok(())
+}
+
+// Follows a line of a case; false where it can't be followed.
+fn run_line<R: Files, W: Write>(
+    rt: &R,
+    out: &mut W,
+    book: &Book<'_>,
+    built: &mut Rounds,
+    name: &str,
+    line: &str,
+    count: &mut Count,
+) -> io::Result<bool> {
+    let (question, wanted) = match line.split_once(" = ") {
+        Some((question, wanted)) => (question, Some(wanted)),
+        None => (line, None),
+    };
+    let mut answer = String::new(built.case.alloc);
+    match follow(&mut answer, rt, book, built, question, wanted) {
+        Ok(false) => {}
+        Ok(true) => put_answer(out, name, question, wanted, &answer, count)?,
+        Err(trouble) => {
+            count.add(false);
+            writeln!(out, "{name}: {question}: {}", trouble.text())?;
+            return Ok(false);
+        }
+    }
+    Ok(true)
 }
 
 // Counts an answer, and writes it where it is wrong, or where none is expected.
@@ -111,33 +143,45 @@ fn put_answer<W: Write>(
     }
 }
 
-// Follows a line: what it asks is answered, None where it asks nothing.
-fn answer_of<R: Files>(
+// Follows a line: writes down what it asks is answered; false where it asks nothing.
+fn follow<R: Files>(
+    out: &mut String,
     rt: &R,
     book: &Book<'_>,
     built: &mut Rounds,
     line: &str,
     wanted: Option<&str>,
-) -> Result<Option<String>, Trouble> {
+) -> Result<bool, Trouble> {
     let mut words = Words::new(line);
     let name = words.word()?;
     if name == "each" {
-        return Ok(Some(each(&mut built.case, words, wanted)?));
+        each(out, &mut built.case, words, wanted)?;
+    } else if let (true, Some(wanted)) = (name == "bytes", wanted) {
+        same_bytes(out, &built.case, wanted)?;
+    } else if built.take(rt, name, words)? {
+        return Ok(false);
+    } else {
+        ask(out, rt, book, built, name, words)?;
     }
-    if let (true, Some(wanted)) = (name == "bytes", wanted) {
-        return Ok(Some(same_bytes(&built.case, wanted)?));
-    }
-    if built.take(rt, name, words)? {
-        return Ok(None);
-    }
-    let mut out = String::new(built.case.alloc);
+    Ok(true)
+}
+
+// Writes down what a question is answered, whatever the answer that stands beside it.
+fn ask<R: Files>(
+    out: &mut String,
+    rt: &R,
+    book: &Book<'_>,
+    built: &mut Rounds,
+    name: &str,
+    words: Words,
+) -> Done {
     if name == "same" || name == "difference" {
-        let mut other = case_of(rt, book, built.case.alloc, words.rest())?;
-        difference(&mut out, &mut built.case, &mut other, name)?;
-    } else if !ask_text(&mut out, &built.case, name)? && !ask_guest(&mut out, built, name, words)? {
+        return ask_other(out, rt, book, &mut built.case, name, words.rest());
+    }
+    if !ask_text(out, &built.case, name)? && !ask_guest(out, built, name, words)? {
         return Err(Trouble::Line);
     }
-    Ok(Some(out))
+    Ok(())
 }
 
 // Writes down what a question about the last text is answered; false where it is no such question, or there is no text.
@@ -152,18 +196,32 @@ fn ask_guest(
     name: &str,
     words: Words,
 ) -> Result<bool, Trouble> {
-    match name {
-        "batches" => built.batches(out, words)?,
-        "judge" => judge(out, &built.case)?,
-        "sections" => sections(out, &mut built.case)?,
+    let answered = match name {
+        "batches" => built.batches(out, words),
+        "judge" => judge(out, &built.case),
+        "sections" => sections(out, &mut built.case),
         _ => return ask_memory(out, &mut built.case, name, words),
-    }
+    };
+    answered?;
     Ok(true)
 }
 
-// What the lines of a name build.
-fn case_of<R: Files>(rt: &R, book: &Book<'_>, alloc: Global, name: &str) -> Result<Case, Trouble> {
-    let mut built = Rounds::new(alloc)?;
+// Asks about a case and another one, which the lines of a name build.
+fn ask_other<R: Files>(
+    out: &mut String,
+    rt: &R,
+    book: &Book<'_>,
+    case: &mut Case,
+    question: &str,
+    name: &str,
+) -> Done {
+    let mut other = Rounds::new(case.alloc)?;
+    build(rt, book, &mut other, name)?;
+    difference(out, case, &mut other.case, question)
+}
+
+// Follows the lines of a name, which are to build something.
+fn build<R: Files>(rt: &R, book: &Book<'_>, built: &mut Rounds, name: &str) -> Done {
     for line in book.lines_of(name)? {
         let mut words = Words::new(line);
         let word = words.word()?;
@@ -171,47 +229,57 @@ fn case_of<R: Files>(rt: &R, book: &Book<'_>, alloc: Global, name: &str) -> Resu
             return Err(Trouble::Line);
         }
     }
-    Ok(built.case)
+    Ok(())
 }
 
 // Whether the text is these bytes: what was expected where it is, else what it is.
-fn same_bytes(case: &Case, wanted: &str) -> Result<String, Trouble> {
+fn same_bytes(out: &mut String, case: &Case, wanted: &str) -> Done {
     let bytes = bytes_of(case.alloc, wanted)?;
     let text = case.texts.last().ok_or(Trouble::Line)?;
     if text.as_slice() == bytes.as_slice() {
-        return Ok(String::from_str(case.alloc, wanted)?);
+        return Ok(out.push_str(wanted)?);
     }
-    let mut out = String::new(case.alloc);
-    for (i, (one, other)) in text.iter().zip(&bytes).enumerate() {
+    put_other_bytes(out, text, &bytes)
+}
+
+// What a text is that isn't the bytes that were expected.
+fn put_other_bytes(out: &mut String, text: &[u8], wanted: &[u8]) -> Done {
+    for (i, (one, other)) in text.iter().zip(wanted).enumerate() {
         if one != other {
             write!(out, "{} bytes, of which byte {i} is {one:02x}", text.len())?;
-            return Ok(out);
+            return Ok(());
         }
     }
-    write!(out, "{} bytes in place of {}", text.len(), bytes.len())?;
-    Ok(out)
+    write!(out, "{} bytes in place of {}", text.len(), wanted.len())?;
+    Ok(())
 }
 
 // `each FIRST LAST QUESTION`: asked of the prefixes of the text with so many bytes. The first answer that is another than
 // expected is told, or else the last one.
-fn each(case: &mut Case, mut words: Words, wanted: Option<&str>) -> Result<String, Trouble> {
+fn each(out: &mut String, case: &mut Case, mut words: Words, wanted: Option<&str>) -> Done {
     let first = words.size()?;
     let last = words.size()?;
     let name = words.word()?;
     let whole = Vec::from_slice(case.alloc, case.text()?)?;
-    let mut answer = String::new(case.alloc);
     for len in first..=last {
         let front = whole.get(..len).ok_or(Trouble::Line)?;
-        *case.text()? = Vec::from_slice(case.alloc, front)?;
-        answer.clear();
-        if !ask_text(&mut answer, case, name)? {
-            return Err(Trouble::Line);
-        }
-        if wanted.is_some_and(|wanted| wanted != answer.trim_start()) {
-            write!(answer, " of the first {len} bytes")?;
+        ask_front(out, case, front, name)?;
+        let answer = out.trim_start();
+        if wanted.is_some_and(|wanted| wanted != answer) {
+            write!(out, " of the first {len} bytes")?;
             break;
         }
     }
     *case.text()? = whole;
-    Ok(answer)
+    Ok(())
+}
+
+// Writes down alone what the front of the text is answered, which takes the text's place.
+fn ask_front(out: &mut String, case: &mut Case, front: &[u8], name: &str) -> Done {
+    *case.text()? = Vec::from_slice(case.alloc, front)?;
+    out.clear();
+    if !ask_text(out, case, name)? {
+        return Err(Trouble::Line);
+    }
+    Ok(())
 }

@@ -10,12 +10,13 @@ use std::alloc::Global;
 /// Writes down what such a question is answered; false where it is none of them.
 pub fn ask_stream(out: &mut String, case: &Case, name: &str) -> Result<bool, Trouble> {
     let text: &[u8] = case.texts.last().ok_or(Trouble::Line)?;
-    match name {
-        "read_single" => read(out, case, Mode::Single, text)?,
-        "read_main" => read(out, case, Mode::Main, text)?,
-        "load_single" => load(out, case, text)?,
+    let answered = match name {
+        "read_single" => read(out, case, Mode::Single, text),
+        "read_main" => read(out, case, Mode::Main, text),
+        "load_single" => load(out, case, text),
         _ => return Ok(false),
-    }
+    };
+    answered?;
     Ok(true)
 }
 
@@ -28,7 +29,7 @@ fn load(out: &mut String, case: &Case, text: &[u8]) -> Done {
 }
 
 /// A reader, as the case tells it.
-pub fn reader_of(case: &Case, mode: Mode) -> Result<StreamReader, Trouble> {
+pub fn reader_of(case: &Case, mode: Mode) -> Result<StreamReader<'static>, Trouble> {
     if !is_page_size(case.page_size) || case.limit > MAX_TOTAL {
         return Err(Trouble::Line);
     }
@@ -45,7 +46,10 @@ pub fn feed(reader: &mut StreamReader, piece: &[u8]) -> Done {
 }
 
 /// The whole rounds that a reader has, START's first.
-pub fn rounds_of(alloc: Global, reader: &mut StreamReader) -> Result<Vec<StreamRound>, Trouble> {
+pub fn rounds_of<'a>(
+    alloc: Global,
+    reader: &mut StreamReader<'a>,
+) -> Result<Vec<StreamRound<'a>>, Trouble> {
     let mut rounds = Vec::new(alloc);
     for _ in 0..u64::MAX {
         match reader.take_round()? {
@@ -59,19 +63,48 @@ pub fn rounds_of(alloc: Global, reader: &mut StreamReader) -> Result<Vec<StreamR
 fn read(out: &mut String, case: &Case, mode: Mode, text: &[u8]) -> Done {
     for len in &case.pieces {
         let len = if *len == 0 { text.len().max(1) } else { *len };
-        let mut reader = reader_of(case, mode)?;
-        for piece in text.chunks(len) {
-            feed(&mut reader, piece)?;
-        }
-        if case.is_over {
-            reader.end();
-        }
         let mut answer = String::new(case.alloc);
-        put_stream(&mut answer, &mut reader)?;
-        put_fed(&mut answer, reader.fed(), text)?;
+        read_in_pieces(&mut answer, case, mode, text, len)?;
         agree(out, &answer, len)?;
     }
+    let mut answer = String::new(case.alloc);
+    read_of_text(&mut answer, case, mode, text)?;
+    agree_of_text(out, &answer)
+}
+
+// Keeps the answer where a reader that is made of the text gives the same.
+fn agree_of_text(wanted: &mut String, answer: &str) -> Done {
+    if wanted.as_str() != answer {
+        write!(wanted, ", but of the text itself {answer}")?;
+    }
     Ok(())
+}
+
+// What a reader finds that is made of the text, and whose rounds lend the pages from it.
+fn read_of_text(out: &mut String, case: &Case, mode: Mode, text: &[u8]) -> Done {
+    if !is_page_size(case.page_size) || case.limit > MAX_TOTAL {
+        return Err(Trouble::Line);
+    }
+    let mut reader = StreamReader::of_text(case.alloc, mode, case.page_size, case.limit, text)?;
+    put_reader(out, case, &mut reader, text)
+}
+
+// What a reader finds that is fed the text in pieces of a length.
+fn read_in_pieces(out: &mut String, case: &Case, mode: Mode, text: &[u8], len: usize) -> Done {
+    let mut reader = reader_of(case, mode)?;
+    for piece in text.chunks(len.max(1)) {
+        feed(&mut reader, piece)?;
+    }
+    put_reader(out, case, &mut reader, text)
+}
+
+// What a reader of a text has found, which is over where the case says so.
+fn put_reader(out: &mut String, case: &Case, reader: &mut StreamReader, text: &[u8]) -> Done {
+    if case.is_over {
+        reader.end();
+    }
+    put_stream(out, reader)?;
+    put_fed(out, reader.fed(), text)
 }
 
 // What a reader of a stream has found.

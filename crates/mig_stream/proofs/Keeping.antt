@@ -1,8 +1,7 @@
 -- Buffers that are filled one after another: what lay in them lies there still.
-use Rattle.std.proofs.Common.{◌≡◌, ◌+◌, ◌-◌, ◌<◌, ◌≤◌, ℕ, List, [], ◌∷◌, ◌++◌, length, take, drop, map, get_or, Option, Some, None, refl, sym, ap, subst, ◌∙◌, inl, inr, arith}
+use Rattle.std.proofs.Common.{◌≡◌, ◌+◌, ◌-◌, ◌<◌, ◌≤◌, ℕ, List, [], ◌∷◌, ◌++◌, length, take, drop, map, get_or, Option, Some, refl, sym, ap, subst, ◌∙◌, inl, inr, arith}
 use Rattle.std.specs.Prelude.{IfSome}
 use Rattle.std.specs.List.{All}
-use Rattle.std.specs.Option.{option_map}
 use Rattle.std.proofs.lemmas.List.{length-append, get_or_append_left, take-append-le, map-append, take-map, take-take, drop-take, length-take, get_or-take, take_at, take_more, length-map}
 use Rattle.std.proofs.lemmas.List.Elements.{All-head, All-tail, All-nil, All-cons, All-push, All-take, All-weaker}
 use Rattle.std.specs.declared.vec.Vec.{Vec}
@@ -10,10 +9,12 @@ use Rattle.mig_mem.specs.Buffers.{buffers_of}
 use Rattle.mig_mem.proofs.Kept.{buffer_at}
 use Rattle.mig_stream.specs.declared.chunks.Span.{Span}
 use Rattle.mig_stream.specs.declared.round.Record.{Record}
+use Rattle.mig_stream.specs.declared.round.Content.{Content}
+use Rattle.mig_stream.specs.declared.round.Content.TheVariants.{Zeros, Kept, Lent}
 use Rattle.mig_mem.specs.declared.place.Place.{Place}
 use Rattle.mig_stream.specs.PageRecord.{PageRecord}
 use Rattle.mig_stream.specs.Round.{AreWhole}
-use Rattle.mig_stream.specs.Kept.{bytes_at, IsWithin, KeepsSpans, IsBefore, KeepsBefore, record_in, records_in, AreKept, EndBefore}
+use Rattle.mig_stream.specs.Kept.{bytes_at, KeepsSpans, IsBefore, KeepsBefore, content_in, IsHeld, IsHeldBefore, record_in, records_in, AreKept, EndBefore}
 
 -- ---- buffers
 
@@ -59,47 +60,48 @@ keeps_cut ys chunk len known s (inr at) is =
 
 -- ---- records
 
-content_kept : (old new : List (List ℕ)) (o : Option Span) → KeepsSpans old new → IfSome o (IsWithin old)
-    → IfSome o (IsWithin new) × (option_map (bytes_at new) o ≡ option_map (bytes_at old) o)
-content_kept old new None keeps is = (tt, refl)
-content_kept old new (Some s) keeps is = let k = keeps s is in (k.0, ap (λ (b : List ℕ). Some b) k.1)
+content_kept : (old new : List (List ℕ)) (o : Content) → KeepsSpans old new → IsHeld old o → IsHeld new o × (content_in new o ≡ content_in old o)
+content_kept old new Zeros keeps is = (tt, refl)
+content_kept old new (Kept s) keeps is = let k = keeps s is in (k.0, ap (λ (b : List ℕ). Some b) k.1)
+content_kept old new (Lent bytes) keeps is = (tt, refl)
 
-pub record_kept : (old new : List (List ℕ)) (r : Record) → KeepsSpans old new → IfSome r.content (IsWithin old)
-    → IfSome r.content (IsWithin new) × (record_in new r ≡ record_in old r)
+pub record_kept : (old new : List (List ℕ)) (r : Record) → KeepsSpans old new → IsHeld old r.content
+    → IsHeld new r.content × (record_in new r ≡ record_in old r)
 record_kept old new r keeps is =
     let k = content_kept old new r.content keeps is in
     (k.0, ap (λ (o : Option (List ℕ)). record { place = r.place; content = o }) k.1)
 
 pub records_kept : (old new : List (List ℕ)) (rs : List Record) → KeepsSpans old new → AreKept old rs → AreKept new rs × (records_in new rs ≡ records_in old rs)
 unfolding records_in AreKept
-records_kept old new [] keeps are = (All-nil (λ (r : Record). IfSome r.content (IsWithin new)), refl)
+records_kept old new [] keeps are = (All-nil (λ (r : Record). IsHeld new r.content), refl)
 records_kept old new (r ∷ rs) keeps are =
-    let first = record_kept old new r keeps (All-head (λ (x : Record). IfSome x.content (IsWithin old)) r rs are) in
-    let others = records_kept old new rs keeps (All-tail (λ (x : Record). IfSome x.content (IsWithin old)) r rs are) in (
-      All-cons (λ (x : Record). IfSome x.content (IsWithin new)) r rs first.0 others.0,
+    let first = record_kept old new r keeps (All-head (λ (x : Record). IsHeld old x.content) r rs are) in
+    let others = records_kept old new rs keeps (All-tail (λ (x : Record). IsHeld old x.content) r rs are) in (
+      All-cons (λ (x : Record). IsHeld new x.content) r rs first.0 others.0,
       ap (λ (x : PageRecord). x ∷ records_in new rs) first.1 ∙ ap (λ (xs : List PageRecord). record_in old r ∷ xs) others.1,
     )
 
 -- records whose bytes end before a cut
-content_cut : (old new : List (List ℕ)) (chunk len : ℕ) (o : Option Span) → KeepsBefore chunk len old new → IfSome o (IsBefore chunk len) → IfSome o (IsWithin old)
-    → IfSome o (IsWithin new) × (option_map (bytes_at new) o ≡ option_map (bytes_at old) o)
-content_cut old new chunk len None keeps before is = (tt, refl)
-content_cut old new chunk len (Some s) keeps before is = let k = keeps s before is in (k.0, ap (λ (b : List ℕ). Some b) k.1)
+content_cut : (old new : List (List ℕ)) (chunk len : ℕ) (o : Content) → KeepsBefore chunk len old new → IsHeldBefore chunk len o → IsHeld old o
+    → IsHeld new o × (content_in new o ≡ content_in old o)
+content_cut old new chunk len Zeros keeps before is = (tt, refl)
+content_cut old new chunk len (Kept s) keeps before is = let k = keeps s before is in (k.0, ap (λ (b : List ℕ). Some b) k.1)
+content_cut old new chunk len (Lent bytes) keeps before is = (tt, refl)
 
 pub records_cut : (old new : List (List ℕ)) (chunk len : ℕ) (rs : List Record) → KeepsBefore chunk len old new → EndBefore chunk len rs → AreKept old rs
     → AreKept new rs × (records_in new rs ≡ records_in old rs)
 unfolding records_in AreKept EndBefore
-records_cut old new chunk len [] keeps before are = (All-nil (λ (r : Record). IfSome r.content (IsWithin new)), refl)
+records_cut old new chunk len [] keeps before are = (All-nil (λ (r : Record). IsHeld new r.content), refl)
 records_cut old new chunk len (r ∷ rs) keeps before are =
-    let k = content_cut old new chunk len r.content keeps (All-head (λ (x : Record). IfSome x.content (IsBefore chunk len)) r rs before) (All-head (λ (x : Record). IfSome x.content (IsWithin old)) r rs are) in
-    let others = records_cut old new chunk len rs keeps (All-tail (λ (x : Record). IfSome x.content (IsBefore chunk len)) r rs before) (All-tail (λ (x : Record). IfSome x.content (IsWithin old)) r rs are) in (
-      All-cons (λ (x : Record). IfSome x.content (IsWithin new)) r rs k.0 others.0,
+    let k = content_cut old new chunk len r.content keeps (All-head (λ (x : Record). IsHeldBefore chunk len x.content) r rs before) (All-head (λ (x : Record). IsHeld old x.content) r rs are) in
+    let others = records_cut old new chunk len rs keeps (All-tail (λ (x : Record). IsHeldBefore chunk len x.content) r rs before) (All-tail (λ (x : Record). IsHeld old x.content) r rs are) in (
+      All-cons (λ (x : Record). IsHeld new x.content) r rs k.0 others.0,
       ap (λ (o : Option (List ℕ)). record { place = r.place; content = o } ∷ records_in new rs) k.1 ∙ ap (λ (xs : List PageRecord). record_in old r ∷ xs) others.1,
     )
 
 kept_front : (chunks : List (List ℕ)) (rs : List Record) (n : ℕ) → AreKept chunks rs → AreKept chunks (take n rs)
 unfolding AreKept
-kept_front chunks rs n are = All-take (λ (r : Record). IfSome r.content (IsWithin chunks)) n rs are
+kept_front chunks rs n are = All-take (λ (r : Record). IsHeld chunks r.content) n rs are
 
 -- the first records alone, with the buffers cut after their bytes
 pub records_truncated : (old new : List (List ℕ)) (rs front : List Record) (n chunk len : ℕ) → front ≡ take n rs → AreKept old rs → EndBefore chunk len front → KeepsBefore chunk len old new
@@ -112,10 +114,10 @@ records_truncated old new rs front n chunk len is are before keeps =
 
 -- one record more, whose bytes were kept
 pub records_pushed : (old new : List (List ℕ)) (rs : List Record) (p : Place) (s : Span) (bytes : List ℕ) → KeepsSpans old new → AreKept old rs → bytes_at new s ≡ bytes
-    → records_in new (rs ++ record { place = p; content = Some s } ∷ []) ≡ records_in old rs ++ record { place = p; content = Some bytes } ∷ []
+    → records_in new (rs ++ record { place = p; content = Kept s } ∷ []) ≡ records_in old rs ++ record { place = p; content = Some bytes } ∷ []
 unfolding records_in
 records_pushed old new rs p s bytes keeps are is =
-    let last : Record = record { place = p; content = Some s } in
+    let last : Record = record { place = p; content = Kept s } in
     map-append (record_in new) rs (last ∷ [])
     ∙ ap (λ (front : List PageRecord). front ++ record { place = p; content = Some (bytes_at new s) } ∷ []) (records_kept old new rs keeps are).1
     ∙ ap (λ (b : List ℕ). records_in old rs ++ record { place = p; content = Some b } ∷ []) is
@@ -163,13 +165,14 @@ cut_last xs l last chunk len at last_is =
 
 -- ---- the end of records
 
-some_weaker : (o : Option Span) (P Q : Span → Type 0) → ((s : Span) → P s → Q s) → IfSome o P → IfSome o Q
-some_weaker None P Q f h = tt
-some_weaker (Some s) P Q f h = f s h
+some_later : (o : Content) (chunk len chunk2 len2 : ℕ) → ((s : Span) → IsBefore chunk len s → IsBefore chunk2 len2 s) → IsHeldBefore chunk len o → IsHeldBefore chunk2 len2 o
+some_later Zeros chunk len chunk2 len2 f h = tt
+some_later (Kept s) chunk len chunk2 len2 f h = f s h
+some_later (Lent bytes) chunk len chunk2 len2 f h = tt
 
 pub end_more : (rs : List Record) (i : ℕ) (d : Record) (chunk len chunk2 len2 : ℕ) → i < length rs → EndBefore chunk len (take i rs)
-    → ((s : Span) → IsBefore chunk len s → IsBefore chunk2 len2 s) → IfSome (get_or rs i d).content (IsBefore chunk2 len2) → EndBefore chunk2 len2 (take (i + 1) rs)
+    → ((s : Span) → IsBefore chunk len s → IsBefore chunk2 len2 s) → IsHeldBefore chunk2 len2 (get_or rs i d).content → EndBefore chunk2 len2 (take (i + 1) rs)
 unfolding EndBefore
 end_more rs i d chunk len chunk2 len2 lt before later here =
-    rw (take_more rs i d lt) (All-push (λ (x : Record). IfSome x.content (IsBefore chunk2 len2)) (take i rs) (get_or rs i d)
-    (All-weaker (λ (x : Record). IfSome x.content (IsBefore chunk len)) (λ (x : Record). IfSome x.content (IsBefore chunk2 len2)) (λ x h. some_weaker x.content (IsBefore chunk len) (IsBefore chunk2 len2) later h) (take i rs) before) here)
+    rw (take_more rs i d lt) (All-push (λ (x : Record). IsHeldBefore chunk2 len2 x.content) (take i rs) (get_or rs i d)
+    (All-weaker (λ (x : Record). IsHeldBefore chunk len x.content) (λ (x : Record). IsHeldBefore chunk2 len2 x.content) (λ x h. some_later x.content chunk len chunk2 len2 later h) (take i rs) before) here)

@@ -55,6 +55,19 @@ fed_on old mid piece reading run same_fed same_ended given so_far s =
       has_pending = run.has_rest;
     }
 
+-- after a whole text that was read at once
+pub text_read : (given : Settings) (r : Reader) (text : List ℕ) → ReadsOn (from given) text r.progress r.pending r.found → r.fed ≡ length text → r.ended ≡ false
+    → Stands given (with_piece text nothing_yet) r
+text_read given r text run fed ended = record {
+  has_fed = fed;
+  has_ended = ended;
+  rounds = [];
+  has_taken = refl;
+  rest = run.rest;
+  reads = run.reads;
+  has_pending = run.has_rest;
+}
+
 -- after a piece that is only counted
 pub fed_past : (old : Reader) (piece : List ℕ) → old.found ≢ Reading → StepsOn (with_piece piece) old (record old { fed = old.fed + length piece })
 fed_past old piece other given so_far s = record {

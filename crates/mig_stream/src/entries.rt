@@ -152,9 +152,13 @@ impl<A: Allocator> Entries<A> {
     pub(crate) fn find(&self, id: &[u8]) -> Option<usize>
         ensures { result ≡ block_of self.now.blocks id.now }
     {
-        self.blocks
-            .iter()
-            .position(|block| block.id.as_slice() == id)
+        match &self.table {
+            Some(table) => table.find(id),
+            None => self
+                .blocks
+                .iter()
+                .position(|block| block.id.as_slice() == id),
+        }
     }
 
     /// The table, once the list is whole.

@@ -26,7 +26,7 @@ use mig_mem::{MAX_BLOCKS, NoMemory, Place, is_id};
 use std::alloc::Allocator;
 use std::mem;
 
-impl<A: Allocator> Progress<A> {
+impl<'a, A: Allocator> Progress<'a, A> {
     pub(crate) fn file_header(&mut self, item: &[u8]) -> Result<(), Stop>
         requires { length item.now ≡ 8 }
         ensures { TakesAs self.old due.FileHeader item.now self.new result }
@@ -214,7 +214,7 @@ impl<A: Allocator> Progress<A> {
     }
 }
 
-impl<A: Allocator + Copy> Progress<A> {
+impl<'a, A: Allocator + Copy> Progress<'a, A> {
     fn flush(&mut self, page: u64) -> Result<(), Stop>
         ensures { TakesHead self.old kind.Flush page self.new result }
     {
@@ -294,6 +294,15 @@ impl<A: Allocator + Copy> Progress<A> {
         ensures { TakesAs self.old (due.Content filling.Normal place) item.now self.new result }
     {
         self.records.push_page(place, item)?;
+        self.due = Due::RecordHead;
+        Ok(())
+    }
+
+    pub(crate) fn lent_page(&mut self, place: Place, item: &'a [u8]) -> Result<(), Stop>
+        requires { length item.now ≡ self.old.page_size }
+        ensures { TakesAs self.old (due.Content filling.Normal place) item.now self.new result }
+    {
+        self.records.push_lent(place, item)?;
         self.due = Due::RecordHead;
         Ok(())
     }

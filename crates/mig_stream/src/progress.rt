@@ -20,10 +20,11 @@ use mig_mem::{NoMemory, Table};
 use std::alloc::Allocator;
 use std::collections::VecDeque;
 use std::marker::Model;
+use std::mem;
 
 /// How far a stream has been read.
 #[derive(Drop)]
-pub(crate) struct Progress<A: Allocator> {
+pub(crate) struct Progress<'a, A: Allocator> {
     pub(crate) mode: Mode,
     pub(crate) entries: Entries<A>,
     pub(crate) due: Due,
@@ -31,11 +32,11 @@ pub(crate) struct Progress<A: Allocator> {
     pub(crate) section_id: u32,
     pub(crate) named: Option<usize>,
     // the records of the round that isn't whole yet, and the whole rounds that were not given away
-    pub(crate) records: Records<A>,
-    pub(crate) rounds: VecDeque<Records<A>, A>,
+    pub(crate) records: Records<'a, A>,
+    pub(crate) rounds: VecDeque<Records<'a, A>, A>,
 }
 
-impl<A: Allocator> Model for Progress<A> {
+impl<'a, A: Allocator> Model for Progress<'a, A> {
     ghost use Rattle.std.specs.Prelude.{All};
     ghost use Rattle.mig_stream.specs.Progress.{StreamProgress};
     ghost use Rattle.mig_stream.specs.Round.{AreWhole};
@@ -72,9 +73,9 @@ pub(crate) struct Mark {
     rounds: usize,
 }
 
-impl<A: Allocator + Copy> Progress<A> {
+impl<'a, A: Allocator + Copy> Progress<'a, A> {
     /// Before the first byte.
-    pub(crate) fn new(alloc: A, mode: Mode, page_size: u64, limit: u64) -> Progress<A>
+    pub(crate) fn new(alloc: A, mode: Mode, page_size: u64, limit: u64) -> Progress<'a, A>
         requires page_size { IsPageSize page_size }
         requires limit { limit ≤ 2 ^ 40 }
         ensures { result ≡ start mode page_size limit }
@@ -92,7 +93,7 @@ impl<A: Allocator + Copy> Progress<A> {
     }
 }
 
-impl<A: Allocator + Copy> Progress<A> {
+impl<'a, A: Allocator + Copy> Progress<'a, A> {
     /// Takes the item that is due. An `Err` changes nothing.
     pub(crate) fn take(&mut self, item: &[u8]) -> Result<(), Stop>
         requires { IsItem self.old.page_size self.old.due item.now }
@@ -115,9 +116,41 @@ impl<A: Allocator + Copy> Progress<A> {
         }
     }
 
+    /// Takes the item that is due. The bytes of a page stay where they are. An `Err` changes nothing.
+    pub(crate) fn take_lent(&mut self, item: &'a [u8]) -> Result<(), Stop>
+        requires { IsItem self.old.page_size self.old.due item.now }
+        ensures { TakesAs self.old self.old.due item.now self.new result }
+    {
+        match self.due {
+            Due::Content(Filling::Normal, place) => self.lent_page(place, item),
+            _ => self.take(item),
+        }
+    }
+
+    /// The same as `run`, but the bytes of pages stay where they are.
+    pub(crate) fn run_lent(&mut self, text: &'a [u8]) -> Result<(&'a [u8], StreamState), NoMemory>
+        ensures ok { IfOk result (λ r. Reads self.old text.now self.new r.0.now r.1) }
+        ensures err { OnErr result (HasTaken self.old text.now self.new) }
+    {
+        let mut rest = text;
+        'items: while !self.is_closed() {
+            let size = self.size(rest);
+            if rest.len() < size {
+                return Ok((rest, StreamState::Reading));
+            }
+            let (item, behind) = rest.split_at(size);
+            match self.take_lent(item) {
+                Ok(()) => rest = behind,
+                Err(Stop::Fault(fault)) => return Ok((rest, StreamState::Bad(fault))),
+                Err(Stop::Memory) => return Err(NoMemory),
+            }
+        }
+        Ok((rest, StreamState::Closed))
+    }
+
     /// Takes items from the front of the bytes, as far as they are whole and without a fault. Gives the bytes that are left,
     /// and how they stand. After an `Err` some items were taken.
-    pub(crate) fn run<'a>(&mut self, bytes: &'a [u8]) -> Result<(&'a [u8], StreamState), NoMemory>
+    pub(crate) fn run<'b>(&mut self, bytes: &'b [u8]) -> Result<(&'b [u8], StreamState), NoMemory>
         ensures ok { IfOk result (λ r. Reads self.old bytes.now self.new r.0.now r.1) }
         ensures err { OnErr result (HasTaken self.old bytes.now self.new) }
     {
@@ -138,7 +171,7 @@ impl<A: Allocator + Copy> Progress<A> {
     }
 }
 
-impl<A: Allocator> Progress<A> {
+impl<'a, A: Allocator> Progress<'a, A> {
     /// How many bytes the item has that is due, as its first bytes say.
     pub(crate) fn size(&self, bytes: &[u8]) -> usize
         ensures size { result ≡ size self.now.page_size self.now.due bytes.now }
@@ -183,7 +216,7 @@ impl<A: Allocator> Progress<A> {
     }
 
     /// The first whole round that was not given away.
-    pub(crate) fn take_round(&mut self) -> Option<StreamRound<A>>
+    pub(crate) fn take_round(&mut self) -> Option<StreamRound<'a, A>>
         ensures none { IfNone result ((self.old.rounds ≡ []) × (self.new ≡ self.old)) }
         ensures some { IfSome result (λ r. self.old ≡ with_taken (r.records ∷ []) self.new) }
         ensures page_size { IfSome result (λ r. r.page_size ≡ self.old.page_size) }
@@ -222,7 +255,7 @@ impl<A: Allocator> Progress<A> {
         self.named = mark.named;
         self.entries.go_back(mark.left, mark.blocks);
         if let Some(records) = self.rounds.remove(mark.rounds) {
-            self.records = records;
+            let _others = mem::replace(&mut self.records, records);
             self.rounds.truncate(mark.rounds);
         }
         self.records.truncate(mark.records);

@@ -26,8 +26,8 @@ use std::marker::Model;
 
 /// Reads a stream from pieces of its text. What it tells is the reading of all bytes fed, however they were cut.
 #[derive(Drop)]
-pub struct StreamReader<A: Allocator = Global> {
-    progress: Progress<A>,
+pub struct StreamReader<'a, A: Allocator = Global> {
+    progress: Progress<'a, A>,
     // the bytes of the item that isn't whole yet
     pending: Vec<u8, A>,
     // how the bytes fed stand
@@ -36,7 +36,7 @@ pub struct StreamReader<A: Allocator = Global> {
     ended: bool,
 }
 
-impl<A: Allocator> Model for StreamReader<A> {
+impl<'a, A: Allocator> Model for StreamReader<'a, A> {
     ghost use Rattle.std.specs.Prelude.{◌≡◌};
     ghost use Rattle.mig_stream.specs.declared.item.StreamState.TheVariants as state;
     ghost use Rattle.mig_stream.specs.Reader.{Reader, IsUnfinished};
@@ -60,11 +60,11 @@ fn state_at(ended: bool, found: StreamState) -> StreamState
 
 // Fills the pending item up from the front of a piece. Gives what is left of the piece, or None where the item isn't whole
 // with all of it.
-fn complete<'a, A: Allocator>(
-    progress: &Progress<A>,
+fn complete<'b, A: Allocator>(
+    progress: &Progress<'_, A>,
     pending: &mut Vec<u8, A>,
-    piece: &'a [u8],
-) -> Result<Option<&'a [u8]>, NoMemory>
+    piece: &'b [u8],
+) -> Result<Option<&'b [u8]>, NoMemory>
     requires { IsUnfinished progress.now pending.old.items }
     ensures text { IfOk result (λ o. IfSome o (λ rest. pending.new.items ++ rest.now ≡ pending.old.items ++ piece.now)) }
     ensures whole { IfOk result (λ o. IfSome o (λ rest. length pending.new.items ≡ size progress.now.page_size progress.now.due pending.new.items)) }
@@ -100,7 +100,7 @@ fn keep<A: Allocator>(kept: &mut Vec<u8, A>, bytes: &[u8]) -> Result<(), NoMemor
 
 // Reads bytes in place, and keeps those of an item that isn't whole. After an `Err` some items were taken.
 fn read_in_place<A: Allocator + Copy>(
-    progress: &mut Progress<A>,
+    progress: &mut Progress<'_, A>,
     pending: &mut Vec<u8, A>,
     bytes: &[u8],
 ) -> Result<StreamState, NoMemory>
@@ -116,10 +116,26 @@ fn read_in_place<A: Allocator + Copy>(
     Ok(found)
 }
 
+// The same of a whole text, but the bytes of its pages stay where they are.
+fn read_lent<'a, A: Allocator + Copy>(
+    progress: &mut Progress<'a, A>,
+    pending: &mut Vec<u8, A>,
+    text: &'a [u8],
+) -> Result<StreamState, NoMemory>
+    ensures ok { IfOk result (λ found. ReadsOn progress.old text.now progress.new pending.new.items found) }
+{
+    let (rest, found) = progress.run_lent(text)?;
+    match found {
+        StreamState::Reading => keep(pending, rest)?,
+        _ => pending.clear(),
+    }
+    Ok(found)
+}
+
 // Reads a piece that follows the pending bytes. After an `Err` some items were taken, and the pending bytes have others after
 // them.
 fn read<A: Allocator + Copy>(
-    progress: &mut Progress<A>,
+    progress: &mut Progress<'_, A>,
     pending: &mut Vec<u8, A>,
     piece: &[u8],
 ) -> Result<StreamState, NoMemory>
@@ -141,9 +157,9 @@ fn read<A: Allocator + Copy>(
     }
 }
 
-impl<A: Allocator + Copy> StreamReader<A> {
+impl<'a, A: Allocator + Copy> StreamReader<'a, A> {
     /// A reader that was fed nothing, of a stream of this mode and page size whose size list has at most `limit` bytes.
-    pub fn new(alloc: A, mode: Mode, page_size: u64, limit: u64) -> StreamReader<A>
+    pub fn new(alloc: A, mode: Mode, page_size: u64, limit: u64) -> StreamReader<'a, A>
         requires page_size { IsPageSize page_size }
         requires limit { limit ≤ 2 ^ 40 }
         ensures stands { Stands (settings mode page_size limit) nothing_yet result }
@@ -157,6 +173,32 @@ impl<A: Allocator + Copy> StreamReader<A> {
             fed: 0,
             ended: false,
         }
+    }
+
+    /// A reader that was fed this text. The bytes of its pages are not copied: the rounds lend them from the text.
+    pub fn of_text(
+        alloc: A,
+        mode: Mode,
+        page_size: u64,
+        limit: u64,
+        text: &'a [u8],
+    ) -> Result<StreamReader<'a, A>, NoMemory>
+        requires page_size { IsPageSize page_size }
+        requires limit { limit ≤ 2 ^ 40 }
+        ensures stands { IfOk result (λ r. Stands (settings mode page_size limit) (with_piece text.now nothing_yet) r) }
+        ensures open { IfOk result (λ r. IsFalse r.ended) }
+        ensures fed { IfOk result (λ r. r.fed ≡ length text.now) }
+    {
+        let mut progress = Progress::new(alloc, mode, page_size, limit);
+        let mut pending = Vec::new(alloc);
+        let found = read_lent(&mut progress, &mut pending, text)?;
+        Ok(StreamReader {
+            progress,
+            pending,
+            found,
+            fed: text.len() as u64,
+            ended: false,
+        })
     }
 
     /// Takes the next piece of the text. After the end byte, or a fault, its bytes are only counted, which is never refused. An
@@ -202,7 +244,7 @@ impl<A: Allocator + Copy> StreamReader<A> {
     }
 }
 
-impl<A: Allocator> StreamReader<A> {
+impl<'a, A: Allocator> StreamReader<'a, A> {
     fn is_reading(&self) -> bool
         ensures reading { IsTrue result → self.now.found ≡ state.Reading }
         ensures other { IsFalse result → self.now.found ≢ state.Reading }
@@ -250,7 +292,7 @@ impl<A: Allocator> StreamReader<A> {
     }
 
     /// The next whole round that was not taken, in the order of the text. It takes no memory, and is always `Ok`.
-    pub fn take_round(&mut self) -> Result<Option<StreamRound<A>>, NoMemory>
+    pub fn take_round(&mut self) -> Result<Option<StreamRound<'a, A>>, NoMemory>
         ensures ok { IsOk result }
         ensures none { IfOk result (λ o. IfNone o (self.new ≡ self.old)) }
         ensures last { IfOk result (λ o. IfNone o (Tells self.old (λ given so_far. (i : ℕ) (round : List PageRecord) →

@@ -3,7 +3,7 @@
 ghost use Rattle.std.specs.Prelude.{◌≡◌, ◌<◌, ◌++◌, [], ◌∷◌, length, take, None, Some, IfSome, OnOk, OnErr};
 ghost use Rattle.std.specs.Option.{option_copied};
 ghost use Rattle.mig_stream.specs.declared.chunks.Span.{Span as AnySpan};
-ghost use Rattle.mig_stream.specs.Kept.{IsBefore, EndBefore};
+ghost use Rattle.mig_stream.specs.Kept.{IsBefore, IsHeldBefore, EndBefore};
 ghost use Rattle.mig_stream.specs.Round.{record_at, AreWhole};
 
 use crate::chunks::{Chunks, Span};
@@ -11,15 +11,26 @@ use mig_mem::{NoMemory, Place};
 use std::alloc::{Allocator, Global};
 use std::marker::Model;
 
-/// A page record: the place of its page, and where the page's bytes are kept, or None where it only says that they are zeros.
+/// What a record has of its page.
 #[derive(Clone, Copy)]
-pub(crate) struct Record {
+pub(crate) enum Content<'a> {
+    /// That it is zeros.
+    Zeros,
+    /// Its bytes, kept in a buffer.
+    Kept(Span),
+    /// Its bytes, as they stand in the text.
+    Lent(&'a [u8]),
+}
+
+/// A page record: the place of its page, and what it has of it.
+#[derive(Clone, Copy)]
+pub(crate) struct Record<'a> {
     pub(crate) place: Place,
-    pub(crate) content: Option<Span>,
+    pub(crate) content: Content<'a>,
 }
 
 // Where the bytes of records end: in which buffer, and how many bytes into it.
-fn end_of(records: &[Record]) -> (usize, usize)
+fn end_of(records: &[Record<'_>]) -> (usize, usize)
     ensures { EndBefore result.0 result.1 records.now }
 {
     let mut chunk = 0;
@@ -31,26 +42,26 @@ fn end_of(records: &[Record]) -> (usize, usize)
 }
 
 // The later one of a place and the end of some bytes, if there are any.
-fn later(chunk: usize, len: usize, content: Option<Span>) -> (usize, usize)
-    ensures content { IfSome content (IsBefore result.0 result.1) }
+fn later(chunk: usize, len: usize, content: Content<'_>) -> (usize, usize)
+    ensures content { IsHeldBefore result.0 result.1 content.entry }
     ensures others { (s : AnySpan) → IsBefore chunk len s → IsBefore result.0 result.1 s }
 {
     match content {
-        None => (chunk, len),
-        Some(span) if span.chunk < chunk => (chunk, len),
-        Some(span) if span.chunk > chunk => (span.chunk, span.end),
-        Some(span) => (chunk, len.max(span.end)),
+        Content::Zeros | Content::Lent(_) => (chunk, len),
+        Content::Kept(span) if span.chunk < chunk => (chunk, len),
+        Content::Kept(span) if span.chunk > chunk => (span.chunk, span.end),
+        Content::Kept(span) => (chunk, len.max(span.end)),
     }
 }
 
 /// Page records, one after another.
 #[derive(Drop)]
-pub(crate) struct Records<A: Allocator> {
-    items: Vec<Record, A>,
+pub(crate) struct Records<'a, A: Allocator> {
+    items: Vec<Record<'a>, A>,
     chunks: Chunks<A>,
 }
 
-impl<A: Allocator> Model for Records<A> {
+impl<'a, A: Allocator> Model for Records<'a, A> {
     ghost use Rattle.std.specs.Prelude.{List};
     ghost use Rattle.mig_stream.specs.PageRecord.{PageRecord};
     ghost use Rattle.mig_stream.specs.Kept.{records_in, AreKept};
@@ -62,7 +73,7 @@ impl<A: Allocator> Model for Records<A> {
     ghost invariant = { λ r. AreKept r.chunks r.items.items };
 }
 
-impl<A: Allocator> Records<A> {
+impl<'a, A: Allocator> Records<'a, A> {
     #[tactic(auto, unfolding(crate::specs::Kept::records_in, crate::specs::Kept::AreKept))]
     pub(crate) fn len(&self) -> usize
         ensures { result ≡ length self.now }
@@ -88,8 +99,19 @@ impl<A: Allocator> Records<A> {
     {
         self.items.push(Record {
             place,
-            content: None,
+            content: Content::Zeros,
         })?;
+        Ok(())
+    }
+
+    /// Adds a record of a page with these bytes, which stay where they are. An `Err` changes nothing.
+    #[tactic(auto, unfolding(crate::specs::Kept::records_in, crate::specs::Kept::AreKept))]
+    pub(crate) fn push_lent(&mut self, place: Place, bytes: &'a [u8]) -> Result<(), NoMemory>
+        ensures ok { OnOk result (self.new ≡ self.old ++ record { place = place; content = Some bytes.now } ∷ []) }
+        ensures err { OnErr result (self.new ≡ self.old) }
+    {
+        let content = Content::Lent(bytes);
+        self.items.push(Record { place, content })?;
         Ok(())
     }
 
@@ -107,15 +129,16 @@ impl<A: Allocator> Records<A> {
         ensures { option_copied result ≡ (record_at self.now i).content }
     {
         match self.items[i].content {
-            Some(span) => Some(self.chunks.bytes(span)),
-            None => None,
+            Content::Zeros => None,
+            Content::Kept(span) => Some(self.chunks.bytes(span)),
+            Content::Lent(bytes) => Some(bytes),
         }
     }
 }
 
-impl<A: Allocator + Copy> Records<A> {
+impl<'a, A: Allocator + Copy> Records<'a, A> {
     #[tactic(auto, unfolding(crate::specs::Kept::records_in, crate::specs::Kept::AreKept))]
-    pub(crate) fn new(alloc: A) -> Records<A>
+    pub(crate) fn new(alloc: A) -> Records<'a, A>
         ensures { result ≡ [] }
     {
         Records {
@@ -130,7 +153,7 @@ impl<A: Allocator + Copy> Records<A> {
         ensures ok { OnOk result (self.new ≡ self.old ++ record { place = place; content = Some bytes.now } ∷ []) }
         ensures err { OnErr result (self.new ≡ self.old) }
     {
-        let content = Some(self.chunks.keep(bytes)?);
+        let content = Content::Kept(self.chunks.keep(bytes)?);
         self.items.push(Record { place, content })?;
         Ok(())
     }
@@ -138,12 +161,12 @@ impl<A: Allocator + Copy> Records<A> {
 
 /// A whole round: its page records, in the order of the text.
 #[derive(Drop)]
-pub struct StreamRound<A: Allocator = Global> {
+pub struct StreamRound<'a, A: Allocator = Global> {
     page_size: u64,
-    records: Records<A>,
+    records: Records<'a, A>,
 }
 
-impl<A: Allocator> Model for StreamRound<A> {
+impl<'a, A: Allocator> Model for StreamRound<'a, A> {
     ghost use Rattle.mig_stream.specs.Round.{RoundOfRecords, AreWhole};
 
     ghost Value = { RoundOfRecords };
@@ -153,10 +176,10 @@ impl<A: Allocator> Model for StreamRound<A> {
     ghost invariant = { λ r. AreWhole r.page_size r.records };
 }
 
-impl<A: Allocator> StreamRound<A> {
-    pub(crate) fn new(page_size: u64, records: Records<A>) -> StreamRound<A>
+impl<'a, A: Allocator> StreamRound<'a, A> {
+    pub(crate) fn new(page_size: u64, records: Records<'a, A>) -> StreamRound<'a, A>
         requires { AreWhole page_size records }
-        ensures { result ≡ record { page_size = page_size; records = records } }
+        ensures { result ≡ record { page_size = page_size; records = records.entry } }
     {
         StreamRound { page_size, records }
     }

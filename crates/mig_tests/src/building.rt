@@ -59,6 +59,11 @@ pub(crate) fn two_rounds(rt: &(impl AllocGlobal + Abort)) -> Vec<u8> {
     )
 }
 
+/// The text of a stream of those blocks without a PART.
+pub(crate) fn empty_text(rt: &(impl AllocGlobal + Abort)) -> Vec<u8> {
+    text_of(rt, &image_with(rt, 0, 0), &[])
+}
+
 /// The text of a writer.
 pub(crate) fn finished<A: Allocator>(
     rt: &(impl AllocGlobal + Abort),

@@ -1,4 +1,4 @@
-//! The libraries in use: what a guest writes is sent as a single stream and loaded again. README shows these functions.
+//! The libraries in use: what a guest writes is sent as a single stream and loaded again. README shows most of it.
 
 use mig_load::load_single;
 use mig_mem::{Dirty, Memory, PAGE_SIZE_4K, Place, Table, first_difference};

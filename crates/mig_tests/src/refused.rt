@@ -1,14 +1,18 @@
 //! Each call on senders, targets and loads that takes memory, with its first growth refused, then its second, until a run has no
 //! refusal. A refused run answers want of memory and leaves what it was handed as it was; the run with memory answers as ever.
 
-use crate::building::{BLOCKS, dirty_of, image_with, text_of, two_rounds};
+ghost use Rattle.std.specs.Prelude.{◌≡◌, All};
+
+use crate::building::{BLOCKS, dirty_of, empty_text, image_with, text_of, two_rounds};
 use crate::rounds::{both_packets, next_packet, put_round, records, text_of_packets};
 use mig_assemble::{Gathered, RoundFault, Target};
 use mig_fixtures::{at, has_byte, is_full, table};
 use mig_load::{Fault, LoadFault, Loaded, Origin, load_single};
-use mig_mem::{Dirty, MAX_TOTAL, Memory, NoMemory, PAGE_SIZE_4K, Place};
+use mig_mem::{MAX_TOTAL, Memory, NoMemory, PAGE_SIZE_4K, Place, Table};
+use mig_packet::Packet;
 use mig_refusing::{Refusing, with_each_growth_refused};
 use mig_send::SingleSender;
+use mig_stream::StreamRound;
 use std::alloc::{AllocGlobal, Allocator};
 use std::process::Abort;
 use std::test::Fail;
@@ -25,12 +29,35 @@ pub(crate) fn assert_text<A: Allocator>(
     }
 }
 
+// Asserts that a sender of a table, made after refused growths, has an empty text.
+fn assert_new_sender(
+    rt: &(impl AllocGlobal + Abort),
+    heap: &Refusing,
+    table: &Table<&Refusing>,
+) -> Result<(), Fail> {
+    with_each_growth_refused!(rt, heap, SingleSender::new(heap, table), sender => {
+        assert_text(rt, sender, &empty_text(rt));
+    });
+}
+
 #[test]
 fn sender_new(rt: HostRuntime) -> Result<(), Fail> {
     let heap = Refusing::new(rt.alloc(), 0);
     let table = table(&heap, &BLOCKS).expect(&rt, "a table");
-    with_each_growth_refused!(rt, heap, SingleSender::new(&heap, &table), sender => {
-        assert_text(&rt, sender, &text_of(&rt, &image_with(&rt, 0, 0), &[]));
+    assert_new_sender(&rt, &heap, &table)
+}
+
+// Asserts the text of a sender of one round, sent after refused growths.
+fn assert_round(
+    rt: &(impl AllocGlobal + Abort),
+    heap: &Refusing,
+    mut sender: SingleSender<&Refusing>,
+    image: &Memory,
+    places: &[Place],
+) -> Result<(), Fail> {
+    let dirty = dirty_of(rt, places);
+    with_each_growth_refused!(rt, heap, sender.round(image, &dirty), _done => {
+        assert_text(rt, sender, &text_of(rt, image, &[places]));
     });
 }
 
@@ -39,25 +66,21 @@ fn sender_new(rt: HostRuntime) -> Result<(), Fail> {
 fn sender_round(rt: HostRuntime) -> Result<(), Fail> {
     let heap = Refusing::new(rt.alloc(), 0);
     let image = image_with(&rt, 1, 262_144);
-    let places = [at(0, 1), at(1, 64)];
-    let dirty = dirty_of(&rt, &places);
-    let mut sender = SingleSender::new(&heap, image.table()).expect(&rt, "a sender");
-    with_each_growth_refused!(rt, heap, sender.round(&image, &dirty), _done => {
-        assert_text(&rt, sender, &text_of(&rt, &image, &[&places]));
-    });
+    let sender = SingleSender::new(&heap, image.table()).expect(&rt, "a sender");
+    assert_round(&rt, &heap, sender, &image, &[at(0, 1), at(1, 64)])
 }
 
-// A sender of so many rounds of a set.
+// A sender of so many rounds without a page.
 fn sent<'a>(
     rt: &(impl AllocGlobal + Abort),
     heap: &'a Refusing,
     image: &Memory,
-    dirty: &Dirty,
     count: usize,
 ) -> SingleSender<&'a Refusing> {
+    let dirty = dirty_of(rt, &[]);
     let mut sender = SingleSender::new(heap, image.table()).expect(rt, "a sender");
     for _ in 0..count {
-        assert!(rt; sender.round(image, dirty) == Ok(()));
+        assert!(rt; sender.round(image, &dirty) == Ok(()));
     }
     sender
 }
@@ -69,18 +92,24 @@ fn empty_rounds(rt: &(impl AllocGlobal + Abort), image: &Memory, count: usize) -
     text_of(rt, image, &rounds)
 }
 
+// A sender that is given back since its last growth is refused; None where it takes none.
+fn given_back<'a>(
+    heap: &'a Refusing,
+    sender: SingleSender<&'a Refusing>,
+) -> Option<SingleSender<&'a Refusing>> {
+    heap.refuse(1);
+    let run = sender.finish();
+    heap.refuse(0);
+    run.err()
+}
+
 // Of some texts one is full to its capacity. Its sender is given back, and finishes when there is memory.
 #[test]
 fn sender_finish(rt: HostRuntime) {
     let heap = Refusing::new(rt.alloc(), 0);
     let image = image_with(&rt, 0, 0);
-    let dirty = dirty_of(&rt, &[]);
     for count in 0..100 {
-        let sender = sent(&rt, &heap, &image, &dirty, count);
-        heap.refuse(1);
-        let run = sender.finish();
-        heap.refuse(0);
-        if let Err(sender) = run {
+        if let Some(sender) = given_back(&heap, sent(&rt, &heap, &image, count)) {
             assert_text(&rt, sender, &empty_rounds(&rt, &image, count));
             return;
         }
@@ -88,16 +117,34 @@ fn sender_finish(rt: HostRuntime) {
     panic!(rt; "no text was full");
 }
 
+// Asserts that a target has no round, and zeros of this table.
+fn assert_no_round<A: Allocator, B: Allocator>(
+    rt: &impl Abort,
+    target: &Target<A>,
+    table: &Table<B>,
+) {
+    assert!(rt; target.rounds() == 0);
+    assert!(rt; target.base() == 0);
+    assert!(rt; target.memory().table().same(table));
+    assert!(rt; is_full(target.memory(), at(1, 64), 0));
+}
+
+// Asserts that a target of a table, made after refused growths, has no round.
+fn assert_new_target(
+    rt: &impl Abort,
+    heap: &Refusing,
+    table: &Table<&Refusing>,
+) -> Result<(), Fail> {
+    with_each_growth_refused!(rt, heap, Target::new(heap, table), target => {
+        assert_no_round(rt, &target, table);
+    });
+}
+
 #[test]
 fn target_new(rt: HostRuntime) -> Result<(), Fail> {
     let heap = Refusing::new(rt.alloc(), 0);
     let table = table(&heap, &BLOCKS).expect(&rt, "a table");
-    with_each_growth_refused!(rt, heap, Target::new(&heap, &table), target => {
-        assert!(rt; target.rounds() == 0);
-        assert!(rt; target.base() == 0);
-        assert!(rt; target.memory().table().same(&table));
-        assert!(rt; is_full(target.memory(), at(1, 64), 0));
-    });
+    assert_new_target(&rt, &heap, &table)
 }
 
 // A load's answer, or its fault where that is want of memory, found in putting rounds into memory, with no memory and no
@@ -115,26 +162,31 @@ fn load_or_fault<'a>(heap: &'a Refusing, text: &[u8]) -> Result<Loaded<&'a Refus
     Ok(loaded)
 }
 
-#[test]
-fn loads(rt: HostRuntime) -> Result<(), Fail> {
-    let heap = Refusing::new(rt.alloc(), 0);
-    let text = two_rounds(&rt);
-    with_each_growth_refused!(rt, heap, load_or_fault(&heap, &text), loaded => {
-        assert!(rt; loaded.verdict == Ok(()));
-        assert!(rt; loaded.rounds == 4);
-        let memory = loaded.memory.as_ref().expect(&rt, "a memory");
-        assert!(rt; has_byte(memory, at(0, 1), 0, 7));
-        assert!(rt; is_full(memory, at(1, 64), 0));
+// Asserts that a load has the text of two rounds.
+fn assert_two_rounds<A: Allocator>(rt: &impl Abort, loaded: &Loaded<A>) {
+    assert!(rt; loaded.verdict == Ok(()));
+    assert!(rt; loaded.rounds == 4);
+    let memory = loaded.memory.as_ref().expect(rt, "a memory");
+    assert!(rt; has_byte(memory, at(0, 1), 0, 7));
+    assert!(rt; is_full(memory, at(1, 64), 0));
+}
+
+// Asserts the load of that text, after refused growths.
+fn assert_loads(rt: &impl Abort, heap: &Refusing, text: &[u8]) -> Result<(), Fail> {
+    with_each_growth_refused!(rt, heap, load_or_fault(heap, text), loaded => {
+        assert_two_rounds(rt, &loaded);
     });
 }
 
-// A packet gathered takes one growth at first; after a refused one the list is as it was.
 #[test]
-fn gathered_push(rt: HostRuntime) {
+fn loads(rt: HostRuntime) -> Result<(), Fail> {
     let heap = Refusing::new(rt.alloc(), 0);
-    let text = text_of_packets(&rt);
-    let (packet, _rest) = next_packet(&rt, &text);
-    let mut gathered = Gathered::new(&heap);
+    assert_loads(&rt, &heap, &two_rounds(&rt))
+}
+
+// Gathers a packet, after a refused growth that leaves the list as it was.
+fn assert_pushed(rt: &(impl AllocGlobal + Abort), heap: &Refusing, packet: Packet<'_>) {
+    let mut gathered = Gathered::new(heap);
     assert!(rt; gathered.len() == 0);
     heap.refuse(1);
     assert!(rt; gathered.push(packet) == Err(NoMemory));
@@ -146,30 +198,65 @@ fn gathered_push(rt: HostRuntime) {
     assert!(rt; gathered.len() == 1);
 }
 
+// A packet gathered takes one growth at first; after a refused one the list is as it was.
 #[test]
-fn target_round(rt: HostRuntime) {
+fn gathered_push(rt: HostRuntime) {
     let heap = Refusing::new(rt.alloc(), 0);
-    let round = records(&rt);
     let text = text_of_packets(&rt);
-    let packets = both_packets(&rt, &text);
-    let table = table(&heap, &[("a", 2)]).expect(&rt, "a table");
-    let mut target = Target::new(&heap, &table).expect(&rt, "a memory");
-    for nth in 1..100u64 {
-        heap.refuse(nth);
-        let run = put_round(&rt, &mut target, &round, &packets);
-        let is_waiting = heap.is_waiting();
-        heap.refuse(0);
-        let is_whole = run == Ok(());
-        assert!(rt; is_waiting == is_whole);
-        assert!(rt; target.rounds() == u64::from(is_whole));
-        assert!(rt; target.base() == 2 * u64::from(is_whole));
-        assert!(rt; has_byte(target.memory(), at(0, 1), 0, 9) == is_whole);
-        if is_whole {
-            assert!(rt; nth > 1);
-            return;
-        }
+    let (packet, _rest) = next_packet(&rt, &text);
+    assert_pushed(&rt, &heap, packet);
+}
+
+// Whether a round got into a memory with growth `nth` refused. If not, it answered want of memory, and the memory is as it was.
+fn is_put(
+    rt: &(impl AllocGlobal + Abort),
+    target: &mut Target<&Refusing>,
+    heap: &Refusing,
+    nth: u64,
+    round: &StreamRound,
+    packets: &Gathered<'_>,
+) -> bool
+    requires { All (λ packet. packet.page_size ≡ 4096) packets.now }
+{
+    heap.refuse(nth);
+    let run = put_round(rt, target, round, packets);
+    let is_waiting = heap.is_waiting();
+    heap.refuse(0);
+    let is_whole = run == Ok(());
+    assert!(rt; is_waiting == is_whole);
+    assert!(rt; target.rounds() == u64::from(is_whole));
+    assert!(rt; target.base() == 2 * u64::from(is_whole));
+    assert!(rt; has_byte(target.memory(), at(0, 1), 0, 9) == is_whole);
+    if !is_whole {
         assert!(rt; run == Err(RoundFault::NoMemory));
         assert!(rt; is_full(target.memory(), at(0, 1), 0));
     }
+    is_whole
+}
+
+// Puts a round into a memory, after runs that were refused.
+fn put_after_refusals(
+    rt: &(impl AllocGlobal + Abort),
+    heap: &Refusing,
+    round: &StreamRound,
+    packets: &Gathered<'_>,
+)
+    requires { All (λ packet. packet.page_size ≡ 4096) packets.now }
+{
+    let table = table(heap, &[("a", 2)]).expect(rt, "a table");
+    let mut target = Target::new(heap, &table).expect(rt, "a memory");
+    for nth in 1..100u64 {
+        if is_put(rt, &mut target, heap, nth, round, packets) {
+            assert!(rt; nth > 1);
+            return;
+        }
+    }
     panic!(rt; "each run had a refusal");
+}
+
+#[test]
+fn target_round(rt: HostRuntime) {
+    let heap = Refusing::new(rt.alloc(), 0);
+    let text = text_of_packets(&rt);
+    put_after_refusals(&rt, &heap, &records(&rt), &both_packets(&rt, &text));
 }

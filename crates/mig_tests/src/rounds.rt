@@ -55,11 +55,11 @@ fn empty_text(rt: &(impl AllocGlobal + Abort)) -> Vec<u8> {
     finished(rt, writer)
 }
 
-fn first_round(
+fn first_round<'a>(
     rt: &(impl AllocGlobal + Abort),
-    reader: &mut StreamReader,
+    reader: &mut StreamReader<'a>,
     text: &[u8],
-) -> StreamRound {
+) -> StreamRound<'a> {
     assert!(rt; feed(rt, reader, text) == Ok(()));
     match reader.take_round() {
         Ok(Some(round)) => round,
@@ -68,7 +68,7 @@ fn first_round(
 }
 
 /// A round without page records.
-pub(crate) fn records(rt: &(impl AllocGlobal + Abort)) -> StreamRound {
+pub(crate) fn records(rt: &(impl AllocGlobal + Abort)) -> StreamRound<'static> {
     let mut reader = StreamReader::new(rt.alloc(), Mode::Single, PAGE_SIZE_4K, MAX_TOTAL);
     first_round(rt, &mut reader, &empty_text(rt))
 }

@@ -11,6 +11,10 @@ use std::process::Abort;
 
 const PLACES: [Place; 2] = [Place { block: 0, page: 0 }, Place { block: 0, page: 1 }];
 
+fn assert_other_table(rt: &impl Abort, sender: &mut SingleSender, image: &Memory, dirty: &Dirty) {
+    assert!(rt; sender.round(image, dirty) == Err(SendFault::OtherTable));
+}
+
 // Rounds of a memory, of a set and of both that are of another table.
 fn assert_others_refused(
     rt: &(impl AllocGlobal + Abort),
@@ -20,9 +24,9 @@ fn assert_others_refused(
 ) {
     let other_image = zeroed(rt.alloc(), &[("a", 3)]).expect(rt, "a memory");
     let other_dirty = places_of(rt.alloc(), other_image.table(), &PLACES).expect(rt, "a set");
-    assert!(rt; sender.round(&other_image, dirty) == Err(SendFault::OtherTable));
-    assert!(rt; sender.round(image, &other_dirty) == Err(SendFault::OtherTable));
-    assert!(rt; sender.round(&other_image, &other_dirty) == Err(SendFault::OtherTable));
+    assert_other_table(rt, sender, &other_image, dirty);
+    assert_other_table(rt, sender, image, &other_dirty);
+    assert_other_table(rt, sender, &other_image, &other_dirty);
 }
 
 // The text of one round.
@@ -32,15 +36,26 @@ fn text_of_round(rt: &(impl AllocGlobal + Abort), image: &Memory, dirty: &Dirty)
     finished(rt, writer)
 }
 
+// Asserts that a sender that refused rounds of other tables sends a round as if there had been none.
+fn assert_sends_as_ever(rt: &(impl AllocGlobal + Abort), image: &Memory, dirty: &Dirty) {
+    let mut sender = SingleSender::new(rt.alloc(), image.table()).expect(rt, "a sender");
+    assert_others_refused(rt, &mut sender, image, dirty);
+    assert!(rt; sender.round(image, dirty) == Ok(()));
+    assert_text(rt, sender, &text_of_round(rt, image, dirty));
+}
+
+// A memory of zeros, but for one byte, 9.
+fn image_with_nine(rt: &(impl AllocGlobal + Abort)) -> Memory {
+    let mut image = zeroed(rt.alloc(), &[("a", 2)]).expect(rt, "a memory");
+    assert!(rt; set(&mut image, 0, 4096, 9));
+    image
+}
+
 // A refused round leaves nothing in the text.
 #[test]
 fn other_tables(rt: HostRuntime) {
-    let mut image = zeroed(rt.alloc(), &[("a", 2)]).expect(&rt, "a memory");
-    assert!(rt; set(&mut image, 0, 4096, 9));
-    let dirty = places_of(rt.alloc(), image.table(), &PLACES).expect(&rt, "a set");
-    let mut sender = SingleSender::new(rt.alloc(), image.table()).expect(&rt, "a sender");
-    assert_others_refused(&rt, &mut sender, &image, &dirty);
-    assert!(rt; sender.round(&image, &dirty) == Ok(()));
-    assert_text(&rt, sender, &text_of_round(&rt, &image, &dirty));
     assert_eq!(rt; SendFault::OtherTable.number(), 63);
+    let image = image_with_nine(&rt);
+    let dirty = places_of(rt.alloc(), image.table(), &PLACES).expect(&rt, "a set");
+    assert_sends_as_ever(&rt, &image, &dirty);
 }

@@ -1,11 +1,13 @@
 //! Each call on streams that takes memory, with its first growth refused, then its second, until a run has no refusal. A refused
 //! run answers want of memory and leaves what it was handed as it was; the run with memory answers as ever.
 
-use crate::building::{BLOCKS, dirty_of, feed, finished, image_with, part, text_of, two_rounds};
+use crate::building::{
+    BLOCKS, dirty_of, empty_text, feed, finished, image_with, part, text_of, two_rounds,
+};
 use mig_fixtures::{at, table};
-use mig_mem::{MAX_TOTAL, PAGE_SIZE_4K, Place};
+use mig_mem::{MAX_TOTAL, Memory, NoMemory, PAGE_SIZE_4K, Place, Table};
 use mig_refusing::{Refusing, with_each_growth_refused};
-use mig_stream::{Mode, StreamReader, StreamState, StreamWriter};
+use mig_stream::{Mode, StreamReader, StreamRound, StreamState, StreamWriter};
 use std::alloc::{AllocGlobal, Allocator};
 use std::process::Abort;
 use std::test::Fail;
@@ -19,13 +21,36 @@ fn assert_text<A: Allocator>(
     assert!(rt; finished(rt, writer).as_slice() == wanted);
 }
 
+// Asserts that a writer of a table, made after refused growths, has an empty text.
+fn assert_new_writer(
+    rt: &(impl AllocGlobal + Abort),
+    heap: &Refusing,
+    table: &Table<&Refusing>,
+) -> Result<(), Fail> {
+    with_each_growth_refused!(rt, heap, StreamWriter::new(heap, table), writer => {
+        assert!(rt; writer.table().same(table));
+        assert_text(rt, writer, &empty_text(rt));
+    });
+}
+
 #[test]
 fn writer_new(rt: HostRuntime) -> Result<(), Fail> {
     let heap = Refusing::new(rt.alloc(), 0);
     let table = table(&heap, &BLOCKS).expect(&rt, "a table");
-    with_each_growth_refused!(rt, heap, StreamWriter::new(&heap, &table), writer => {
-        assert!(rt; writer.table().same(&table));
-        assert_text(&rt, writer, &text_of(&rt, &image_with(&rt, 0, 0), &[]));
+    assert_new_writer(&rt, &heap, &table)
+}
+
+// Asserts the text of a writer of one PART, written after refused growths.
+fn assert_part(
+    rt: &(impl AllocGlobal + Abort),
+    heap: &Refusing,
+    mut writer: StreamWriter<&Refusing>,
+    image: &Memory,
+    places: &[Place],
+) -> Result<(), Fail> {
+    let dirty = dirty_of(rt, places);
+    with_each_growth_refused!(rt, heap, part(rt, &mut writer, image, &dirty), _done => {
+        assert_text(rt, writer, &text_of(rt, image, &[places]));
     });
 }
 
@@ -34,12 +59,13 @@ fn writer_new(rt: HostRuntime) -> Result<(), Fail> {
 fn writer_part(rt: HostRuntime) -> Result<(), Fail> {
     let heap = Refusing::new(rt.alloc(), 0);
     let image = image_with(&rt, 1, 262_144);
-    let places = [at(0, 1), at(1, 64)];
-    let dirty = dirty_of(&rt, &places);
-    let mut writer = flushed(&rt, &heap, 0);
-    with_each_growth_refused!(rt, heap, part(&rt, &mut writer, &image, &dirty), _done => {
-        assert_text(&rt, writer, &text_of(&rt, &image, &[&places]));
-    });
+    assert_part(
+        &rt,
+        &heap,
+        flushed(&rt, &heap, 0),
+        &image,
+        &[at(0, 1), at(1, 64)],
+    )
 }
 
 // A writer of so many FLUSHes.
@@ -56,12 +82,18 @@ fn flushed<'a>(
     writer
 }
 
-// A writer whose text is full to its capacity refuses the FLUSH that doesn't fit, and takes it when there is memory.
-#[test]
-fn writer_flush(rt: HostRuntime) {
-    let heap = Refusing::new(rt.alloc(), 0);
-    let mut writer = flushed(&rt, &heap, 0);
-    heap.refuse(1);
+// Asserts that a writer's text is that of so many FLUSHes.
+fn assert_flushes<'a>(
+    rt: &(impl AllocGlobal + Abort),
+    heap: &'a Refusing,
+    writer: StreamWriter<&'a Refusing>,
+    count: usize,
+) {
+    assert_text(rt, writer, &finished(rt, flushed(rt, heap, count)));
+}
+
+// Writes FLUSHes up to the first that is refused, 99 at most, and answers how many there are.
+fn flush_until_refused<A: Allocator>(writer: &mut StreamWriter<A>) -> usize {
     let mut count = 0;
     for done in 1..100 {
         if writer.flush_part().is_err() {
@@ -69,9 +101,30 @@ fn writer_flush(rt: HostRuntime) {
         }
         count = done;
     }
+    count
+}
+
+// A writer whose text is full to its capacity refuses the FLUSH that doesn't fit, and takes it when there is memory.
+#[test]
+fn writer_flush(rt: HostRuntime) {
+    let heap = Refusing::new(rt.alloc(), 0);
+    let mut writer = flushed(&rt, &heap, 0);
+    heap.refuse(1);
+    let count = flush_until_refused(&mut writer);
     assert!(rt; count < 99);
     assert!(rt; !heap.is_waiting());
-    assert_text(&rt, writer, &finished(&rt, flushed(&rt, &heap, count)));
+    assert_flushes(&rt, &heap, writer, count);
+}
+
+// A writer that is given back since its last growth is refused; None where it takes none.
+fn given_back<'a>(
+    heap: &'a Refusing,
+    writer: StreamWriter<&'a Refusing>,
+) -> Option<StreamWriter<&'a Refusing>> {
+    heap.refuse(1);
+    let run = writer.finish();
+    heap.refuse(0);
+    run.err()
 }
 
 // Of some texts one is full to its capacity. Its writer is given back, and finishes when there is memory.
@@ -79,12 +132,8 @@ fn writer_flush(rt: HostRuntime) {
 fn writer_finish(rt: HostRuntime) {
     let heap = Refusing::new(rt.alloc(), 0);
     for count in 0..100 {
-        let writer = flushed(&rt, &heap, count);
-        heap.refuse(1);
-        let run = writer.finish();
-        heap.refuse(0);
-        if let Err(writer) = run {
-            assert_text(&rt, writer, &finished(&rt, flushed(&rt, &heap, count)));
+        if let Some(writer) = given_back(&heap, flushed(&rt, &heap, count)) {
+            assert_flushes(&rt, &heap, writer, count);
             return;
         }
     }
@@ -141,28 +190,123 @@ fn has_both_rounds<A: Allocator + Copy>(reader: &mut StreamReader<A>) -> bool {
         && has_no_round(reader)
 }
 
+// Whether a reader of 40 bytes took the rest of the text with growth `nth` refused. If not, it is as it was.
+fn is_read(
+    rt: &(impl AllocGlobal + Abort),
+    reader: &mut StreamReader<&Refusing>,
+    heap: &Refusing,
+    nth: u64,
+    rest: &[u8],
+) -> bool {
+    heap.refuse(nth);
+    let is_read = feed(rt, reader, rest).is_ok();
+    let is_waiting = heap.is_waiting();
+    heap.refuse(0);
+    assert!(rt; is_waiting == is_read);
+    assert!(rt; is_read || has_read_40_bytes(reader));
+    is_read
+}
+
+// Feeds the rest of the text, after runs that were refused.
+fn read_after_refusals(
+    rt: &(impl AllocGlobal + Abort),
+    heap: &Refusing,
+    reader: &mut StreamReader<&Refusing>,
+    rest: &[u8],
+) {
+    for nth in 1..1000u64 {
+        if is_read(rt, reader, heap, nth, rest) {
+            assert!(rt; nth > 1);
+            return;
+        }
+    }
+    panic!(rt; "each run had a refusal");
+}
+
+// Reads the text of two rounds in two pieces, the second one also with its growths refused.
+fn assert_read_in_pieces(rt: &(impl AllocGlobal + Abort), front: &[u8], rest: &[u8]) {
+    let heap = Refusing::new(rt.alloc(), 0);
+    let mut reader = StreamReader::new(&heap, Mode::Single, PAGE_SIZE_4K, MAX_TOTAL);
+    assert!(rt; feed(rt, &mut reader, front) == Ok(()));
+    read_after_refusals(rt, &heap, &mut reader, rest);
+    assert!(rt; has_both_rounds(&mut reader));
+}
+
 // A refused piece leaves the reader as it was, also where many items of the piece were taken before the growth; fed again
 // with memory, it is read as ever.
 #[test]
 fn reader_feed(rt: HostRuntime) {
-    let heap = Refusing::new(rt.alloc(), 0);
     let text = two_rounds(&rt);
     let (front, rest) = text.split_at_checked(40).expect(&rt, "two pieces");
-    let mut reader = StreamReader::new(&heap, Mode::Single, PAGE_SIZE_4K, MAX_TOTAL);
-    assert!(rt; feed(&rt, &mut reader, front) == Ok(()));
-    for nth in 1..1000u64 {
-        heap.refuse(nth);
-        let run = feed(&rt, &mut reader, rest);
-        let is_waiting = heap.is_waiting();
-        heap.refuse(0);
-        if run.is_ok() {
-            assert!(rt; is_waiting);
-            assert!(rt; nth > 1);
-            assert!(rt; has_both_rounds(&mut reader));
-            return;
-        }
-        assert!(rt; !is_waiting);
-        assert!(rt; has_read_40_bytes(&mut reader));
+    assert_read_in_pieces(&rt, front, rest);
+}
+
+// Whether two rounds have the same page records, byte for byte.
+fn is_same_round<A: Allocator, B: Allocator>(one: &StreamRound<A>, other: &StreamRound<B>) -> bool {
+    if one.len() != other.len() {
+        return false;
     }
-    panic!(rt; "each run had a refusal");
+    for i in 0..one.len() {
+        if one.place(i) != other.place(i) || one.content(i) != other.content(i) {
+            return false;
+        }
+    }
+    true
+}
+
+// Whether two readers have a next round, and the same.
+fn have_same_round<A: Allocator + Copy, B: Allocator + Copy>(
+    one: &mut StreamReader<A>,
+    other: &mut StreamReader<B>,
+) -> bool {
+    let Ok(Some(round)) = one.take_round() else {
+        return false;
+    };
+    let Ok(Some(wanted)) = other.take_round() else {
+        return false;
+    };
+    is_same_round(&round, &wanted)
+}
+
+// Asserts that a reader has what one has that was fed the text of two rounds.
+fn assert_as_fed<A: Allocator + Copy>(
+    rt: &(impl AllocGlobal + Abort),
+    mut reader: StreamReader<A>,
+    text: &[u8],
+) {
+    let mut fed = StreamReader::new(rt.alloc(), Mode::Single, PAGE_SIZE_4K, MAX_TOTAL);
+    assert!(rt; feed(rt, &mut fed, text) == Ok(()));
+    assert!(rt; reader.fed() == fed.fed());
+    assert!(rt; reader.state() == fed.state());
+    for _ in 0..4 {
+        assert!(rt; have_same_round(&mut reader, &mut fed));
+    }
+    assert!(rt; has_no_round(&mut reader));
+    assert!(rt; has_no_round(&mut fed));
+}
+
+// A reader made of a text.
+fn reader_of<'a>(
+    heap: &'a Refusing,
+    text: &'a [u8],
+) -> Result<StreamReader<'a, &'a Refusing>, NoMemory> {
+    StreamReader::of_text(heap, Mode::Single, PAGE_SIZE_4K, MAX_TOTAL, text)
+}
+
+// Asserts that a reader made of the text, after refused growths, has the same.
+fn assert_read_of_text(
+    rt: &(impl AllocGlobal + Abort),
+    heap: &Refusing,
+    text: &[u8],
+) -> Result<(), Fail> {
+    with_each_growth_refused!(rt, heap, reader_of(heap, text), reader => {
+        assert_as_fed(rt, reader, text);
+    });
+}
+
+// A refused growth leaves no reader; with memory it reads the text as if it had been fed.
+#[test]
+fn reader_of_text(rt: HostRuntime) -> Result<(), Fail> {
+    let heap = Refusing::new(rt.alloc(), 0);
+    assert_read_of_text(&rt, &heap, &two_rounds(&rt))
 }

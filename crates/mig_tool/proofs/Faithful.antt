@@ -9,7 +9,7 @@ use Rattle.std.proofs.lemmas.Map.Views.{Contains-from_any}
 use Rattle.mig_mem.specs.declared.place.Place.{Place}
 use Rattle.mig_mem.specs.RamTable.{RamTable, block, IsTable}
 use Rattle.mig_mem.specs.Place.{place_at, place_eq, has_place, IsPlace}
-use Rattle.mig_mem.specs.Image.{Page, Image, IsImage, content_at, zero_image, zero_page, pages_of, with_page}
+use Rattle.mig_mem.specs.Image.{Image, IsImage, content_at, zero_image, zero_page, with_page}
 use Rattle.mig_mem.specs.PlaceSet.{PlaceSet, with_place}
 use Rattle.mig_mem.specs.Round.{IsRound, round_of, after}
 use Rattle.mig_mem.specs.Tracking.{Snapshot, AreImagesOf, rounds_of, HasChanges, IsFaithful, last_image}

@@ -1,16 +1,16 @@
 -- A scenario that isn't refused makes its image.
-use Rattle.std.proofs.Common.{ℕ, ◌≡◌, List, [], ◌∷◌, refl, inl, Option, Some, None, Bool, true, false}
-use Rattle.std.specs.Prelude.{position, not, is_none, All, IsTrue}
+use Rattle.std.proofs.Common.{◌≡◌, List, [], ◌∷◌, refl, inl, Option, Some, None}
+use Rattle.std.specs.Prelude.{not, is_none, All, IsTrue}
 use Rattle.std.specs.Option.{option_map, option_or}
 use Rattle.mig_mem.specs.First.{first_some}
-use Rattle.mig_mem.specs.RamTable.{RamTable, IsTable}
+use Rattle.mig_mem.specs.RamTable.{IsTable}
 use Rattle.mig_mem.specs.Refusal.{refusal as table_refusal}
 use Rattle.mig_mem.proofs.Lawful.{table_law}
 use Rattle.mig_tool.specs.declared.fault.ScenarioFault.{ScenarioFault}
 use Rattle.mig_tool.specs.declared.fault.ScenarioFault.TheVariants as fault
 use Rattle.mig_tool.specs.Line.{ScenarioLine}
-use Rattle.mig_tool.specs.Scenario.{forms, lines_of, table_of, first_line, late_block, unsent, is_within, refusal}
-use Rattle.mig_tool.specs.Law.{MakesItsImage, ScenariosMakeTheirImage}
+use Rattle.mig_tool.specs.Scenario.{forms, lines_of, table_of, first_line, late_block, unsent, is_within}
+use Rattle.mig_tool.specs.Law.{ScenariosMakeTheirImage}
 use Rattle.mig_tool.proofs.Verdicts.{all_within}
 use Rattle.mig_tool.proofs.Faithful.{played_is_sent, played_are_rounds}
 

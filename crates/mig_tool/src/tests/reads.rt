@@ -2,9 +2,9 @@
 
 use crate::run::run;
 use crate::tests::{SCENARIO, SCENARIO_ANSWER, answer_of, assert_answer};
-use std::alloc::{AllocError, AllocGlobal, Global};
+use std::alloc::AllocGlobal;
 use std::io::{self, Read};
-use std::test::Fail;
+use std::process::Abort;
 
 // Gives one byte a read, and fails where so many reads were made.
 #[derive(Drop)]
@@ -39,49 +39,43 @@ fn slow_answer_of<H: AllocGlobal>(rt: &H, text: &[u8], good: usize) -> (u8, Vec<
 }
 
 // A block, and empty lines up to a length.
-fn with_empty_lines(alloc: Global, len: usize) -> Result<Vec<u8>, AllocError> {
-    let mut text = Vec::from_slice(alloc, b"block 1 a")?;
-    text.resize(len, b'\n')?;
-    Ok(text)
+fn with_empty_lines(rt: &(impl AllocGlobal + Abort), len: usize) -> Vec<u8> {
+    let mut text = Vec::from_slice(rt.alloc(), b"block 1 a").expect(rt, "a text");
+    assert!(rt; text.resize(len, b'\n').is_ok());
+    text
 }
 
 #[test]
-fn most_reads(rt: HostRuntime) -> Result<(), Fail> {
-    let text = with_empty_lines(rt.alloc(), 65_535)?;
+fn most_reads(rt: HostRuntime) {
+    let text = with_empty_lines(&rt, 65_535);
     let wanted: &[u8] = b"single 75 sections 2\nsame\n";
     assert_answer(&rt, slow_answer_of(&rt, &text, usize::MAX), (0, wanted));
     assert_answer(&rt, slow_answer_of(&rt, &text, 65_536), (0, wanted));
-    Ok(())
-}
-
-// One read too many, and two.
-#[test]
-fn one_read_too_many(rt: HostRuntime) -> Result<(), Fail> {
+    // one read too many, and two
     for len in [65_536, 65_537] {
-        let text = with_empty_lines(rt.alloc(), len)?;
-        let answer = slow_answer_of(&rt, &text, usize::MAX);
-        assert_answer(&rt, answer, (3, b"fault 71\n"));
+        let text = with_empty_lines(&rt, len);
+        assert_answer(
+            &rt,
+            slow_answer_of(&rt, &text, usize::MAX),
+            (3, b"fault 71\n"),
+        );
     }
-    Ok(())
 }
 
 // The scenario has 26 bytes. Up to the read that finds its end, each one fails in turn.
 #[test]
 fn each_read_failing(rt: HostRuntime) {
     for good in 0..27 {
-        let answer = slow_answer_of(&rt, SCENARIO, good);
-        assert_answer(&rt, answer, (3, b"fault 90\n"));
+        assert_answer(&rt, slow_answer_of(&rt, SCENARIO, good), (3, b"fault 90\n"));
     }
-    let answer = slow_answer_of(&rt, SCENARIO, 27);
-    assert_answer(&rt, answer, (0, SCENARIO_ANSWER));
+    assert_answer(&rt, slow_answer_of(&rt, SCENARIO, 27), (0, SCENARIO_ANSWER));
 }
 
 // An input of several whole reads.
 #[test]
-fn long_input(rt: HostRuntime) -> Result<(), Fail> {
-    let mut text = with_empty_lines(rt.alloc(), 200_000)?;
-    text.extend_from_slice(b"touch 0 0\nround\n")?;
+fn long_input(rt: HostRuntime) {
+    let mut text = with_empty_lines(&rt, 200_000);
+    assert!(rt; text.extend_from_slice(b"touch 0 0\nround\n").is_ok());
     let wanted: &[u8] = b"single 104 sections 3\nsame\n";
     assert_answer(&rt, answer_of(&rt, &text), (0, wanted));
-    Ok(())
 }

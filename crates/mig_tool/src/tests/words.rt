@@ -2,42 +2,33 @@
 
 use crate::run::run;
 use crate::tests::{SCENARIO, assert_answer};
-use std::alloc::{AllocError, AllocGlobal, Global};
-use std::test::Fail;
+use std::alloc::AllocGlobal;
+use std::process::Abort;
 
 /// These words, as a run takes them.
-pub(crate) fn words(alloc: Global, texts: &[&str]) -> Result<Vec<String>, AllocError> {
-    let mut words = Vec::new(alloc);
+pub(crate) fn words(rt: &(impl AllocGlobal + Abort), texts: &[&str]) -> Vec<String> {
+    let mut words = Vec::new(rt.alloc());
     for text in texts {
-        words.push(String::from_str(alloc, text)?)?;
+        let word = String::from_str(rt.alloc(), text).expect(rt, "a word");
+        assert!(rt; words.push(word).is_ok());
     }
-    Ok(words)
+    words
 }
 
-// Runs the tool with words on a lawful scenario. Gives the status, what it wrote, and what it left of the scenario.
-fn answer_with<H: AllocGlobal>(rt: &H, words: &[String]) -> (u8, Vec<u8>, &'static [u8]) {
+// Runs the tool with words on a lawful scenario, which it isn't to read.
+fn assert_refused(rt: &(impl AllocGlobal + Abort), texts: &[&str]) {
     let mut input = SCENARIO;
     let mut output = Vec::new(rt.alloc());
-    let status = run(rt, words, &mut input, &mut output);
-    (status, output, input)
+    let status = run(rt, &words(rt, texts), &mut input, &mut output);
+    assert_answer(rt, (status, output), (2, b"fault 88\n"));
+    assert_eq!(rt; input, SCENARIO);
 }
 
-// There are no words yet: each is refused, and the input isn't read.
+// There are no words yet: each is refused, and so are two.
 #[test]
-fn any_word(rt: HostRuntime) -> Result<(), Fail> {
+fn any_word(rt: HostRuntime) {
     for word in ["frob", "check", "--help", "", " ", "-"] {
-        let (status, text, rest) = answer_with(&rt, &words(rt.alloc(), &[word])?);
-        assert_answer(&rt, (status, text), (2, b"fault 88\n"));
-        assert_eq!(rt; rest, SCENARIO);
+        assert_refused(&rt, &[word]);
     }
-    Ok(())
-}
-
-#[test]
-fn two_words(rt: HostRuntime) -> Result<(), Fail> {
-    let words = words(rt.alloc(), &["check", "a"])?;
-    let (status, text, rest) = answer_with(&rt, &words);
-    assert_answer(&rt, (status, text), (2, b"fault 88\n"));
-    assert_eq!(rt; rest, SCENARIO);
-    Ok(())
+    assert_refused(&rt, &["check", "a"]);
 }

@@ -6,7 +6,6 @@ use crate::tests::{SCENARIO, SCENARIO_ANSWER};
 use std::alloc::{AllocGlobal, Global};
 use std::io::{self, Write};
 use std::process::Abort;
-use std::test::Fail;
 
 // Takes at most so many bytes at a write, fails where so many writes were made, and at a flush if it is to.
 #[derive(Drop)]
@@ -91,50 +90,27 @@ fn assert_flush<H: AllocGlobal + Abort>(rt: &H, expected: Expected) {
     assert!(rt; output.has_failed, "there was no flush");
 }
 
-fn assert_writes<H: AllocGlobal + Abort>(rt: &H, expected: Expected) {
-    assert_each_write(rt, expected, usize::MAX);
-    assert_each_write(rt, expected, 1);
-    assert_flush(rt, expected);
-}
-
+// Lawful, with a fault of each kind of line, and with a word.
 #[test]
-fn output_of_a_lawful_scenario(rt: HostRuntime) {
-    let expected = Expected {
-        words: &[],
-        scenario: SCENARIO,
-        text: SCENARIO_ANSWER,
-        status: 0,
-    };
-    assert_writes(&rt, expected);
-}
-
-#[test]
-fn output_of_faults(rt: HostRuntime) {
-    let cases: [(&[u8], &[u8]); 3] = [
-        (b"block 0 a", b"fault 82 table 5\n"),
-        (b"block 1 a\n\r", b"fault 81 line 2\n"),
-        (b"block 1 a\ntouch 0 0", b"fault 80 line 2\n"),
+fn each_output(rt: HostRuntime) {
+    let none = words(&rt, &[]);
+    let one = words(&rt, &["frob"]);
+    let cases: [(&[String], &[u8], &[u8], u8); 5] = [
+        (&none, SCENARIO, SCENARIO_ANSWER, 0),
+        (&none, b"block 0 a", b"fault 82 table 5\n", 1),
+        (&none, b"block 1 a\n\r", b"fault 81 line 2\n", 1),
+        (&none, b"block 1 a\ntouch 0 0", b"fault 80 line 2\n", 1),
+        (&one, SCENARIO, b"fault 88\n", 2),
     ];
-    for (scenario, text) in cases {
+    for (words, scenario, text, status) in cases {
         let expected = Expected {
-            words: &[],
+            words,
             scenario,
             text,
-            status: 1,
+            status,
         };
-        assert_writes(&rt, expected);
+        assert_each_write(&rt, expected, usize::MAX);
+        assert_each_write(&rt, expected, 1);
+        assert_flush(&rt, expected);
     }
-}
-
-#[test]
-fn output_of_words(rt: HostRuntime) -> Result<(), Fail> {
-    let words = words(rt.alloc(), &["frob"])?;
-    let expected = Expected {
-        words: &words,
-        scenario: SCENARIO,
-        text: b"fault 88\n",
-        status: 2,
-    };
-    assert_writes(&rt, expected);
-    Ok(())
 }

@@ -1,9 +1,9 @@
-use Rattle.std.proofs.Common.{rules, ℕ, ◌≡◌, ◌≤◌, ◌∙◌, sym, ap, List, get_or}
+use Rattle.std.proofs.Common.{ℕ, ◌≡◌, ◌∙◌, sym, ap, List, get_or}
 use Rattle.std.specs.List.{flat_map}
-use Rattle.std.proofs.lemmas.List.{take-replicate, take_all}
+use Rattle.std.proofs.lemmas.List.{take_all}
 use Rattle.std.proofs.lemmas.List.Folds.{flat_map-map}
 use Rattle.mig_mem.specs.RamTable.{RamTable}
-use Rattle.mig_mem.specs.Image.{Image, Page, zero_page}
+use Rattle.mig_mem.specs.Image.{Image, Page}
 use Rattle.mig_mem.specs.Round.{with_round}
 use Rattle.mig_packet.specs.declared.packet.Packet.{Packet}
 use Rattle.mig_packet.specs.Lent.{fields}
@@ -12,15 +12,7 @@ use Rattle.mig_assemble.proofs.Putting.{put_none, put_part_more}
 use Rattle.mig_assemble.proofs.put.put_packets.Goals as goal
 
 pub loop-packet-init : goal.loop-packet-init
-loop-packet-init g c = put_none c.args.memory.now c.table.ensures.image
-
-pub put_packet-requires-clause-zeros : goal.put_packet-requires-clause-zeros
-put_packet-requires-clause-zeros g c =
-    let table : RamTable = c.args.memory.now.table in
-    let few : c.page_size.result ≤ 8192 = search rules in
-    take-replicate c.page_size.result 8192 0 few
-    ∙ ap (λ (n : ℕ). zero_page n) (c.page_size.ensures ∙ ap (λ (t : RamTable). t.page_size) c.table-2.ensures.value
-    ∙ ap (λ (m : Image). m.table.page_size) (sym c.loop-packet.invariant))
+loop-packet-init g c = put_none c.args.memory.now c.table-table.ensures.image
 
 pub loop-packet-preserved : goal.loop-packet-preserved
 loop-packet-preserved g c =

@@ -1,9 +1,8 @@
-use Rattle.std.proofs.Common.{ℕ, ◌≡◌, ◌<◌, ◌+◌, ◌/◌, ◌∙◌, sym, ap, refl, arith, map, List, length}
+use Rattle.std.proofs.Common.{ℕ, ◌≡◌, ◌<◌, ◌+◌, ◌/◌, ◌∙◌, ap, refl, arith, map, List}
 use Rattle.std.specs.List.{range_with_len}
-use Rattle.std.proofs.lemmas.List.{length-replicate}
 use Rattle.mig_mem.specs.Place.{place_at}
 use Rattle.mig_mem.specs.RamTable.{RamTable}
-use Rattle.mig_mem.specs.Image.{Image, Page}
+use Rattle.mig_mem.specs.Image.{Image, Page, zero_page}
 use Rattle.mig_mem.specs.Round.{with_round}
 use Rattle.mig_packet.specs.Packet.{normal_count, zero_count}
 use Rattle.mig_assemble.proofs.Putting.{put_none, put_numbered}
@@ -13,8 +12,8 @@ use Rattle.mig_assemble.proofs.put.put_zeros.Goals as goal
 pub loop-i-init : goal.loop-i-init
 loop-i-init g c = put_none c.args.memory.now c.table.ensures.image
 
-pub put_page-requires-clause-place : goal.put_page-requires-clause-place
-put_page-requires-clause-place g c =
+pub put_zero_page-requires : goal.put_zero_page-requires
+put_zero_page-requires g c =
     let table : RamTable = c.args.memory.now.table in
     let bytes : List ℕ = c.args.packet.now.bytes.now in
     let low : c.normal_len-normal_count.result + c.loop-i.i < normal_count bytes + zero_count bytes =
@@ -23,21 +22,16 @@ put_page-requires-clause-place g c =
     (ap (λ (m : Image). m.table) c.loop-i.invariant) c.requires.lies low c.offset.ensures
     (c.page_size-page_size.ensures ∙ ap (λ (t : RamTable). t.page_size) c.table.ensures.value)
 
-pub put_page-requires-clause-bytes : goal.put_page-requires-clause-bytes
-put_page-requires-clause-bytes g c =
-    ap (λ (l : List ℕ). length l) c.requires.zeros ∙ length-replicate c.args.memory.now.table.page_size 0
-    ∙ sym (ap (λ (m : Image). m.table.page_size) c.loop-i.invariant)
-
 pub loop-i-preserved : goal.loop-i-preserved
 loop-i-preserved g c =
     let table : RamTable = c.args.memory.now.table in
     let bytes : List ℕ = c.args.packet.now.bytes.now in
     let i : ℕ = c.normal_len-normal_count.result + c.loop-i.i in
-    put_numbered c.args.memory.now c.loop-i.memory c.put_page.new.self (zero_page_at table c.args.block bytes) c.normal_len-normal_count.result c.loop-i.i i
-    (place_at c.args.block (c.offset.result / c.page_size-page_size.result)) c.args.zeros.now c.loop-i.invariant refl
+    put_numbered c.args.memory.now c.loop-i.memory c.put_zero_page.new.self (zero_page_at table c.args.block bytes) c.normal_len-normal_count.result c.loop-i.i i
+    (place_at c.args.block (c.offset.result / c.page_size-page_size.result)) (zero_page table.page_size) c.loop-i.invariant refl
     (place_is table c.args.block bytes i c.offset.result c.page_size-page_size.result c.offset.ensures
     (c.page_size-page_size.ensures ∙ ap (λ (t : RamTable). t.page_size) c.table.ensures.value))
-    c.requires.zeros c.put_page.ensures
+    refl (rw (← ap (λ (m : Image). m.table.page_size) c.loop-i.invariant) c.put_zero_page.ensures)
 
 pub returns : goal.returns
 returns g c =

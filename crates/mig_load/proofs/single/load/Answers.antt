@@ -16,7 +16,7 @@ returns-in_default-table g c =
     let p = c.args.page_size in
     let limit = c.args.limit in
     let text = c.args.text.now in
-    let fed = c.in-Ok.ensures.stands (settings Single p limit) nothing_yet c.new-reader.ensures.stands in
+    let fed = c.in-Ok.ensures.stands in
     let over = c.end.ensures.stands (settings Single p limit) (with_piece text nothing_yet) fed in
     inl (tableless p limit text c.state.result _ c.requires.page_size (c.in_default-table.ensures (settings Single p limit) (put_so_far text 0) over)
     (c.state.ensures (settings Single p limit) (put_so_far text 0) over) (rw c.verdict.ensures refl))
@@ -29,7 +29,7 @@ sections-init g c =
     let p = c.args.page_size in
     let limit = c.args.limit in
     let text = c.args.text.now in
-    let fed = c.in-Ok.ensures.stands (settings Single p limit) nothing_yet c.new-reader.ensures.stands in
+    let fed = c.in-Ok.ensures.stands in
     let over = c.end.ensures.stands (settings Single p limit) (with_piece text nothing_yet) fed in
     put_none p limit text c.end.new.self c.in-Some.table.now c.in-Ok-new.target over (c.in-Some.ensures (settings Single p limit) (put_so_far text 0) over) c.in-Ok-new.ensures
 

@@ -33,7 +33,7 @@ returns g c = λ p is later.
           let both = open_round p now c.args.mark.rounds c.args.mark.records w.in-Some.records w.truncate.new.self.items n_is m_is here.has_grown lt w.in-Some.ensures.value
           (w.truncate.ensures.items ∙ ap (take c.args.mark.rounds) w.in-Some.ensures.items) in
           rw w.self-inside-is (is_back p now _ c.args.mark is here refl (ap (λ (e : Listed). e.page_size) c.go_back.ensures) (ap (λ (e : Listed). e.limit) c.go_back.ensures) refl refl refl
-          (ap (λ (e : Listed). e.left) c.go_back.ensures) refl (ap (λ (e : Listed). e.blocks) c.go_back.ensures) (c.truncate-2.ensures ∙ ap (λ x. take c.args.mark.records x.records) w.self-inside-is ∙ both.0) both.1)
+          (ap (λ (e : Listed). e.left) c.go_back.ensures) refl (ap (λ (e : Listed). e.blocks) c.go_back.ensures) (c.truncate-2.ensures ∙ ap (λ x. take c.args.mark.records x.records) w.self-inside-is ∙ ap (take c.args.mark.records) w.replace-others.ensures.after ∙ both.0) both.1)
       | in_default w ↦
           let le : length c.self.inside.rounds.items ≤ c.args.mark.rounds = elim (cases_lt c.args.mark.rounds (length c.self.inside.rounds.items)) [
             | inl lt ↦ absurd (let clash : false ≡ true = w.in_default.ensures.variant.1 (omega (arith, lt, len)) in cc)

@@ -1,0 +1,370 @@
+//! What hostile and dear texts cost the reader and the loader: the time and the memory that each byte of a text takes, so
+//! that a limit on either can be said beside the limits of the formats.
+//!
+//! Some texts are small and claim a large guest. Others have records of a few bytes, each of which takes more memory than
+//! it has bytes, or a search of the table. A plain guest is there to compare them with.
+
+use crate::guest::{Guest, fill};
+use crate::measure::{Measured, Ratio, best_of_five};
+use crate::stream::feed_pieces;
+use mig_load::load_single;
+use mig_mem::{MAX_TOTAL, PAGE_SIZE_4K, Table};
+use mig_send::SingleSender;
+use mig_stream::{Mode, StreamReader, StreamWriter};
+use std::alloc::Global;
+use std::rt::{Clock, Files};
+use std::{fs, io};
+
+/// How many pages the guests have whose pages are sent.
+const PAGES: u64 = 1 << 16;
+
+/// How many bytes the reader is fed at once.
+const PIECE_LEN: usize = 1 << 16;
+
+/// How many blocks a table may have.
+const BLOCKS: usize = 256;
+
+/// How many records the texts have that are made by hand.
+const NAMING_RECORDS: usize = 1 << 18;
+
+const FLUSH_RECORDS: usize = 1 << 19;
+
+/// How often the guest of zeros is sent.
+const ZERO_ROUNDS: usize = 8;
+
+/// What stands before the records of a PART, and after them: the head with the section id, and EOS with the footer.
+const PART_HEAD: [u8; 5] = [0x02, 0, 0, 0, 1];
+
+const SECTION_END: [u8; 13] = [0, 0, 0, 0, 0, 0, 0, 0x10, 0x7E, 0, 0, 0, 1];
+
+/// The bytes of END and the end byte.
+const CLOSING_LEN: usize = 19;
+
+/// A FLUSH.
+const FLUSH: [u8; 8] = [0, 0, 0, 0, 0, 0, 0x02, 0];
+
+/// The last letters of a block's id.
+const DIGITS: [u8; 16] = *b"0123456789abcdef";
+
+/// Where the works take memory, and how many bytes were resident before the first text; None where the system doesn't tell.
+#[derive(Clone, Copy)]
+struct Meter {
+    alloc: Global,
+    start: Option<u64>,
+}
+
+/// Reads and loads all texts, those that take little memory first.
+pub fn run<R: Clock + Print + Files + AllocGlobal>(rt: &R, alloc: Global) -> io::Result<()> {
+    println!(rt;
+        "hostile texts: the least time of five runs, and the peak of the memory that they take beside the text"
+    )?;
+    let meter = warmed(rt, alloc);
+    report_small(rt, meter)?;
+    report_large(rt, meter)
+}
+
+// What is resident once the program's own pages are there, which a small text brings in.
+fn warmed<R: Files + AllocGlobal>(rt: &R, alloc: Global) -> Meter {
+    let text = small_text(alloc).unwrap_or_else(|| Vec::new(alloc));
+    let _items = items_read(alloc, Mode::Single, &text);
+    let _rounds = rounds_loaded(alloc, &text);
+    let _first = peak(rt);
+    Meter {
+        alloc,
+        start: reset_peak(rt),
+    }
+}
+
+// The texts that take little memory.
+fn report_small<R: Clock + Print + Files + AllocGlobal>(rt: &R, meter: Meter) -> io::Result<()> {
+    report_load_of(rt, meter, "2 GiB claimed", claim_text(meter.alloc))?;
+    report_both(
+        rt,
+        meter,
+        "zeros that name blocks",
+        naming_text(meter.alloc),
+    )?;
+    report_both(rt, meter, "zeros with CONTINUE", zeros_text(meter.alloc))
+}
+
+// The texts that take more.
+fn report_large<R: Clock + Print + Files + AllocGlobal>(rt: &R, meter: Meter) -> io::Result<()> {
+    report_load_of(rt, meter, "256 * 4 GiB claimed", claims_text(meter.alloc))?;
+    report_flushes(rt, meter)?;
+    report_both(rt, meter, "a plain guest", plain_text(meter.alloc))
+}
+
+// A main text of FLUSH records.
+fn report_flushes<R: Clock + Print + Files + AllocGlobal>(rt: &R, meter: Meter) -> io::Result<()> {
+    let Some(text) = flushes_text(meter.alloc) else {
+        return println!(rt; "no memory for the text");
+    };
+    report_reading(rt, meter, "FLUSH records", Mode::Main, &text)
+}
+
+// Loads a text, if there is one.
+fn report_load_of<R: Clock + Print + Files + AllocGlobal>(
+    rt: &R,
+    meter: Meter,
+    name: &str,
+    text: Option<Vec<u8>>,
+) -> io::Result<()> {
+    let Some(text) = text else {
+        return println!(rt; "no memory for the text");
+    };
+    report_loading(rt, meter, name, &text)
+}
+
+// Reads the text of a single stream, if there is one, and loads it.
+fn report_both<R: Clock + Print + Files + AllocGlobal>(
+    rt: &R,
+    meter: Meter,
+    name: &str,
+    text: Option<Vec<u8>>,
+) -> io::Result<()> {
+    let Some(text) = text else {
+        return println!(rt; "no memory for the text");
+    };
+    report_reading(rt, meter, name, Mode::Single, &text)?;
+    report_loading(rt, meter, name, &text)
+}
+
+fn report_reading<R: Clock + Print + Files + AllocGlobal>(
+    rt: &R,
+    meter: Meter,
+    name: &str,
+    mode: Mode,
+    text: &[u8],
+) -> io::Result<()> {
+    let unit = "rounds and records read";
+    let work = || items_read(meter.alloc, mode, text);
+    report_cost(rt, meter, name, unit, text.len() as u64, work)
+}
+
+fn report_loading<R: Clock + Print + Files + AllocGlobal>(
+    rt: &R,
+    meter: Meter,
+    name: &str,
+    text: &[u8],
+) -> io::Result<()> {
+    let unit = "rounds loaded";
+    let work = || rounds_loaded(meter.alloc, text);
+    report_cost(rt, meter, name, unit, text.len() as u64, work)
+}
+
+// How many rounds and records a text has that is fed in pieces, its rounds taken at the end; 0 where it isn't read.
+fn items_read(alloc: Global, mode: Mode, text: &[u8]) -> usize {
+    let mut reader = StreamReader::new(alloc, mode, PAGE_SIZE_4K, MAX_TOTAL);
+    if !feed_pieces(&mut reader, text, PIECE_LEN) {
+        return 0;
+    }
+    take_items(&mut reader, text.len())
+}
+
+// Takes the rounds that were read, at most so many, and counts them and their records.
+fn take_items(reader: &mut StreamReader, most: usize) -> usize {
+    let mut items = 0usize;
+    for _ in 0..most {
+        match reader.take_round() {
+            Ok(Some(round)) => items = items.saturating_add(1).saturating_add(round.len()),
+            _ => break,
+        }
+    }
+    items
+}
+
+// How many rounds a load of a stream puts into memory; 0 where it fails.
+fn rounds_loaded(alloc: Global, text: &[u8]) -> usize {
+    let loaded = load_single(alloc, PAGE_SIZE_4K, text, MAX_TOTAL);
+    match loaded.verdict {
+        Ok(()) => loaded.rounds as usize,
+        Err(_) => 0,
+    }
+}
+
+// Measures a work on a text of so many bytes, and prints what a byte costs.
+//
+// The memory is the most that was resident during the five runs (Linux tells it as `VmHWM` in `/proc/self/status`, and a 5
+// written to `/proc/self/clear_refs` begins it anew), less what was resident before the first text, and less this text,
+// which is resident too. What the allocator keeps of the memory of an earlier text is counted where this one doesn't take it,
+// so the texts stand in the order of their peaks. With `MALLOC_MMAP_THRESHOLD_` and `MALLOC_TRIM_THRESHOLD_` set to 131072
+// in the environment glibc keeps hardly any.
+fn report_cost<R: Clock + Print + Files + AllocGlobal, F: FnMut() -> usize>(
+    rt: &R,
+    meter: Meter,
+    name: &str,
+    unit: &str,
+    len: u64,
+    work: F,
+) -> io::Result<()>
+    requires { F.IsAlwaysCallable work }
+{
+    let before = reset_peak(rt);
+    let measured = best_of_five(rt, work)?;
+    put_time(rt, name, unit, len, &measured)?;
+    match before.and(peak(rt)) {
+        Some(peak) => put_memory(rt, meter, len, peak),
+        None => println!(rt; "memory: unknown"),
+    }
+}
+
+fn put_time(
+    rt: &impl Print,
+    name: &str,
+    unit: &str,
+    len: u64,
+    measured: &Measured,
+) -> io::Result<()> {
+    print!(rt;
+        "{name:<24}{len:>9} bytes; {} {unit}; {} ns a byte; ",
+        measured.answer,
+        Ratio::of(measured.nanos, len)
+    )
+}
+
+// What a text of so many bytes took, of that peak.
+fn put_memory(rt: &impl Print, meter: Meter, len: u64, peak: u64) -> io::Result<()> {
+    let Some(start) = meter.start else {
+        return println!(rt; "memory: unknown");
+    };
+    let taken = peak.saturating_sub(start).saturating_sub(len);
+    println!(rt;
+        "memory: {} times the text, {} MB",
+        Ratio::of(taken, len),
+        Ratio::of(taken, 1_000_000)
+    )
+}
+
+// Makes what is resident now the peak, and gives it in bytes; None where the system doesn't do so.
+fn reset_peak<R: Files + AllocGlobal>(rt: &R) -> Option<u64> {
+    fs::write(rt, "/proc/self/clear_refs", "5").ok()?;
+    peak(rt)
+}
+
+// The most bytes that were resident; None where the system doesn't tell.
+fn peak<R: Files + AllocGlobal>(rt: &R) -> Option<u64> {
+    let status = fs::read_to_string(rt, "/proc/self/status").ok()?;
+    peak_in(&status)
+}
+
+// The same in the text of that file, which has it in KiB.
+fn peak_in(status: &str) -> Option<u64> {
+    let line = status.lines().find(|line| line.starts_with("VmHWM:"))?;
+    let word = line.split_whitespace().nth(1)?;
+    word.parse::<u64>().ok()?.checked_mul(1024)
+}
+
+// The stream of one round of a guest whose pages are full of ones.
+fn plain_text(alloc: Global) -> Option<Vec<u8>> {
+    let mut guest = Guest::new(alloc, PAGES)?;
+    fill(&mut guest.image, PAGES, 0);
+    sent(alloc, &guest, 1)
+}
+
+// The stream of rounds of a guest whose pages are zeros.
+fn zeros_text(alloc: Global) -> Option<Vec<u8>> {
+    let guest = Guest::new(alloc, PAGES)?;
+    sent(alloc, &guest, ZERO_ROUNDS)
+}
+
+// The stream of so many rounds of all pages of a guest.
+fn sent(alloc: Global, guest: &Guest, rounds: usize) -> Option<Vec<u8>> {
+    let mut sender = SingleSender::new(alloc, guest.image.table()).ok()?;
+    for _ in 0..rounds {
+        sender.round(&guest.image, &guest.dirty).ok()?;
+    }
+    sender.finish().ok()
+}
+
+// The stream of one block of one page, and no round.
+fn small_text(alloc: Global) -> Option<Vec<u8>> {
+    without_rounds(alloc, &table_of_one(alloc, 1)?)
+}
+
+// The stream of one block of 2 GiB, and no round.
+fn claim_text(alloc: Global) -> Option<Vec<u8>> {
+    without_rounds(alloc, &table_of_one(alloc, 1 << 19)?)
+}
+
+// The stream of as many blocks as there may be, 1 TiB in all, and no round.
+fn claims_text(alloc: Global) -> Option<Vec<u8>> {
+    without_rounds(alloc, &table_of_blocks(alloc, 1 << 20)?)
+}
+
+// A PART of marks of zeros, each of another block than the one before.
+fn naming_text(alloc: Global) -> Option<Vec<u8>> {
+    let table = table_of_blocks(alloc, 1)?;
+    let records = naming_records(alloc)?;
+    with_part(alloc, &table, &records)
+}
+
+// A PART of FLUSH records, which end rounds without pages.
+fn flushes_text(alloc: Global) -> Option<Vec<u8>> {
+    let table = table_of_blocks(alloc, 1)?;
+    let records = flush_records(alloc)?;
+    with_part(alloc, &table, &records)
+}
+
+// The table of one block of so many pages.
+fn table_of_one(alloc: Global, pages: u64) -> Option<Table> {
+    let mut list = Vec::new(alloc);
+    let id = Vec::from_slice(alloc, b"a").ok()?;
+    list.push((id, pages)).ok()?;
+    Table::new(alloc, PAGE_SIZE_4K, list).ok()
+}
+
+// The table of as many blocks as there may be, of so many pages each.
+fn table_of_blocks(alloc: Global, pages: u64) -> Option<Table> {
+    let mut list = Vec::new(alloc);
+    for block in 0..BLOCKS {
+        let id = Vec::from_slice(alloc, &id_of(block)).ok()?;
+        list.push((id, pages)).ok()?;
+    }
+    Table::new(alloc, PAGE_SIZE_4K, list).ok()
+}
+
+// The id of a block of that table.
+fn id_of(block: usize) -> [u8; 3] {
+    [b'r', DIGITS[block / 16 % 16], DIGITS[block % 16]]
+}
+
+// Zero page records of the first pages of the blocks of that table in turn, each with the id.
+fn naming_records(alloc: Global) -> Option<Vec<u8>> {
+    let mut records = Vec::new(alloc);
+    for i in 0..NAMING_RECORDS {
+        let [first, second, third] = id_of(i);
+        let record = [0, 0, 0, 0, 0, 0, 0, 0x02, 3, first, second, third, 0];
+        records.extend_from_slice(&record).ok()?;
+    }
+    Some(records)
+}
+
+fn flush_records(alloc: Global) -> Option<Vec<u8>> {
+    let mut records = Vec::new(alloc);
+    for _ in 0..FLUSH_RECORDS {
+        records.extend_from_slice(&FLUSH).ok()?;
+    }
+    Some(records)
+}
+
+// The stream of a table without rounds.
+fn without_rounds(alloc: Global, table: &Table) -> Option<Vec<u8>> {
+    StreamWriter::new(alloc, table).ok()?.finish().ok()
+}
+
+// The stream of a table with one PART, of these records.
+fn with_part(alloc: Global, table: &Table, records: &[u8]) -> Option<Vec<u8>> {
+    let whole = without_rounds(alloc, table)?;
+    let (opening, closing) = whole.split_at_checked(whole.len().checked_sub(CLOSING_LEN)?)?;
+    let pieces = [opening, &PART_HEAD, records, &SECTION_END, closing];
+    joined(alloc, &pieces)
+}
+
+// These bytes, one after another.
+fn joined(alloc: Global, pieces: &[&[u8]]) -> Option<Vec<u8>> {
+    let mut text = Vec::new(alloc);
+    for piece in pieces {
+        text.extend_from_slice(piece).ok()?;
+    }
+    Some(text)
+}

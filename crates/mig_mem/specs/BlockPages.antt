@@ -1,0 +1,20 @@
+-- The pages of a block.
+use Rattle.std.specs.Prelude.{ℕ, List, [], slice_index_or, slice_set}
+use Rattle.mig_mem.specs.PageSize.{IsPageSize}
+use Rattle.mig_mem.specs.Parts.{AreParts}
+
+-- the size of a page, and the content of each
+pub record BlockPages : Type 0 where
+  pub size : ℕ
+  pub pages : List (List ℕ)
+
+abbrev pub page_at : BlockPages → ℕ → List ℕ
+page_at b i = slice_index_or b.pages i []
+
+abbrev pub with_content : BlockPages → ℕ → List ℕ → BlockPages
+with_content b i content = record b { pages = slice_set b.pages i content }
+
+-- the pages are parts of the bytes that are kept
+pub record ArePages (size : ℕ) (slots bytes : List ℕ) (capacity : ℕ) : Type 0 where
+  pub is_size : IsPageSize size
+  pub are_parts : AreParts size slots bytes capacity

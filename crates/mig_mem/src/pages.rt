@@ -1,0 +1,146 @@
+//! The pages of a block, of which only those have bytes that were written.
+
+ghost use Rattle.std.specs.Prelude.{◌≡◌, ◌+◌, ◌-◌, ◌*◌, ◌^◌, ◌<◌, ◌≤◌, ◌++◌, length, replicate, slice_set, slice_index_or, [], IfOk, IsTrue, vec_capacity, vec_len};
+ghost use Rattle.mig_mem.specs.PageSize.{IsPageSize};
+ghost use Rattle.mig_mem.specs.Image.{zero_page};
+ghost use Rattle.mig_mem.specs.BlockPages.{page_at, with_content};
+
+use crate::NoMemory;
+use crate::parts::{append, append_with, part_of, write_in_part, write_part};
+use crate::slots::Slots;
+use std::alloc::Allocator;
+use std::marker::Model;
+
+// A page of zeros, of the largest page size.
+const ZEROS: [u8; 8192] = [0; 8192];
+
+/// The pages of a block. A page has bytes of its own from the first time on that it is written; until then it is zeros. So
+/// the room for all pages is there from the start, and isn't touched before it is needed.
+#[derive(Drop)]
+pub(crate) struct Pages<A: Allocator> {
+    size: u64,
+    // for each page which of those with bytes it is, from 1 on in the order of their first writes, or 0 where it has none
+    slots: Slots<A>,
+    // the pages that have bytes, one after another
+    bytes: Vec<u8, A>,
+}
+
+impl<A: Allocator> Model for Pages<A> {
+    ghost use Rattle.mig_mem.specs.Parts.{parts_in};
+    ghost use Rattle.mig_mem.specs.BlockPages.{BlockPages, ArePages};
+    ghost use Rattle.std.specs.Prelude.{vec_capacity};
+
+    ghost Value = { BlockPages };
+
+    ghost view = { λ p. record { size = p.size; pages = parts_in p.size p.slots p.bytes.items } };
+
+    ghost invariant = { λ p. ArePages p.size p.slots p.bytes.items (vec_capacity p.bytes) };
+}
+
+// A page of zeros.
+fn zeros(size: u64) -> &'static [u8]
+    requires { IsPageSize size }
+    ensures { result.now ≡ zero_page size }
+{
+    front(&ZEROS, size)
+}
+
+// The front of some zeros.
+fn front(zeros: &[u8], len: u64) -> &[u8]
+    requires zeros { zeros.now ≡ replicate (length zeros.now) 0 }
+    requires len { len ≤ length zeros.now }
+    ensures { result.now ≡ replicate len 0 }
+{
+    &zeros[..len as usize]
+}
+
+impl<A: Allocator + Copy> Pages<A> {
+    /// Pages of zeros, with room for all of them.
+    pub(crate) fn zeroed(alloc: A, size: u64, count: u64) -> Result<Pages<A>, NoMemory>
+        requires size { IsPageSize size }
+        requires room { count * size ≤ 2 ^ 40 }
+        ensures { IfOk result (λ p. p ≡ record { size = size; pages = replicate count (zero_page size) }) }
+    {
+        let slots = Slots::zeroed(alloc, count)?;
+        let bytes = Vec::with_capacity(alloc, (count * size) as usize)?;
+        Ok(Pages { size, slots, bytes })
+    }
+
+    /// The same pages, with room for all of them.
+    pub(crate) fn try_copy(&self) -> Result<Pages<A>, NoMemory>
+        ensures { IfOk result (λ p. p ≡ self.now) }
+    {
+        let slots = self.slots.try_copy()?;
+        let room = (self.slots.len() * self.size) as usize;
+        let mut bytes = Vec::with_capacity(*self.bytes.allocator(), room)?;
+        bytes.extend_from_slice(&self.bytes)?;
+        Ok(Pages {
+            size: self.size,
+            slots,
+            bytes,
+        })
+    }
+}
+
+impl<A: Allocator> Pages<A> {
+    /// The content of a page.
+    pub(crate) fn page(&self, i: u64) -> &[u8]
+        requires { i < length self.now.pages }
+        ensures { result.now ≡ page_at self.now i }
+    {
+        let slot = self.slots.get(i);
+        if slot == 0 {
+            return zeros(self.size);
+        }
+        part_of(&self.bytes, self.size, slot - 1)
+    }
+
+    /// Whether a page was never written, and so is zeros.
+    pub(crate) fn is_blank(&self, i: u64) -> bool
+        requires { i < length self.now.pages }
+        ensures { IsTrue result → page_at self.now i ≡ zero_page self.now.size }
+    {
+        self.slots.get(i) == 0
+    }
+
+    /// Writes a page. It takes no memory.
+    pub(crate) fn put(&mut self, i: u64, content: &[u8])
+        requires page { i < length self.old.pages }
+        requires size { length content.now ≡ self.old.size }
+        ensures { self.new ≡ with_content self.old i content.now }
+    {
+        let slot = self.slots.get(i);
+        if slot == 0 {
+            append(&mut self.bytes, content);
+            self.slots.set(i, self.bytes.len() as u64 / self.size);
+        } else {
+            write_part(&mut self.bytes, self.size, slot - 1, content);
+        }
+    }
+
+    /// Makes a page zeros. It takes no memory, and none is touched where the page was never written.
+    pub(crate) fn put_zeros(&mut self, i: u64)
+        requires { i < length self.old.pages }
+        ensures { self.new ≡ with_content self.old i (zero_page self.old.size) }
+    {
+        let slot = self.slots.get(i);
+        if slot != 0 {
+            write_part(&mut self.bytes, self.size, slot - 1, zeros(self.size));
+        }
+    }
+
+    /// Writes one byte of a page. It takes no memory.
+    pub(crate) fn set(&mut self, i: u64, offset: u64, byte: u8)
+        requires page { i < length self.old.pages }
+        requires offset { offset < self.old.size }
+        ensures { self.new ≡ with_content self.old i (slice_set (page_at self.old i) offset byte) }
+    {
+        let slot = self.slots.get(i);
+        if slot == 0 {
+            append_with(&mut self.bytes, zeros(self.size), offset, byte);
+            self.slots.set(i, self.bytes.len() as u64 / self.size);
+        } else {
+            write_in_part(&mut self.bytes, self.size, slot - 1, offset, byte);
+        }
+    }
+}

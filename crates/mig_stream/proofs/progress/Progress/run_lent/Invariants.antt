@@ -1,0 +1,10 @@
+use Rattle.std.proofs.Common.{◌≡◌, ℕ, ◌+◌, ◌*◌, List, ◌++◌, length}
+use Rattle.mig_stream.specs.Reading.{Front}
+use Rattle.mig_stream.proofs.Fronts.{work}
+use Rattle.mig_stream.proofs.progress.Progress.run_lent.Given as goal
+
+abbrev pub invariant-items : goal.invariant-items
+invariant-items g l = (front : List ℕ) × (l.text ≡ front ++ l.rest) × Front l.fn.self front l.self
+
+abbrev pub decreases-items : goal.decreases-items
+decreases-items g l = 2 * length l.rest + work l.self.due
