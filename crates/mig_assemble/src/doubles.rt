@@ -1,11 +1,12 @@
-//! Looking for places that a round brings twice, by marking each that it brings.
+//! Looking for places that a round brings twice, by marking each that it brings. The marks are taken away one by one, so that a small
+//! round costs little, however large the table is.
 
 ghost use Rattle.std.specs.Prelude.{◌≡◌, ◌<◌, ◌∷◌, [], map, length, All, None, false};
 ghost use Rattle.mig_mem.specs.RamTable.{block};
 ghost use Rattle.mig_mem.specs.Place.{IsPlace, place_eq, place_lt};
 ghost use Rattle.mig_packet.specs.Lent.{fields};
 ghost use Rattle.mig_assemble.specs.Judging.{offsets, is_outside, place_fault, pages_in, packet_pages, all_round_pages, places_of, least, lesser, twice};
-ghost use Rattle.mig_assemble.specs.Seen.{HasSeen, SeesMore};
+ghost use Rattle.mig_assemble.specs.Seen.{HasSeen, SeesMore, SeesLess};
 ghost use Rattle.mig_assemble.specs.Target.{Fits, pages_of_round};
 
 use crate::places::{offset, page_count};
@@ -28,12 +29,88 @@ pub(crate) fn double_place<A: Allocator, B: Allocator>(
     ensures double { result ≡ least place_lt (twice place_eq (places_of (all_round_pages seen.old.table (pages_of_round round.now) (map fields packets.now)))) }
     ensures seen { seen.new ≡ seen.old }
 {
+    let double = mark_all(seen, round, packets);
+    unmark_records(seen, round);
+    unmark_packets(seen, packets);
+    double
+}
+
+// Marks the places of a round. The least that comes twice is the answer.
+fn mark_all<A: Allocator, B: Allocator>(
+    seen: &mut Dirty<A>,
+    round: &StreamRound<B>,
+    packets: &[Packet<'_>],
+) -> Option<Place>
+    requires seen { seen.old.marked ≡ [] }
+    requires fits { Fits seen.old.table round.now }
+    requires page_sizes { All (λ p. p.page_size ≡ seen.old.table.page_size) packets.now }
+    requires lawful { All (λ p. place_fault seen.old.table p ≡ None) (map fields packets.now) }
+    ensures { HasSeen seen.old.table (places_of (all_round_pages seen.old.table (pages_of_round round.now) (map fields packets.now))) seen.new result }
+{
     let mut double = mark_records(seen, round);
     for packet in packets {
         double = mark_packet(seen, double, packet);
     }
-    seen.clear();
     double
+}
+
+// Takes the marks of records away.
+fn unmark_records<A: Allocator, B: Allocator>(seen: &mut Dirty<A>, round: &StreamRound<B>)
+    requires fits { Fits seen.old.table round.now }
+    ensures table { seen.new.table ≡ seen.old.table }
+    ensures seen { SeesLess (places_of (pages_of_round round.now)) seen.old seen.new }
+{
+    for i in 0..round.len() {
+        unmark(seen, round.place(i));
+    }
+}
+
+// Takes the marks of packets' pages away.
+fn unmark_packets<A: Allocator>(seen: &mut Dirty<A>, packets: &[Packet<'_>])
+    requires page_sizes { All (λ p. p.page_size ≡ seen.old.table.page_size) packets.now }
+    requires lawful { All (λ p. place_fault seen.old.table p ≡ None) (map fields packets.now) }
+    ensures table { seen.new.table ≡ seen.old.table }
+    ensures seen { SeesLess (places_of (all_round_pages seen.old.table [] (map fields packets.now))) seen.old seen.new }
+{
+    for packet in packets {
+        unmark_packet(seen, packet);
+    }
+}
+
+// Takes the marks of a packet's pages away.
+fn unmark_packet<A: Allocator>(seen: &mut Dirty<A>, packet: &Packet<'_>)
+    requires page_size { packet.now.page_size ≡ seen.old.table.page_size }
+    requires lawful { place_fault seen.old.table (fields packet.now) ≡ None }
+    ensures table { seen.new.table ≡ seen.old.table }
+    ensures seen { SeesLess (places_of (packet_pages seen.old.table (fields packet.now))) seen.old seen.new }
+{
+    // a lawful packet names a block, or has no pages
+    if let Some(at) = seen.table().find(packet.id()) {
+        unmark_pages(seen, packet, at);
+    }
+}
+
+// Takes the marks of a packet's pages away, in the block of a number.
+fn unmark_pages<A: Allocator>(seen: &mut Dirty<A>, packet: &Packet<'_>, at: usize)
+    requires page_size { packet.now.page_size ≡ seen.old.table.page_size }
+    requires block { at < length seen.old.table.blocks }
+    requires lawful { All (λ offset. is_outside seen.old.table.page_size (block seen.old.table.blocks at).pages offset ≡ false) (offsets (fields packet.now)) }
+    ensures table { seen.new.table ≡ seen.old.table }
+    ensures seen { SeesLess (places_of (pages_in seen.old.table (fields packet.now) at)) seen.old seen.new }
+{
+    for i in 0..page_count(packet) {
+        let page = offset(packet, i) / packet.page_size();
+        unmark(seen, Place { block: at, page });
+    }
+}
+
+// Takes the mark of a place away.
+fn unmark<A: Allocator>(seen: &mut Dirty<A>, place: Place)
+    requires { IsPlace seen.old.table place }
+    ensures table { seen.new.table ≡ seen.old.table }
+    ensures seen { SeesLess (place ∷ []) seen.old seen.new }
+{
+    seen.unmark(place);
 }
 
 // Marks the places of records. The least that comes twice is the answer.

@@ -7,7 +7,7 @@ ghost use Rattle.std.specs.List.{flat_map};
 ghost use Rattle.mig_mem.specs.Image.{zero_page, with_page};
 ghost use Rattle.mig_mem.specs.Round.{with_round};
 ghost use Rattle.mig_packet.specs.Lent.{fields};
-ghost use Rattle.mig_assemble.specs.Judging.{place_fault, packet_pages, pages_in};
+ghost use Rattle.mig_assemble.specs.Judging.{place_fault, packet_pages};
 ghost use Rattle.mig_assemble.specs.Target.{pages_of_round, Fits};
 ghost use Rattle.mig_assemble.specs.PacketPages.{normal_pages, zero_pages, LiesIn};
 

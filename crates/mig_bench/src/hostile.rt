@@ -29,6 +29,8 @@ const NAMING_RECORDS: usize = 1 << 18;
 
 const FLUSH_RECORDS: usize = 1 << 19;
 
+const SMALL_ROUNDS: usize = 1 << 18;
+
 /// How often the guest of zeros is sent.
 const ZERO_ROUNDS: usize = 8;
 
@@ -42,6 +44,9 @@ const CLOSING_LEN: usize = 19;
 
 /// A FLUSH.
 const FLUSH: [u8; 8] = [0, 0, 0, 0, 0, 0, 0x02, 0];
+
+/// A mark of zeros for the first page of the block named last.
+const CONTINUED_ZEROS: [u8; 9] = [0, 0, 0, 0, 0, 0, 0, 0x22, 0];
 
 /// The last letters of a block's id.
 const DIGITS: [u8; 16] = *b"0123456789abcdef";
@@ -90,16 +95,27 @@ fn report_small<R: Clock + Print + Files + AllocGlobal>(rt: &R, meter: Meter) ->
 // The texts that take more.
 fn report_large<R: Clock + Print + Files + AllocGlobal>(rt: &R, meter: Meter) -> io::Result<()> {
     report_load_of(rt, meter, "256 * 4 GiB claimed", claims_text(meter.alloc))?;
-    report_flushes(rt, meter)?;
+    report_main(rt, meter, "FLUSH records", flushes_text(meter.alloc))?;
+    report_main(
+        rt,
+        meter,
+        "rounds of one record",
+        small_rounds_text(meter.alloc),
+    )?;
     report_both(rt, meter, "a plain guest", plain_text(meter.alloc))
 }
 
-// A main text of FLUSH records.
-fn report_flushes<R: Clock + Print + Files + AllocGlobal>(rt: &R, meter: Meter) -> io::Result<()> {
-    let Some(text) = flushes_text(meter.alloc) else {
+// Reads a main text, if there is one.
+fn report_main<R: Clock + Print + Files + AllocGlobal>(
+    rt: &R,
+    meter: Meter,
+    name: &str,
+    text: Option<Vec<u8>>,
+) -> io::Result<()> {
+    let Some(text) = text else {
         return println!(rt; "no memory for the text");
     };
-    report_reading(rt, meter, "FLUSH records", Mode::Main, &text)
+    report_reading(rt, meter, name, Mode::Main, &text)
 }
 
 // Loads a text, if there is one.
@@ -305,6 +321,13 @@ fn flushes_text(alloc: Global) -> Option<Vec<u8>> {
     with_part(alloc, &table, &records)
 }
 
+// A PART of rounds that have a mark of zeros each.
+fn small_rounds_text(alloc: Global) -> Option<Vec<u8>> {
+    let table = table_of_blocks(alloc, 1)?;
+    let records = small_rounds(alloc)?;
+    with_part(alloc, &table, &records)
+}
+
 // The table of one block of so many pages.
 fn table_of_one(alloc: Global, pages: u64) -> Option<Table> {
     let mut list = Vec::new(alloc);
@@ -332,11 +355,15 @@ fn id_of(block: usize) -> [u8; 3] {
 fn naming_records(alloc: Global) -> Option<Vec<u8>> {
     let mut records = Vec::new(alloc);
     for i in 0..NAMING_RECORDS {
-        let [first, second, third] = id_of(i);
-        let record = [0, 0, 0, 0, 0, 0, 0, 0x02, 3, first, second, third, 0];
-        records.extend_from_slice(&record).ok()?;
+        records.extend_from_slice(&naming_record(i)).ok()?;
     }
     Some(records)
+}
+
+// The mark of zeros of the first page of a block of that table, by its id.
+fn naming_record(block: usize) -> [u8; 13] {
+    let [first, second, third] = id_of(block);
+    [0, 0, 0, 0, 0, 0, 0, 0x02, 3, first, second, third, 0]
 }
 
 fn flush_records(alloc: Global) -> Option<Vec<u8>> {
@@ -344,6 +371,17 @@ fn flush_records(alloc: Global) -> Option<Vec<u8>> {
     for _ in 0..FLUSH_RECORDS {
         records.extend_from_slice(&FLUSH).ok()?;
     }
+    Some(records)
+}
+
+// Marks of zeros, and after each of them a FLUSH.
+fn small_rounds(alloc: Global) -> Option<Vec<u8>> {
+    let mut records = Vec::from_slice(alloc, &naming_record(0)).ok()?;
+    for _ in 0..SMALL_ROUNDS {
+        records.extend_from_slice(&FLUSH).ok()?;
+        records.extend_from_slice(&CONTINUED_ZEROS).ok()?;
+    }
+    records.extend_from_slice(&FLUSH).ok()?;
     Some(records)
 }
 

@@ -29,6 +29,15 @@ impl Guest {
         self.dirty.mark(place).ok()
     }
 
+    /// Takes the mark of a page away, and says how many marks are left; None where the table lacks the page.
+    pub fn unmark(&mut self, place: Place) -> Option<u64> {
+        if !self.dirty.table().holds(place) {
+            return None;
+        }
+        self.dirty.unmark(place);
+        Some(self.dirty.count())
+    }
+
     /// `set BLOCK OFFSET BYTE`: its page is marked.
     pub fn set(&mut self, mut words: Words) -> Done {
         let block = words.size()?;

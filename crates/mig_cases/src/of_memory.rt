@@ -34,7 +34,7 @@ fn ask_place(
     mut words: Words,
 ) -> Result<bool, Trouble> {
     match name {
-        "holds" | "mark" | "has" | "first_from" | "page_of" => {}
+        "holds" | "mark" | "unmark" | "has" | "first_from" | "page_of" => {}
         _ => return Ok(false),
     }
     let guest = case.guest()?;
@@ -48,6 +48,10 @@ fn ask_place(
             Some(false) => "there",
             None => "outside",
         })?,
+        "unmark" => match guest.unmark(place) {
+            Some(left) => put_number(out, left)?,
+            None => out.push_str("outside")?,
+        },
         _ => match guest.image.page(place) {
             Some(bytes) => put_bytes(out, bytes)?,
             None => out.push_str("none")?,

@@ -1,6 +1,6 @@
--- The sections of a text that are put into a memory, one after another.
-use Rattle.std.proofs.Common.{ℕ, ◌≡◌, ◌+◌, ◌<◌, ◌≤◌, List, [], ◌∷◌, ◌++◌, length, map, take, refl, sym, ap, ◌∙◌, inl, inr, Option, Some, None, true, arith, rules, subst}
-use Rattle.std.specs.Prelude.{◌⊎◌, IfSome, IfNone, IfOk, IsOk, Result, Ok, Err, slice_index_or}
+-- The sections of a text that are put into a memory, one after another, and the answer that they make.
+use Rattle.std.proofs.Common.{ℕ, ◌≡◌, ◌+◌, ◌<◌, ◌≤◌, Bool, true, false, List, [], ◌∷◌, ◌++◌, length, map, take, refl, sym, ap, ◌∙◌, inl, inr, Option, Some, None, arith, rules, subst}
+use Rattle.std.specs.Prelude.{◌⊎◌, ⊤, IfSome, IfNone, IfOk, IsOk, OnErr, Result, Ok, Err, slice_index_or}
 use Rattle.std.specs.List.{All}
 use Rattle.std.proofs.lemmas.List.{map-append, take_more, take_all, append-nil, length-append, length-map}
 use Rattle.std.proofs.lemmas.Bool.{cases_lt}
@@ -19,7 +19,7 @@ use Rattle.mig_stream.specs.declared.item.StreamState.TheVariants.{Closed}
 use Rattle.mig_stream.specs.PageRecord.{PageRecord, page_of}
 use Rattle.mig_stream.specs.Reading.{settings, StreamReading, IsReading, state_at}
 use Rattle.mig_stream.specs.Progress.{StreamProgress, whole_table}
-use Rattle.mig_stream.specs.Reader.{Reader, SoFar, Stands, with_taken, HasTable, HasRound, HasState}
+use Rattle.mig_stream.specs.Reader.{Reader, Stands, with_taken, HasTable, HasRound, HasState}
 use Rattle.mig_stream.specs.Round.{RoundOfRecords}
 use Rattle.mig_stream.specs.Text.{IsText, total_bytes}
 use Rattle.mig_stream.specs.Written.{written_record, single}
@@ -31,22 +31,13 @@ use Rattle.mig_stream.proofs.WrittenText.{written_single}
 use Rattle.mig_stream.proofs.WrittenPages.{written_pages}
 use Rattle.mig_assemble.specs.Target.{LoadTarget, new_target, pages_of_round, Fits}
 use Rattle.mig_load.specs.declared.loaded.Loaded.{Loaded}
+use Rattle.mig_load.specs.declared.fault.LoadFault.{LoadFault}
 use Rattle.mig_load.specs.SingleLoad.{memory_after, verdict_of, IsAnswer, IsWithoutMemory, loaded, unloaded}
+use Rattle.mig_load.specs.Loader.{Loader, loader, memory_of, rounds_of, HasAllSections, Waits, put_so_far, Loads, HasVerdict, Judges, Answers, HasFirst, HasFed}
 
 -- the pages of some sections
 abbrev pub pages_in : ℕ → List (List PageRecord) → List (List Page)
 pages_in page_size sections = map (map (page_of page_size)) sections
-
--- a text that is over, of which so many sections were taken
-abbrev pub put_so_far : List ℕ → ℕ → SoFar
-put_so_far text n = record { text = text; ended = true; taken = n }
-
--- The reader of a text that is over has given the sections that the memory has, and these are the first of the text.
-pub record HasPut (page_size limit : ℕ) (text : List ℕ) (r : Reader) (t : LoadTarget) : Type 0 where
-  pub stands : Stands (settings Single page_size limit) (put_so_far text t.rounds) r
-  pub has_table : HasTable (settings Single page_size limit) text (Some t.memory.table)
-  pub has_memory : (reading : StreamReading) → IsReading (settings Single page_size limit) text reading
-      → t.memory ≡ after t.memory.table (pages_in page_size (take t.rounds reading.rounds))
 
 -- ---- one reading
 
@@ -58,12 +49,12 @@ same_reading p limit text a b size is_a is_b =
 -- ---- the loop
 
 -- before the first section
-pub put_none : (p limit : ℕ) (text : List ℕ) (r : Reader) (table : RamTable) (t : LoadTarget) → Stands (settings Single p limit) (put_so_far text 0) r
-    → HasTable (settings Single p limit) text (Some table) → t ≡ new_target table → HasPut p limit text r t
-put_none p limit text r table t stands has is = rw is record {
-  stands = stands;
-  has_table = has;
-  has_memory = λ reading _. sym (after-nil table);
+pub fed_new : (p limit : ℕ) (text : List ℕ) (ended : Bool) (r : Reader) (table : RamTable) (t : LoadTarget) → HasFed p limit (loader r None) text ended
+    → HasTable (settings Single p limit) text (Some table) → t ≡ new_target table → HasFed p limit (loader r (Some t)) text ended
+fed_new p limit text ended r table t fed has is = rw is record {
+  is_page_size = fed.is_page_size;
+  stands = fed.stands;
+  has_first = record { has_table = has; has_memory = λ reading _. sym (after-nil table) };
 }
 
 -- the page size of the table, and that a round that is still to come isn't the 2^63rd
@@ -76,40 +67,197 @@ is_few p limit i text records size has =
     let lt = has.2 in
     omega (arith, few, lt)
 
-pub fits_is : (p limit : ℕ) (text : List ℕ) (r : Reader) (t : LoadTarget) (round : RoundOfRecords) → IsPageSize p → HasPut p limit text r t
+pub fits_is : (p limit : ℕ) (text : List ℕ) (ended : Bool) (r : Reader) (t : LoadTarget) (round : RoundOfRecords) → HasFed p limit (loader r (Some t)) text ended
     → round.page_size ≡ p → All (λ x. IsPlace t.memory.table x.place) round.records → Fits t.memory.table round
-fits_is p limit text r t round size has is places = record {
-  has_page_size = is ∙ sym (size_is p limit text t.memory.table size has.has_table);
+fits_is p limit text ended r t round fed is places = record {
+  has_page_size = is ∙ sym (size_is p limit text t.memory.table fed.is_page_size fed.has_first.has_table);
   has_places = places;
 }
 
 -- one section more
-pub put_more : (p limit : ℕ) (text : List ℕ) (r s : Reader) (t u : LoadTarget) (round : RoundOfRecords) → IsPageSize p → HasPut p limit text r t
-    → round.page_size ≡ p → HasRound (settings Single p limit) text t.rounds round.records → Stands (settings Single p limit) (put_so_far text (t.rounds + 1)) s
-    → u.memory ≡ with_round t.memory (pages_of_round round) → u.rounds ≡ t.rounds + 1 → HasPut p limit text s u
-put_more p limit text r s t u round size has is_size is_round stands memory rounds =
+pub fed_more : (p limit : ℕ) (text : List ℕ) (ended : Bool) (r s : Reader) (t u : LoadTarget) (round : RoundOfRecords) → HasFed p limit (loader r (Some t)) text ended
+    → round.page_size ≡ p → HasRound (settings Single p limit) text t.rounds round.records → Stands (settings Single p limit) (put_so_far text ended (t.rounds + 1)) s
+    → u.memory ≡ with_round t.memory (pages_of_round round) → u.rounds ≡ t.rounds + 1 → HasFed p limit (loader s (Some u)) text ended
+fed_more p limit text ended r s t u round fed is_size is_round stands memory rounds =
+    let has : HasFirst p limit text t = fed.has_first in
+    let size : IsPageSize p = fed.is_page_size in
     let same : u.memory.table ≡ t.memory.table = ap (λ (m : Image). m.table) memory in record {
-      stands = subst (λ n. Stands (settings Single p limit) (put_so_far text n) s) (sym rounds) stands;
-      has_table = subst (λ x. HasTable (settings Single p limit) text (Some x)) (sym same) has.has_table;
-      has_memory = λ reading is.
-          let one : is_round.0 ≡ reading = same_reading p limit text is_round.0 reading size is_round.1 is in
-          let few : t.rounds < length reading.rounds = subst (λ (x : StreamReading). t.rounds < length x.rounds) one is_round.2 in
-          let here : slice_index_or reading.rounds t.rounds [] ≡ round.records =
-          subst (λ (x : StreamReading). slice_index_or x.rounds t.rounds [] ≡ round.records) one is_round.3 in
-          let before : List (List PageRecord) = take t.rounds reading.rounds in
-          let more : before ++ round.records ∷ [] ≡ take (t.rounds + 1) reading.rounds =
-          ap (λ (x : List PageRecord). before ++ x ∷ []) (sym here) ∙ sym (take_more reading.rounds t.rounds [] few) in
-          memory
-          ∙ ap (λ (m : Image). with_round m (pages_of_round round)) (has.has_memory reading is)
-          ∙ ap (λ (n : ℕ). with_round (after t.memory.table (pages_in p before)) (map (page_of n) round.records)) is_size
-          ∙ sym (after-push t.memory.table (pages_in p before) (map (page_of p) round.records))
-          ∙ ap (λ (l : List (List Page)). after t.memory.table l) (sym (map-append (map (page_of p)) before (round.records ∷ [])))
-          ∙ ap (λ (l : List (List PageRecord)). after t.memory.table (pages_in p l)) more
-          ∙ ap (λ (x : RamTable). after x (pages_in p (take (t.rounds + 1) reading.rounds))) (sym same)
-          ∙ ap (λ (n : ℕ). after u.memory.table (pages_in p (take n reading.rounds))) (sym rounds);
+      is_page_size = size;
+      stands = subst (λ n. Stands (settings Single p limit) (put_so_far text ended n) s) (sym rounds) stands;
+      has_first = record {
+        has_table = subst (λ x. HasTable (settings Single p limit) text (Some x)) (sym same) has.has_table;
+        has_memory = λ reading is.
+            let one : is_round.0 ≡ reading = same_reading p limit text is_round.0 reading size is_round.1 is in
+            let few : t.rounds < length reading.rounds = subst (λ (x : StreamReading). t.rounds < length x.rounds) one is_round.2 in
+            let here : slice_index_or reading.rounds t.rounds [] ≡ round.records =
+            subst (λ (x : StreamReading). slice_index_or x.rounds t.rounds [] ≡ round.records) one is_round.3 in
+            let before : List (List PageRecord) = take t.rounds reading.rounds in
+            let more : before ++ round.records ∷ [] ≡ take (t.rounds + 1) reading.rounds =
+            ap (λ (x : List PageRecord). before ++ x ∷ []) (sym here) ∙ sym (take_more reading.rounds t.rounds [] few) in
+            memory
+            ∙ ap (λ (m : Image). with_round m (pages_of_round round)) (has.has_memory reading is)
+            ∙ ap (λ (n : ℕ). with_round (after t.memory.table (pages_in p before)) (map (page_of n) round.records)) is_size
+            ∙ sym (after-push t.memory.table (pages_in p before) (map (page_of p) round.records))
+            ∙ ap (λ (l : List (List Page)). after t.memory.table l) (sym (map-append (map (page_of p)) before (round.records ∷ [])))
+            ∙ ap (λ (l : List (List PageRecord)). after t.memory.table (pages_in p l)) more
+            ∙ ap (λ (x : RamTable). after x (pages_in p (take (t.rounds + 1) reading.rounds))) (sym same)
+            ∙ ap (λ (n : ℕ). after u.memory.table (pages_in p (take n reading.rounds))) (sym rounds);
+      };
     }
 
+-- no section is left
+not_more : (p limit : ℕ) (text : List ℕ) (reading : StreamReading) (n : ℕ) → IsReading (settings Single p limit) text reading
+    → ((i : ℕ) (round : List PageRecord) → HasRound (settings Single p limit) text i round → i < n) → length reading.rounds ≤ n
+not_more p limit text reading n is last = elim (cases_lt n (length reading.rounds)) [
+  | inl lt ↦ let bad = last n (slice_index_or reading.rounds n []) (reading, is, lt, refl) in absurd (omega (arith, bad))
+  | inr le ↦ le
+]
+
+-- those that were given are the text's
+pub are_given : (p limit : ℕ) (text : List ℕ) (ended : Bool) (r : Reader) (n : ℕ) (reading : StreamReading) → IsPageSize p → IsReading (settings Single p limit) text reading
+    → Stands (settings Single p limit) (put_so_far text ended n) r → n ≤ length reading.rounds
+are_given p limit text ended r n reading size is stands =
+    let to : StreamProgress = with_taken stands.rounds r.progress in
+    let other : StreamReading = record { table = whole_table to; rounds = to.rounds; state = r.found } in
+    let is_other : IsReading (settings Single p limit) text other = record { to = to; rest = stands.rest; reads = stands.reads; has_table = refl; has_rounds = refl } in
+    let one : other ≡ reading = same_reading p limit text other reading size is_other is in
+    let len : length (stands.rounds ++ r.progress.rounds) ≡ length reading.rounds = ap (λ (x : StreamReading). length x.rounds) one in
+    let both = length-append stands.rounds r.progress.rounds in
+    let taken = stands.has_taken in
+    omega (arith, len, both, taken)
+
+-- ---- all sections
+
+-- after the loop
+pub all_put : (p limit : ℕ) (text : List ℕ) (ended : Bool) (r : Reader) (t : LoadTarget) → HasFed p limit (loader r (Some t)) text ended
+    → ((i : ℕ) (round : List PageRecord) → HasRound (settings Single p limit) text i round → i < t.rounds) → HasAllSections p limit (loader r (Some t)) text
+all_put p limit text ended r t fed last =
+    let has : HasFirst p limit text t = fed.has_first in
+    let table : RamTable = t.memory.table in
+    let reading : StreamReading = has.has_table.0 in
+    let is_reading = has.has_table.1 in
+    let sections : List (List PageRecord) = reading.rounds in
+    let most : length sections ≤ t.rounds = not_more p limit text reading t.rounds is_reading last in
+    let least : t.rounds ≤ length sections = are_given p limit text ended r t.rounds reading fed.is_page_size is_reading fed.stands in
+    let all : take t.rounds sections ≡ sections = take_all t.rounds sections most in
+    record {
+      reading = reading;
+      is_reading = is_reading;
+      has_memory = ap (λ (m : Image). Some m) (has.has_memory reading is_reading ∙ ap (λ (l : List (List PageRecord)). after table (pages_in p l)) all)
+          ∙ ap (λ (x : Option RamTable). memory_after p x sections) has.has_table.2;
+      has_rounds = omega (arith, most, least);
+    }
+
+-- a text without a table has no section
+pub none_there : (p limit : ℕ) (text : List ℕ) (r : Reader) → IsPageSize p → HasTable (settings Single p limit) text None → HasAllSections p limit (loader r None) text
+none_there p limit text r size has =
+    let reading : StreamReading = has.0 in
+    let none : reading.rounds ≡ [] = (limits_law (settings Single p limit) text reading size has.1).has_table_first (sym has.2) in
+    record {
+      reading = reading;
+      is_reading = has.1;
+      has_memory = ap (λ (x : Option RamTable). memory_after p x reading.rounds) has.2;
+      has_rounds = sym (ap (λ (x : List (List PageRecord)). length x) none);
+    }
+
+pub loads_all : (p limit : ℕ) (l : Loader) (text : List ℕ) (ended : Bool) → HasFed p limit l text ended → HasAllSections p limit l text → Loads p limit l text ended × HasAllSections p limit l text
+loads_all p limit l text ended fed all = (record { is_page_size = fed.is_page_size; stands = fed.stands; has_sections = inl all }, all)
+
+-- ---- what a loader stands for
+
+-- a memory after whole sections is one of the text's table
+table_there : (p : ℕ) (m : Image) (o : Option RamTable) (sections : List (List PageRecord)) → Some m ≡ memory_after p o sections
+    → (Some m.table ≡ o) × (m ≡ after m.table (pages_in p sections))
+table_there p m None sections e = absurd cc
+table_there p m (Some table) sections e =
+    let is : m ≡ after table (pages_in p sections) = cc in
+    let same : m.table ≡ table = ap (λ (x : Image). x.table) is in
+    (ap (λ (x : RamTable). Some x) same, is ∙ ap (λ (x : RamTable). after x (pages_in p sections)) (sym same))
+
+first_of_all : (p limit : ℕ) (text : List ℕ) (r : Reader) (t : LoadTarget) → IsPageSize p → HasAllSections p limit (loader r (Some t)) text → HasFirst p limit text t
+first_of_all p limit text r t size all =
+    let there = table_there p t.memory all.reading.table all.reading.rounds all.has_memory in
+    record {
+      has_table = (all.reading, all.is_reading, there.0);
+      has_memory = λ reading is.
+          let one : all.reading ≡ reading = same_reading p limit text all.reading reading size all.is_reading is in
+          let most : length reading.rounds ≤ t.rounds = subst (λ (x : StreamReading). length x.rounds ≤ t.rounds) one (omega (arith, all.has_rounds)) in
+          there.1 ∙ ap (λ (x : StreamReading). after t.memory.table (pages_in p x.rounds)) one
+          ∙ ap (λ (l : List (List PageRecord)). after t.memory.table (pages_in p l)) (sym (take_all t.rounds reading.rounds most));
+    }
+
+-- a loader that stands for a text was fed it
+pub fed_of : (p limit : ℕ) (r : Reader) (o : Option LoadTarget) (text : List ℕ) (ended : Bool) → Loads p limit (loader r o) text ended → HasFed p limit (loader r o) text ended
+fed_of p limit r None text ended loads = record { is_page_size = loads.is_page_size; stands = loads.stands; has_first = tt }
+fed_of p limit r (Some t) text ended loads = record {
+  is_page_size = loads.is_page_size;
+  stands = loads.stands;
+  has_first = elim loads.has_sections [
+    | inl all ↦ first_of_all p limit text r t loads.is_page_size all
+    | inr waits ↦ absurd (let none = waits.has_no_memory in cc)
+  ];
+}
+
+-- where there is a memory no section waits
+pub all_there : (p limit : ℕ) (r : Reader) (o : Option LoadTarget) (t : LoadTarget) (text : List ℕ) (ended : Bool) → o ≡ Some t → Loads p limit (loader r o) text ended
+    → HasAllSections p limit (loader r o) text
+all_there p limit r o t text ended is loads = elim loads.has_sections [
+  | inl all ↦ all
+  | inr waits ↦ absurd (let none = waits.has_no_memory in cc)
+]
+
 -- ---- the answer
+
+-- how a text stands, as a verdict, whether or not it is over
+verdict_over : (ended : Bool) (n : ℕ) (s : StreamState) → verdict_of n (state_at ended s) ≡ verdict_of n s
+verdict_over false n s = refl
+verdict_over true n state.Reading = refl
+verdict_over true n Closed = refl
+verdict_over true n (state.Bad f) = refl
+
+-- of a loader that has all sections
+pub judged : (p limit : ℕ) (l : Loader) (text : List ℕ) (ended : Bool) (state : StreamState) (v : Result ⊤ LoadFault) → IsPageSize p → HasAllSections p limit l text
+    → HasState (settings Single p limit) text ended state → v ≡ verdict_of (rounds_of l) state → Judges p limit l text v
+judged p limit l text ended state v size all told is =
+    let one : told.0 ≡ all.reading = same_reading p limit text told.0 all.reading size told.1 all.is_reading in
+    let said : state ≡ state_at ended all.reading.state = told.2 ∙ ap (λ (x : StreamReading). state_at ended x.state) one in
+    inl (
+      all,
+      record {
+        reading = all.reading;
+        is_reading = all.is_reading;
+        is_verdict = is ∙ ap (verdict_of (rounds_of l)) said ∙ verdict_over ended (rounds_of l) all.reading.state ∙ ap (λ (n : ℕ). verdict_of n all.reading.state) all.has_rounds;
+      },
+    )
+
+loaded_is : {A : Type 0} (a b : Loaded A) → a.memory ≡ b.memory → a.rounds ≡ b.rounds → a.verdict ≡ b.verdict → a ≡ b
+loaded_is a b m n v = grind (rules)
+
+-- an answer is the memory, the count and the verdict
+pub answered : {A : Type 0} (p limit : ℕ) (l : Loader) (text : List ℕ) (a : Loaded A) → IsPageSize p → a.memory ≡ memory_of l → a.rounds ≡ rounds_of l
+    → Judges p limit l text a.verdict → Answers p limit l text a
+answered p limit l text a size memory rounds (inl both) =
+    let all : HasAllSections p limit l text = both.0 in
+    let v : HasVerdict p limit text a.verdict = both.1 in
+    let one : v.reading ≡ all.reading = same_reading p limit text v.reading all.reading size v.is_reading all.is_reading in
+    let count : a.rounds ≡ length all.reading.rounds = rounds ∙ all.has_rounds in
+    inl (
+      all,
+      record {
+        reading = all.reading;
+        is_reading = all.is_reading;
+        has_memory = memory ∙ all.has_memory;
+        has_rounds = count;
+        has_verdict = v.is_verdict ∙ ap (λ (x : StreamReading). verdict_of (length x.rounds) x.state) one ∙ ap (λ (n : ℕ). verdict_of n all.reading.state) (sym count);
+      },
+    )
+answered p limit l text a size memory rounds (inr both) =
+    let w : Waits p limit l text = both.0 in
+    inr (
+      w,
+      loaded_is a unloaded (memory ∙ ap (λ (o : Option LoadTarget). memory_of (loader l.reader o)) w.has_no_memory)
+          (rounds ∙ ap (λ (o : Option LoadTarget). rounds_of (loader l.reader o)) w.has_no_memory) both.1,
+    )
 
 -- where memory was refused before any section
 pub none_put : {A : Type 0} (p limit : ℕ) (text : List ℕ) → IsPageSize p → IsWithoutMemory p limit text (unloaded {A = A})
@@ -122,69 +270,11 @@ none_put p limit text size =
       has_memory = inr (refl, refl);
     }
 
--- how a text that is over stands, as a verdict
-verdict_at : (n : ℕ) (s : StreamState) → verdict_of n (state_at true s) ≡ verdict_of n s
-verdict_at n state.Reading = refl
-verdict_at n Closed = refl
-verdict_at n (state.Bad f) = refl
-
--- a text without a table has no section
-pub tableless : {A : Type 0} (p limit : ℕ) (text : List ℕ) (state : StreamState) (a : Loaded A) → IsPageSize p → HasTable (settings Single p limit) text None
-    → HasState (settings Single p limit) text true state → a ≡ record { memory = None; rounds = 0; verdict = verdict_of 0 state } → IsAnswer p limit text a
-tableless p limit text state a size has stands is =
-    let reading : StreamReading = has.0 in
-    let none : reading.rounds ≡ [] = (limits_law (settings Single p limit) text reading size has.1).has_table_first (sym has.2) in
-    let one : stands.0 ≡ reading = same_reading p limit text stands.0 reading size stands.1 has.1 in
-    rw is record {
-      reading = reading;
-      is_reading = has.1;
-      has_memory = ap (λ (x : Option RamTable). memory_after p x reading.rounds) has.2;
-      has_rounds = sym (ap (λ (x : List (List PageRecord)). length x) none);
-      has_verdict = ap (verdict_of 0) (stands.2 ∙ ap (λ (x : StreamReading). state_at true x.state) one) ∙ verdict_at 0 reading.state;
-    }
-
--- no section is left
-not_more : (p limit : ℕ) (text : List ℕ) (reading : StreamReading) (n : ℕ) → IsReading (settings Single p limit) text reading
-    → ((i : ℕ) (round : List PageRecord) → HasRound (settings Single p limit) text i round → i < n) → length reading.rounds ≤ n
-not_more p limit text reading n is last = elim (cases_lt n (length reading.rounds)) [
-  | inl lt ↦ let bad = last n (slice_index_or reading.rounds n []) (reading, is, lt, refl) in absurd (omega (arith, bad))
-  | inr le ↦ le
-]
-
--- and those that were given are the text's
-given : (p limit : ℕ) (text : List ℕ) (r : Reader) (n : ℕ) (reading : StreamReading) → IsPageSize p → IsReading (settings Single p limit) text reading
-    → Stands (settings Single p limit) (put_so_far text n) r → n ≤ length reading.rounds
-given p limit text r n reading size is stands =
-    let to : StreamProgress = with_taken stands.rounds r.progress in
-    let other : StreamReading = record { table = whole_table to; rounds = to.rounds; state = r.found } in
-    let is_other : IsReading (settings Single p limit) text other = record { to = to; rest = stands.rest; reads = stands.reads; has_table = refl; has_rounds = refl } in
-    let one : other ≡ reading = same_reading p limit text other reading size is_other is in
-    let len : length (stands.rounds ++ r.progress.rounds) ≡ length reading.rounds = ap (λ (x : StreamReading). length x.rounds) one in
-    let both = length-append stands.rounds r.progress.rounds in
-    let taken = stands.has_taken in
-    omega (arith, len, both, taken)
-
--- all sections are put
-pub all_put : {A : Type 0} (p limit : ℕ) (text : List ℕ) (r : Reader) (t : LoadTarget) (state : StreamState) (a : Loaded A) → IsPageSize p → HasPut p limit text r t
-    → ((i : ℕ) (round : List PageRecord) → HasRound (settings Single p limit) text i round → i < t.rounds)
-    → HasState (settings Single p limit) text true state → a ≡ record { memory = Some t.memory; rounds = t.rounds; verdict = verdict_of t.rounds state } → IsAnswer p limit text a
-all_put p limit text r t state a size has last stands is =
-    let table : RamTable = t.memory.table in
-    let reading : StreamReading = has.has_table.0 in
-    let is_reading = has.has_table.1 in
-    let sections : List (List PageRecord) = reading.rounds in
-    let one : stands.0 ≡ reading = same_reading p limit text stands.0 reading size stands.1 is_reading in
-    let most : length sections ≤ t.rounds = not_more p limit text reading t.rounds is_reading last in
-    let least : t.rounds ≤ length sections = given p limit text r t.rounds reading size is_reading has.stands in
-    let all : take t.rounds sections ≡ sections = take_all t.rounds sections most in
-    rw is record {
-      reading = reading;
-      is_reading = is_reading;
-      has_memory = ap (λ (m : Image). Some m) (has.has_memory reading is_reading ∙ ap (λ (l : List (List PageRecord)). after table (pages_in p l)) all)
-          ∙ ap (λ (x : Option RamTable). memory_after p x sections) has.has_table.2;
-      has_rounds = omega (arith, most, least);
-      has_verdict = ap (verdict_of t.rounds) (stands.2 ∙ ap (λ (x : StreamReading). state_at true x.state) one) ∙ verdict_at t.rounds reading.state;
-    }
+-- what a loader answers is what a load answers
+pub load_answers : {A : Type 0} (p limit : ℕ) (l : Loader) (text : List ℕ) (a : Loaded A) → IsPageSize p → Answers p limit l text a
+    → IsAnswer p limit text a ⊎ IsWithoutMemory p limit text a
+load_answers p limit l text a size (inl both) = inl both.1
+load_answers p limit l text a size (inr both) = inr (rw both.1 (none_put p limit text size))
 
 -- ---- the text of a sender
 
@@ -217,9 +307,6 @@ counted rounds =
     let same = length-map rounds (map written_record) in
     omega (arith, both, same)
 
-loaded_is : {A : Type 0} (a b : Loaded A) → a.memory ≡ b.memory → a.rounds ≡ b.rounds → a.verdict ≡ b.verdict → a ≡ b
-loaded_is a b m n v = grind (rules)
-
 -- THE TEXT OF A SENDER is loaded whole.
 pub sent_is_loaded : {A : Type 0} (p limit : ℕ) (text : List ℕ) (a : Loaded A) → IsPageSize p → IsAnswer p limit text a ⊎ IsWithoutMemory p limit text a
     → (table : RamTable) (rounds : List (List Page)) → IsTable table → table.page_size ≡ p → total_bytes table ≤ limit
@@ -249,3 +336,7 @@ pub of_none : {R E : Type 0} (X : Type 0) (result : Result (Option R) E) → IsO
 of_none X (Ok None) ok other h = h
 of_none X (Ok (Some r)) ok other h = absurd (other r refl)
 of_none X (Err e) ok other h = absurd cc
+
+pub on_err : {R E : Type 0} (result : Result R E) (P : Type 0) → P → OnErr result P
+on_err (Ok r) P p = tt
+on_err (Err e) P p = p

@@ -1,2 +1,3 @@
 pub mod LoadFaultNumber
 pub mod SingleLoad
+pub mod Loader

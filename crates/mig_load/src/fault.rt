@@ -1,6 +1,7 @@
 //! Why a load didn't come to its end: names and numbers, and where.
 
 ghost use Rattle.std.specs.Prelude.{◌≡◌};
+ghost use Rattle.mig_mem.specs.Refusal.{no_memory_number};
 ghost use Rattle.mig_load.specs.LoadFaultNumber.{fault_number};
 
 use mig_mem::NoMemory;
@@ -82,3 +83,39 @@ impl Display for LoadFault {
 }
 
 impl Error for LoadFault {}
+
+/// Why a piece wasn't loaded: want of memory, with what stands after it.
+#[derive(Clone, Copy, Debug, PartialEq, Eq)]
+pub enum FeedFault {
+    /// A growth was refused, and nothing has changed: the piece can be fed again.
+    NoMemory,
+    /// The piece was taken, and no memory was found for the guest: `settle` tries again, and the next piece may be fed too.
+    NoGuestMemory,
+}
+
+impl FeedFault {
+    /// The fault's number in documents and in the tool's output: that of want of memory, of both.
+    pub fn number(self) -> u8
+        ensures { result ≡ no_memory_number }
+    {
+        match self {
+            FeedFault::NoMemory | FeedFault::NoGuestMemory => NoMemory.number(),
+        }
+    }
+}
+
+/// The fault's number, and what it says.
+impl Display for FeedFault {
+    fn fmt<W: fmt::Write>(&self, f: &mut Formatter<W>) -> fmt::Result {
+        match self {
+            FeedFault::NoMemory => Display::fmt(&NoMemory, f),
+            FeedFault::NoGuestMemory => write!(
+                f,
+                "{}: no memory was found for the guest",
+                self.number()
+            ),
+        }
+    }
+}
+
+impl Error for FeedFault {}

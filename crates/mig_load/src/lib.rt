@@ -7,8 +7,11 @@
 
 mod fault;
 mod loaded;
+mod loader;
+mod settle;
 mod single;
 
-pub use fault::{Fault, LoadFault, Origin};
+pub use fault::{Fault, FeedFault, LoadFault, Origin};
 pub use loaded::Loaded;
+pub use loader::SingleLoader;
 pub use single::load_single;

@@ -1,17 +1,17 @@
-//! The loader of a single stream.
+//! The loader of a single stream that is there whole.
 
-ghost use Rattle.std.specs.Prelude.{◌≡◌, ◌≤◌, ◌^◌, ◌⊎◌, List, All, None};
+ghost use Rattle.std.specs.Prelude.{◌≡◌, ◌≤◌, ◌^◌, ◌⊎◌, List, All};
 ghost use Rattle.mig_mem.specs.PageSize.{IsPageSize};
 ghost use Rattle.mig_mem.specs.RamTable.{RamTable, IsTable};
 ghost use Rattle.mig_mem.specs.Image.{Page};
 ghost use Rattle.mig_mem.specs.Round.{IsRound};
 ghost use Rattle.mig_stream.specs.Text.{total_bytes};
 ghost use Rattle.mig_stream.specs.Written.{single};
-ghost use Rattle.mig_load.specs.SingleLoad.{IsAnswer, IsWithoutMemory, verdict_of, loaded, unloaded};
+ghost use Rattle.mig_load.specs.SingleLoad.{IsAnswer, IsWithoutMemory, loaded};
 
-use crate::{Fault, LoadFault, Loaded, Origin};
-use mig_assemble::Target;
-use mig_stream::{Mode, StreamFault, StreamReader, StreamState};
+use crate::Loaded;
+use crate::settle::{answer, settle, without_memory};
+use mig_stream::{Mode, StreamReader};
 use std::alloc::Allocator;
 
 /// Loads a guest from the text of a single stream whose pages have this size, and whose size list has at most `limit` bytes.
@@ -41,54 +41,9 @@ fn load<A: Allocator + Copy>(alloc: A, page_size: u64, text: &[u8], limit: u64) 
         return without_memory();
     };
     reader.end();
-    let Some(table) = reader.table() else {
-        return Loaded {
-            memory: None,
-            rounds: 0,
-            verdict: verdict(0, reader.state()),
-        };
-    };
-    let Ok(mut target) = Target::new(alloc, table) else {
+    let mut target = None;
+    let Ok(()) = settle(alloc, &mut reader, &mut target) else {
         return without_memory();
     };
-    'sections: while let Ok(Some(section)) = reader.take_round() {
-        target.section(&section);
-    }
-    let rounds = target.rounds();
-    Loaded {
-        memory: Some(target.into_memory()),
-        rounds,
-        verdict: verdict(rounds, reader.state()),
-    }
-}
-
-// What is answered where memory was refused before any section.
-fn without_memory<A: Allocator>() -> Loaded<A>
-    ensures { result ≡ unloaded }
-{
-    Loaded {
-        memory: None,
-        rounds: 0,
-        verdict: Err(LoadFault {
-            round: 0,
-            source: Origin::Round,
-            fault: Fault::NoMemory,
-        }),
-    }
-}
-
-// How a text stands, as a verdict after so many whole sections.
-fn verdict(rounds: u64, state: StreamState) -> Result<(), LoadFault>
-    ensures { result ≡ verdict_of rounds state }
-{
-    let fault = match state {
-        StreamState::Closed => return Ok(()),
-        StreamState::Bad(fault) => fault,
-        StreamState::Reading => StreamFault::Truncated,
-    };
-    Err(LoadFault {
-        round: rounds,
-        source: Origin::Main,
-        fault: Fault::Stream(fault),
-    })
+    answer(&reader, target)
 }

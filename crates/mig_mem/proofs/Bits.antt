@@ -1,10 +1,10 @@
 -- Marks as bits of words.
-use Rattle.std.proofs.Common.{ℕ, ◌≡◌, ◌≢◌, ◌<◌, ◌≤◌, ◌+◌, ◌-◌, ◌*◌, ◌/◌, ◌%◌, ◌^◌, ◌==◌, List, length, get_or, set, refl, sym, ap, ◌∙◌, inl, inr, arith, true, false, ◌||◌, get_or-set_same, get_or-set_other, w64}
-use Rattle.std.specs.Prelude.{bit_and, bit_or}
-use Rattle.std.specs.Int.{bit_at, trailing_zeros}
-use Rattle.std.proofs.lemmas.Bool.{cases_eq, cases_lt, eq-eqb, ne_eqb}
+use Rattle.std.proofs.Common.{ℕ, ◌≡◌, ◌≢◌, ◌<◌, ◌≤◌, ◌+◌, ◌-◌, ◌*◌, ◌/◌, ◌%◌, ◌^◌, ◌==◌, List, length, get_or, set, refl, sym, ap, ◌∙◌, inl, inr, arith, true, false, ◌||◌, ◌&&◌, get_or-set_same, get_or-set_other, w64}
+use Rattle.std.specs.Prelude.{bit_and, bit_or, not}
+use Rattle.std.specs.Int.{bit_at, bit_not, trailing_zeros}
+use Rattle.std.proofs.lemmas.Bool.{cases_Bool, cases_eq, cases_lt, eq-eqb, ne_eqb}
 use Rattle.std.proofs.lemmas.List.{get_or_past}
-use Rattle.std.proofs.lemmas.Nat.Bits.{bit_at_and, bit_at-lt, bit_at_set_same, bit_at_set_other, bit_at_mask_inside, bit_at_mask_below, bit_at-zero, bit_at-trailing_zeros, ones_shl}
+use Rattle.std.proofs.lemmas.Nat.Bits.{bit_at_and, bit_at-lt, bit_at_set_same, bit_at_set_other, bit_at_clear_same, bit_at_clear_other, bit_at_mask_inside, bit_at_mask_below, bit_at-zero, bit_at-trailing_zeros, ones_shl}
 use Rattle.mig_mem.specs.Marks.{is_set, IsLowestBit, IsFirstSet}
 
 -- a bit is 0 or 1
@@ -49,6 +49,37 @@ set_more words page q room =
                 let ne : (q == page) ≡ false = ne_eqb q page (λ e. high (ap (λ (n : ℕ). n % 64) e)) in
                 let other : bit_at word (q % 64) ≡ bit_at (get_or words i 0) (q % 64) = bit_at_set_other w64 (get_or words i 0) k (omega arith) (q % 64) high in
                 rw (here, was, ne, other) refl
+          ]
+    ]
+
+-- one mark fewer
+pub set_fewer : (words : List ℕ) (page q : ℕ) → page < 64 * length words
+    → is_set (set words (page / 64) (bit_and (get_or words (page / 64) 0) (bit_not w64 (1 * 2 ^ (page % 64) % 2 ^ 64)))) q ≡ (is_set words q && not (q == page))
+unfolding is_set
+set_fewer words page q room =
+    let i : ℕ = page / 64 in
+    let k : ℕ = page % 64 in
+    let word : ℕ = bit_and (get_or words i 0) (bit_not w64 (1 * 2 ^ k % 2 ^ 64)) in
+    let within : i < length words = omega arith in
+    elim (cases_eq (q / 64) i) [
+      | inr away ↦
+          let ne : (q == page) ≡ false = ne_eqb q page (λ e. away (ap (λ (n : ℕ). n / 64) e)) in
+          let same : get_or (set words i word) (q / 64) 0 ≡ get_or words (q / 64) 0 = get_or-set_other words i (q / 64) word 0 away in
+          rw (ne, same) (elim (cases_Bool (bit_at (get_or words (q / 64) 0) (q % 64) == 1)) [ inl t ↦ rw t refl | inr n ↦ rw n refl ])
+      | inl at ↦
+          let here : get_or (set words i word) (q / 64) 0 ≡ word = ap (λ (n : ℕ). get_or (set words i word) n 0) at ∙ get_or-set_same words i word 0 within in
+          let was : get_or words (q / 64) 0 ≡ get_or words i 0 = ap (λ (n : ℕ). get_or words n 0) at in
+          elim (cases_eq (q % 64) k) [
+            | inl low ↦
+                let e : q ≡ page = omega arith in
+                let t : (q == page) ≡ true = eq-eqb q page e in
+                let none : bit_at word (q % 64) ≡ 0 = ap (λ (n : ℕ). bit_at word n) low ∙ bit_at_clear_same w64 (get_or words i 0) k (omega arith) in
+                let no : (bit_at word (q % 64) == 1) ≡ false = ne_eqb (bit_at word (q % 64)) 1 (λ one. absurd (omega arith)) in
+                rw (here, no, t) (elim (cases_Bool (bit_at (get_or words (q / 64) 0) (q % 64) == 1)) [ inl u ↦ rw u refl | inr u ↦ rw u refl ])
+            | inr high ↦
+                let ne : (q == page) ≡ false = ne_eqb q page (λ e. high (ap (λ (n : ℕ). n % 64) e)) in
+                let other : bit_at word (q % 64) ≡ bit_at (get_or words i 0) (q % 64) = bit_at_clear_other w64 (get_or words i 0) k (omega arith) (q % 64) (omega arith) high in
+                rw (here, was, ne, other) (elim (cases_Bool (bit_at (get_or words i 0) (q % 64) == 1)) [ inl u ↦ rw u refl | inr u ↦ rw u refl ])
           ]
     ]
 

@@ -1,5 +1,5 @@
 -- A memory that is made from a function of the place.
-use Rattle.std.proofs.Common.{ℕ, ◌≡◌, ◌≢◌, List, [], ◌∷◌, length, map, refl, sym, ap, ◌∙◌, inl, inr, arith, get_or, Option, Some, None, true, false, cond}
+use Rattle.std.proofs.Common.{ℕ, ◌≡◌, ◌≢◌, List, [], ◌∷◌, length, map, refl, sym, ap, ◌∙◌, inl, inr, arith, get_or, Option, Some, None, Bool, true, false, cond}
 use Rattle.std.specs.List.{find, All}
 use Rattle.std.specs.Option.{option_map, unwrap_or}
 use Rattle.std.proofs.lemmas.Bool.{cases_Bool, cond-true, cond-false, or_cases}
@@ -109,3 +109,13 @@ content_some m p is at = ap (λ (i : Image). content i p) (image_is m is) ∙ co
 
 pub content_none : (m : Image) (p : Place) → IsImage m → (IsPlace m.table p → ⊥) → content m p ≡ None
 content_none m p is past = ap (λ (i : Image). content i p) (image_is m is) ∙ content_past m.table (content_at m) p past
+
+-- what is answered for a place that a table was found to lack, or to have
+pub answer_none : (m : Image) (table : RamTable) (p : Place) (has : Bool) → IsImage m → table ≡ m.table → (IsPlace table p → has ≡ true) → has ≡ false → None ≡ content m p
+answer_none m table p has is same there lacks = sym (content_none m p is (λ at. let found : has ≡ true = there (rw same at) in absurd cc))
+
+pub answer_some : (m : Image) (table : RamTable) (p : Place) (bytes : List ℕ) → IsImage m → table ≡ m.table → IsPlace table p → bytes ≡ content_at m p
+    → (Some bytes ≡ content m p) × (length bytes ≡ m.table.page_size)
+answer_some m table p bytes is same at e =
+    let here : IsPlace m.table p = rw same at at in
+    (ap (λ (l : List ℕ). Some l) e ∙ sym (content_some m p is here), ap (λ (l : List ℕ). length l) e ∙ content_size m p is here)

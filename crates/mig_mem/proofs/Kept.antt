@@ -1,23 +1,19 @@
 -- What the blocks of a memory hold.
 use Rattle.std.proofs.Common.{ℕ, ◌≡◌, ◌<◌, List, [], inl, inr, get_or-set_same, get_or-set_other, length, map, get_or, set, replicate, refl, sym, ap, subst, ◌∙◌, arith}
-use Rattle.std.proofs.lemmas.List.{get_or-map, get_or_default, get_or-replicate, length-set, length-replicate}
+use Rattle.std.proofs.lemmas.List.{get_or_default, get_or-replicate, length-set, length-replicate}
 use Rattle.std.proofs.lemmas.List.Elements.{All-set, All-from_get_or}
 use Rattle.std.specs.List.{range_with_len}
 use Rattle.std.proofs.lemmas.List.FromFn.{get_or-map-range_with_len, length-map-range_with_len}
 use Rattle.std.proofs.lemmas.Bool.{cases_eq}
-use Rattle.std.specs.declared.vec.Vec.{Vec}
 use Rattle.mig_mem.specs.declared.place.Place.{Place}
 use Rattle.mig_mem.specs.RamTable.{RamTable, block, IsTable}
 use Rattle.mig_mem.specs.Place.{IsPlace}
 use Rattle.mig_mem.specs.Image.{IsImage, zero_image, zero_page, content_at, with_page}
 use Rattle.mig_mem.specs.BlockPages.{BlockPages, page_at, with_content}
-use Rattle.mig_mem.specs.Buffers.{buffers_of, pages_of_block, held_at, HasPages, IsHeld, image_in}
+use Rattle.mig_mem.specs.Buffers.{pages_of_block, held_at, HasPages, IsHeld, image_in}
 use Rattle.mig_mem.proofs.Images.{with_page-image_of, image_agree, image_from, content_at-image_of}
 use Rattle.mig_mem.proofs.PlaceOrder.{same_place}
 use Rattle.mig_mem.proofs.Slotted.{length-zero_page}
-
-pub buffer_at : {A : Type 0} (buffers : List (Vec ℕ A)) (i : ℕ) (x : Vec ℕ A) → i < length buffers → x ≡ get_or buffers i x → get_or (buffers_of buffers) i [] ≡ x.items
-buffer_at {A} buffers i x h e = get_or-map (λ (v : Vec ℕ A). v.items) buffers i x [] h ∙ ap (λ (v : Vec ℕ A). v.items) (sym e)
 
 pub has_block : (table : RamTable) (blocks : List BlockPages) (i : ℕ) → IsHeld table blocks → i < length table.blocks → i < length blocks
 has_block table blocks i held h = omega (arith, held.same_count)

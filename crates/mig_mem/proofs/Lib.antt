@@ -14,6 +14,7 @@ pub mod PartWrites
 pub mod Slotted
 pub mod Leaves
 pub mod Kept
+pub mod Lents
 pub mod Bits
 pub mod Sets
 pub mod Walks

@@ -1,9 +1,9 @@
 -- Sets of a table's places, and the marks that stand for them.
-use Rattle.std.proofs.Common.{ℕ, ◌≡◌, ◌<◌, ◌≤◌, ◌+◌, ◌*◌, ◌/◌, ◌%◌, ◌^◌, List, [], ◌∷◌, length, map, get_or, set, replicate, refl, sym, ap, ◌∙◌, inl, inr, arith, Bool, true, false, ◌||◌, ◌&&◌, get_or-set_same, get_or-set_other}
-use Rattle.std.specs.Prelude.{IsTrue, ◌==◌}
+use Rattle.std.proofs.Common.{ℕ, ◌≡◌, ◌<◌, ◌≤◌, ◌+◌, ◌-◌, ◌*◌, ◌/◌, ◌%◌, ◌^◌, List, [], ◌∷◌, length, map, get_or, set, replicate, refl, sym, ap, ◌∙◌, inl, inr, arith, Bool, true, false, ◌||◌, ◌&&◌, get_or-set_same, get_or-set_other}
+use Rattle.std.specs.Prelude.{IsTrue, ◌==◌, not}
 use Rattle.std.specs.List.{range_with_len, list_any, filter, sum_by}
 use Rattle.std.proofs.lemmas.Bool.{cases_Bool, cases_eq, cases_lt, or_cases, eq-eqb, ne_eqb}
-use Rattle.std.proofs.lemmas.List.{get_or-map, get_or_past, length-map, length-set, map-set, get_or-replicate, length-replicate}
+use Rattle.std.proofs.lemmas.List.{get_or-map, get_or_past, length-map, length-set, map-set, get_or-replicate, length-replicate, set-set, set-get_or}
 use Rattle.std.proofs.lemmas.List.Elements.{All-weaker, All-filter}
 use Rattle.std.proofs.lemmas.List.Concat.{length-flat_map}
 use Rattle.std.proofs.lemmas.List.Folds.{fold-map}
@@ -13,7 +13,7 @@ use Rattle.std.specs.declared.vec.Vec.{Vec}
 use Rattle.mig_mem.specs.declared.place.Place.{Place}
 use Rattle.mig_mem.specs.RamTable.{Block, RamTable, block, IsTable, total_pages}
 use Rattle.mig_mem.specs.Place.{place_at, place_eq, place_lt, has_place, IsPlace, block_places, places}
-use Rattle.mig_mem.specs.PlaceSet.{IsPlaceSet, places_where, with_place}
+use Rattle.mig_mem.specs.PlaceSet.{IsPlaceSet, places_where, with_place, without_place}
 use Rattle.mig_mem.specs.Marks.{is_set, is_marked, HasWords, AreCleared, set_in, IsCounted}
 use Rattle.mig_mem.specs.Buffers.{buffers_of}
 use Rattle.mig_mem.proofs.Members.{InOrder, AllPairs-from_order, order-filter, filter_agree_on, list_any-filter}
@@ -220,6 +220,73 @@ marked_more {A} table words count p x v counted is e len more new =
 pub marked_already : {A : Type 0} (table : RamTable) (words : List (Vec ℕ A)) (p : Place) → marks_at words p ≡ true → set_in table words ≡ with_place (set_in table words) p
 marked_already table words p h =
     sym (where_with table (marks_at words) p ∙ ap (λ (l : List Place). record { table = table; marked = l }) (where_same table (marks_at words) p h))
+
+-- ---- one place fewer
+
+-- the places that pass a test and aren't this one
+pub where_without : (table : RamTable) (f : Place → Bool) (p : Place)
+    → without_place (record { table = table; marked = places_where table f }) p ≡ record { table = table; marked = places_where table (λ q. f q && not (place_eq q p)) }
+where_without table f p =
+    ap (λ (ps : List Place). record { table = table; marked = ps })
+    (where_agree table (λ q. has_place (places_where table f) q && not (place_eq q p)) (λ q. f q && not (place_eq q p))
+    (λ q is. ap (λ (b : Bool). b && not (place_eq q p)) (has_place-where table f q is)))
+
+-- a place that isn't marked
+pub marked_absent : {A : Type 0} (table : RamTable) (words : List (Vec ℕ A)) (p : Place) → marks_at words p ≡ false → set_in table words ≡ without_place (set_in table words) p
+marked_absent table words p h =
+    sym (where_without table (marks_at words) p ∙ ap (λ (l : List Place). record { table = table; marked = l })
+    (where_agree table (λ q. marks_at words q && not (place_eq q p)) (marks_at words) (λ q is. elim (cases_Bool (place_eq q p)) [
+      | inl t ↦ let no : marks_at words q ≡ false = ap (marks_at words) (place_eq-true q p t) ∙ h in rw (t, no) refl
+      | inr n ↦ rw n (elim (cases_Bool (marks_at words q)) [ inl u ↦ rw u refl | inr u ↦ rw u refl ])
+    ])))
+
+-- One mark fewer, in its row: the set has one place fewer. With the mark put back it is the set from before.
+pub marked_fewer : {A : Type 0} (table : RamTable) (words : List (Vec ℕ A)) (count : ℕ) (p : Place) (x v : Vec ℕ A) → IsCounted table words count → IsPlace table p
+    → x ≡ get_or words p.block x → length v.items ≡ length x.items → ((q : ℕ) → is_set v.items q ≡ (is_set x.items q && not (q == p.page))) → marks_at words p ≡ true
+    → (1 ≤ count) × (IsCounted table (set words p.block v) (count - 1) × (set_in table (set words p.block v) ≡ without_place (set_in table words) p))
+marked_fewer {A} table words count p x v counted is e len fewer there =
+    let new : List (Vec ℕ A) = set words p.block v in
+    let rows : List (List ℕ) = buffers_of words in
+    let has : p.block < length words = has_row table words p.block counted.has_room is.has_block in
+    let row : get_or rows p.block [] ≡ x.items = row_at words p.block x has e in
+    let rows' : buffers_of new ≡ set rows p.block v.items = map-set (λ (w : Vec ℕ A). w.items) words p.block v in
+    let room : HasWords table (buffers_of new) = rw rows' (room-set table rows p.block v.items counted.has_room is.has_block (len ∙ ap (λ (l : List ℕ). length l) (sym row))) in
+    let v_is : v ≡ get_or new p.block v = sym (get_or-set_same words p.block v v has) in
+    let gone : is_set v.items p.page ≡ false = fewer p.page ∙ (let t : (p.page == p.page) ≡ true = eq-eqb p.page p.page refl in
+    rw t (elim (cases_Bool (is_set x.items p.page)) [ inl u ↦ rw u refl | inr u ↦ rw u refl ])) in
+    let was : is_set x.items p.page ≡ true = mark_read table words p x counted.has_room is e ∙ there in
+    let lacks : marks_at new p ≡ false = sym (mark_read table new p v room is v_is) ∙ gone in
+    let few : ℕ = length (set_in table new).marked in
+    let fewer_are : IsCounted table new few = record { is_table = counted.is_table; has_room = room; counts = refl } in
+    let more : (q : ℕ) → is_set x.items q ≡ (q == p.page || is_set v.items q) = λ q. elim (cases_eq q p.page) [
+      | inl at ↦ let t : (q == p.page) ≡ true = eq-eqb q p.page at in rw t (ap (λ (n : ℕ). is_set x.items n) at ∙ was)
+      | inr other ↦ let n : (q == p.page) ≡ false = ne_eqb q p.page other in
+          rw n (sym (fewer q ∙ rw n (elim (cases_Bool (is_set x.items q)) [ inl u ↦ rw u refl | inr u ↦ rw u refl ])))
+    ] in
+    let back = marked_more table new few p v x fewer_are is v_is (sym len) more lacks in
+    let again : set new p.block x ≡ words = set-set words p.block v x ∙ ap (λ (w : Vec ℕ A). set words p.block w) e ∙ set-get_or words p.block x in
+    let one_more : few + 1 ≡ length (set_in table words).marked = back.0.counts ∙ ap (λ (l : List (Vec ℕ A)). length (set_in table l).marked) again in
+    let is_count : count ≡ length (set_in table words).marked = counted.counts in
+    let marks : (q : Place) → marks_at new q ≡ (marks_at words q && not (place_eq q p)) = λ q.
+    ap (λ (l : List (List ℕ)). is_marked l q) rows' ∙ elim (cases_eq q.block p.block) [
+      | inl at ↦
+          let t : (q.block == p.block) ≡ true = eq-eqb q.block p.block at in
+          let here : get_or (set rows p.block v.items) q.block [] ≡ v.items = ap (λ (b : ℕ). get_or (set rows p.block v.items) b []) at ∙ get_or-set_same rows p.block v.items [] (rw counted.has_room.blocks is.has_block) in
+          let before : get_or rows q.block [] ≡ x.items = ap (λ (b : ℕ). get_or rows b []) at ∙ row in
+          rw (here, before, t) (fewer q.page)
+      | inr away ↦
+          let n : (q.block == p.block) ≡ false = ne_eqb q.block p.block away in
+          let same : get_or (set rows p.block v.items) q.block [] ≡ get_or rows q.block [] = get_or-set_other rows p.block q.block v.items [] away in
+          rw (same, n) (elim (cases_Bool (is_marked rows q)) [ inl u ↦ rw u refl | inr u ↦ rw u refl ])
+    ] in
+    let all : places_where table (marks_at new) ≡ places_where table (λ q. marks_at words q && not (place_eq q p)) =
+    where_agree table (marks_at new) (λ q. marks_at words q && not (place_eq q p)) (λ q _. marks q) in (
+      omega arith,
+      (
+        record { is_table = counted.is_table; has_room = room; counts = omega arith },
+        ap (λ (l : List Place). record { table = table; marked = l }) all ∙ sym (where_without table (marks_at words) p),
+      ),
+    )
 
 -- what a row says of the set
 pub row_lacks : {A : Type 0} (table : RamTable) (words : List (Vec ℕ A)) (b page : ℕ) (x : Vec ℕ A) → HasWords table (buffers_of words) → b < length table.blocks → x ≡ get_or words b x

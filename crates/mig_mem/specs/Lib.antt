@@ -8,6 +8,7 @@ pub mod Image
 pub mod Round
 pub mod PlaceSet
 pub mod Tracking
+pub mod Lent
 -- How the types keep their values: only contracts of the inside cite these.
 pub mod Packed
 pub mod Parts

@@ -1,5 +1,5 @@
 -- A set of a table's places: the list of them, ascending.
-use Rattle.std.specs.Prelude.{ℕ, ◌≡◌, ◌<◌, ◌≤◌, List, All, Bool, true, false, ◌||◌}
+use Rattle.std.specs.Prelude.{ℕ, ◌≡◌, ◌<◌, ◌≤◌, List, All, Bool, true, false, not, ◌||◌, ◌&&◌}
 use Rattle.std.specs.List.{filter}
 use Rattle.mig_mem.specs.declared.place.Place.{Place}
 use Rattle.mig_mem.specs.RamTable.{RamTable, IsTable}
@@ -21,6 +21,10 @@ places_where table test = filter test (places table)
 -- the set with a place in it, which may be there already; a place that the table lacks is not added
 abbrev pub with_place : PlaceSet → Place → PlaceSet
 with_place s p = record s { marked = places_where s.table (λ q. place_eq q p || has_place s.marked q) }
+
+-- the set without a place, which may not have been there
+abbrev pub without_place : PlaceSet → Place → PlaceSet
+without_place s p = record s { marked = places_where s.table (λ q. has_place s.marked q && not (place_eq q p)) }
 
 -- the first page of a block, from a page on, that is in the set
 pub record IsFirstIn (s : PlaceSet) (b from page : ℕ) : Type 0 where

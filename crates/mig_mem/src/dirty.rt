@@ -2,7 +2,7 @@
 
 ghost use Rattle.std.specs.Prelude.{◌≡◌, ℕ, ◌<◌, ◌≤◌, length, false, replicate, not, find, IfOk, IfSome, IfNone, Ok, []};
 ghost use Rattle.mig_mem.specs.Place.{IsPlace, IsAscending, place_at, place_lt, has_place};
-ghost use Rattle.mig_mem.specs.PlaceSet.{PlaceSet, IsPlaceSet, IsFirstIn, with_place};
+ghost use Rattle.mig_mem.specs.PlaceSet.{PlaceSet, IsPlaceSet, IsFirstIn, with_place, without_place};
 ghost use Rattle.mig_mem.specs.Buffers.{buffers_of};
 ghost use Rattle.mig_mem.specs.Marks.{AreCleared};
 
@@ -106,6 +106,18 @@ impl<A: Allocator> Dirty<A> {
         marks::set(&mut self.words[place.block], place.page);
         self.count += 1;
         Ok(true)
+    }
+
+    /// Takes a place out of the set, if it is there. `Table::holds` is the test of the place.
+    pub fn unmark(&mut self, place: Place)
+        requires { IsPlace self.old.table place }
+        ensures { self.new ≡ without_place self.old place }
+    {
+        if !marks::is_set(&self.words[place.block], place.page) {
+            return;
+        }
+        marks::unset(&mut self.words[place.block], place.page);
+        self.count -= 1;
     }
 
     /// Whether a place is in the set. A place that the table doesn't have is not.

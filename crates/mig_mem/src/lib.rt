@@ -8,7 +8,9 @@
 mod difference;
 mod dirty;
 mod fault;
+mod guest;
 mod laws;
+mod lent;
 mod marks;
 mod memory;
 mod page_size;
@@ -22,10 +24,12 @@ mod table;
 pub use difference::first_difference;
 pub use dirty::Dirty;
 pub use fault::{NoMemory, TableFault};
+pub use guest::GuestPages;
 pub use laws::{
     images_make_rounds, one_page_more, one_round_more, rounds_make_memory, table_is_lawful,
     tracking_gives_last_image,
 };
+pub use lent::LentMemory;
 pub use memory::Memory;
 pub use page_size::{PAGE_SIZE_4K, PAGE_SIZE_8K, is_page_size};
 pub use place::Place;

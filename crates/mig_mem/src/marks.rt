@@ -1,6 +1,6 @@
 //! The marks of one block's pages, in words of 64.
 
-ghost use Rattle.std.specs.Prelude.{◌≡◌, ℕ, ◌*◌, ◌^◌, ◌<◌, ◌≤◌, ◌==◌, ◌||◌, length, replicate, IfSome, IfNone, false};
+ghost use Rattle.std.specs.Prelude.{◌≡◌, ℕ, ◌*◌, ◌^◌, ◌<◌, ◌≤◌, ◌==◌, ◌||◌, ◌&&◌, not, length, replicate, IfSome, IfNone, false};
 ghost use Rattle.std.specs.Int.{bit_at};
 ghost use Rattle.mig_mem.specs.Marks.{is_set, IsLowestBit, IsFirstSet};
 
@@ -22,6 +22,14 @@ pub(crate) fn set(words: &mut [u64], page: u64)
     ensures { (q : ℕ) → is_set words.new q ≡ (q == page || is_set words.old q) }
 {
     words[(page / WORD) as usize] |= 1 << (page % WORD);
+}
+
+/// Takes the mark of a page away.
+pub(crate) fn unset(words: &mut [u64], page: u64)
+    requires { page < 64 * length words.old }
+    ensures { (q : ℕ) → is_set words.new q ≡ (is_set words.old q && not (q == page)) }
+{
+    words[(page / WORD) as usize] &= !(1 << (page % WORD));
 }
 
 /// Takes all marks away.

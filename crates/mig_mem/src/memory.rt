@@ -1,10 +1,10 @@
 //! The content of a guest's pages.
 
-ghost use Rattle.std.specs.Prelude.{◌≡◌, ◌+◌, ◌*◌, ◌<◌, ◌≤◌, ◌↔◌, length, replicate, slice_set, IfOk, IfSome, IsSome, IsTrue};
+ghost use Rattle.std.specs.Prelude.{◌≡◌, ◌*◌, ◌<◌, ◌↔◌, length, IfOk, IfSome, IsSome, IsTrue};
 ghost use Rattle.std.specs.Option.{option_copied};
 ghost use Rattle.mig_mem.specs.RamTable.{block as block_at};
-ghost use Rattle.mig_mem.specs.Place.{IsPlace, places};
-ghost use Rattle.mig_mem.specs.Image.{IsImage, content, content_at, zero_image, zero_page, with_page, with_byte, differs};
+ghost use Rattle.mig_mem.specs.Place.{IsPlace};
+ghost use Rattle.mig_mem.specs.Image.{IsImage, content, content_at, zero_image, zero_page, with_page, with_byte};
 
 use crate::pages::Pages;
 use crate::{NoMemory, Place, Table};

@@ -1,3 +1,4 @@
+pub mod Sending
 pub mod PlacesFrom
 pub mod Cutting
 pub mod Packing

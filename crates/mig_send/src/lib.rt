@@ -16,7 +16,7 @@ mod worker;
 pub use batch::{Batch, cut, pages_have_one_cut};
 pub use fault::SendFault;
 pub use packed::{Packed, pack};
-pub use single::SingleSender;
+pub use single::{OpenRound, SingleSender};
 pub use worker::{Worked, work, workers_make_a_dealing};
 
 /// What a worker tells of its steps, for tests that hold workers.

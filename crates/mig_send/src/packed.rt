@@ -10,7 +10,7 @@ ghost use Rattle.mig_packet.specs.PageSize.{page_limit};
 ghost use Rattle.mig_send.specs.Packing.{IsPacked, packed_of, normal_offsets, zero_offsets, contents_at, packet_at};
 
 use crate::Batch;
-use mig_mem::{Memory, NoMemory, Place};
+use mig_mem::{GuestPages, NoMemory, Place};
 use mig_packet::{head_len, put_packet_head};
 use mig_zero::is_zero;
 use std::alloc::{Allocator, Global};
@@ -53,14 +53,14 @@ impl<A: Allocator> Packed<A> {
 
 /// Packs the pages of a batch into the packet of a number: those that aren't zeros with their contents, the others by their
 /// offsets alone. Each page is tested once, and copied at most once.
-pub fn pack<A: Allocator + Copy, B: Allocator, C: Allocator>(
+pub fn pack<A: Allocator + Copy, M: GuestPages, C: Allocator>(
     alloc: A,
-    memory: &Memory<B>,
+    memory: &M,
     batch: &Batch<C>,
     number: u64,
 ) -> Result<Packed<A>, NoMemory>
-    requires { IsBatch memory.now.table batch.now }
-    ensures { IfOk result (λ packed. packed ≡ packed_of memory.now batch.now number) }
+    requires { IsBatch (M.image memory.now).table batch.now }
+    ensures { IfOk result (λ packed. packed ≡ packed_of (M.image memory.now) batch.now number) }
 {
     // For what `len` tells of the table (`IsTable`): its ids, page numbers and page size are such that its packets can be written.
     let _blocks = memory.table().len();
@@ -74,16 +74,16 @@ pub fn pack<A: Allocator + Copy, B: Allocator, C: Allocator>(
 }
 
 // The offsets of some pages of a block, in bytes: of those that aren't zeros, and of those that are.
-fn offsets<A: Allocator + Copy, B: Allocator>(
+fn offsets<A: Allocator + Copy, M: GuestPages>(
     alloc: A,
-    memory: &Memory<B>,
+    memory: &M,
     block: usize,
     pages: &[u64],
 ) -> Result<(Vec<u64, A>, Vec<u64, A>), NoMemory>
-    requires table { IsTable memory.now.table }
-    requires places { All (IsPlace memory.now.table) (map (place_at block) pages.now) }
-    ensures normal { IfOk result (λ lists. lists.0.items ≡ normal_offsets memory.now (map (place_at block) pages.now)) }
-    ensures zero { IfOk result (λ lists. lists.1.items ≡ zero_offsets memory.now (map (place_at block) pages.now)) }
+    requires table { IsTable (M.image memory.now).table }
+    requires places { All (IsPlace (M.image memory.now).table) (map (place_at block) pages.now) }
+    ensures normal { IfOk result (λ lists. lists.0.items ≡ normal_offsets (M.image memory.now) (map (place_at block) pages.now)) }
+    ensures zero { IfOk result (λ lists. lists.1.items ≡ zero_offsets (M.image memory.now) (map (place_at block) pages.now)) }
 {
     let page_size = memory.table().page_size();
     let mut normal = Vec::with_capacity(alloc, pages.len())?;
@@ -101,8 +101,8 @@ fn offsets<A: Allocator + Copy, B: Allocator>(
 }
 
 // Whether a page is of zeros; a place that the memory lacks is one of no bytes at all.
-fn is_zero_page<B: Allocator>(memory: &Memory<B>, place: Place) -> bool
-    ensures { result ≡ zero_test (content_at memory.now place) }
+fn is_zero_page<M: GuestPages>(memory: &M, place: Place) -> bool
+    ensures { result ≡ zero_test (content_at (M.image memory.now) place) }
 {
     match memory.page(place) {
         Some(content) => is_zero(content),
@@ -111,18 +111,18 @@ fn is_zero_page<B: Allocator>(memory: &Memory<B>, place: Place) -> bool
 }
 
 // The packet of a number with pages of a block: the normal pages and the zero pages by their offsets.
-fn packet_text<A: Allocator, B: Allocator>(
+fn packet_text<A: Allocator, M: GuestPages>(
     alloc: A,
-    memory: &Memory<B>,
+    memory: &M,
     block: usize,
     number: u64,
     normal: &[u64],
     zero: &[u64],
 ) -> Result<Vec<u8, A>, NoMemory>
-    requires table { IsTable memory.now.table }
-    requires block { block < length memory.now.table.blocks }
-    requires few { length normal.now + length zero.now ≤ page_limit memory.now.table.page_size }
-    ensures { IfOk result (λ bytes. bytes.items ≡ packet_at memory.now block number normal.now zero.now) }
+    requires table { IsTable (M.image memory.now).table }
+    requires block { block < length (M.image memory.now).table.blocks }
+    requires few { length normal.now + length zero.now ≤ page_limit (M.image memory.now).table.page_size }
+    ensures { IfOk result (λ bytes. bytes.items ≡ packet_at (M.image memory.now) block number normal.now zero.now) }
 {
     let table = memory.table();
     let page_size = table.page_size();
@@ -137,14 +137,14 @@ fn packet_text<A: Allocator, B: Allocator>(
 }
 
 // Appends the contents of the pages of a block that are at these offsets. After an `Err` some of them may have been appended.
-fn append_contents<A: Allocator, B: Allocator>(
+fn append_contents<A: Allocator, M: GuestPages>(
     bytes: &mut Vec<u8, A>,
-    memory: &Memory<B>,
+    memory: &M,
     block: usize,
     offsets: &[u64],
 ) -> Result<(), NoMemory>
-    requires { IsTable memory.now.table }
-    ensures { OnOk result (bytes.new.items ≡ bytes.old.items ++ contents_at memory.now block offsets.now) }
+    requires { IsTable (M.image memory.now).table }
+    ensures { OnOk result (bytes.new.items ≡ bytes.old.items ++ contents_at (M.image memory.now) block offsets.now) }
 {
     let page_size = memory.table().page_size();
     for offset in offsets {

@@ -1,14 +1,16 @@
 //! The sender of a single stream: each round becomes one section of page records.
 
-ghost use Rattle.std.specs.Prelude.{◌≡◌, ◌++◌, ◌↔◌, [], ◌∷◌, List, Err, IfOk, IfErr, OnOk, OnErr};
+ghost use Rattle.std.specs.Prelude.{◌≡◌, ◌++◌, ◌↔◌, ℕ, [], ◌∷◌, List, length, map, Err, IfOk, IfErr, OnOk, OnErr};
+ghost use Rattle.mig_mem.specs.Place.{IsPlace};
 ghost use Rattle.mig_mem.specs.Image.{Page};
 ghost use Rattle.mig_mem.specs.Round.{round_of};
-ghost use Rattle.mig_stream.specs.Written.{single};
-ghost use Rattle.mig_send.specs.Sending.{HasSent, AreOf};
+ghost use Rattle.mig_stream.specs.Written.{RoundPart, single, written_so_far};
+ghost use Rattle.mig_stream.specs.Writer.{HasPut};
+ghost use Rattle.mig_send.specs.Sending.{HasSent, HasSentDrained, AreOf};
 
 use crate::SendFault;
-use mig_mem::{Dirty, Memory, NoMemory, Table};
-use mig_stream::StreamWriter;
+use mig_mem::{Dirty, GuestPages, NoMemory, Place, Table};
+use mig_stream::{OpenPart, StreamWriter};
 use std::alloc::{Allocator, Global};
 use std::marker::Model;
 
@@ -40,15 +42,15 @@ impl<A: Allocator + Copy> SingleSender<A> {
 impl<A: Allocator> SingleSender<A> {
     /// Sends a round: the dirty pages, each with its content in the image. An `Err` changes nothing, so the round can be sent
     /// again.
-    pub fn round<B: Allocator, C: Allocator>(
+    pub fn round<G: GuestPages, C: Allocator>(
         &mut self,
-        image: &Memory<B>,
+        image: &G,
         dirty: &Dirty<C>,
     ) -> Result<(), SendFault>
         ensures table { self.new.table ≡ self.old.table }
-        ensures other { (result ≡ Err SendFault.OtherTable) ↔ (AreOf self.old.table image.now dirty.now → ⊥) }
-        ensures ok { OnOk result ((rounds : List (List Page)) → HasSent self.old rounds
-            → HasSent self.new (rounds ++ round_of image.now dirty.now.marked ∷ [])) }
+        ensures other { (result ≡ Err SendFault.OtherTable) ↔ (AreOf self.old.table (G.image image.now) dirty.now → ⊥) }
+        ensures ok { OnOk result ((drained : List ℕ) (rounds : List (List Page)) → HasSentDrained drained self.old rounds
+            → HasSentDrained drained self.new (rounds ++ round_of (G.image image.now) dirty.now.marked ∷ [])) }
         ensures err { OnErr result (self.new ≡ self.old) }
     {
         let table = self.writer.table();
@@ -59,14 +61,112 @@ impl<A: Allocator> SingleSender<A> {
         Ok(())
     }
 
-    /// Ends the stream and gives its text; an `Err` gives the sender back as it was.
+    /// Begins a round whose pages are put one by one. An `Err` gives the sender back as it was.
+    pub fn begin_round(self) -> Result<OpenRound<A>, SingleSender<A>>
+        ensures before { IfOk result (λ round. round.before ≡ self) }
+        ensures none { IfOk result (λ round. HasPut round []) }
+        ensures err { IfErr result (λ s. s ≡ self) }
+    {
+        match self.writer.begin_part() {
+            Ok(part) => Ok(OpenRound { part }),
+            Err(unchanged) => Err(SingleSender { writer: unchanged }),
+        }
+    }
+
+    /// Hands out the bytes that were written and not drained yet: all that stands of the stream so far is what was drained in
+    /// all. What is drained, piece after piece, and then what `finish` gives is the stream. It takes no memory.
+    pub fn drain(&mut self) -> Vec<u8, A>
+    where
+        A: Copy,
+        ensures table { self.new.table ≡ self.old.table }
+        ensures all { (drained : List ℕ) (rounds : List (List Page)) → HasSentDrained drained self.old rounds
+            → drained ++ result.items ≡ written_so_far self.old.table (map RoundPart rounds) }
+        ensures drained { (drained : List ℕ) (rounds : List (List Page)) → HasSentDrained drained self.old rounds
+            → HasSentDrained (drained ++ result.items) self.new rounds }
+    {
+        self.writer.drain()
+    }
+
+    /// As `drain`, into a buffer: what it held is dropped, and its room is used for what is written next. So two buffers serve
+    /// for a stream of any length.
+    pub fn drain_into(&mut self, bytes: &mut Vec<u8, A>)
+        ensures table { self.new.table ≡ self.old.table }
+        ensures all { (drained : List ℕ) (rounds : List (List Page)) → HasSentDrained drained self.old rounds
+            → drained ++ bytes.new.items ≡ written_so_far self.old.table (map RoundPart rounds) }
+        ensures drained { (drained : List ℕ) (rounds : List (List Page)) → HasSentDrained drained self.old rounds
+            → HasSentDrained (drained ++ bytes.new.items) self.new rounds }
+    {
+        self.writer.drain_into(bytes);
+    }
+
+    /// Ends the stream and gives its text, or what of it wasn't drained; an `Err` gives the sender back as it was.
     pub fn finish(self) -> Result<Vec<u8, A>, SingleSender<A>>
-        ensures ok { IfOk result (λ text. (rounds : List (List Page)) → HasSent self rounds → text.items ≡ single self.table rounds) }
+        ensures ok { IfOk result (λ text. (drained : List ℕ) (rounds : List (List Page)) → HasSentDrained drained self rounds
+            → drained ++ text.items ≡ single self.table rounds) }
         ensures err { IfErr result (λ s. s ≡ self) }
     {
         match self.writer.finish() {
             Ok(text) => Ok(text),
             Err(writer) => Err(SingleSender { writer }),
+        }
+    }
+}
+
+/// A round that is being sent, page after page, with what its caller read of a guest that runs on. It has the sender until the
+/// round is ended or cancelled; whoever drops it drops the sender too, and so gives up the stream.
+#[derive(Drop)]
+pub struct OpenRound<A: Allocator = Global> {
+    part: OpenPart<A>,
+}
+
+impl<A: Allocator> Model for OpenRound<A> {
+    ghost use Rattle.mig_stream.specs.Writer.{PartSoFar};
+
+    ghost Value = { PartSoFar };
+
+    ghost view = { λ r. r.part };
+}
+
+impl<A: Allocator> OpenRound<A> {
+    /// The table whose pages it sends.
+    pub fn table(&self) -> &Table<A>
+        ensures { result.now ≡ self.now.before.table }
+    {
+        self.part.table()
+    }
+
+    /// Sends a page: a place of the table, for which `Table::holds` is the test, and its bytes. Places come in any order, and of
+    /// several pages at one place the last one counts. An `Err` changes nothing, so the page can be put again.
+    pub fn put_page(&mut self, place: Place, bytes: &[u8]) -> Result<(), NoMemory>
+        requires place { IsPlace self.old.before.table place }
+        requires bytes { length bytes.now ≡ self.old.before.table.page_size }
+        ensures before { self.new.before ≡ self.old.before }
+        ensures ok { OnOk result ((pages : List Page) → HasPut self.old pages
+            → HasPut self.new (pages ++ record { place = place; content = bytes.now } ∷ [])) }
+        ensures err { OnErr result (self.new ≡ self.old) }
+    {
+        self.part.put_page(place, bytes)
+    }
+
+    /// Ends the round: it has the pages that were put, in the order in which they were. An `Err` gives it back as it was.
+    pub fn end_round(self) -> Result<SingleSender<A>, OpenRound<A>>
+        ensures table { IfOk result (λ s. s.table ≡ self.before.table) }
+        ensures ok { IfOk result (λ s. (pages : List Page) → HasPut self pages → (drained : List ℕ) (rounds : List (List Page)) → HasSentDrained drained self.before rounds
+            → HasSentDrained drained s (rounds ++ pages ∷ [])) }
+        ensures err { IfErr result (λ round. round ≡ self) }
+    {
+        match self.part.end_part() {
+            Ok(writer) => Ok(SingleSender { writer }),
+            Err(part) => Err(OpenRound { part }),
+        }
+    }
+
+    /// Leaves out the round: the sender as it was before.
+    pub fn cancel(self) -> SingleSender<A>
+        ensures { result ≡ self.before }
+    {
+        SingleSender {
+            writer: self.part.cancel(),
         }
     }
 }

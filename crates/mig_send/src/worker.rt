@@ -11,7 +11,7 @@ ghost use Rattle.mig_send.specs.Dealing.{WorkersMakeADealing};
 use crate::Batch;
 use crate::packed::{Packed, pack};
 use mig_deal::{Deal, Drawn, Seat, Spent};
-use mig_mem::{Memory, NoMemory};
+use mig_mem::{GuestPages, NoMemory};
 use mig_packet::{Gate, Step};
 use std::alloc::{Allocator, Global};
 
@@ -26,18 +26,18 @@ pub struct Worked<A: Allocator = Global> {
 /// Draws from a deal until the seat's last number, and packs the batch that each number before it claims: base + i claims batch i.
 /// It tells the gate each draw, the last one too, and each packet that it made. Once a growth was refused it draws on without
 /// packing, so that no number is left out, and answers want of memory.
-pub fn work<A: Allocator + Copy, B: Allocator, C: Allocator, D: Allocator, G: Gate>(
+pub fn work<A: Allocator + Copy, M: GuestPages, C: Allocator, D: Allocator, G: Gate>(
     alloc: A,
     deal: &Deal<D>,
     seat: Seat,
     channel: usize,
-    memory: &Memory<B>,
+    memory: &M,
     batches: &[Batch<C>],
     gate: &G,
 ) -> Worked<A>
     requires own { seat.deal ≡ deal.now }
-    requires dealt { AreDealt deal.now memory.now.table batches.now }
-    ensures { HasWorked memory.now batches.now seat result }
+    requires dealt { AreDealt deal.now (M.image memory.now).table batches.now }
+    ensures { HasWorked (M.image memory.now) batches.now seat result }
 {
     let mut seat = seat;
     let mut packets = Ok(Vec::new(alloc));
@@ -62,17 +62,17 @@ pub fn work<A: Allocator + Copy, B: Allocator, C: Allocator, D: Allocator, G: Ga
 }
 
 // The packets with that of one more batch; or want of memory, also where there was none before.
-fn add<A: Allocator + Copy, B: Allocator, C: Allocator, G: Gate>(
+fn add<A: Allocator + Copy, M: GuestPages, C: Allocator, G: Gate>(
     alloc: A,
     packets: Result<Vec<Packed<A>, A>, NoMemory>,
     channel: usize,
-    memory: &Memory<B>,
+    memory: &M,
     batch: &Batch<C>,
     number: u64,
     gate: &G,
 ) -> Result<Vec<Packed<A>, A>, NoMemory>
-    requires { IsBatch memory.now.table batch.now }
-    ensures { IfOk result (λ after. IsOkAnd packets (λ before. after.items ≡ before.items ++ packed_of memory.now batch.now number ∷ [])) }
+    requires { IsBatch (M.image memory.now).table batch.now }
+    ensures { IfOk result (λ after. IsOkAnd packets (λ before. after.items ≡ before.items ++ packed_of (M.image memory.now) batch.now number ∷ [])) }
 {
     let mut packets = packets?;
     let packed = pack(alloc, memory, batch, number)?;

@@ -107,7 +107,7 @@ is_nothing Nothing = inl refl
 -- ---- a text has a reading
 
 -- some reading of a text from here
-abbrev SomeReading : StreamProgress → List ℕ → Type 0
+abbrev pub SomeReading : StreamProgress → List ℕ → Type 0
 SomeReading from text = (to : StreamProgress) × (rest : List ℕ) × (state : StreamState) × Reads from text to rest state
 
 -- whether an item has a fault
@@ -152,11 +152,15 @@ same_reading from text other c x s a d y b table rounds =
     ∙ ap (λ (v : List (List PageRecord)). record { table = whole_table c; rounds = v; state = other.state }) r
     ∙ ap (λ (v : StreamState). record { table = whole_table c; rounds = c.rounds; state = v }) same.2
 
+-- a text can be read on from wherever it was read to
+pub reads_from : (from : StreamProgress) (text : List ℕ) → 0 < from.page_size → SomeReading from text
+reads_from from text some = read_on (suc (2 * length text + work from.due)) from from text [] text some (omega arith) refl (Front-none from)
+
 -- Each text has exactly one reading.
 pub one_reading_law : HasOneReading
 one_reading_law = λ given text is.
     let from : StreamProgress = start given.mode given.page_size given.limit in
-    let r = read_on (suc (2 * length text + work from.due)) from from text [] text (page_size_some given.page_size is) (omega arith) refl (Front-none from) in
+    let r = reads_from from text (page_size_some given.page_size is) in
     let reading : StreamReading = record { table = whole_table r.0; rounds = r.0.rounds; state = r.2 } in (
       reading,
       record { to = r.0; rest = r.1; reads = r.3; has_table = refl; has_rounds = refl },

@@ -1,14 +1,16 @@
 -- Items one after the other.
-use Rattle.std.proofs.Common.{◌≡◌, ◌≢◌, ℕ, ◌+◌, ◌<◌, ◌≤◌, List, [], ◌∷◌, ◌++◌, length, get_or, take, drop, None, refl, sym, ap, subst, ◌∙◌, append_assoc, arith}
+use Rattle.std.proofs.Common.{◌≡◌, ◌≢◌, ℕ, ◌+◌, ◌<◌, ◌≤◌, List, [], ◌∷◌, ◌++◌, length, get_or, take, drop, None, Some, refl, sym, ap, subst, ◌∙◌, append_assoc, arith}
 use Rattle.std.specs.List.{concat}
 use Rattle.std.proofs.lemmas.List.{append-nil, length-take, get_or-take, take-append-drop, length-append, get_or_append_left}
 use Rattle.std.proofs.lemmas.List.Folds.{concat-append}
+use Rattle.mig_stream.specs.declared.fault.StreamFault.{StreamFault}
+use Rattle.mig_stream.specs.declared.item.StreamState.TheVariants.{Bad}
 use Rattle.mig_stream.specs.declared.item.Filling.TheVariants.{Zero, Normal}
 use Rattle.mig_stream.specs.declared.item.Due.{Due}
 use Rattle.mig_stream.specs.declared.item.Due.TheVariants.{FileHeader, TypeByte, ConfigLength, ConfigName, StartHead, SectionHead, RecordHead, ListEntry, BlockName, Content, Footer, Nothing}
 use Rattle.mig_stream.specs.Progress.{StreamProgress}
 use Rattle.mig_stream.specs.Items.{size, first_fault, after}
-use Rattle.mig_stream.specs.Reading.{IsItem, AreFaultless, after_all, Front}
+use Rattle.mig_stream.specs.Reading.{IsItem, AreFaultless, after_all, Front, Reads}
 
 -- the length of an item is told by the bytes that it has itself
 pub size-take : (p : ℕ) (d : Due) (bytes : List ℕ) → size p d bytes ≤ length bytes → size p d (take (size p d bytes) bytes) ≡ size p d bytes
@@ -89,6 +91,11 @@ goes_on from d new bytes rest item more is e none new-is so_far = (
   so_far.1 ∙ ap (λ (x : List ℕ). so_far.0 ++ x) e ∙ sym (append_assoc so_far.0 item more),
   subst (λ (x : StreamProgress). Front from (so_far.0 ++ item) x) (sym new-is) (Front-push from d so_far.0 item so_far.2 is none),
 )
+
+-- an item with a fault ends the reading before it
+pub stops_at : (from d : StreamProgress) (text rest item more : List ℕ) (fault : StreamFault) → IsItem d.page_size d.due item → rest ≡ item ++ more → first_fault d item ≡ Some fault
+    → (front : List ℕ) × (text ≡ front ++ rest) × Front from front d → Reads from text d rest (Bad fault)
+stops_at from d text rest item more fault is e found so_far = record { front = so_far.0; has_text = so_far.1; leads = so_far.2; ends = (item, more, e, is, found) }
 
 -- the front of the rest, as long as the item is
 pub split_item : (p : ℕ) (d : Due) (rest item more : List ℕ) (n : ℕ) → d ≢ Nothing → n ≡ size p d rest → n ≤ length rest → item ≡ take n rest → more ≡ drop n rest → IsItem p d item × (rest ≡ item ++ more)

@@ -1,128 +1,217 @@
--- Buffers that are filled one after another: what lay in them lies there still.
-use Rattle.std.proofs.Common.{◌≡◌, ◌+◌, ◌-◌, ◌<◌, ◌≤◌, ℕ, List, [], ◌∷◌, ◌++◌, length, take, drop, map, get_or, Option, Some, refl, sym, ap, subst, ◌∙◌, inl, inr, arith}
+-- Records and their buffers, and rounds whose records are whole.
+use Rattle.std.proofs.Common.{◌≡◌, ℕ, zero, suc, ◌+◌, ◌-◌, ◌<◌, ◌≤◌, List, [], ◌∷◌, ◌++◌, length, get_or, set, take, drop, Some, refl, sym, ap, subst, ◌∙◌, inl, inr, append_assoc, arith}
 use Rattle.std.specs.Prelude.{IfSome}
 use Rattle.std.specs.List.{All}
-use Rattle.std.proofs.lemmas.List.{length-append, get_or_append_left, take-append-le, map-append, take-map, take-take, drop-take, length-take, get_or-take, take_at, take_more, length-map}
-use Rattle.std.proofs.lemmas.List.Elements.{All-head, All-tail, All-nil, All-cons, All-push, All-take, All-weaker}
-use Rattle.std.specs.declared.vec.Vec.{Vec}
-use Rattle.mig_mem.specs.Buffers.{buffers_of}
-use Rattle.mig_mem.proofs.Kept.{buffer_at}
-use Rattle.mig_stream.specs.declared.chunks.Span.{Span}
-use Rattle.mig_stream.specs.declared.round.Record.{Record}
-use Rattle.mig_stream.specs.declared.round.Content.{Content}
-use Rattle.mig_stream.specs.declared.round.Content.TheVariants.{Zeros, Kept, Lent}
-use Rattle.mig_mem.specs.declared.place.Place.{Place}
+use Rattle.std.proofs.lemmas.Bool.{cases_lt}
+use Rattle.std.proofs.lemmas.List.{append-nil, length-append, length-map, length-drop, length-set, length-take, get_or-take, get_or_append_left, get_or-set_same, take_all, take-append-le, drop-append-le, map-set}
+use Rattle.std.proofs.Math.Seq.{drop-append_seam}
+use Rattle.mig_mem.specs.Place.{place_at}
+use Rattle.std.proofs.lemmas.List.Elements.{All-nil, All-push}
+use Rattle.mig_stream.specs.declared.record.Span.{Span}
+use Rattle.mig_stream.specs.declared.record.Record.{Record}
+use Rattle.mig_stream.specs.declared.record.Record.TheVariants.{Zeros, Kept, Behind, Lent}
 use Rattle.mig_stream.specs.PageRecord.{PageRecord}
 use Rattle.mig_stream.specs.Round.{AreWhole}
-use Rattle.mig_stream.specs.Kept.{bytes_at, KeepsSpans, IsBefore, KeepsBefore, content_in, IsHeld, IsHeldBefore, record_in, records_in, AreKept, EndBefore}
+use Rattle.mig_stream.specs.Kept.{buffer_of, buffers_of_records, bytes_at, IsWithin, place_of, content_in, record_in, IsHeld, IsGrown, records_after, AreHeldAfter}
 
--- ---- buffers
+-- ---- records that follow, and the first records alone
 
--- the element at the end of a front, whatever follows it
-at_seam : (xs rest : List (List ℕ)) (l : List ℕ) (i : ℕ) → i ≡ length xs → get_or (xs ++ l ∷ rest) i [] ≡ l
-at_seam [] rest l i is = rw is refl
-at_seam (x ∷ xs) rest l i is = rw is (at_seam xs rest l (length xs) refl)
+pub records_push : {A : Type 0} (before : List (List ℕ)) (rs : List (Record A)) (r : Record A)
+    → records_after before (rs ++ r ∷ []) ≡ records_after before rs ++ record_in (before ++ buffers_of_records rs) r ∷ []
+records_push before [] r = ap (λ b. record_in b r ∷ []) (sym (append-nil before))
+records_push before (x ∷ rs) r =
+    ap (λ l. record_in before x ∷ l) (records_push (before ++ buffer_of x ∷ []) rs r
+    ∙ ap (λ b. records_after (before ++ buffer_of x ∷ []) rs ++ record_in b r ∷ []) (append_assoc before (buffer_of x ∷ []) (buffers_of_records rs)))
 
--- some bytes of a buffer that was cut after them
-bytes_cut : (old : List ℕ) (len start end : ℕ) → start ≤ end → end ≤ len → take (end - start) (drop start (take len old)) ≡ take (end - start) (drop start old)
-bytes_cut old len start end order fits =
-    let whole : len ≡ start + (len - start) = omega arith in
-    ap (take (end - start)) (ap (λ (k : ℕ). drop start (take k old)) whole ∙ drop-take start (len - start) old) ∙ take-take (end - start) (len - start) (drop start old) (omega arith)
+pub held_push : {A : Type 0} (before : List (List ℕ)) (rs : List (Record A)) (r : Record A)
+    → AreHeldAfter before rs → IsHeld (before ++ buffers_of_records rs) r → AreHeldAfter before (rs ++ r ∷ [])
+held_push before [] r held is = (subst (λ b. IsHeld b r) (append-nil before) is, tt)
+held_push before (x ∷ rs) r held is =
+    (held.0, held_push (before ++ buffer_of x ∷ []) rs r held.1 (subst (λ b. IsHeld b r) (sym (append_assoc before (buffer_of x ∷ []) (buffers_of_records rs))) is))
 
--- the buffers up to one, which is cut
-pub keeps_cut : (ys : List (List ℕ)) (chunk len : ℕ) → chunk < length ys → KeepsBefore chunk len ys (take chunk ys ++ take len (get_or ys chunk []) ∷ [])
-keeps_cut ys chunk len known s (inl lt) is =
-    let short : length (take chunk ys) ≡ chunk = omega (arith, length-take chunk ys) in
-    let last : List ℕ = take len (get_or ys chunk []) in
-    let same : get_or (take chunk ys ++ last ∷ []) s.chunk [] ≡ get_or ys s.chunk [] =
-    get_or_append_left (take chunk ys) (last ∷ []) [] s.chunk (omega arith) ∙ get_or-take chunk ys s.chunk [] lt in (
+pub records_take : {A : Type 0} (before : List (List ℕ)) (rs : List (Record A)) (n : ℕ) → records_after before (take n rs) ≡ take n (records_after before rs)
+records_take before rs zero = refl
+records_take before [] (suc n) = refl
+records_take before (r ∷ rs) (suc n) = ap (λ l. record_in before r ∷ l) (records_take (before ++ buffer_of r ∷ []) rs n)
+
+pub held_take : {A : Type 0} (before : List (List ℕ)) (rs : List (Record A)) (n : ℕ) → AreHeldAfter before rs → AreHeldAfter before (take n rs)
+held_take before rs zero held = tt
+held_take before [] (suc n) held = tt
+held_take before (r ∷ rs) (suc n) held = (held.0, held_take (before ++ buffer_of r ∷ []) rs n held.1)
+
+pub records_length : {A : Type 0} (before : List (List ℕ)) (rs : List (Record A)) → length (records_after before rs) ≡ length rs
+records_length before [] = refl
+records_length before (r ∷ rs) = ap suc (records_length (before ++ buffer_of r ∷ []) rs)
+
+-- the record of a number, by the buffers before it
+pub record_is : {A : Type 0} (before : List (List ℕ)) (rs : List (Record A)) (i : ℕ) (d : PageRecord) (e : Record A) → i < length rs
+    → get_or (records_after before rs) i d ≡ record_in (before ++ take i (buffers_of_records rs)) (get_or rs i e)
+record_is before [] i d e lt = absurd (omega arith)
+record_is before (r ∷ rs) zero d e lt = ap (λ b. record_in b r) (sym (append-nil before))
+record_is before (r ∷ rs) (suc i) d e lt =
+    record_is (before ++ buffer_of r ∷ []) rs i d e (omega arith)
+    ∙ ap (λ b. record_in b (get_or rs i e)) (append_assoc before (buffer_of r ∷ []) (take i (buffers_of_records rs)))
+
+pub held_is : {A : Type 0} (before : List (List ℕ)) (rs : List (Record A)) (i : ℕ) (e : Record A) → i < length rs → AreHeldAfter before rs
+    → IsHeld (before ++ take i (buffers_of_records rs)) (get_or rs i e)
+held_is before [] i e lt held = absurd (omega arith)
+held_is before (r ∷ rs) zero e lt held = subst (λ b. IsHeld b r) (sym (append-nil before)) held.0
+held_is before (r ∷ rs) (suc i) e lt held =
+    subst (λ b. IsHeld b (get_or rs i e)) (append_assoc before (buffer_of r ∷ []) (take i (buffers_of_records rs)))
+    (held_is (before ++ buffer_of r ∷ []) rs i e (omega arith) held.1)
+
+-- a span of the first buffers, in all of them
+within_all : (buffers : List (List ℕ)) (i : ℕ) (s : Span) → IsWithin (take i buffers) s → IsWithin buffers s × (bytes_at (take i buffers) s ≡ bytes_at buffers s)
+within_all buffers i s is =
+    let there : get_or (take i buffers) s.owner [] ≡ get_or buffers s.owner [] = get_or-take i buffers s.owner [] (omega (arith, is.has_owner, length-take i buffers)) in (
       record {
-        has_chunk = omega (arith, length-append (take chunk ys) (last ∷ []));
+        has_owner = omega (arith, is.has_owner, length-take i buffers);
         has_order = is.has_order;
-        has_bytes = subst (λ (b : List ℕ). s.end ≤ length b) (sym same) is.has_bytes;
+        has_bytes = subst (λ (b : List ℕ). s.end ≤ length b) there is.has_bytes;
       },
-      ap (λ (b : List ℕ). take (s.end - s.start) (drop s.start b)) same,
+      ap (λ (b : List ℕ). take (s.end - s.start) (drop s.start b)) there,
     )
-keeps_cut ys chunk len known s (inr at) is =
-    let short : length (take chunk ys) ≡ chunk = omega (arith, length-take chunk ys) in
-    let one : List ℕ = get_or ys chunk [] in
-    let after : get_or (take chunk ys ++ take len one ∷ []) s.chunk [] ≡ take len one = at_seam (take chunk ys) [] (take len one) s.chunk (at.0 ∙ sym short) in
-    let before : get_or ys s.chunk [] ≡ one = ap (λ (i : ℕ). get_or ys i []) at.0 in
-    let fits : s.end ≤ length one = subst (λ (b : List ℕ). s.end ≤ length b) before is.has_bytes in (
+
+content_all : {A : Type 0} (buffers : List (List ℕ)) (i : ℕ) (r : Record A) → IsHeld (take i buffers) r → IsHeld buffers r × (content_in (take i buffers) r ≡ content_in buffers r)
+content_all buffers i (Zeros block page) is = (tt, refl)
+content_all buffers i (Kept block page end buffer) is = (is, refl)
+content_all buffers i (Behind block page s) is = let all = within_all buffers i s is in (all.0, ap (λ (b : List ℕ). Some b) all.1)
+content_all buffers i (Lent block page bytes) is = (tt, refl)
+
+-- what a record has of its page, by the buffers of all
+held_first : {A : Type 0} (rs : List (Record A)) (i : ℕ) (r : Record A) → i < length rs → r ≡ get_or rs i r → AreHeldAfter [] rs → IsHeld (take i (buffers_of_records rs)) r
+held_first {A} rs i r lt is held = subst (λ (x : Record A). IsHeld (take i (buffers_of_records rs)) x) (sym is) (held_is [] rs i r lt held)
+
+pub held_there : {A : Type 0} (rs : List (Record A)) (i : ℕ) (r : Record A) → i < length rs → r ≡ get_or rs i r → AreHeldAfter [] rs → IsHeld (buffers_of_records rs) r
+held_there rs i r lt is held = (content_all (buffers_of_records rs) i r (held_first rs i r lt is held)).0
+
+pub content_there : {A : Type 0} (rs : List (Record A)) (i : ℕ) (d : PageRecord) (r : Record A) → i < length rs → r ≡ get_or rs i r → AreHeldAfter [] rs
+    → content_in (buffers_of_records rs) r ≡ (get_or (records_after [] rs) i d).content
+content_there {A} rs i d r lt is held =
+    let buffers : List (List ℕ) = buffers_of_records rs in
+    sym (ap (λ (x : PageRecord). x.content) (record_is [] rs i d r lt) ∙ ap (λ (x : Record A). content_in (take i buffers) x) (sym is)
+    ∙ (content_all buffers i r (held_first rs i r lt is held)).1)
+
+-- and where the page is
+pub place_there : {A : Type 0} (rs : List (Record A)) (i : ℕ) (d : PageRecord) (r : Record A) → i < length rs → r ≡ get_or rs i r → (get_or (records_after [] rs) i d).place ≡ place_of r
+place_there {A} rs i d r lt is = ap (λ (x : PageRecord). x.place) (record_is [] rs i d r lt) ∙ ap (λ (x : Record A). place_of x) (sym is)
+
+-- ---- buffers that grow
+
+-- as many buffers, and each span of them has the bytes that it had
+abbrev pub KeepsSpans : List (List ℕ) → List (List ℕ) → Type 0
+KeepsSpans old new = (length new ≡ length old) × ((s : Span) → IsWithin old s → IsWithin new s × (bytes_at new s ≡ bytes_at old s))
+
+last_at : (xs : List (List ℕ)) (x : List ℕ) (i : ℕ) → i ≡ length xs → get_or (xs ++ x ∷ []) i [] ≡ x
+last_at [] x i is = rw is refl
+last_at (y ∷ xs) x i is = rw is (last_at xs x (length xs) refl)
+
+-- a span that is there in both, where its buffers have the same bytes at it
+span_kept : (old new : List (List ℕ)) (s : Span) (x y : List ℕ) → IsWithin old s → get_or old s.owner [] ≡ x → get_or new s.owner [] ≡ y → s.owner < length new → s.end ≤ length y
+    → take (s.end - s.start) (drop s.start y) ≡ take (s.end - s.start) (drop s.start x) → IsWithin new s × (bytes_at new s ≡ bytes_at old s)
+span_kept old new s x y is was now lt fits same = (
+  record { has_owner = lt; has_order = is.has_order; has_bytes = subst (λ (b : List ℕ). s.end ≤ length b) (sym now) fits },
+  ap (λ (b : List ℕ). take (s.end - s.start) (drop s.start b)) now ∙ same ∙ ap (λ (b : List ℕ). take (s.end - s.start) (drop s.start b)) (sym was),
+)
+
+kept_more : (old new : List (List ℕ)) (x : List ℕ) → KeepsSpans old new → KeepsSpans (old ++ x ∷ []) (new ++ x ∷ [])
+kept_more old new x keeps = (
+  omega (arith, keeps.0, length-append old (x ∷ []), length-append new (x ∷ [])),
+  λ s is. elim (cases_lt s.owner (length old)) [
+    | inl lt ↦
+        let was : get_or (old ++ x ∷ []) s.owner [] ≡ get_or old s.owner [] = get_or_append_left old (x ∷ []) [] s.owner lt in
+        let now : get_or (new ++ x ∷ []) s.owner [] ≡ get_or new s.owner [] = get_or_append_left new (x ∷ []) [] s.owner (omega (arith, keeps.0)) in
+        let here : IsWithin old s = record { has_owner = lt; has_order = is.has_order; has_bytes = subst (λ (b : List ℕ). s.end ≤ length b) was is.has_bytes } in
+        let both = keeps.1 s here in
+        span_kept (old ++ x ∷ []) (new ++ x ∷ []) s (get_or old s.owner []) (get_or new s.owner []) is was now (omega (arith, length-append new (x ∷ []), both.0.has_owner)) both.0.has_bytes both.1
+    | inr le ↦
+        let at : s.owner ≡ length old = omega (arith, le, is.has_owner, length-append old (x ∷ [])) in
+        let was : get_or (old ++ x ∷ []) s.owner [] ≡ x = last_at old x s.owner at in
+        span_kept (old ++ x ∷ []) (new ++ x ∷ []) s x x is was (last_at new x s.owner (at ∙ sym keeps.0)) (omega (arith, at, keeps.0, length-append new (x ∷ [])))
+        (subst (λ (b : List ℕ). s.end ≤ length b) was is.has_bytes) refl
+  ],
+)
+
+-- some bytes of a list that has others behind them
+bytes_front : (xs ys : List ℕ) (start end : ℕ) → start ≤ end → end ≤ length xs → take (end - start) (drop start (xs ++ ys)) ≡ take (end - start) (drop start xs)
+bytes_front xs ys start end order fits =
+    ap (take (end - start)) (drop-append-le start xs ys (omega (arith, order, fits)))
+    ∙ take-append-le (end - start) (drop start xs) ys (omega (arith, length-drop start xs))
+
+grown_last : (before : List (List ℕ)) (x more : List ℕ) → KeepsSpans (before ++ x ∷ []) (before ++ (x ++ more) ∷ [])
+grown_last before x more = (
+  omega (arith, length-append before (x ∷ []), length-append before ((x ++ more) ∷ [])),
+  λ s is. elim (cases_lt s.owner (length before)) [
+    | inl lt ↦
+        let was : get_or (before ++ x ∷ []) s.owner [] ≡ get_or before s.owner [] = get_or_append_left before (x ∷ []) [] s.owner lt in
+        let now : get_or (before ++ (x ++ more) ∷ []) s.owner [] ≡ get_or before s.owner [] = get_or_append_left before ((x ++ more) ∷ []) [] s.owner lt in
+        span_kept (before ++ x ∷ []) (before ++ (x ++ more) ∷ []) s (get_or before s.owner []) (get_or before s.owner []) is was now (omega (arith, length-append before ((x ++ more) ∷ [])))
+        (subst (λ (b : List ℕ). s.end ≤ length b) was is.has_bytes) refl
+    | inr le ↦
+        let at : s.owner ≡ length before = omega (arith, le, is.has_owner, length-append before (x ∷ [])) in
+        let was : get_or (before ++ x ∷ []) s.owner [] ≡ x = last_at before x s.owner at in
+        let fits : s.end ≤ length x = subst (λ (b : List ℕ). s.end ≤ length b) was is.has_bytes in
+        span_kept (before ++ x ∷ []) (before ++ (x ++ more) ∷ []) s x (x ++ more) is was (last_at before (x ++ more) s.owner at) (omega (arith, at, length-append before ((x ++ more) ∷ [])))
+        (omega (arith, fits, length-append x more)) (bytes_front x more s.start s.end is.has_order fits)
+  ],
+)
+
+record_kept : {A : Type 0} (old new : List (List ℕ)) (r : Record A) → KeepsSpans old new → IsHeld old r → IsHeld new r × (record_in new r ≡ record_in old r)
+record_kept old new (Zeros block page) keeps is = (tt, refl)
+record_kept old new (Kept block page end buffer) keeps is = (is, refl)
+record_kept old new (Behind block page s) keeps is = let both = keeps.1 s is in (both.0, ap (λ (b : List ℕ). record { place = place_at block page; content = Some b }) both.1)
+record_kept old new (Lent block page bytes) keeps is = (tt, refl)
+
+records_kept : {A : Type 0} (old new : List (List ℕ)) (rs : List (Record A)) → KeepsSpans old new → AreHeldAfter old rs
+    → AreHeldAfter new rs × (records_after new rs ≡ records_after old rs)
+records_kept old new [] keeps held = (tt, refl)
+records_kept old new (r ∷ rs) keeps held =
+    let first = record_kept old new r keeps held.0 in
+    let others = records_kept (old ++ buffer_of r ∷ []) (new ++ buffer_of r ∷ []) rs (kept_more old new (buffer_of r) keeps) held.1 in (
+      (first.0, others.0),
+      ap (λ (x : PageRecord). x ∷ records_after (new ++ buffer_of r ∷ []) rs) first.1 ∙ ap (λ (l : List PageRecord). record_in old r ∷ l) others.1,
+    )
+
+-- a record whose buffer has grown, in its place
+pub records_grown : {A : Type 0} (before : List (List ℕ)) (rs : List (Record A)) (o : ℕ) (d new : Record A) (more : List ℕ) → o < length rs → IsGrown (get_or rs o d) new more
+    → AreHeldAfter before rs → AreHeldAfter before (set rs o new) × (records_after before (set rs o new) ≡ records_after before rs)
+records_grown before [] o d new more lt grown held = absurd (omega arith)
+records_grown before (r ∷ rs) zero d new more lt grown held =
+    let first = grown.says_the_same before held.0 in
+    let others = subst (λ (b : List ℕ). AreHeldAfter (before ++ b ∷ []) rs × (records_after (before ++ b ∷ []) rs ≡ records_after (before ++ buffer_of r ∷ []) rs)) (sym grown.has_buffer)
+    (records_kept (before ++ buffer_of r ∷ []) (before ++ (buffer_of r ++ more) ∷ []) rs (grown_last before (buffer_of r) more) held.1) in (
+      (first.0, others.0),
+      ap (λ (x : PageRecord). x ∷ records_after (before ++ buffer_of new ∷ []) rs) first.1 ∙ ap (λ (l : List PageRecord). record_in before r ∷ l) others.1,
+    )
+records_grown before (r ∷ rs) (suc o) d new more lt grown held =
+    let others = records_grown (before ++ buffer_of r ∷ []) rs o d new more (omega arith) grown held.1 in
+    ((held.0, others.0), ap (λ (l : List PageRecord). record_in before r ∷ l) others.1)
+
+-- the bytes that it grew by
+pub span_grown : {A : Type 0} (rs : List (Record A)) (o : ℕ) (d new : Record A) (more : List ℕ) (s : Span) → o < length rs → IsGrown (get_or rs o d) new more → s.owner ≡ o
+    → s.start ≡ length (buffer_of (get_or rs o d)) → s.end ≡ length (buffer_of new) → IsWithin (buffers_of_records (set rs o new)) s × (bytes_at (buffers_of_records (set rs o new)) s ≡ more)
+span_grown {A} rs o d new more s lt grown at from to =
+    let old : List ℕ = buffer_of (get_or rs o d) in
+    let buffers : List (List ℕ) = buffers_of_records (set rs o new) in
+    let there : get_or buffers s.owner [] ≡ old ++ more =
+    ap (λ (i : ℕ). get_or buffers i []) at
+    ∙ ap (λ (l : List (List ℕ)). get_or l o []) (map-set (λ (r : Record A). buffer_of r) rs o new)
+    ∙ get_or-set_same (buffers_of_records rs) o (buffer_of new) [] (omega (arith, length-map rs (λ (r : Record A). buffer_of r)))
+    ∙ grown.has_buffer in
+    let long : s.end ≡ length old + length more = to ∙ ap (λ (b : List ℕ). length b) grown.has_buffer ∙ length-append old more in
+    let count : length buffers ≡ length rs = length-map (set rs o new) (λ (r : Record A). buffer_of r) ∙ length-set rs o new in (
       record {
-        has_chunk = omega (arith, length-append (take chunk ys) (take len one ∷ []), at.0);
-        has_order = is.has_order;
-        has_bytes = subst (λ (b : List ℕ). s.end ≤ length b) (sym after) (omega (arith, length-take len one, at.1));
+        has_owner = omega (arith, at, count);
+        has_order = omega (arith, from, long);
+        has_bytes = subst (λ (b : List ℕ). s.end ≤ length b) (sym there) (omega (arith, long, length-append old more));
       },
-      ap (λ (b : List ℕ). take (s.end - s.start) (drop s.start b)) after ∙ bytes_cut one len s.start s.end is.has_order at.1
-          ∙ ap (λ (b : List ℕ). take (s.end - s.start) (drop s.start b)) (sym before),
+      ap (λ (b : List ℕ). take (s.end - s.start) (drop s.start b)) there
+          ∙ ap (λ (n : ℕ). take (s.end - s.start) (drop n (old ++ more))) from
+          ∙ ap (λ (l : List ℕ). take (s.end - s.start) l) (drop-append_seam old more)
+          ∙ take_all (s.end - s.start) more (omega (arith, from, long)),
     )
 
--- ---- records
-
-content_kept : (old new : List (List ℕ)) (o : Content) → KeepsSpans old new → IsHeld old o → IsHeld new o × (content_in new o ≡ content_in old o)
-content_kept old new Zeros keeps is = (tt, refl)
-content_kept old new (Kept s) keeps is = let k = keeps s is in (k.0, ap (λ (b : List ℕ). Some b) k.1)
-content_kept old new (Lent bytes) keeps is = (tt, refl)
-
-pub record_kept : (old new : List (List ℕ)) (r : Record) → KeepsSpans old new → IsHeld old r.content
-    → IsHeld new r.content × (record_in new r ≡ record_in old r)
-record_kept old new r keeps is =
-    let k = content_kept old new r.content keeps is in
-    (k.0, ap (λ (o : Option (List ℕ)). record { place = r.place; content = o }) k.1)
-
-pub records_kept : (old new : List (List ℕ)) (rs : List Record) → KeepsSpans old new → AreKept old rs → AreKept new rs × (records_in new rs ≡ records_in old rs)
-unfolding records_in AreKept
-records_kept old new [] keeps are = (All-nil (λ (r : Record). IsHeld new r.content), refl)
-records_kept old new (r ∷ rs) keeps are =
-    let first = record_kept old new r keeps (All-head (λ (x : Record). IsHeld old x.content) r rs are) in
-    let others = records_kept old new rs keeps (All-tail (λ (x : Record). IsHeld old x.content) r rs are) in (
-      All-cons (λ (x : Record). IsHeld new x.content) r rs first.0 others.0,
-      ap (λ (x : PageRecord). x ∷ records_in new rs) first.1 ∙ ap (λ (xs : List PageRecord). record_in old r ∷ xs) others.1,
-    )
-
--- records whose bytes end before a cut
-content_cut : (old new : List (List ℕ)) (chunk len : ℕ) (o : Content) → KeepsBefore chunk len old new → IsHeldBefore chunk len o → IsHeld old o
-    → IsHeld new o × (content_in new o ≡ content_in old o)
-content_cut old new chunk len Zeros keeps before is = (tt, refl)
-content_cut old new chunk len (Kept s) keeps before is = let k = keeps s before is in (k.0, ap (λ (b : List ℕ). Some b) k.1)
-content_cut old new chunk len (Lent bytes) keeps before is = (tt, refl)
-
-pub records_cut : (old new : List (List ℕ)) (chunk len : ℕ) (rs : List Record) → KeepsBefore chunk len old new → EndBefore chunk len rs → AreKept old rs
-    → AreKept new rs × (records_in new rs ≡ records_in old rs)
-unfolding records_in AreKept EndBefore
-records_cut old new chunk len [] keeps before are = (All-nil (λ (r : Record). IsHeld new r.content), refl)
-records_cut old new chunk len (r ∷ rs) keeps before are =
-    let k = content_cut old new chunk len r.content keeps (All-head (λ (x : Record). IsHeldBefore chunk len x.content) r rs before) (All-head (λ (x : Record). IsHeld old x.content) r rs are) in
-    let others = records_cut old new chunk len rs keeps (All-tail (λ (x : Record). IsHeldBefore chunk len x.content) r rs before) (All-tail (λ (x : Record). IsHeld old x.content) r rs are) in (
-      All-cons (λ (x : Record). IsHeld new x.content) r rs k.0 others.0,
-      ap (λ (o : Option (List ℕ)). record { place = r.place; content = o } ∷ records_in new rs) k.1 ∙ ap (λ (xs : List PageRecord). record_in old r ∷ xs) others.1,
-    )
-
-kept_front : (chunks : List (List ℕ)) (rs : List Record) (n : ℕ) → AreKept chunks rs → AreKept chunks (take n rs)
-unfolding AreKept
-kept_front chunks rs n are = All-take (λ (r : Record). IsHeld chunks r.content) n rs are
-
--- the first records alone, with the buffers cut after their bytes
-pub records_truncated : (old new : List (List ℕ)) (rs front : List Record) (n chunk len : ℕ) → front ≡ take n rs → AreKept old rs → EndBefore chunk len front → KeepsBefore chunk len old new
-    → AreKept new front × (records_in new front ≡ take n (records_in old rs))
-unfolding records_in
-records_truncated old new rs front n chunk len is are before keeps =
-    let here : AreKept old front = subst (AreKept old) (sym is) (kept_front old rs n are) in
-    let cut = records_cut old new chunk len front keeps before here in
-    (cut.0, cut.1 ∙ ap (λ (l : List Record). map (record_in old) l) is ∙ sym (take-map (record_in old) n rs))
-
--- one record more, whose bytes were kept
-pub records_pushed : (old new : List (List ℕ)) (rs : List Record) (p : Place) (s : Span) (bytes : List ℕ) → KeepsSpans old new → AreKept old rs → bytes_at new s ≡ bytes
-    → records_in new (rs ++ record { place = p; content = Kept s } ∷ []) ≡ records_in old rs ++ record { place = p; content = Some bytes } ∷ []
-unfolding records_in
-records_pushed old new rs p s bytes keeps are is =
-    let last : Record = record { place = p; content = Kept s } in
-    map-append (record_in new) rs (last ∷ [])
-    ∙ ap (λ (front : List PageRecord). front ++ record { place = p; content = Some (bytes_at new s) } ∷ []) (records_kept old new rs keeps are).1
-    ∙ ap (λ (b : List ℕ). records_in old rs ++ record { place = p; content = Some b } ∷ []) is
-
--- ---- rounds whose records are whole
+-- ---- rounds
 
 pub round_ended : (size : ℕ) (records dest : List PageRecord) (rounds new : List (List PageRecord)) → AreWhole size records × All (AreWhole size) rounds
     → dest ≡ [] → new ≡ rounds ++ records ∷ [] → AreWhole size dest × All (AreWhole size) new
@@ -130,49 +219,3 @@ round_ended size records dest rounds new are none is = (
   subst (AreWhole size) (sym none) (All-nil (λ (r : PageRecord). IfSome r.content (λ bytes. length bytes ≡ size))),
   subst (All (AreWhole size)) (sym is) (All-push (AreWhole size) rounds records are.1 are.0),
 )
-
--- ---- cuts
-
--- a cut in a full buffer
-pub cut_full : {A : Type 0} (full front : List (Vec ℕ A)) (l last : List ℕ) (x : Vec ℕ A) (chunk len : ℕ) → chunk < length full → front ≡ take chunk full
-    → x ≡ get_or full chunk x → last ≡ take len x.items → KeepsBefore chunk len (buffers_of full ++ l ∷ []) (buffers_of front ++ last ∷ [])
-cut_full {A} full front l last x chunk len lt front_is x_is last_is =
-    let ys : List (List ℕ) = buffers_of full ++ l ∷ [] in
-    let many : length (buffers_of full) ≡ length full = length-map full (λ (v : Vec ℕ A). v.items) in
-    let known : chunk < length ys = omega (arith, length-append (buffers_of full) (l ∷ [])) in
-    let one : get_or ys chunk [] ≡ x.items = get_or_append_left (buffers_of full) (l ∷ []) [] chunk (omega arith) ∙ buffer_at full chunk x lt x_is in
-    let fronts : take chunk ys ≡ buffers_of front =
-    take-append-le chunk (buffers_of full) (l ∷ []) (omega arith) ∙ take-map (λ (v : Vec ℕ A). v.items) chunk full ∙ ap (λ (vs : List (Vec ℕ A)). buffers_of vs) (sym front_is) in
-    let lasts : take len (get_or ys chunk []) ≡ last = ap (take len) one ∙ sym last_is in
-    subst (λ (b : List ℕ). KeepsBefore chunk len ys (buffers_of front ++ b ∷ [])) lasts
-    (subst (λ (xs : List (List ℕ)). KeepsBefore chunk len ys (xs ++ take len (get_or ys chunk []) ∷ [])) fronts (keeps_cut ys chunk len known))
-
--- the front of buffers of which one was taken out
-pub front_taken : {X : Type 0} (full rest front : List X) (chunk : ℕ) → chunk < length full → rest ≡ take chunk full ++ drop (chunk + 1) full → front ≡ take chunk rest → front ≡ take chunk full
-front_taken full rest front chunk lt rest_is front_is =
-    front_is ∙ ap (λ l. take chunk l) rest_is ∙ take_at (take chunk full) (drop (chunk + 1) full) chunk (omega (arith, length-take chunk full))
-
--- a cut in the last buffer
-pub cut_last : (xs : List (List ℕ)) (l last : List ℕ) (chunk len : ℕ) → chunk ≡ length xs → last ≡ take len l → KeepsBefore chunk len (xs ++ l ∷ []) (xs ++ last ∷ [])
-cut_last xs l last chunk len at last_is =
-    let ys : List (List ℕ) = xs ++ l ∷ [] in
-    let known : chunk < length ys = omega (arith, length-append xs (l ∷ [])) in
-    let one : get_or ys chunk [] ≡ l = at_seam xs [] l chunk at in
-    let fronts : take chunk ys ≡ xs = take_at xs (l ∷ []) chunk (sym at) in
-    let lasts : take len (get_or ys chunk []) ≡ last = ap (take len) one ∙ sym last_is in
-    subst (λ (b : List ℕ). KeepsBefore chunk len ys (xs ++ b ∷ [])) lasts
-    (subst (λ (zs : List (List ℕ)). KeepsBefore chunk len ys (zs ++ take len (get_or ys chunk []) ∷ [])) fronts (keeps_cut ys chunk len known))
-
--- ---- the end of records
-
-some_later : (o : Content) (chunk len chunk2 len2 : ℕ) → ((s : Span) → IsBefore chunk len s → IsBefore chunk2 len2 s) → IsHeldBefore chunk len o → IsHeldBefore chunk2 len2 o
-some_later Zeros chunk len chunk2 len2 f h = tt
-some_later (Kept s) chunk len chunk2 len2 f h = f s h
-some_later (Lent bytes) chunk len chunk2 len2 f h = tt
-
-pub end_more : (rs : List Record) (i : ℕ) (d : Record) (chunk len chunk2 len2 : ℕ) → i < length rs → EndBefore chunk len (take i rs)
-    → ((s : Span) → IsBefore chunk len s → IsBefore chunk2 len2 s) → IsHeldBefore chunk2 len2 (get_or rs i d).content → EndBefore chunk2 len2 (take (i + 1) rs)
-unfolding EndBefore
-end_more rs i d chunk len chunk2 len2 lt before later here =
-    rw (take_more rs i d lt) (All-push (λ (x : Record). IsHeldBefore chunk2 len2 x.content) (take i rs) (get_or rs i d)
-    (All-weaker (λ (x : Record). IsHeldBefore chunk len x.content) (λ (x : Record). IsHeldBefore chunk2 len2 x.content) (λ x h. some_later x.content chunk len chunk2 len2 later h) (take i rs) before) here)

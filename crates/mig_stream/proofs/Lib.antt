@@ -36,3 +36,4 @@ pub mod Placing
 pub mod Standing
 pub mod Keeping
 pub mod Limits
+pub mod Longer

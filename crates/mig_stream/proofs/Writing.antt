@@ -3,16 +3,17 @@ use Rattle.std.proofs.Common.{◌≡◌, ◌≤◌, ℕ, Bool, true, false, List
 use Rattle.std.specs.Prelude.{◌==◌, ◌↔◌, IsTrue, Result, Ok, Err, OnOk, OnErr}
 use Rattle.std.specs.List.{All, flat_map, list_all}
 use Rattle.std.proofs.lemmas.Bool.{cases_Bool, and_parts, eqb-true, eq-eqb}
-use Rattle.std.proofs.lemmas.List.{append-nil, map-append, length-append, take_at, take-take}
-use Rattle.std.proofs.lemmas.List.Elements.{All-head, All-tail, All-nil, All-cons}
+use Rattle.std.proofs.lemmas.List.{append-nil, map-append, length-append, take_at, take-take, take-append-le}
+use Rattle.std.proofs.lemmas.List.Elements.{All-head, All-tail, All-nil, All-cons, All-append}
 use Rattle.mig_mem.specs.declared.place.Place.{Place}
 use Rattle.mig_mem.specs.Image.{Page, Image, content_at, pages_of}
-use Rattle.mig_mem.specs.Round.{round_of}
+use Rattle.mig_mem.specs.Place.{IsPlace}
+use Rattle.mig_mem.specs.Round.{IsRound, round_of}
 use Rattle.mig_mem.specs.RamTable.{RamTable}
 use Rattle.mig_stream.specs.declared.item.Section.TheVariants as sections
 use Rattle.mig_stream.specs.Text.{named_after, record_bytes, page_record, section}
-use Rattle.mig_stream.specs.Written.{Part, FlushPart, written_id, is_named, written_record, written_records, part_records, named_after_parts, written_parts, opening, closing, written}
-use Rattle.mig_stream.specs.Writer.{Writer, HasWritten, with_pages, with_part, KeepsFront}
+use Rattle.mig_stream.specs.Written.{Part, RoundPart, FlushPart, written_id, is_named, written_record, written_records, part_records, named_after_parts, written_parts, opening, closing, written}
+use Rattle.mig_stream.specs.Writer.{Writer, PartSoFar, HasDrained, HasPut, with_head, with_pages, with_part, KeepsFront}
 
 -- ---- clauses about results
 
@@ -120,32 +121,79 @@ same_writer a b table text named =
     ∙ ap (λ (t : List ℕ). record { table = b.table; text = t; named = a.named }) text
     ∙ ap (λ (n : Option ℕ). record { table = b.table; text = b.text; named = n }) named
 
-pub HasWritten-part : (w : Writer) (parts : List Part) (part : Part) → HasWritten w parts → HasWritten (with_part w part) (parts ++ part ∷ [])
-HasWritten-part w parts part h = record {
+HasDrained-part : (drained : List ℕ) (w : Writer) (parts : List Part) (part : Part) → HasDrained drained w parts → HasDrained drained (with_part w part) (parts ++ part ∷ [])
+HasDrained-part drained w parts part h = record {
   has_text =
-      ap (λ (n : Option ℕ). w.text ++ section w.table sections.Part written_id (part_records n part)) h.has_named
+      sym (append_assoc drained w.text (section w.table sections.Part written_id (part_records w.named part)))
+      ∙ ap (λ (n : Option ℕ). (drained ++ w.text) ++ section w.table sections.Part written_id (part_records n part)) h.has_named
       ∙ ap (λ (b : List ℕ). b ++ section w.table sections.Part written_id (part_records (named_after_parts None parts) part)) h.has_text
       ∙ append_assoc (opening w.table) (written_parts w.table None parts) (section w.table sections.Part written_id (part_records (named_after_parts None parts) part))
       ∙ ap (λ (b : List ℕ). opening w.table ++ b) (sym (written_parts-push w.table None parts part));
   has_named = ap (λ (n : Option ℕ). named_by n part) h.has_named ∙ sym (named_after_parts-push None parts part);
 }
 
-pub HasWritten-next : (old new : Writer) (parts : List Part) (part : Part) → new ≡ with_part old part → HasWritten old parts → HasWritten new (parts ++ part ∷ [])
-HasWritten-next old new parts part is h = subst (λ (w : Writer). HasWritten w (parts ++ part ∷ [])) (sym is) (HasWritten-part old parts part h)
+pub HasDrained-next : (drained : List ℕ) (old new : Writer) (parts : List Part) (part : Part) → new ≡ with_part old part → HasDrained drained old parts → HasDrained drained new (parts ++ part ∷ [])
+HasDrained-next drained old new parts part is h = subst (λ (w : Writer). HasDrained drained w (parts ++ part ∷ [])) (sym is) (HasDrained-part drained old parts part h)
 
 -- a PART of FLUSH alone
 abbrev pub flush_bytes : List ℕ
 flush_bytes = 2 ∷ 0 ∷ 0 ∷ 0 ∷ 1 ∷ 0 ∷ 0 ∷ 0 ∷ 0 ∷ 0 ∷ 0 ∷ 2 ∷ 0 ∷ 0 ∷ 0 ∷ 0 ∷ 0 ∷ 0 ∷ 0 ∷ 0 ∷ 0x10 ∷ 0x7E ∷ 0 ∷ 0 ∷ 0 ∷ 1 ∷ []
 
-pub flush_part : (old new : Writer) (parts : List Part) → new.table ≡ old.table → new.text ≡ old.text ++ flush_bytes → new.named ≡ old.named
-    → HasWritten old parts → HasWritten new (parts ++ FlushPart ∷ [])
-flush_part old new parts table text named h = HasWritten-next old new parts FlushPart (same_writer new (with_part old FlushPart) table text named) h
+pub flush_part : (drained : List ℕ) (old new : Writer) (parts : List Part) → new.table ≡ old.table → new.text ≡ old.text ++ flush_bytes → new.named ≡ old.named
+    → HasDrained drained old parts → HasDrained drained new (parts ++ FlushPart ∷ [])
+flush_part drained old new parts table text named h = HasDrained-next drained old new parts FlushPart (same_writer new (with_part old FlushPart) table text named) h
 
 -- END and the end byte
 abbrev pub closing_bytes : List ℕ
 closing_bytes = 3 ∷ 0 ∷ 0 ∷ 0 ∷ 1 ∷ 0 ∷ 0 ∷ 0 ∷ 0 ∷ 0 ∷ 0 ∷ 0 ∷ 0x10 ∷ 0x7E ∷ 0 ∷ 0 ∷ 0 ∷ 1 ∷ 0 ∷ []
 
-pub finished : (w : Writer) (parts : List Part) → HasWritten w parts → w.text ++ closing_bytes ≡ written w.table parts
+pub finished : (drained : List ℕ) (w : Writer) (parts : List Part) → HasDrained drained w parts → drained ++ (w.text ++ closing_bytes) ≡ written w.table parts
 unfolding closing
-finished w parts h =
-    ap (λ (b : List ℕ). b ++ closing_bytes) h.has_text
+finished drained w parts h =
+    sym (append_assoc drained w.text closing_bytes) ∙ ap (λ (b : List ℕ). b ++ closing_bytes) h.has_text
+
+-- ---- a part, page after page
+
+-- the part of a writer that had a text of this length, and this block named last, when it began
+abbrev pub part_from : ℕ → Option ℕ → Writer → PartSoFar
+part_from len named w = record { before = record { table = w.table; text = take len w.text; named = named }; now = w }
+
+before_stays : (len : ℕ) (named : Option ℕ) (old new : Writer) (pages : List Page) → len ≤ length old.text → new ≡ with_pages old pages
+    → (part_from len named new).before ≡ (part_from len named old).before
+before_stays len named old new pages within step =
+    ap (λ (w : Writer). (part_from len named w).before) step
+    ∙ ap (λ (b : List ℕ). record { table = old.table; text = b; named = named }) (take-append-le len old.text (pages_bytes old.table old.named pages) within)
+
+pub put_more : (len : ℕ) (named : Option ℕ) (old new : Writer) (pages : List Page) (x : Page) → len ≤ length old.text → new ≡ with_pages old (x ∷ [])
+    → IsPlace old.table x.place → length x.content ≡ old.table.page_size → HasPut (part_from len named old) pages → HasPut (part_from len named new) (pages ++ x ∷ [])
+put_more len named old new pages x within step at size h =
+    let table : RamTable = old.table in
+    let before : Writer = (part_from len named old).before in
+    let same : (part_from len named new).before ≡ before = before_stays len named old new (x ∷ []) within step in
+    let text : new ≡ with_pages (with_head before) (pages ++ x ∷ []) =
+    step ∙ ap (λ (w : Writer). with_pages w (x ∷ [])) h.has_text ∙ with_pages-push (with_head before) pages x in
+    let round : IsRound table (pages ++ x ∷ []) = record {
+      has_places = All-append (λ y. IsPlace table y.place) pages (x ∷ []) h.is_round.has_places (All-cons (λ y. IsPlace table y.place) x [] at (All-nil (λ y. IsPlace table y.place)));
+      has_sizes = All-append (λ y. length y.content ≡ table.page_size) pages (x ∷ []) h.is_round.has_sizes
+          (All-cons (λ y. length y.content ≡ table.page_size) x [] size (All-nil (λ y. length y.content ≡ table.page_size)));
+    } in
+    record {
+      has_text = text ∙ ap (λ (w : Writer). with_pages (with_head w) (pages ++ x ∷ [])) (sym same);
+      is_round = subst (λ (w : Writer). IsRound w.table (pages ++ x ∷ [])) (sym same) round;
+    }
+
+-- EOS and the footer
+abbrev pub section_end : List ℕ
+section_end = 0 ∷ 0 ∷ 0 ∷ 0 ∷ 0 ∷ 0 ∷ 0 ∷ 0x10 ∷ 0x7E ∷ 0 ∷ 0 ∷ 0 ∷ 1 ∷ []
+
+abbrev part_head : List ℕ
+part_head = 2 ∷ 0 ∷ 0 ∷ 0 ∷ 1 ∷ []
+
+pub part_ended : (part : PartSoFar) (new : Writer) (pages : List Page) → HasPut part pages → new.table ≡ part.now.table → new.text ≡ part.now.text ++ section_end → new.named ≡ part.now.named
+    → new ≡ with_part part.before (RoundPart pages)
+part_ended part new pages h table text named =
+    let old : Writer = part.before in
+    let bytes : List ℕ = pages_bytes old.table old.named pages in
+    same_writer new (with_part old (RoundPart pages)) (table ∙ ap (λ (w : Writer). w.table) h.has_text)
+    (text ∙ ap (λ (w : Writer). w.text ++ section_end) h.has_text ∙ append_assoc (old.text ++ part_head) bytes section_end ∙ append_assoc old.text part_head (bytes ++ section_end))
+    (named ∙ ap (λ (w : Writer). w.named) h.has_text)

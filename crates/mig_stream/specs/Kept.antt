@@ -1,58 +1,79 @@
--- Page records whose bytes lie in shared buffers.
-use Rattle.std.specs.Prelude.{ℕ, ◌≡◌, ◌⊎◌, ◌-◌, ◌<◌, ◌≤◌, List, [], length, map, take, drop, slice_index_or, All, Option, Some, None, ⊤}
-use Rattle.mig_stream.specs.declared.chunks.Span.{Span}
-use Rattle.mig_stream.specs.declared.round.Record.{Record}
-use Rattle.mig_stream.specs.declared.round.Content.{Content}
-use Rattle.mig_stream.specs.declared.round.Content.TheVariants.{Zeros, Kept, Lent}
+-- What a reader keeps of the pages that it has read.
+use Rattle.std.specs.Prelude.{ℕ, ◌≡◌, ◌-◌, ◌<◌, ◌≤◌, ◌^◌, List, [], ◌∷◌, ◌++◌, length, map, take, drop, slice_index_or, Option, Some, None, ⊤}
+use Rattle.mig_mem.specs.declared.place.Place.{Place}
+use Rattle.mig_mem.specs.Place.{place_at}
+use Rattle.mig_stream.specs.declared.item.Due.{Due}
+use Rattle.mig_stream.specs.declared.item.Due.TheVariants.{Content}
+use Rattle.mig_stream.specs.declared.piece.Piece.{Piece}
+use Rattle.mig_stream.specs.declared.piece.Piece.TheVariants.{Passing, Staying}
+use Rattle.mig_stream.specs.declared.record.Span.{Span}
+use Rattle.mig_stream.specs.declared.record.Record.{Record}
+use Rattle.mig_stream.specs.declared.record.Record.TheVariants.{Zeros, Kept, Behind, Lent}
 use Rattle.mig_stream.specs.PageRecord.{PageRecord}
 
--- the bytes of a span of one of the buffers
+abbrev pub bytes_of : Piece → List ℕ
+bytes_of (Passing bytes) = bytes.now
+bytes_of (Staying bytes) = bytes.now
+
+-- ---- records and their buffers: one record may have a buffer, in which the bytes of records behind it lie too
+
+abbrev pub buffer_of : {A : Type 0} → Record A → List ℕ
+buffer_of (Kept block page end buffer) = buffer.value.items
+buffer_of other = []
+
+abbrev pub buffers_of_records : {A : Type 0} → List (Record A) → List (List ℕ)
+buffers_of_records records = map (λ r. buffer_of r) records
+
+-- the bytes of a span, by the buffers of the records
 abbrev pub bytes_at : List (List ℕ) → Span → List ℕ
-bytes_at chunks s = take (s.end - s.start) (drop s.start (slice_index_or chunks s.chunk []))
+bytes_at buffers s = take (s.end - s.start) (drop s.start (slice_index_or buffers s.owner []))
 
-pub record IsWithin (chunks : List (List ℕ)) (s : Span) : Type 0 where
-  pub has_chunk : s.chunk < length chunks
+pub record IsWithin (buffers : List (List ℕ)) (s : Span) : Type 0 where
+  pub has_owner : s.owner < length buffers
   pub has_order : s.start ≤ s.end
-  pub has_bytes : s.end ≤ length (slice_index_or chunks s.chunk [])
+  pub has_bytes : s.end ≤ length (slice_index_or buffers s.owner [])
 
--- whatever lay in the buffers lies there still
-abbrev pub KeepsSpans : List (List ℕ) → List (List ℕ) → Type 0
-KeepsSpans old new = (s : Span) → IsWithin old s → IsWithin new s × (bytes_at new s ≡ bytes_at old s)
+abbrev pub place_of : {A : Type 0} → Record A → Place
+place_of (Zeros block page) = place_at block page
+place_of (Kept block page end buffer) = place_at block page
+place_of (Behind block page span) = place_at block page
+place_of (Lent block page bytes) = place_at block page
 
--- the span ends before this place in this buffer
-abbrev pub IsBefore : ℕ → ℕ → Span → Type 0
-IsBefore chunk len s = (s.chunk < chunk) ⊎ ((s.chunk ≡ chunk) × (s.end ≤ len))
+-- what a record has of its page, by the buffers of the records before it
+abbrev pub content_in : {A : Type 0} → List (List ℕ) → Record A → Option (List ℕ)
+content_in buffers (Zeros block page) = None
+content_in buffers (Kept block page end buffer) = Some (take end buffer.value.items)
+content_in buffers (Behind block page span) = Some (bytes_at buffers span)
+content_in buffers (Lent block page bytes) = Some bytes.now
 
--- whatever lay in the buffers before a place lies there still
-abbrev pub KeepsBefore : ℕ → ℕ → List (List ℕ) → List (List ℕ) → Type 0
-KeepsBefore chunk len old new = (s : Span) → IsBefore chunk len s → IsWithin old s → IsWithin new s × (bytes_at new s ≡ bytes_at old s)
+abbrev pub record_in : {A : Type 0} → List (List ℕ) → Record A → PageRecord
+record_in buffers r = record { place = place_of r; content = content_in buffers r }
 
--- what a record has of its page: bytes of a buffer, or bytes that stand in the text
-abbrev pub content_in : List (List ℕ) → Content → Option (List ℕ)
-content_in chunks Zeros = None
-content_in chunks (Kept s) = Some (bytes_at chunks s)
-content_in chunks (Lent bytes) = Some bytes.now
+-- its bytes are there
+abbrev pub IsHeld : {A : Type 0} → List (List ℕ) → Record A → Type 0
+IsHeld buffers (Kept block page end buffer) = end ≤ length buffer.value.items
+IsHeld buffers (Behind block page span) = IsWithin buffers span
+IsHeld buffers other = ⊤
 
-abbrev pub IsHeld : List (List ℕ) → Content → Type 0
-IsHeld chunks Zeros = ⊤
-IsHeld chunks (Kept s) = IsWithin chunks s
-IsHeld chunks (Lent bytes) = ⊤
+-- A record whose buffer has more bytes behind those it had, and which says what it said.
+pub record IsGrown {A : Type 0} (old new : Record A) (more : List ℕ) : Type 0 where
+  pub has_buffer : buffer_of new ≡ buffer_of old ++ more
+  pub says_the_same : (buffers : List (List ℕ)) → IsHeld buffers old → IsHeld buffers new × (record_in buffers new ≡ record_in buffers old)
 
--- what it has of a buffer ends before a place
-abbrev pub IsHeldBefore : ℕ → ℕ → Content → Type 0
-IsHeldBefore chunk len Zeros = ⊤
-IsHeldBefore chunk len (Kept s) = IsBefore chunk len s
-IsHeldBefore chunk len (Lent bytes) = ⊤
+-- records behind others that have these buffers
+abbrev pub records_after : {A : Type 0} → List (List ℕ) → List (Record A) → List PageRecord
+records_after buffers [] = []
+records_after buffers (r ∷ rs) = record_in buffers r ∷ records_after (buffers ++ buffer_of r ∷ []) rs
 
-abbrev pub record_in : List (List ℕ) → Record → PageRecord
-record_in chunks r = record { place = r.place; content = content_in chunks r.content }
+abbrev pub AreHeldAfter : {A : Type 0} → List (List ℕ) → List (Record A) → Type 0
+AreHeldAfter buffers [] = ⊤
+AreHeldAfter buffers (r ∷ rs) = IsHeld buffers r × AreHeldAfter (buffers ++ buffer_of r ∷ []) rs
 
-unfoldable pub records_in : List (List ℕ) → List Record → List PageRecord
-records_in chunks records = map (record_in chunks) records
+-- The number of the block has one byte, and the number of the page four: so it is in each table that a reader accepts.
+abbrev pub IsShort : Place → Type 0
+IsShort p = (p.block < 2 ^ 8) × (p.page < 2 ^ 32)
 
-unfoldable pub AreKept : List (List ℕ) → List Record → Type 0
-AreKept chunks records = All (λ r. IsHeld chunks r.content) records
-
--- the bytes of these records end before this place
-unfoldable pub EndBefore : ℕ → ℕ → List Record → Type 0
-EndBefore chunk len records = All (λ r. IsHeldBefore chunk len r.content) records
+-- the place of the page that is due, if one is
+abbrev pub HasShortPlace : Due → Type 0
+HasShortPlace (Content filling place) = IsShort place
+HasShortPlace due = ⊤

@@ -5,6 +5,7 @@ use Rattle.mig_stream.specs.declared.progress.Mark.{Mark}
 use Rattle.mig_stream.specs.PageRecord.{PageRecord}
 use Rattle.mig_stream.specs.Progress.{StreamProgress, is_used_up}
 use Rattle.mig_stream.specs.Entries.{AreListed}
+use Rattle.mig_stream.specs.Kept.{HasShortPlace}
 
 -- the mark that is made there
 abbrev pub mark_of : StreamProgress → Mark
@@ -41,3 +42,4 @@ pub record WasMarked (mark : Mark) (now : StreamProgress) : Type 0 where
   pub is_mark : mark ≡ mark_of before
   pub is_later : IsLater before now
   pub are_listed : AreListed before.page_size before.limit before.left before.blocks
+  pub has_short_place : HasShortPlace before.due

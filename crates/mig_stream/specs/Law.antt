@@ -1,12 +1,12 @@
 -- What holds between the texts of a stream and their readings.
-use Rattle.std.specs.Prelude.{◌≡◌, ◌↔◌, ℕ, ◌≤◌, ◌<◌, ◌^◌, List, [], ◌∷◌, ◌++◌, length, map, replicate, Some, None, All}
+use Rattle.std.specs.Prelude.{◌≡◌, ◌≢◌, ◌↔◌, ℕ, ◌≤◌, ◌<◌, ◌^◌, List, [], ◌∷◌, ◌++◌, length, map, replicate, Some, None, All}
 use Rattle.mig_mem.specs.PageSize.{IsPageSize}
 use Rattle.mig_mem.specs.RamTable.{RamTable, IsTable}
 use Rattle.mig_mem.specs.Image.{Page}
 use Rattle.mig_mem.specs.Round.{IsRound}
 use Rattle.mig_stream.specs.declared.item.Mode.{Mode}
 use Rattle.mig_stream.specs.declared.item.Mode.TheVariants.{Single, Main}
-use Rattle.mig_stream.specs.declared.item.StreamState.TheVariants.{Closed}
+use Rattle.mig_stream.specs.declared.item.StreamState.TheVariants.{Reading, Closed}
 use Rattle.mig_stream.specs.PageRecord.{PageRecord, page_of}
 use Rattle.mig_stream.specs.Reading.{Settings, settings, StreamReading, IsReading}
 use Rattle.mig_stream.specs.Text.{IsText, total_bytes}
@@ -70,3 +70,15 @@ pub record KeepsLimits (page_size : ℕ) (text : List ℕ) (reading : StreamRead
 abbrev pub ReadingsKeepLimits : Type 0
 ReadingsKeepLimits = (given : Settings) (text : List ℕ) (reading : StreamReading) → IsPageSize given.page_size
     → IsReading given text reading → KeepsLimits given.page_size text reading
+
+-- What is read of a text stays, whatever bytes follow: its whole rounds are the first ones of the longer text, and its table is that
+-- text's too. After the end byte, or a fault, nothing changes any more.
+pub record StaysRead (before now : StreamReading) : Type 0 where
+  pub more_rounds : List (List PageRecord)
+  pub has_rounds : now.rounds ≡ before.rounds ++ more_rounds
+  pub same_table : (table : RamTable) → before.table ≡ Some table → now.table ≡ Some table
+  pub same_once_over : before.state ≢ Reading → now ≡ before
+
+abbrev pub LongerTextsStay : Type 0
+LongerTextsStay = (given : Settings) (text more : List ℕ) (before now : StreamReading) → IsPageSize given.page_size
+    → IsReading given text before → IsReading given (text ++ more) now → StaysRead before now

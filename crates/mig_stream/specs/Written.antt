@@ -55,6 +55,10 @@ opening table = file_header ++ start_head written_id ++ size_list table ++ body 
 unfoldable pub closing : RamTable → List ℕ
 closing table = section table sections.End written_id [] ++ end_byte ∷ []
 
+-- what stands of it once some parts are written
+abbrev pub written_so_far : RamTable → List Part → List ℕ
+written_so_far table parts = opening table ++ written_parts table None parts
+
 abbrev pub written : RamTable → List Part → List ℕ
 written table parts = opening table ++ written_parts table None parts ++ closing table
 

@@ -140,7 +140,9 @@ impl<A: Allocator> Entries<A> {
 
     /// The number of pages of a block, 0 where there is no such block.
     pub(crate) fn pages(&self, i: usize) -> u64
-        ensures { result ≡ (block self.now.blocks i).pages }
+        ensures value { result ≡ (block self.now.blocks i).pages }
+        ensures block { 0 < result → i < 2 ^ 8 }
+        ensures few { result < 2 ^ 32 }
     {
         match self.blocks.get(i) {
             Some(block) => block.pages,

@@ -91,43 +91,44 @@ impl StreamFault {
             StreamFault::Truncated => 34,
         }
     }
-}
 
-// What a fault says that carries nothing.
-fn words_of(fault: StreamFault) -> &'static str {
-    match fault {
-        StreamFault::Magic => "the text doesn't begin with QEVM",
-        StreamFault::Version => "the version of the stream isn't 3",
-        StreamFault::SectionType => "this type byte may not stand there",
-        StreamFault::SectionName => "the section's name isn't ram",
-        StreamFault::Instance => "the section's instance isn't 0",
-        StreamFault::RamVersion => "the section's version isn't 4",
-        StreamFault::SectionId => "the section id isn't that of START",
-        StreamFault::Footer => "the footer isn't 0x7E with the section id of START",
-        StreamFault::ConfigLength => "the configuration's name is longer than 1,024 bytes",
-        StreamFault::Total => "the size list's total is 0, or above the limit handed in",
-        StreamFault::Id => "an entry's id isn't 1 to 255 bytes of 0x20 to 0x7E",
-        StreamFault::IdTwice => "an earlier entry has the id",
-        StreamFault::Length => "an entry's length is 0, or no multiple of the page size",
-        StreamFault::TooManyBlocks => "the size list has more than 256 entries",
-        StreamFault::SizeSum => "the entries' lengths pass the total",
-        StreamFault::SizePlace =>
-            "the first record of START isn't a size list, or one stands elsewhere",
-        StreamFault::Flags(_) => "a record head has other flags than those accepted",
-        StreamFault::NoBlock => "a page record names no block, and none was named before",
-        StreamFault::UnknownBlock => "a page record names a block that the table hasn't",
-        StreamFault::OffsetOut => "the offset isn't in the block, or isn't 0 where it has to be",
-        StreamFault::Fill(_) => "the byte of a zero page isn't 0",
-        StreamFault::Flush => "a FLUSH stands in a single stream",
-        StreamFault::Tail => "the main stream ends after a page record that no FLUSH follows",
-        StreamFault::Truncated => "the text was over before its end byte",
+    // What a fault says that carries nothing.
+    fn words(self) -> &'static str {
+        match self {
+            StreamFault::Magic => "the text doesn't begin with QEVM",
+            StreamFault::Version => "the version of the stream isn't 3",
+            StreamFault::SectionType => "this type byte may not stand there",
+            StreamFault::SectionName => "the section's name isn't ram",
+            StreamFault::Instance => "the section's instance isn't 0",
+            StreamFault::RamVersion => "the section's version isn't 4",
+            StreamFault::SectionId => "the section id isn't that of START",
+            StreamFault::Footer => "the footer isn't 0x7E with the section id of START",
+            StreamFault::ConfigLength => "the configuration's name is longer than 1,024 bytes",
+            StreamFault::Total => "the size list's total is 0, or above the limit handed in",
+            StreamFault::Id => "an entry's id isn't 1 to 255 bytes of 0x20 to 0x7E",
+            StreamFault::IdTwice => "an earlier entry has the id",
+            StreamFault::Length => "an entry's length is 0, or no multiple of the page size",
+            StreamFault::TooManyBlocks => "the size list has more than 256 entries",
+            StreamFault::SizeSum => "the entries' lengths pass the total",
+            StreamFault::SizePlace =>
+                "the first record of START isn't a size list, or one stands elsewhere",
+            StreamFault::Flags(_) => "a record head has other flags than those accepted",
+            StreamFault::NoBlock => "a page record names no block, and none was named before",
+            StreamFault::UnknownBlock => "a page record names a block that the table hasn't",
+            StreamFault::OffsetOut =>
+                "the offset isn't in the block, or isn't 0 where it has to be",
+            StreamFault::Fill(_) => "the byte of a zero page isn't 0",
+            StreamFault::Flush => "a FLUSH stands in a single stream",
+            StreamFault::Tail => "the main stream ends after a page record that no FLUSH follows",
+            StreamFault::Truncated => "the text was over before its end byte",
+        }
     }
 }
 
 /// The fault's number, what it says, and what it carries.
 impl Display for StreamFault {
     fn fmt<W: fmt::Write>(&self, f: &mut Formatter<W>) -> fmt::Result {
-        write!(f, "{}: {}", self.number(), words_of(*self))?;
+        write!(f, "{}: {}", self.number(), self.words())?;
         match self {
             StreamFault::Flags(flags) => write!(f, ": {flags:#x}"),
             StreamFault::Fill(byte) => write!(f, ": {byte:#x}"),

@@ -8,6 +8,7 @@ ghost use Rattle.mig_stream.specs.declared.item.RecordKind.TheVariants as kind;
 ghost use Rattle.mig_stream.specs.declared.item.Filling.TheVariants as filling;
 ghost use Rattle.mig_stream.specs.Items.{is_allowed, record_kind, end_round};
 ghost use Rattle.mig_stream.specs.Taking.{TakesAs, TakesHead};
+ghost use Rattle.mig_stream.specs.Kept.{bytes_of, IsShort};
 
 use crate::StreamFault;
 use crate::fields::{be32, be64};
@@ -19,6 +20,7 @@ use crate::format::{
     RAM_SECTION_NAME, RAM_VERSION,
 };
 use crate::item::{Before, Due, Filling, Mode, RecordKind, Section};
+use crate::piece::Piece;
 use crate::progress::Progress;
 use crate::round::Records;
 use crate::stop::Stop;
@@ -202,7 +204,8 @@ impl<'a, A: Allocator> Progress<'a, A> {
     }
 
     pub(crate) fn fill_byte(&mut self, place: Place, item: &[u8]) -> Result<(), Stop>
-        requires { length item.now ≡ 1 }
+        requires place { IsShort place }
+        requires size { length item.now ≡ 1 }
         ensures { TakesAs self.old (due.Content filling.Zero place) item.now self.new result }
     {
         if item[0] != 0 {
@@ -237,9 +240,11 @@ impl<'a, A: Allocator + Copy> Progress<'a, A> {
         ensures err { OnErr result (self.new ≡ self.old) }
     {
         self.rounds.reserve(1)?;
+        self.records.fit();
         let none = Records::new(*self.rounds.allocator());
         let records = mem::replace(&mut self.records, none);
         self.rounds.push_back_reserved(records);
+        self.filling = 0;
         Ok(())
     }
 
@@ -289,20 +294,14 @@ impl<'a, A: Allocator + Copy> Progress<'a, A> {
         Ok(())
     }
 
-    pub(crate) fn page(&mut self, place: Place, item: &[u8]) -> Result<(), Stop>
-        requires { length item.now ≡ self.old.page_size }
-        ensures { TakesAs self.old (due.Content filling.Normal place) item.now self.new result }
+    pub(crate) fn page(&mut self, place: Place, item: Piece<'a, '_>) -> Result<(), Stop>
+        requires place { IsShort place }
+        requires size { length (bytes_of item) ≡ self.old.page_size }
+        ensures { TakesAs self.old (due.Content filling.Normal place) (bytes_of item.entry) self.new result }
     {
-        self.records.push_page(place, item)?;
-        self.due = Due::RecordHead;
-        Ok(())
-    }
-
-    pub(crate) fn lent_page(&mut self, place: Place, item: &'a [u8]) -> Result<(), Stop>
-        requires { length item.now ≡ self.old.page_size }
-        ensures { TakesAs self.old (due.Content filling.Normal place) item.now self.new result }
-    {
-        self.records.push_lent(place, item)?;
+        // for what `page_size` tells of itself: it is at most 8,192
+        let _page_size = self.entries.page_size();
+        self.filling = self.records.push_page(self.filling, place, item)?;
         self.due = Due::RecordHead;
         Ok(())
     }

@@ -3,7 +3,7 @@
 //!
 //! Each law is the clause of a function that does nothing, so that it is proved with the crate and callers can have it.
 
-ghost use Rattle.mig_stream.specs.Law.{HasOneReading, SpelledIsRead, ReadIsSpelled, ClosedIsText, HasOneText, SinglesAreTexts, MainsAreTexts, RecordsStandForPages, ReadingsKeepLimits};
+ghost use Rattle.mig_stream.specs.Law.{HasOneReading, SpelledIsRead, ReadIsSpelled, ClosedIsText, HasOneText, SinglesAreTexts, MainsAreTexts, RecordsStandForPages, ReadingsKeepLimits, LongerTextsStay};
 
 /// Each text has exactly one reading. So whoever reads it, in whatever pieces, finds the same table, the same rounds and
 /// the same first fault.
@@ -44,4 +44,10 @@ pub fn written_is_text()
 /// handed in.
 pub fn readings_keep_limits()
     ensures { ReadingsKeepLimits }
+{}
+
+/// What is read of a text stays, whatever bytes follow: its whole rounds are the first ones of the longer text, and its table is
+/// that text's too. After the end byte, or a fault, nothing changes any more.
+pub fn longer_texts_stay()
+    ensures { LongerTextsStay }
 {}

@@ -7,7 +7,6 @@
 #![tactic(auto)]
 
 mod bytes;
-mod chunks;
 mod entries;
 mod fault;
 mod fields;
@@ -16,8 +15,10 @@ mod item;
 mod items;
 mod laws;
 mod opening;
+mod piece;
 mod progress;
 mod reader;
+mod record;
 mod round;
 mod stop;
 mod writer;
@@ -25,9 +26,9 @@ mod writer;
 pub use fault::StreamFault;
 pub use item::{Mode, StreamState};
 pub use laws::{
-    bytes_have_one_text, closed_is_text, read_is_spelled, readings_keep_limits, spelled_is_read,
-    text_has_one_reading, written_is_text,
+    bytes_have_one_text, closed_is_text, longer_texts_stay, read_is_spelled, readings_keep_limits,
+    spelled_is_read, text_has_one_reading, written_is_text,
 };
 pub use reader::StreamReader;
 pub use round::StreamRound;
-pub use writer::StreamWriter;
+pub use writer::{OpenPart, StreamWriter};

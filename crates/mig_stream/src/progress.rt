@@ -9,11 +9,13 @@ ghost use Rattle.mig_stream.specs.Items.{size};
 ghost use Rattle.mig_stream.specs.Reading.{IsItem, Reads};
 ghost use Rattle.mig_stream.specs.Taking.{TakesAs, HasTaken};
 ghost use Rattle.mig_stream.specs.Entries.{AreListed};
+ghost use Rattle.mig_stream.specs.Kept.{bytes_of, HasShortPlace};
 ghost use Rattle.mig_stream.specs.Later.{mark_of, IsLater, WasMarked};
 ghost use Rattle.mig_stream.specs.Reader.{with_taken};
 
 use crate::entries::Entries;
 use crate::item::{Due, Filling, Mode, Section, StreamState};
+use crate::piece::Piece;
 use crate::round::{Records, StreamRound};
 use crate::stop::Stop;
 use mig_mem::{NoMemory, Table};
@@ -33,6 +35,8 @@ pub(crate) struct Progress<'a, A: Allocator> {
     pub(crate) named: Option<usize>,
     // the records of the round that isn't whole yet, and the whole rounds that were not given away
     pub(crate) records: Records<'a, A>,
+    // the record whose buffer is being filled, if there is one
+    pub(crate) filling: usize,
     pub(crate) rounds: VecDeque<Records<'a, A>, A>,
 }
 
@@ -40,6 +44,7 @@ impl<'a, A: Allocator> Model for Progress<'a, A> {
     ghost use Rattle.std.specs.Prelude.{All};
     ghost use Rattle.mig_stream.specs.Progress.{StreamProgress};
     ghost use Rattle.mig_stream.specs.Round.{AreWhole};
+    ghost use Rattle.mig_stream.specs.Kept.{HasShortPlace};
 
     ghost Value = { StreamProgress };
 
@@ -57,7 +62,8 @@ impl<'a, A: Allocator> Model for Progress<'a, A> {
       rounds = c.rounds.items;
     } };
 
-    ghost invariant = { λ c. AreWhole c.entries.page_size c.records × All (AreWhole c.entries.page_size) c.rounds.items };
+    ghost invariant = { λ c. (AreWhole c.entries.page_size c.records × All (AreWhole c.entries.page_size) c.rounds.items)
+        × HasShortPlace c.due };
 }
 
 /// How far a stream had been read, to go back to: its lists only grow.
@@ -88,6 +94,7 @@ impl<'a, A: Allocator + Copy> Progress<'a, A> {
             section_id: 0,
             named: None,
             records: Records::new(alloc),
+            filling: 0,
             rounds: VecDeque::new(alloc),
         }
     }
@@ -95,69 +102,42 @@ impl<'a, A: Allocator + Copy> Progress<'a, A> {
 
 impl<'a, A: Allocator + Copy> Progress<'a, A> {
     /// Takes the item that is due. An `Err` changes nothing.
-    pub(crate) fn take(&mut self, item: &[u8]) -> Result<(), Stop>
-        requires { IsItem self.old.page_size self.old.due item.now }
-        ensures { TakesAs self.old self.old.due item.now self.new result }
+    pub(crate) fn take(&mut self, item: Piece<'a, '_>) -> Result<(), Stop>
+        requires { IsItem self.old.page_size self.old.due (bytes_of item) }
+        ensures { TakesAs self.old self.old.due (bytes_of item.entry) self.new result }
     {
+        let bytes = item.bytes();
         match self.due {
-            Due::FileHeader => self.file_header(item),
-            Due::TypeByte(before) => self.type_byte(before, item),
-            Due::ConfigLength => self.config_length(item),
-            Due::ConfigName(len) => self.config_name(len, item),
-            Due::StartHead => self.start_head(item),
-            Due::SectionHead => self.section_head(item),
-            Due::RecordHead => self.record_head(item),
-            Due::ListEntry => self.list_entry(item),
-            Due::BlockName(filling, page) => self.block_name(filling, page, item),
-            Due::Content(Filling::Zero, place) => self.fill_byte(place, item),
+            Due::FileHeader => self.file_header(bytes),
+            Due::TypeByte(before) => self.type_byte(before, bytes),
+            Due::ConfigLength => self.config_length(bytes),
+            Due::ConfigName(len) => self.config_name(len, bytes),
+            Due::StartHead => self.start_head(bytes),
+            Due::SectionHead => self.section_head(bytes),
+            Due::RecordHead => self.record_head(bytes),
+            Due::ListEntry => self.list_entry(bytes),
+            Due::BlockName(filling, page) => self.block_name(filling, page, bytes),
+            Due::Content(Filling::Zero, place) => self.fill_byte(place, bytes),
             Due::Content(Filling::Normal, place) => self.page(place, item),
-            Due::Footer => self.footer(item),
+            Due::Footer => self.footer(bytes),
             Due::Nothing => Ok(()),
         }
     }
 
-    /// Takes the item that is due. The bytes of a page stay where they are. An `Err` changes nothing.
-    pub(crate) fn take_lent(&mut self, item: &'a [u8]) -> Result<(), Stop>
-        requires { IsItem self.old.page_size self.old.due item.now }
-        ensures { TakesAs self.old self.old.due item.now self.new result }
-    {
-        match self.due {
-            Due::Content(Filling::Normal, place) => self.lent_page(place, item),
-            _ => self.take(item),
-        }
-    }
-
-    /// The same as `run`, but the bytes of pages stay where they are.
-    pub(crate) fn run_lent(&mut self, text: &'a [u8]) -> Result<(&'a [u8], StreamState), NoMemory>
-        ensures ok { IfOk result (λ r. Reads self.old text.now self.new r.0.now r.1) }
-        ensures err { OnErr result (HasTaken self.old text.now self.new) }
+    /// Takes items from the front of the bytes, as far as they are whole and without a fault. Gives the bytes that are left,
+    /// and how they stand. After an `Err` some items were taken.
+    pub(crate) fn run<'b>(
+        &mut self,
+        text: Piece<'a, 'b>,
+    ) -> Result<(Piece<'a, 'b>, StreamState), NoMemory>
+        ensures ok { IfOk result (λ r. Reads self.old (bytes_of text.entry) self.new (bytes_of r.0) r.1) }
+        ensures err { OnErr result (HasTaken self.old (bytes_of text.entry) self.new) }
     {
         let mut rest = text;
         'items: while !self.is_closed() {
-            let size = self.size(rest);
-            if rest.len() < size {
-                return Ok((rest, StreamState::Reading));
-            }
-            let (item, behind) = rest.split_at(size);
-            match self.take_lent(item) {
-                Ok(()) => rest = behind,
-                Err(Stop::Fault(fault)) => return Ok((rest, StreamState::Bad(fault))),
-                Err(Stop::Memory) => return Err(NoMemory),
-            }
-        }
-        Ok((rest, StreamState::Closed))
-    }
-
-    /// Takes items from the front of the bytes, as far as they are whole and without a fault. Gives the bytes that are left,
-    /// and how they stand. After an `Err` some items were taken.
-    pub(crate) fn run<'b>(&mut self, bytes: &'b [u8]) -> Result<(&'b [u8], StreamState), NoMemory>
-        ensures ok { IfOk result (λ r. Reads self.old bytes.now self.new r.0.now r.1) }
-        ensures err { OnErr result (HasTaken self.old bytes.now self.new) }
-    {
-        let mut rest = bytes;
-        'items: while !self.is_closed() {
-            let size = self.size(rest);
-            if rest.len() < size {
+            let bytes = rest.bytes();
+            let size = self.size(bytes);
+            if bytes.len() < size {
                 return Ok((rest, StreamState::Reading));
             }
             let (item, behind) = rest.split_at(size);
@@ -231,6 +211,7 @@ impl<'a, A: Allocator> Progress<'a, A> {
     pub(crate) fn mark(&self) -> Mark
         ensures value { result ≡ mark_of self.now }
         ensures listed { AreListed self.now.page_size self.now.limit self.now.left self.now.blocks }
+        ensures short { HasShortPlace self.now.due }
     {
         Mark {
             due: self.due,

@@ -13,10 +13,12 @@ ghost use Rattle.mig_stream.specs.PageRecord.{PageRecord};
 ghost use Rattle.mig_stream.specs.Items.{size};
 ghost use Rattle.mig_stream.specs.Taking.{HasTaken};
 ghost use Rattle.mig_stream.specs.Reading.{settings, state_at};
+ghost use Rattle.mig_stream.specs.Kept.{bytes_of};
 ghost use Rattle.mig_stream.specs.Reader.{IsUnfinished, ReadsOn, nothing_yet, with_piece, over, one_taken, Stands, StepsOn, Tells, waiting, HasState, IsSettled, HasTable, HasRound};
 
 use crate::StreamFault;
 use crate::item::{Mode, StreamState};
+use crate::piece::Piece;
 use crate::progress::Progress;
 use crate::round::StreamRound;
 use crate::stop::Stop;
@@ -99,34 +101,18 @@ fn keep<A: Allocator>(kept: &mut Vec<u8, A>, bytes: &[u8]) -> Result<(), NoMemor
 }
 
 // Reads bytes in place, and keeps those of an item that isn't whole. After an `Err` some items were taken.
-fn read_in_place<A: Allocator + Copy>(
-    progress: &mut Progress<'_, A>,
+fn read_in_place<'a, A: Allocator + Copy>(
+    progress: &mut Progress<'a, A>,
     pending: &mut Vec<u8, A>,
-    bytes: &[u8],
+    bytes: Piece<'a, '_>,
 ) -> Result<StreamState, NoMemory>
-    ensures ok { IfOk result (λ found. ReadsOn progress.old bytes.now progress.new pending.new.items found) }
-    ensures err { OnErr result (HasTaken progress.old bytes.now progress.new) }
+    ensures ok { IfOk result (λ found. ReadsOn progress.old (bytes_of bytes.entry) progress.new pending.new.items found) }
+    ensures err { OnErr result (HasTaken progress.old (bytes_of bytes.entry) progress.new) }
     ensures kept { OnErr result (pending.new.items ≡ pending.old.items) }
 {
     let (rest, found) = progress.run(bytes)?;
     match found {
-        StreamState::Reading => keep(pending, rest)?,
-        _ => pending.clear(),
-    }
-    Ok(found)
-}
-
-// The same of a whole text, but the bytes of its pages stay where they are.
-fn read_lent<'a, A: Allocator + Copy>(
-    progress: &mut Progress<'a, A>,
-    pending: &mut Vec<u8, A>,
-    text: &'a [u8],
-) -> Result<StreamState, NoMemory>
-    ensures ok { IfOk result (λ found. ReadsOn progress.old text.now progress.new pending.new.items found) }
-{
-    let (rest, found) = progress.run_lent(text)?;
-    match found {
-        StreamState::Reading => keep(pending, rest)?,
+        StreamState::Reading => keep(pending, rest.bytes())?,
         _ => pending.clear(),
     }
     Ok(found)
@@ -145,13 +131,13 @@ fn read<A: Allocator + Copy>(
     ensures kept { OnErr result (take (length pending.old.items) pending.new.items ≡ pending.old.items) }
 {
     if pending.is_empty() {
-        return read_in_place(progress, pending, piece);
+        return read_in_place(progress, pending, Piece::Passing(piece));
     }
     let Some(rest) = complete(progress, pending, piece)? else {
         return Ok(StreamState::Reading);
     };
-    match progress.take(pending) {
-        Ok(()) => read_in_place(progress, pending, rest),
+    match progress.take(Piece::Passing(pending)) {
+        Ok(()) => read_in_place(progress, pending, Piece::Passing(rest)),
         Err(Stop::Fault(fault)) => Ok(StreamState::Bad(fault)),
         Err(Stop::Memory) => Err(NoMemory),
     }
@@ -191,7 +177,7 @@ impl<'a, A: Allocator + Copy> StreamReader<'a, A> {
     {
         let mut progress = Progress::new(alloc, mode, page_size, limit);
         let mut pending = Vec::new(alloc);
-        let found = read_lent(&mut progress, &mut pending, text)?;
+        let found = read_in_place(&mut progress, &mut pending, Piece::Staying(text))?;
         Ok(StreamReader {
             progress,
             pending,

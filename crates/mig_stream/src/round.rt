@@ -1,161 +1,167 @@
 //! The rounds of a stream: their page records.
 
-ghost use Rattle.std.specs.Prelude.{◌≡◌, ◌<◌, ◌++◌, [], ◌∷◌, length, take, None, Some, IfSome, OnOk, OnErr};
+ghost use Rattle.std.specs.Prelude.{◌≡◌, ◌<◌, ◌^◌, ◌++◌, [], ◌∷◌, length, take, None, Some, IfSome, IfOk, OnOk, OnErr};
 ghost use Rattle.std.specs.Option.{option_copied};
-ghost use Rattle.mig_stream.specs.declared.chunks.Span.{Span as AnySpan};
-ghost use Rattle.mig_stream.specs.Kept.{IsBefore, IsHeldBefore, EndBefore};
+ghost use Rattle.mig_stream.specs.Kept.{bytes_of, buffers_of_records, record_in, IsHeld, IsShort, records_after, AreHeldAfter};
 ghost use Rattle.mig_stream.specs.Round.{record_at, AreWhole};
 
-use crate::chunks::{Chunks, Span};
+use crate::piece::Piece;
+use crate::record::{Record, content_at, next_buffer, put_behind};
 use mig_mem::{NoMemory, Place};
 use std::alloc::{Allocator, Global};
 use std::marker::Model;
 
-/// What a record has of its page.
-#[derive(Clone, Copy)]
-pub(crate) enum Content<'a> {
-    /// That it is zeros.
-    Zeros,
-    /// Its bytes, kept in a buffer.
-    Kept(Span),
-    /// Its bytes, as they stand in the text.
-    Lent(&'a [u8]),
-}
-
-/// A page record: the place of its page, and what it has of it.
-#[derive(Clone, Copy)]
-pub(crate) struct Record<'a> {
-    pub(crate) place: Place,
-    pub(crate) content: Content<'a>,
-}
-
-// Where the bytes of records end: in which buffer, and how many bytes into it.
-fn end_of(records: &[Record<'_>]) -> (usize, usize)
-    ensures { EndBefore result.0 result.1 records.now }
+// Makes room for one more record: as much again as there is, and at first for one, since a text may have many rounds of few
+// records.
+fn make_room<A: Allocator>(records: &mut Vec<Record<'_, A>, A>) -> Result<(), NoMemory>
+    ensures { records.new.items ≡ records.old.items }
 {
-    let mut chunk = 0;
-    let mut len = 0;
-    for record in records {
-        (chunk, len) = later(chunk, len, record.content);
+    let len = records.len();
+    if len == records.capacity() {
+        records.reserve_exact(len.max(1))?;
     }
-    (chunk, len)
+    Ok(())
 }
 
-// The later one of a place and the end of some bytes, if there are any.
-fn later(chunk: usize, len: usize, content: Content<'_>) -> (usize, usize)
-    ensures content { IsHeldBefore result.0 result.1 content.entry }
-    ensures others { (s : AnySpan) → IsBefore chunk len s → IsBefore result.0 result.1 s }
+// Adds a record.
+fn push<'a, A: Allocator>(
+    records: &mut Vec<Record<'a, A>, A>,
+    item: Record<'a, A>,
+) -> Result<(), NoMemory>
+    requires records { AreHeldAfter [] records.old.items }
+    requires item { IsHeld (buffers_of_records records.old.items) item }
+    ensures held { AreHeldAfter [] records.new.items }
+    ensures ok { OnOk result (records_after [] records.new.items
+        ≡ records_after [] records.old.items ++ record_in (buffers_of_records records.old.items) item.entry ∷ []) }
+    ensures err { OnErr result (records_after [] records.new.items ≡ records_after [] records.old.items) }
 {
-    match content {
-        Content::Zeros | Content::Lent(_) => (chunk, len),
-        Content::Kept(span) if span.chunk < chunk => (chunk, len),
-        Content::Kept(span) if span.chunk > chunk => (span.chunk, span.end),
-        Content::Kept(span) => (chunk, len.max(span.end)),
-    }
+    make_room(records)?;
+    records.push(item)?;
+    Ok(())
 }
 
 /// Page records, one after another.
 #[derive(Drop)]
 pub(crate) struct Records<'a, A: Allocator> {
-    items: Vec<Record<'a>, A>,
-    chunks: Chunks<A>,
+    items: Vec<Record<'a, A>, A>,
 }
 
 impl<'a, A: Allocator> Model for Records<'a, A> {
-    ghost use Rattle.std.specs.Prelude.{List};
+    ghost use Rattle.std.specs.Prelude.{List, []};
     ghost use Rattle.mig_stream.specs.PageRecord.{PageRecord};
-    ghost use Rattle.mig_stream.specs.Kept.{records_in, AreKept};
+    ghost use Rattle.mig_stream.specs.Kept.{records_after, AreHeldAfter};
 
     ghost Value = { List PageRecord };
 
-    ghost view = { λ r. records_in r.chunks r.items.items };
+    ghost view = { λ r. records_after [] r.items.items };
 
-    ghost invariant = { λ r. AreKept r.chunks r.items.items };
+    ghost invariant = { λ r. AreHeldAfter [] r.items.items };
 }
 
 impl<'a, A: Allocator> Records<'a, A> {
-    #[tactic(auto, unfolding(crate::specs::Kept::records_in, crate::specs::Kept::AreKept))]
     pub(crate) fn len(&self) -> usize
         ensures { result ≡ length self.now }
     {
         self.items.len()
     }
 
-    /// Keeps the first records alone, and lets go of the bytes of the others.
-    #[tactic(auto, unfolding(crate::specs::Kept::records_in, crate::specs::Kept::AreKept))]
+    /// Keeps the first records alone.
     pub(crate) fn truncate(&mut self, n: usize)
         ensures { self.new ≡ take n self.old }
     {
         self.items.truncate(n);
-        let (chunk, len) = end_of(&self.items);
-        self.chunks.cut(chunk, len);
+    }
+
+    /// Gives back the room that no record needs.
+    pub(crate) fn fit(&mut self)
+        ensures { self.new ≡ self.old }
+    {
+        self.items.shrink_to_fit();
     }
 
     /// Adds a record of a page of zeros. An `Err` changes nothing.
-    #[tactic(auto, unfolding(crate::specs::Kept::records_in, crate::specs::Kept::AreKept))]
     pub(crate) fn push_zeros(&mut self, place: Place) -> Result<(), NoMemory>
+        requires { IsShort place }
         ensures ok { OnOk result (self.new ≡ self.old ++ record { place = place; content = None } ∷ []) }
         ensures err { OnErr result (self.new ≡ self.old) }
     {
-        self.items.push(Record {
-            place,
-            content: Content::Zeros,
-        })?;
-        Ok(())
+        let record = Record::Zeros(place.block as u8, place.page as u32);
+        push(&mut self.items, record)
     }
 
-    /// Adds a record of a page with these bytes, which stay where they are. An `Err` changes nothing.
-    #[tactic(auto, unfolding(crate::specs::Kept::records_in, crate::specs::Kept::AreKept))]
-    pub(crate) fn push_lent(&mut self, place: Place, bytes: &'a [u8]) -> Result<(), NoMemory>
-        ensures ok { OnOk result (self.new ≡ self.old ++ record { place = place; content = Some bytes.now } ∷ []) }
-        ensures err { OnErr result (self.new ≡ self.old) }
-    {
-        let content = Content::Lent(bytes);
-        self.items.push(Record { place, content })?;
-        Ok(())
-    }
-
-    #[tactic(auto, unfolding(crate::specs::Kept::records_in, crate::specs::Kept::AreKept))]
     pub(crate) fn place(&self, i: usize) -> Place
         requires { i < length self.now }
         ensures { result ≡ (record_at self.now i).place }
     {
-        self.items[i].place
+        self.items[i].place()
     }
 
-    #[tactic(auto, unfolding(crate::specs::Kept::records_in, crate::specs::Kept::AreKept))]
     pub(crate) fn content(&self, i: usize) -> Option<&[u8]>
         requires { i < length self.now }
         ensures { option_copied result ≡ (record_at self.now i).content }
     {
-        match self.items[i].content {
-            Content::Zeros => None,
-            Content::Kept(span) => Some(self.chunks.bytes(span)),
-            Content::Lent(bytes) => Some(bytes),
-        }
+        content_at(&self.items, i)
     }
 }
 
 impl<'a, A: Allocator + Copy> Records<'a, A> {
-    #[tactic(auto, unfolding(crate::specs::Kept::records_in, crate::specs::Kept::AreKept))]
     pub(crate) fn new(alloc: A) -> Records<'a, A>
         ensures { result ≡ [] }
     {
         Records {
             items: Vec::new(alloc),
-            chunks: Chunks::new(alloc),
         }
     }
 
-    /// Adds a record of a page with these bytes, which it copies. An `Err` changes nothing.
-    #[tactic(auto, unfolding(crate::specs::Kept::records_in, crate::specs::Kept::AreKept))]
-    pub(crate) fn push_page(&mut self, place: Place, bytes: &[u8]) -> Result<(), NoMemory>
+    /// Adds a record of a page with these bytes, which may go into the buffer of the record of a number. Gives the number
+    /// of the record whose buffer may have room for the next one. An `Err` changes nothing.
+    pub(crate) fn push_page(
+        &mut self,
+        owner: usize,
+        place: Place,
+        page: Piece<'a, '_>,
+    ) -> Result<usize, NoMemory>
+        requires place { IsShort place }
+        requires size { length (bytes_of page) < 2 ^ 32 }
+        ensures ok { OnOk result (self.new ≡ self.old ++ record { place = place; content = Some (bytes_of page.entry) } ∷ []) }
+        ensures err { OnErr result (self.new ≡ self.old) }
+    {
+        match page {
+            Piece::Passing(bytes) => self.push_kept(owner, place, bytes),
+            Piece::Staying(bytes) => {
+                self.push_lent(place, bytes)?;
+                Ok(owner)
+            }
+        }
+    }
+
+    // Adds a record of a page with these bytes, which stay where they are.
+    fn push_lent(&mut self, place: Place, bytes: &'a [u8]) -> Result<(), NoMemory>
+        requires { IsShort place }
         ensures ok { OnOk result (self.new ≡ self.old ++ record { place = place; content = Some bytes.now } ∷ []) }
         ensures err { OnErr result (self.new ≡ self.old) }
     {
-        let content = Content::Kept(self.chunks.keep(bytes)?);
-        self.items.push(Record { place, content })?;
-        Ok(())
+        let record = Record::Lent(place.block as u8, place.page as u32, bytes);
+        push(&mut self.items, record)
+    }
+
+    // Adds a record of a page with these bytes, which it copies.
+    fn push_kept(&mut self, owner: usize, place: Place, bytes: &[u8]) -> Result<usize, NoMemory>
+        requires place { IsShort place }
+        requires size { length bytes.now < 2 ^ 32 }
+        ensures ok { OnOk result (self.new ≡ self.old ++ record { place = place; content = Some bytes.now } ∷ []) }
+        ensures err { OnErr result (self.new ≡ self.old) }
+    {
+        let (block, page) = (place.block as u8, place.page as u32);
+        if let Some(span) = put_behind(&mut self.items, owner, bytes) {
+            push(&mut self.items, Record::Behind(block, page, span))?;
+            return Ok(owner);
+        }
+        let number = self.items.len();
+        let buffer = next_buffer(*self.items.allocator(), &self.items, owner, bytes)?;
+        let record = Record::Kept(block, page, bytes.len() as u32, buffer);
+        push(&mut self.items, record)?;
+        Ok(number)
     }
 }
 

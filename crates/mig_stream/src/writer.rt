@@ -2,7 +2,7 @@
 //!
 //! It only appends. Which rounds there are, and which stream a part belongs to, is for its caller.
 
-ghost use Rattle.std.specs.Prelude.{◌≡◌, ◌+◌, ◌*◌, ◌<◌, ◌^◌, ◌++◌, ◌==◌, if◌then◌else◌, ℕ, List, [], ◌∷◌, length, None, Some, IfOk, IfErr, OnOk, OnErr};
+ghost use Rattle.std.specs.Prelude.{◌≡◌, ◌+◌, ◌*◌, ◌<◌, ◌^◌, ◌++◌, ◌==◌, if◌then◌else◌, ℕ, List, [], ◌∷◌, length, take, None, Some, IfOk, IfErr, OnOk, OnErr};
 ghost use Rattle.mig_mem.specs.RamTable.{block as block_at};
 ghost use Rattle.mig_mem.specs.Place.{IsPlace};
 ghost use Rattle.mig_mem.specs.Image.{Page};
@@ -11,12 +11,12 @@ ghost use Rattle.mig_zero.specs.Zero.{is_zero as zero_test};
 ghost use Rattle.mig_stream.specs.Fields.{counted};
 ghost use Rattle.mig_stream.specs.Format.{flags_of};
 ghost use Rattle.mig_stream.specs.PageRecord.{page_kind};
-ghost use Rattle.mig_stream.specs.Written.{Part, RoundPart, FlushPart, is_named, opening, closing, written};
-ghost use Rattle.mig_stream.specs.Writer.{HasWritten, with_pages, with_part, KeepsFront};
+ghost use Rattle.mig_stream.specs.Written.{Part, RoundPart, FlushPart, is_named, opening, closing, written, written_so_far};
+ghost use Rattle.mig_stream.specs.Writer.{HasWritten, HasDrained, HasPut, with_pages, with_part, KeepsFront};
 
 use crate::format::{CONTINUED_PAGE, CONTINUED_ZERO, RAM_SAVE_FLAG_PAGE, RAM_SAVE_FLAG_ZERO};
 use crate::opening::{SECTION_END, opening_of};
-use mig_mem::{Dirty, Memory, NoMemory, Place, Table};
+use mig_mem::{Dirty, GuestPages, NoMemory, Place, Table};
 use mig_zero::is_zero;
 use std::alloc::{Allocator, Global};
 use std::marker::Model;
@@ -82,37 +82,44 @@ impl<A: Allocator> StreamWriter<A> {
     }
 
     /// Writes the round of an image and its dirty pages, as one PART. An `Err` changes nothing.
-    pub fn part<B: Allocator, C: Allocator>(
+    pub fn part<G: GuestPages, C: Allocator>(
         &mut self,
-        image: &Memory<B>,
+        image: &G,
         dirty: &Dirty<C>,
     ) -> Result<(), NoMemory>
-        requires image { image.now.table ≡ self.old.table }
+        requires image { (G.image image.now).table ≡ self.old.table }
         requires dirty { dirty.now.table ≡ self.old.table }
         ensures table { self.new.table ≡ self.old.table }
-        ensures ok { OnOk result ((parts : List Part) → HasWritten self.old parts
-            → HasWritten self.new (parts ++ RoundPart (round_of image.now dirty.now.marked) ∷ [])) }
+        ensures ok { OnOk result ((drained : List ℕ) (parts : List Part) → HasDrained drained self.old parts
+            → HasDrained drained self.new (parts ++ RoundPart (round_of (G.image image.now) dirty.now.marked) ∷ [])) }
         ensures err { OnErr result (self.new ≡ self.old) }
     {
         let len = self.text.len();
         let named = self.named;
         let put = self.put_part(image, dirty);
         if put.is_err() {
-            self.text.truncate(len);
-            self.named = named;
+            self.go_back(len, named);
         }
         put
     }
 
+    // Goes back to where its text was so long and this block was named last.
+    fn go_back(&mut self, len: usize, named: Option<usize>)
+        ensures { self.new ≡ record self.old { text = take len self.old.text; named = named } }
+    {
+        self.text.truncate(len);
+        self.named = named;
+    }
+
     // Writes a PART; after an `Err` a part of it may stand.
-    fn put_part<B: Allocator, C: Allocator>(
+    fn put_part<G: GuestPages, C: Allocator>(
         &mut self,
-        image: &Memory<B>,
+        image: &G,
         dirty: &Dirty<C>,
     ) -> Result<(), NoMemory>
-        requires image { image.now.table ≡ self.old.table }
+        requires image { (G.image image.now).table ≡ self.old.table }
         requires dirty { dirty.now.table ≡ self.old.table }
-        ensures ok { OnOk result (self.new ≡ with_part self.old (RoundPart (round_of image.now dirty.now.marked))) }
+        ensures ok { OnOk result (self.new ≡ with_part self.old (RoundPart (round_of (G.image image.now) dirty.now.marked))) }
         ensures err { OnErr result (KeepsFront self.old self.new) }
     {
         self.text.extend_from_slice(&PART_HEAD)?;
@@ -122,14 +129,14 @@ impl<A: Allocator> StreamWriter<A> {
     }
 
     // Writes the records of the dirty pages, in the order of their places; after an `Err` some of them may stand.
-    fn put_pages<B: Allocator, C: Allocator>(
+    fn put_pages<G: GuestPages, C: Allocator>(
         &mut self,
-        image: &Memory<B>,
+        image: &G,
         dirty: &Dirty<C>,
     ) -> Result<(), NoMemory>
-        requires image { image.now.table ≡ self.old.table }
+        requires image { (G.image image.now).table ≡ self.old.table }
         requires dirty { dirty.now.table ≡ self.old.table }
-        ensures ok { OnOk result (self.new ≡ with_pages self.old (round_of image.now dirty.now.marked)) }
+        ensures ok { OnOk result (self.new ≡ with_pages self.old (round_of (G.image image.now) dirty.now.marked)) }
         ensures err { OnErr result (KeepsFront self.old self.new) }
     {
         let mut from = Place { block: 0, page: 0 };
@@ -211,16 +218,65 @@ impl<A: Allocator> StreamWriter<A> {
     /// Writes a FLUSH, as one PART. An `Err` changes nothing.
     pub fn flush_part(&mut self) -> Result<(), NoMemory>
         ensures table { self.new.table ≡ self.old.table }
-        ensures ok { OnOk result ((parts : List Part) → HasWritten self.old parts → HasWritten self.new (parts ++ FlushPart ∷ [])) }
+        ensures ok { OnOk result ((drained : List ℕ) (parts : List Part) → HasDrained drained self.old parts
+            → HasDrained drained self.new (parts ++ FlushPart ∷ [])) }
         ensures err { OnErr result (self.new ≡ self.old) }
     {
         self.text.extend_from_slice(&FLUSH_PART)?;
         Ok(())
     }
 
-    /// Ends the stream and gives its text; an `Err` gives the writer back as it was.
+    /// Begins a part whose pages are put one by one. An `Err` gives the writer back as it was.
+    pub fn begin_part(mut self) -> Result<OpenPart<A>, StreamWriter<A>>
+        ensures before { IfOk result (λ part. part.before ≡ self) }
+        ensures none { IfOk result (λ part. HasPut part []) }
+        ensures err { IfErr result (λ w. w ≡ self) }
+    {
+        let len = self.text.len();
+        let named = self.named;
+        match self.text.extend_from_slice(&PART_HEAD) {
+            Ok(()) => Ok(OpenPart {
+                writer: self,
+                len,
+                named,
+            }),
+            Err(_) => Err(self),
+        }
+    }
+
+    /// Hands out the bytes that were written and not drained yet: all that stands of the text so far is what was drained in all.
+    /// What is drained, piece after piece, and then what `finish` gives is the text. It takes no memory.
+    pub fn drain(&mut self) -> Vec<u8, A>
+    where
+        A: Copy,
+        ensures table { self.new.table ≡ self.old.table }
+        ensures all { (drained : List ℕ) (parts : List Part) → HasDrained drained self.old parts
+            → drained ++ result.items ≡ written_so_far self.old.table parts }
+        ensures drained { (drained : List ℕ) (parts : List Part) → HasDrained drained self.old parts
+            → HasDrained (drained ++ result.items) self.new parts }
+    {
+        let mut bytes = Vec::new(*self.text.allocator());
+        self.drain_into(&mut bytes);
+        bytes
+    }
+
+    /// As `drain`, into a buffer: what it held is dropped, and its room is used for what is written next. So two buffers serve
+    /// for a stream of any length.
+    pub fn drain_into(&mut self, bytes: &mut Vec<u8, A>)
+        ensures table { self.new.table ≡ self.old.table }
+        ensures all { (drained : List ℕ) (parts : List Part) → HasDrained drained self.old parts
+            → drained ++ bytes.new.items ≡ written_so_far self.old.table parts }
+        ensures drained { (drained : List ℕ) (parts : List Part) → HasDrained drained self.old parts
+            → HasDrained (drained ++ bytes.new.items) self.new parts }
+    {
+        bytes.clear();
+        std::mem::swap(&mut self.text, bytes);
+    }
+
+    /// Ends the stream and gives its text, or what of it wasn't drained; an `Err` gives the writer back as it was.
     pub fn finish(mut self) -> Result<Vec<u8, A>, StreamWriter<A>>
-        ensures ok { IfOk result (λ text. (parts : List Part) → HasWritten self parts → text.items ≡ written self.table parts) }
+        ensures ok { IfOk result (λ text. (drained : List ℕ) (parts : List Part) → HasDrained drained self parts
+            → drained ++ text.items ≡ written self.table parts) }
         ensures err { IfErr result (λ w. w ≡ self) }
     {
         match self.text.extend_from_slice(&CLOSING) {
@@ -234,5 +290,75 @@ impl<A: Allocator> StreamWriter<A> {
             }
             Err(_) => Err(self),
         }
+    }
+}
+
+/// A part that is being written, page after page: a round whose pages are what its caller read, as of a guest that runs on. It
+/// has the writer until the part is ended or cancelled; whoever drops it drops the writer too, and so gives up the stream.
+#[derive(Drop)]
+pub struct OpenPart<A: Allocator = Global> {
+    writer: StreamWriter<A>,
+    // how long the text was before the part, and which block was named last there
+    len: usize,
+    named: Option<usize>,
+}
+
+impl<A: Allocator> Model for OpenPart<A> {
+    ghost use Rattle.std.specs.Prelude.{◌≤◌, length, take};
+    ghost use Rattle.mig_stream.specs.Writer.{PartSoFar};
+
+    ghost Value = { PartSoFar };
+
+    ghost view = { λ p. record { before = record { table = p.writer.table; text = take p.len p.writer.text; named = p.named }; now = p.writer } };
+
+    ghost invariant = { λ p. p.len ≤ length p.writer.text };
+}
+
+impl<A: Allocator> OpenPart<A> {
+    /// The table whose pages it writes.
+    pub fn table(&self) -> &Table<A>
+        ensures { result.now ≡ self.now.before.table }
+    {
+        self.writer.table()
+    }
+
+    /// Writes a page: a place of the table, for which `Table::holds` is the test, and its bytes. Places come in any order, and
+    /// of several pages at one place the last one counts. An `Err` changes nothing, so the page can be put again.
+    pub fn put_page(&mut self, place: Place, bytes: &[u8]) -> Result<(), NoMemory>
+        requires place { IsPlace self.old.before.table place }
+        requires bytes { length bytes.now ≡ self.old.before.table.page_size }
+        ensures before { self.new.before ≡ self.old.before }
+        ensures ok { OnOk result ((pages : List Page) → HasPut self.old pages
+            → HasPut self.new (pages ++ record { place = place; content = bytes.now } ∷ [])) }
+        ensures err { OnErr result (self.new ≡ self.old) }
+    {
+        let len = self.writer.text.len();
+        let named = self.writer.named;
+        let put = self.writer.put_page(place, bytes);
+        if put.is_err() {
+            self.writer.go_back(len, named);
+        }
+        put
+    }
+
+    /// Ends the part: the round of the pages that were put, in the order in which they were. An `Err` gives it back as it was.
+    pub fn end_part(mut self) -> Result<StreamWriter<A>, OpenPart<A>>
+        ensures table { IfOk result (λ w. w.table ≡ self.before.table) }
+        ensures ok { IfOk result (λ w. (pages : List Page) → HasPut self pages → (drained : List ℕ) (parts : List Part) → HasDrained drained self.before parts
+            → HasDrained drained w (parts ++ RoundPart pages ∷ [])) }
+        ensures err { IfErr result (λ part. part ≡ self) }
+    {
+        match self.writer.text.extend_from_slice(&SECTION_END) {
+            Ok(()) => Ok(self.writer),
+            Err(_) => Err(self),
+        }
+    }
+
+    /// Leaves out the part: the writer as it was before.
+    pub fn cancel(mut self) -> StreamWriter<A>
+        ensures { result ≡ self.before }
+    {
+        self.writer.go_back(self.len, self.named);
+        self.writer
     }
 }

@@ -85,3 +85,27 @@ pub(crate) fn feed<A: Allocator + Copy>(
     assert!(rt; reader.fed().checked_add(piece.len() as u64).is_some());
     reader.feed(piece)
 }
+
+/// What became of a run in which a growth was to be refused.
+#[derive(Clone, Copy, PartialEq, Eq)]
+pub(crate) enum Run {
+    /// It answered want of memory.
+    Refused,
+    /// It was refused a smaller block for a list that it had, and kept the list where it was.
+    Survived,
+    /// It has no such growth.
+    Whole,
+}
+
+/// What became of a run that answered or not, after which the refusal still waits or not.
+pub(crate) fn run_of(rt: &impl Abort, has_answered: bool, is_waiting: bool) -> Run {
+    if !has_answered {
+        assert!(rt; !is_waiting);
+        return Run::Refused;
+    }
+    if is_waiting {
+        Run::Whole
+    } else {
+        Run::Survived
+    }
+}

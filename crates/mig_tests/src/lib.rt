@@ -9,6 +9,10 @@ mod building;
 #[cfg(test)]
 mod in_use;
 #[cfg(test)]
+mod lent;
+#[cfg(test)]
+mod pieces;
+#[cfg(test)]
 mod refused;
 #[cfg(test)]
 mod rounds;

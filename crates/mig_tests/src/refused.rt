@@ -3,7 +3,7 @@
 
 ghost use Rattle.std.specs.Prelude.{◌≡◌, All};
 
-use crate::building::{BLOCKS, dirty_of, empty_text, image_with, text_of, two_rounds};
+use crate::building::{BLOCKS, Run, dirty_of, empty_text, image_with, run_of, text_of, two_rounds};
 use crate::rounds::{both_packets, next_packet, put_round, records, text_of_packets};
 use mig_assemble::{Gathered, RoundFault, Target};
 use mig_fixtures::{at, has_byte, is_full, table};
@@ -162,8 +162,8 @@ fn load_or_fault<'a>(heap: &'a Refusing, text: &[u8]) -> Result<Loaded<&'a Refus
     Ok(loaded)
 }
 
-// Asserts that a load has the text of two rounds.
-fn assert_two_rounds<A: Allocator>(rt: &impl Abort, loaded: &Loaded<A>) {
+/// Asserts that a load has the text of two rounds.
+pub(crate) fn assert_two_rounds<A: Allocator>(rt: &impl Abort, loaded: &Loaded<A>) {
     assert!(rt; loaded.verdict == Ok(()));
     assert!(rt; loaded.rounds == 4);
     let memory = loaded.memory.as_ref().expect(rt, "a memory");
@@ -171,17 +171,37 @@ fn assert_two_rounds<A: Allocator>(rt: &impl Abort, loaded: &Loaded<A>) {
     assert!(rt; is_full(memory, at(1, 64), 0));
 }
 
-// Asserts the load of that text, after refused growths.
-fn assert_loads(rt: &impl Abort, heap: &Refusing, text: &[u8]) -> Result<(), Fail> {
-    with_each_growth_refused!(rt, heap, load_or_fault(heap, text), loaded => {
-        assert_two_rounds(rt, &loaded);
-    });
+// Loads that text with growth `nth` refused.
+fn run_of_load(rt: &impl Abort, heap: &Refusing, text: &[u8], nth: u64) -> Run {
+    heap.refuse(nth);
+    let answer = load_or_fault(heap, text);
+    let run = run_of(rt, answer.is_ok(), heap.is_waiting());
+    heap.refuse(0);
+    match answer {
+        Ok(loaded) => assert_two_rounds(rt, &loaded),
+        Err(fault) => assert_eq!(rt; fault.number(), 60),
+    }
+    run
 }
 
+// A load lives with one refusal: that of a smaller block for the list of three records.
 #[test]
-fn loads(rt: HostRuntime) -> Result<(), Fail> {
+fn loads(rt: HostRuntime) {
     let heap = Refusing::new(rt.alloc(), 0);
-    assert_loads(&rt, &heap, &two_rounds(&rt))
+    let text = two_rounds(&rt);
+    let mut survived = 0u64;
+    for nth in 1..1000u64 {
+        match run_of_load(&rt, &heap, &text, nth) {
+            Run::Refused => {}
+            Run::Survived => survived = survived.saturating_add(1),
+            Run::Whole => {
+                assert!(rt; nth > 2);
+                assert_eq!(rt; survived, 1);
+                return;
+            }
+        }
+    }
+    panic!(rt; "each run had a refusal");
 }
 
 // Gathers a packet, after a refused growth that leaves the list as it was.

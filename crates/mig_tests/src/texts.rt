@@ -1,7 +1,7 @@
 //! What faults say of themselves: the number first, then words.
 
 use mig_assemble::RoundFault;
-use mig_load::{Fault, LoadFault, Origin};
+use mig_load::{Fault, FeedFault, LoadFault, Origin};
 use mig_mem::{NoMemory, Place, TableFault};
 use mig_packet::ChannelFault;
 use mig_send::SendFault;
@@ -44,6 +44,12 @@ fn texts_of_faults(rt: HostRuntime) {
         alloc,
         SendFault::OtherTable,
         "63: the image or the dirty set is of another table",
+    );
+    assert_text(
+        &rt,
+        alloc,
+        FeedFault::NoGuestMemory,
+        "60: no memory was found for the guest",
     );
     assert_text(&rt, alloc, double, "59: page 2 of block 1 comes twice");
     assert_text(

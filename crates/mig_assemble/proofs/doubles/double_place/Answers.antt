@@ -1,16 +1,10 @@
-use Rattle.std.proofs.Common.{ap}
-use Rattle.mig_mem.specs.PlaceSet.{PlaceSet}
+use Rattle.std.proofs.Common.{map}
+use Rattle.mig_packet.specs.Lent.{fields}
 use Rattle.mig_assemble.specs.Target.{pages_of_round}
-use Rattle.mig_assemble.proofs.Marked.{lawful_at, packet_step}
+use Rattle.mig_assemble.proofs.Marked.{all_gone}
 use Rattle.mig_assemble.proofs.doubles.double_place.Goals as goal
 
-pub mark_packet-double-requires-clause-lawful : goal.mark_packet-double-requires-clause-lawful
-mark_packet-double-requires-clause-lawful g c =
-    lawful_at c.args.seen.now.table c.loop-packet.seen.table (ap (λ (s : PlaceSet). s.table) c.loop-packet.invariant.marks)
-    c.args.packets.now c.loop-packet.packet-index c.packet-item.result c.loop-packet-test.true c.packet-item.is c.requires.lawful
-
-pub loop-packet-preserved : goal.loop-packet-preserved
-loop-packet-preserved g c =
-    packet_step c.args.seen.now.table c.loop-packet.seen.table (ap (λ (s : PlaceSet). s.table) c.loop-packet.invariant.marks)
-    (pages_of_round c.args.round.now) c.args.packets.now c.loop-packet.packet-index c.packet-item.result c.loop-packet-test.true c.packet-item.is
-    c.loop-packet.seen c.mark_packet-double.new.seen c.loop-packet.double c.mark_packet-double.result c.mark_packet-double.ensures.seen c.loop-packet.invariant
+pub returns-clause-seen : goal.returns-clause-seen
+returns-clause-seen g c =
+    all_gone c.args.seen.now c.mark_all-double.new.seen c.unmark_records.new.seen c.unmark_packets.new.seen (pages_of_round c.args.round.now) (map fields c.args.packets.now) c.mark_all-double.result
+    c.requires.seen c.mark_all-double.ensures c.unmark_records.ensures.table c.unmark_records.ensures.seen c.unmark_packets.ensures.seen

@@ -8,7 +8,7 @@ use Rattle.mig_send.proofs.packed.offsets.Goals as goal
 
 pub loop-page-init : goal.loop-page-init
 loop-page-init g c =
-    let m = c.args.memory.now in
+    let m = g.M.GuestPages.image c.args.memory.now in
     record {
       normal = c.in_ok-normal.ensures.items ∙ none_passing (λ b. not (is_zero b)) m c.args.block;
       zero =
@@ -17,16 +17,16 @@ loop-page-init g c =
 
 pub overflow_mul-offset : goal.overflow_mul-offset
 overflow_mul-offset g c =
-    let size : c.page_size-page_size.result ≡ c.args.memory.now.table.page_size =
+    let size : c.page_size-page_size.result ≡ (g.M.GuestPages.image c.args.memory.now).table.page_size =
     c.page_size-page_size.ensures ∙ ap (λ (t : RamTable). t.page_size) c.table.ensures.value in
     let fits : get_or c.args.pages.now c.loop-page.page-index 0 * c.page_size-page_size.result < 2 ^ 64 =
-    rw size (page_offset_fits c.args.memory.now.table c.args.block c.args.pages.now c.loop-page.page-index c.requires.table c.requires.places
+    rw size (page_offset_fits (g.M.GuestPages.image c.args.memory.now).table c.args.block c.args.pages.now c.loop-page.page-index c.requires.table c.requires.places
     c.loop-page-test.true) in
     omega (arith, fits)
 
 pub loop-page-preserved-then-is_zero_page : goal.loop-page-preserved-then-is_zero_page
 loop-page-preserved-then-is_zero_page g c =
-    let m = c.args.memory.now in
+    let m = g.M.GuestPages.image c.args.memory.now in
     let i = c.loop-page.page-index in
     let pages = c.args.pages.now in
     let size : c.page_size-page_size.result ≡ m.table.page_size = c.page_size-page_size.ensures ∙ ap (λ (t : RamTable). t.page_size) c.table.ensures.value in
@@ -40,7 +40,7 @@ loop-page-preserved-then-is_zero_page g c =
 
 pub loop-page-preserved : goal.loop-page-preserved
 loop-page-preserved g c =
-    let m = c.args.memory.now in
+    let m = g.M.GuestPages.image c.args.memory.now in
     let i = c.loop-page.page-index in
     let pages = c.args.pages.now in
     let size : c.page_size-page_size.result ≡ m.table.page_size = c.page_size-page_size.ensures ∙ ap (λ (t : RamTable). t.page_size) c.table.ensures.value in

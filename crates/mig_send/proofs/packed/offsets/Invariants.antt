@@ -5,6 +5,6 @@ use Rattle.mig_send.proofs.packed.offsets.Given as goal
 
 abbrev pub invariant-loop-page : goal.invariant-loop-page
 invariant-loop-page g l = record {
-  normal : l.normal.items ≡ normal_offsets l.memory (map (place_at l.block) (take l.page-index l.pages));
-  zero : l.zero.items ≡ zero_offsets l.memory (map (place_at l.block) (take l.page-index l.pages));
+  normal : l.normal.items ≡ normal_offsets (g.M.GuestPages.image l.memory) (map (place_at l.block) (take l.page-index l.pages));
+  zero : l.zero.items ≡ zero_offsets (g.M.GuestPages.image l.memory) (map (place_at l.block) (take l.page-index l.pages));
 }

@@ -8,11 +8,11 @@ use Rattle.mig_send.proofs.packed.pack.Goals as goal
 
 pub packet_text-requires-clause-block : goal.packet_text-requires-clause-block
 packet_text-requires-clause-block g c =
-    let lt = batch_block c.args.memory.now.table c.args.batch.now c.requires in rw (ap (λ (b : BatchOfPages). b.block) c.batch.view_is) lt
+    let lt = batch_block (g.M.GuestPages.image c.args.memory.now).table c.args.batch.now c.requires in rw (ap (λ (b : BatchOfPages). b.block) c.batch.view_is) lt
 
 pub packet_text-requires-clause-few : goal.packet_text-requires-clause-few
 packet_text-requires-clause-few g c =
-    let m = c.args.memory.now in
+    let m = g.M.GuestPages.image c.args.memory.now in
     let same = ap (λ (l : List ℕ). record { block = c.batch.inside.block; pages = l }) c.deref.ensures.value ∙ c.batch.view_is in
     let normal = c.deref-2.ensures.value ∙ c.in_ok-normal.ensures.normal ∙ ap (λ (b : BatchOfPages). normal_offsets m (batch_places b)) same in
     let zeros = c.deref-3.ensures.value ∙ c.in_ok-normal.ensures.zero ∙ ap (λ (b : BatchOfPages). zero_offsets m (batch_places b)) same in
@@ -20,7 +20,7 @@ packet_text-requires-clause-few g c =
 
 pub invariant_of-result : goal.invariant_of-result
 invariant_of-result g c =
-    let m = c.args.memory.now in
+    let m = g.M.GuestPages.image c.args.memory.now in
     let is : IsTable m.table = rw (← c.table.ensures.value) c.len-blocks.ensures.table in
     let same = ap (λ (l : List ℕ). record { block = c.batch.inside.block; pages = l }) c.deref.ensures.value ∙ c.batch.view_is in
     let normal = c.deref-2.ensures.value ∙ c.in_ok-normal.ensures.normal ∙ ap (λ (b : BatchOfPages). normal_offsets m (batch_places b)) same in
@@ -33,7 +33,7 @@ invariant_of-result g c =
 
 pub returns : goal.returns
 returns g c =
-    let m = c.args.memory.now in
+    let m = g.M.GuestPages.image c.args.memory.now in
     let is : IsTable m.table = rw (← c.table.ensures.value) c.len-blocks.ensures.table in
     let same = ap (λ (l : List ℕ). record { block = c.batch.inside.block; pages = l }) c.deref.ensures.value ∙ c.batch.view_is in
     let normal = c.deref-2.ensures.value ∙ c.in_ok-normal.ensures.normal ∙ ap (λ (b : BatchOfPages). normal_offsets m (batch_places b)) same in

@@ -6,7 +6,7 @@ use Rattle.mig_send.proofs.packed.packet_text.Goals as goal
 
 pub overflow_mul-len : goal.overflow_mul-len
 overflow_mul-len g c =
-    let m = c.args.memory.now in
+    let m = g.M.GuestPages.image c.args.memory.now in
     let size : c.page_size-page_size.result ≡ m.table.page_size =
     c.page_size-page_size.ensures ∙ ap (λ (t : RamTable). t.page_size) c.table-table.ensures.value in
     let few : length c.args.normal.now ≤ page_limit m.table.page_size = omega (arith, c.requires.few) in
@@ -16,7 +16,7 @@ overflow_mul-len g c =
 
 pub overflow_add-len : goal.overflow_add-len
 overflow_add-len g c =
-    let m = c.args.memory.now in
+    let m = g.M.GuestPages.image c.args.memory.now in
     let size : c.page_size-page_size.result ≡ m.table.page_size =
     c.page_size-page_size.ensures ∙ ap (λ (t : RamTable). t.page_size) c.table-table.ensures.value in
     let few : length c.args.normal.now ≤ page_limit m.table.page_size = omega (arith, c.requires.few) in

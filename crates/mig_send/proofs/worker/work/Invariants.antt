@@ -4,7 +4,7 @@ use Rattle.mig_send.proofs.worker.work.Given as goal
 
 abbrev pub invariant-draws : goal.invariant-draws
 invariant-draws g l = record {
-  so_far : HasWorkedSoFar l.memory l.batches l.fn.seat l.seat l.packets;
+  so_far : HasWorkedSoFar (g.M.GuestPages.image l.memory) l.batches l.fn.seat l.seat l.packets;
 }
 
 -- each number is drawn once, so a seat draws no more often than there are batches, and once

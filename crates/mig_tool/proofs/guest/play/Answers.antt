@@ -68,4 +68,4 @@ returns-in-Ok-clause-text g c =
     let all : take i ls ≡ ls = take_all i ls c.loop-line-test.false in
     let h : Holds c.loop-line.guest (played table (map seen ls)) = rw all at c.loop-line.invariant.holds in
     let of : c.loop-line.guest.sender.table ≡ table = h.one_table.same_sender ∙ c.loop-line.invariant.table in
-    c.in-Ok.ensures.ok (rounds_of (played table (map seen ls)).snapshots) h.has_sent ∙ ap (λ (t : RamTable). single t (rounds_of (played table (map seen ls)).snapshots)) of
+    c.in-Ok.ensures.ok [] (rounds_of (played table (map seen ls)).snapshots) h.has_sent ∙ ap (λ (t : RamTable). single t (rounds_of (played table (map seen ls)).snapshots)) of

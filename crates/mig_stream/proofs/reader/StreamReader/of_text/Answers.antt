@@ -7,10 +7,10 @@ use Rattle.mig_stream.proofs.Standing.{text_read}
 use Rattle.mig_stream.proofs.reader.StreamReader.of_text.Goals as goal
 
 pub invariant_of-result : goal.invariant_of-result
-invariant_of-result g c = unfinished_behind _ _ c.read_lent.new.progress c.read_lent.new.pending.items c.in_ok-found.found c.in_ok-found.ensures.ok
+invariant_of-result g c = unfinished_behind _ _ c.read_in_place.new.progress c.read_in_place.new.pending.items c.in_ok-found.found c.in_ok-found.ensures.ok
 
 pub returns-clause-stands : goal.returns-clause-stands
 returns-clause-stands g c =
-    let from : ReadsOn (start c.args.mode c.args.page_size c.args.limit) c.args.text.now c.read_lent.new.progress c.read_lent.new.pending.items c.in_ok-found.found =
-    subst (λ (p : StreamProgress). ReadsOn p c.args.text.now c.read_lent.new.progress c.read_lent.new.pending.items c.in_ok-found.found) c.new-progress.ensures c.in_ok-found.ensures.ok in
+    let from : ReadsOn (start c.args.mode c.args.page_size c.args.limit) c.args.text.now c.read_in_place.new.progress c.read_in_place.new.pending.items c.in_ok-found.found =
+    subst (λ (p : StreamProgress). ReadsOn p c.args.text.now c.read_in_place.new.progress c.read_in_place.new.pending.items c.in_ok-found.found) c.new-progress.ensures c.in_ok-found.ensures.ok in
     text_read (settings c.args.mode c.args.page_size c.args.limit) _ c.args.text.now from refl refl

@@ -12,6 +12,7 @@ undo-requires g c = record {
   is_mark = c.mark-mark.ensures.value;
   is_later = IsLater-front c.self.inside.progress c.read.new.progress c.in-Err.ensures.err.front c.in-Err.ensures.err.leads;
   are_listed = c.mark-mark.ensures.listed;
+  has_short_place = c.mark-mark.ensures.short;
 }
 
 pub invariant_of-self-in-Err : goal.invariant_of-self-in-Err

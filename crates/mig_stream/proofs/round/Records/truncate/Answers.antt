@@ -1,13 +1,11 @@
-use Rattle.std.proofs.Common.{◌∙◌, ap, subst, take}
-use Rattle.mig_stream.specs.Kept.{EndBefore}
-use Rattle.mig_stream.proofs.Keeping.{records_truncated}
+use Rattle.std.proofs.Common.{[], sym, ap, subst, take, ◌∙◌}
+use Rattle.mig_stream.specs.Kept.{records_after, AreHeldAfter}
+use Rattle.mig_stream.proofs.Keeping.{records_take, held_take}
 use Rattle.mig_stream.proofs.round.Records.truncate.Goals as goal
 
 pub invariant_of-self : goal.invariant_of-self
-invariant_of-self g c =
-    (records_truncated _ _ c.self.inside.items.items _ c.args.n _ _ c.truncate.ensures.items c.self.invariant (subst (EndBefore _ _) c.deref.ensures.value c.end_of-chunk.ensures) c.cut.ensures).0
+invariant_of-self g c = subst (λ l. AreHeldAfter [] l) (sym c.truncate.ensures.items) (held_take [] c.self.inside.items.items c.args.n c.self.invariant)
 
 pub returns : goal.returns
 returns g c =
-    (records_truncated _ _ c.self.inside.items.items _ c.args.n _ _ c.truncate.ensures.items c.self.invariant (subst (EndBefore _ _) c.deref.ensures.value c.end_of-chunk.ensures) c.cut.ensures).1
-    ∙ ap (take c.args.n) c.self.view_is
+    ap (λ l. records_after [] l) c.truncate.ensures.items ∙ records_take [] c.self.inside.items.items c.args.n ∙ ap (take c.args.n) c.self.view_is

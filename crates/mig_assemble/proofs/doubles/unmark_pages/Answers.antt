@@ -1,0 +1,30 @@
+use Rattle.std.proofs.Common.{rules, arith, false, ℕ, ◌≡◌, ◌<◌, ◌≤◌, ◌/◌, ◌++◌, List, length, map, take, get_or, ap, sym, ◌∙◌, subst}
+use Rattle.std.proofs.lemmas.List.{take_all}
+use Rattle.mig_mem.specs.declared.place.Place.{Place}
+use Rattle.mig_mem.specs.RamTable.{RamTable, block}
+use Rattle.mig_mem.specs.Place.{IsPlace}
+use Rattle.mig_packet.specs.Packet.{Fields}
+use Rattle.mig_packet.specs.Lent.{fields}
+use Rattle.mig_assemble.specs.Judging.{offsets, is_outside, pages_in, places_of}
+use Rattle.mig_assemble.specs.Seen.{HasLeft}
+use Rattle.mig_assemble.proofs.PacketPlaces.{place_of, place_inside, places-in}
+use Rattle.mig_assemble.proofs.doubles.unmark_pages.Goals as goal
+
+pub unmark-requires : goal.unmark-requires
+unmark-requires g c =
+    let table = c.args.seen.now.table in
+    let all : List ℕ = offsets (fields c.args.packet.now) in
+    let within : c.loop-i.i < length all = omega arith in
+    let inside : is_outside table.page_size (block table.blocks c.args.at).pages (get_or all c.loop-i.i 0) ≡ false = c.requires.lawful c.loop-i.i 0 within in
+    let at : place_of table c.args.at (get_or all c.loop-i.i 0) ≡ record { block = c.args.at; page = c.offset.result / c.page_size.result } = search rules in
+    subst (λ (t : RamTable). IsPlace t (record { block = c.args.at; page = c.offset.result / c.page_size.result })) (sym c.loop-i.invariant.table)
+    (subst (λ (p : Place). IsPlace table p) at (place_inside table c.args.at (get_or all c.loop-i.i 0) c.requires.block inside))
+
+pub returns-clause-seen : goal.returns-clause-seen
+returns-clause-seen g c = λ places gone h.
+    let table = c.args.seen.now.table in
+    let q : Fields = fields c.args.packet.now in
+    let past : length (offsets q) ≤ c.loop-i.i = omega arith in
+    let all : map (place_of table c.args.at) (take c.loop-i.i (offsets q)) ≡ places_of (pages_in table q c.args.at) =
+    ap (λ (l : List ℕ). map (place_of table c.args.at) l) (take_all c.loop-i.i (offsets q) past) ∙ sym (places-in table q c.args.at) in
+    subst (λ (ps : List Place). HasLeft table places (gone ++ ps) c.loop-i.seen) all (c.loop-i.invariant.seen places gone h)

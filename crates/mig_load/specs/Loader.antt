@@ -1,0 +1,106 @@
+-- A loader that is fed a single stream in pieces, and what it stands for.
+use Rattle.std.specs.Prelude.{◌≡◌, ◌⊎◌, ◌<◌, ◌^◌, ℕ, Bool, List, length, map, take, Option, None, Some, IfSome, Result, ⊤}
+use Rattle.std.specs.Option.{option_map, option_map_or}
+use Rattle.mig_mem.specs.PageSize.{IsPageSize}
+use Rattle.mig_mem.specs.RamTable.{RamTable}
+use Rattle.mig_mem.specs.Image.{Image}
+use Rattle.mig_mem.specs.Round.{after}
+use Rattle.mig_stream.specs.declared.item.Mode.TheVariants.{Single}
+use Rattle.mig_stream.specs.PageRecord.{page_of}
+use Rattle.mig_stream.specs.Reading.{settings, StreamReading, IsReading}
+use Rattle.mig_stream.specs.Reader.{Reader, SoFar, Stands, HasTable}
+use Rattle.mig_assemble.specs.Target.{LoadTarget}
+use Rattle.mig_load.specs.declared.loaded.Loaded.{Loaded}
+use Rattle.mig_load.specs.declared.fault.LoadFault.{LoadFault}
+use Rattle.mig_load.specs.SingleLoad.{memory_after, verdict_of, want_of_memory, IsAnswer, unloaded}
+
+-- what a loader holds: the reader of its text, and the memory that it loads, once that could be had
+pub record Loader : Type 0 where
+  pub reader : Reader
+  pub target : Option LoadTarget
+
+abbrev pub loader : Reader → Option LoadTarget → Loader
+loader reader target = record { reader = reader; target = target }
+
+-- its memory, and how many sections were put into that
+abbrev pub memory_of : Loader → Option Image
+memory_of l = option_map (λ t. t.memory) l.target
+
+abbrev pub rounds_of : Loader → ℕ
+rounds_of l = option_map_or (λ t. t.rounds) l.target 0
+
+-- ---- the sections of a text
+
+-- All whole sections of the text are in the memory, which is there exactly where the text's size list is whole.
+pub record HasAllSections (page_size limit : ℕ) (l : Loader) (text : List ℕ) : Type 0 where
+  pub reading : StreamReading
+  pub is_reading : IsReading (settings Single page_size limit) text reading
+  pub has_memory : memory_of l ≡ memory_after page_size reading.table reading.rounds
+  pub has_rounds : rounds_of l ≡ length reading.rounds
+
+-- The text has a table, and the loader no memory, since none was found for it: all sections wait.
+pub record Waits (page_size limit : ℕ) (l : Loader) (text : List ℕ) : Type 0 where
+  pub table : RamTable
+  pub has_table : HasTable (settings Single page_size limit) text (Some table)
+  pub has_no_memory : l.target ≡ None
+
+-- a text, whether the loader was told that it is over, and how many of its sections are in the memory
+abbrev pub put_so_far : List ℕ → Bool → ℕ → SoFar
+put_so_far text ended n = record { text = text; ended = ended; taken = n }
+
+-- The loader was made with this page size and limit, and fed this text, which may be over. It has all sections that are whole so far,
+-- or they wait.
+pub record Loads (page_size limit : ℕ) (l : Loader) (text : List ℕ) (ended : Bool) : Type 0 where
+  pub is_page_size : IsPageSize page_size
+  pub stands : Stands (settings Single page_size limit) (put_so_far text ended (rounds_of l)) l.reader
+  pub has_sections : HasAllSections page_size limit l text ⊎ Waits page_size limit l text
+
+-- ---- its answers
+
+-- the verdict on a text as far as it is there: as if it were over
+pub record HasVerdict (page_size limit : ℕ) (text : List ℕ) (verdict : Result ⊤ LoadFault) : Type 0 where
+  pub reading : StreamReading
+  pub is_reading : IsReading (settings Single page_size limit) text reading
+  pub is_verdict : verdict ≡ verdict_of (length reading.rounds) reading.state
+
+-- the verdict of a loader: that on its text; or want of memory, where its sections wait
+abbrev pub Judges : ℕ → ℕ → Loader → List ℕ → Result ⊤ LoadFault → Type 0
+Judges page_size limit l text verdict =
+    (HasAllSections page_size limit l text × HasVerdict page_size limit text verdict) ⊎ (Waits page_size limit l text × (verdict ≡ want_of_memory 0))
+
+-- the answer of a loader: that on its text; or want of memory, where its sections wait
+abbrev pub Answers : {A : Type 0} → ℕ → ℕ → Loader → List ℕ → Loaded A → Type 0
+Answers page_size limit l text a =
+    (HasAllSections page_size limit l text × IsAnswer page_size limit text a) ⊎ (Waits page_size limit l text × (a ≡ unloaded))
+
+-- ---- in the midst of a call
+
+-- The first sections of the text are in the memory: as many as it counts.
+pub record HasFirst (page_size limit : ℕ) (text : List ℕ) (t : LoadTarget) : Type 0 where
+  pub has_table : HasTable (settings Single page_size limit) text (Some t.memory.table)
+  pub has_memory : (reading : StreamReading) → IsReading (settings Single page_size limit) text reading
+      → t.memory ≡ after t.memory.table (map (map (page_of page_size)) (take t.rounds reading.rounds))
+
+-- The loader was fed this text, and the sections that its reader gave are in the memory. Others may wait.
+pub record HasFed (page_size limit : ℕ) (l : Loader) (text : List ℕ) (ended : Bool) : Type 0 where
+  pub is_page_size : IsPageSize page_size
+  pub stands : Stands (settings Single page_size limit) (put_so_far text ended (rounds_of l)) l.reader
+  pub has_first : IfSome l.target (HasFirst page_size limit text)
+
+-- It was fed some text, of fewer than 2^63 bytes.
+pub record HasFedSome (l : Loader) : Type 0 where
+  pub page_size : ℕ
+  pub limit : ℕ
+  pub text : List ℕ
+  pub ended : Bool
+  pub is_short : length text < 2 ^ 63
+  pub has_fed : HasFed page_size limit l text ended
+
+-- It stands for some text, of fewer than 2^63 bytes.
+pub record LoadsSome (l : Loader) : Type 0 where
+  pub page_size : ℕ
+  pub limit : ℕ
+  pub text : List ℕ
+  pub ended : Bool
+  pub is_short : length text < 2 ^ 63
+  pub loads : Loads page_size limit l text ended

@@ -1,0 +1,27 @@
+-- A memory in bytes that another owns: for each block of a table its bytes, page after page.
+use Rattle.std.specs.Prelude.{ℕ, ◌≡◌, ◌<◌, ◌*◌, List, [], length, map, take, drop, slice_index_or}
+use Rattle.std.specs.Borrow.{Bor}
+use Rattle.mig_mem.specs.declared.place.Place.{Place}
+use Rattle.mig_mem.specs.RamTable.{RamTable, block}
+use Rattle.mig_mem.specs.Image.{Image, image_of}
+
+-- the bytes of blocks that are lent
+abbrev pub lent_bytes : List (Bor (List ℕ)) → List (List ℕ)
+lent_bytes blocks = map (λ b. b.now) blocks
+
+-- the bytes of a block, by its number
+abbrev pub bytes_of_block : List (List ℕ) → ℕ → List ℕ
+bytes_of_block blocks i = slice_index_or blocks i []
+
+-- Bytes fit a table: those of each block are as many as its pages have, and no others are there.
+pub record FitTable (table : RamTable) (blocks : List (List ℕ)) : Type 0 where
+  pub same_count : length blocks ≡ length table.blocks
+  pub has_sizes : (i : ℕ) → i < length table.blocks → length (bytes_of_block blocks i) ≡ (block table.blocks i).pages * table.page_size
+
+-- the content of a place
+abbrev pub lent_at : ℕ → List (List ℕ) → Place → List ℕ
+lent_at page_size blocks p = take page_size (drop (p.page * page_size) (bytes_of_block blocks p.block))
+
+-- the memory that bytes which fit a table hold
+abbrev pub lent_image : RamTable → List (List ℕ) → Image
+lent_image table blocks = image_of table (lent_at table.page_size blocks)

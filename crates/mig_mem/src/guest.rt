@@ -1,0 +1,44 @@
+//! What a sender asks of a guest's memory, whoever keeps it.
+
+ghost use Rattle.std.specs.Prelude.{◌≡◌, ◌↔◌, length, IfSome, IsSome};
+ghost use Rattle.std.specs.Option.{option_copied};
+ghost use Rattle.mig_mem.specs.Place.{IsPlace};
+ghost use Rattle.mig_mem.specs.Image.{Image, IsImage, content};
+
+use crate::{Memory, Place, Table};
+use std::alloc::Allocator;
+
+/// The memory of a guest that is read page by page: a `Memory`, or a `LentMemory` of bytes that another owns. It is one image
+/// as long as it is borrowed.
+pub trait GuestPages {
+    /// The allocator of the table.
+    type Alloc: Allocator;
+
+    /// The image that it holds.
+    ghost image: { Self → Image };
+
+    /// The table whose places have a content. It also says what a memory is: one content of the page size for each place.
+    fn table(&self) -> &Table<Self::Alloc>
+        ensures value { result.now ≡ (image self.now).table }
+        ensures image { IsImage (image self.now) };
+
+    /// The content of a page, where the table has it: as many bytes as the page size.
+    fn page(&self, place: Place) -> Option<&[u8]>
+        ensures value { option_copied result ≡ content (image self.now) place }
+        ensures there { IsSome result ↔ IsPlace (image self.now).table place }
+        ensures size { IfSome result (λ bytes. length bytes.now ≡ (image self.now).table.page_size) };
+}
+
+impl<A: Allocator> GuestPages for Memory<A> {
+    type Alloc = A;
+
+    ghost image = { λ m. m };
+
+    fn table(&self) -> &Table<A> {
+        Memory::table(self)
+    }
+
+    fn page(&self, place: Place) -> Option<&[u8]> {
+        Memory::page(self, place)
+    }
+}

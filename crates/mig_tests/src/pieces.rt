@@ -1,0 +1,90 @@
+//! The loader that is fed in pieces: however a text is cut it gives what `load_single` gives, also where growths were refused on the
+//! way.
+
+use crate::building::two_rounds;
+use crate::refused::assert_two_rounds;
+use mig_load::{FeedFault, SingleLoader};
+use mig_mem::{MAX_TOTAL, PAGE_SIZE_4K};
+use mig_refusing::Refusing;
+use std::alloc::Allocator;
+use std::process::Abort;
+
+// Feeds a piece, where the text isn't over.
+fn feed<A: Allocator + Copy>(
+    rt: &impl Abort,
+    loader: &mut SingleLoader<A>,
+    piece: &[u8],
+) -> Result<(), FeedFault> {
+    assert!(rt; !loader.ended());
+    assert!(rt; loader.fed() <= MAX_TOTAL);
+    assert!(rt; piece.len() as u64 <= MAX_TOTAL);
+    loader.feed(piece)
+}
+
+// Feeds a piece; where a growth is refused it is fed again, or its sections are put, as the fault says. Whether a growth was refused.
+fn is_refused<A: Allocator + Copy>(
+    rt: &impl Abort,
+    loader: &mut SingleLoader<A>,
+    piece: &[u8],
+) -> bool {
+    let Err(fault) = feed(rt, loader, piece) else {
+        return false;
+    };
+    assert_eq!(rt; fault.number(), 60);
+    match fault {
+        FeedFault::NoMemory => assert!(rt; feed(rt, loader, piece) == Ok(())),
+        FeedFault::NoGuestMemory => {
+            assert!(rt; loader.memory().is_none());
+            assert!(rt; loader.settle() == Ok(()));
+        }
+    }
+    true
+}
+
+// Feeds a text of two rounds in pieces of this length, and asserts what is loaded. Whether a growth was refused.
+fn loads_with_refusal<A: Allocator + Copy>(
+    rt: &impl Abort,
+    alloc: A,
+    text: &[u8],
+    len: usize,
+) -> bool {
+    let mut loader = SingleLoader::new(alloc, PAGE_SIZE_4K, MAX_TOTAL);
+    let mut was_refused = false;
+    for piece in text.chunks(len.max(1)) {
+        assert!(rt; loader.verdict().is_err());
+        was_refused |= is_refused(rt, &mut loader, piece);
+    }
+    loader.end();
+    assert!(rt; loader.fed() == text.len() as u64);
+    assert!(rt; loader.verdict() == Ok(()));
+    assert!(rt; loader.rounds() == 4);
+    assert_two_rounds(rt, &loader.finish());
+    was_refused
+}
+
+#[test]
+fn loaded_in_pieces(rt: HostRuntime) {
+    let text = two_rounds(&rt);
+    for len in [1, 7, 100, 4096, text.len()] {
+        assert!(rt; !loads_with_refusal(&rt, rt.alloc(), &text, len));
+    }
+}
+
+// Each growth is refused in turn, until a run has no refusal. What is loaded is the same each time.
+#[test]
+fn loaded_after_refusals(rt: HostRuntime) {
+    let heap = Refusing::new(rt.alloc(), 0);
+    let text = two_rounds(&rt);
+    for nth in 1..1000u64 {
+        heap.refuse(nth);
+        let was_refused = loads_with_refusal(&rt, &heap, &text, 100);
+        let is_waiting = heap.is_waiting();
+        heap.refuse(0);
+        if is_waiting {
+            assert!(rt; !was_refused);
+            assert!(rt; nth > 2);
+            return;
+        }
+    }
+    panic!(rt; "each run had a refusal");
+}
