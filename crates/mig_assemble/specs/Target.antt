@@ -16,9 +16,13 @@ pub record LoadTarget : Type 0 where
   pub rounds : ℕ
   pub base : ℕ
 
+-- a memory with what it holds, without a round
+abbrev pub target_over : Image → LoadTarget
+target_over memory = record { memory = memory; rounds = 0; base = 0 }
+
 -- zeros, without a round
 abbrev pub new_target : RamTable → LoadTarget
-new_target table = record { memory = zero_image table; rounds = 0; base = 0 }
+new_target table = target_over (zero_image table)
 
 -- the pages that the records of a round stand for, in their order
 abbrev pub pages_of_round : RoundOfRecords → List Page

@@ -11,18 +11,15 @@ ghost use Rattle.mig_assemble.specs.Judging.{place_fault, packet_pages};
 ghost use Rattle.mig_assemble.specs.Target.{pages_of_round, Fits};
 ghost use Rattle.mig_assemble.specs.PacketPages.{normal_pages, zero_pages, LiesIn};
 
-use mig_mem::{Memory, Place};
+use mig_mem::{GuestTarget, Place};
 use mig_packet::Packet;
 use mig_stream::StreamRound;
 use std::alloc::Allocator;
 
 /// Writes the pages of a round's records, in their order.
-pub(crate) fn put_records<A: Allocator, B: Allocator>(
-    memory: &mut Memory<A>,
-    round: &StreamRound<B>,
-)
-    requires { Fits memory.old.table round.now }
-    ensures { memory.new ≡ with_round memory.old (pages_of_round round.now) }
+pub(crate) fn put_records<M: GuestTarget, B: Allocator>(memory: &mut M, round: &StreamRound<B>)
+    requires { Fits (M.image memory.old).table round.now }
+    ensures { M.image memory.new ≡ with_round (M.image memory.old) (pages_of_round round.now) }
 {
     // for what `table` tells of the memory (`IsImage`): each of its contents has the page size
     let _table = memory.table();
@@ -33,10 +30,10 @@ pub(crate) fn put_records<A: Allocator, B: Allocator>(
 }
 
 // Writes the page of a record: what it holds, or zeros.
-fn put_record<A: Allocator>(memory: &mut Memory<A>, place: Place, content: Option<&[u8]>)
-    requires place { IsPlace memory.old.table place }
-    requires size { IfSome content (λ bytes. length bytes.now ≡ memory.old.table.page_size) }
-    ensures { memory.new ≡ with_page memory.old place (unwrap_or (option_copied content.entry) (zero_page memory.old.table.page_size)) }
+fn put_record<M: GuestTarget>(memory: &mut M, place: Place, content: Option<&[u8]>)
+    requires place { IsPlace (M.image memory.old).table place }
+    requires size { IfSome content (λ bytes. length bytes.now ≡ (M.image memory.old).table.page_size) }
+    ensures { M.image memory.new ≡ with_page (M.image memory.old) place (unwrap_or (option_copied content.entry) (zero_page (M.image memory.old).table.page_size)) }
 {
     match content {
         Some(bytes) => memory.put_page(place, bytes),
@@ -45,10 +42,10 @@ fn put_record<A: Allocator>(memory: &mut Memory<A>, place: Place, content: Optio
 }
 
 /// Writes the pages of packets, packet after packet.
-pub(crate) fn put_packets<A: Allocator>(memory: &mut Memory<A>, packets: &[Packet<'_>])
-    requires page_sizes { All (λ p. p.page_size ≡ memory.old.table.page_size) packets.now }
-    requires lawful { All (λ p. place_fault memory.old.table (fields p) ≡ None) packets.now }
-    ensures { memory.new ≡ with_round memory.old (flat_map (packet_pages memory.old.table) (map fields packets.now)) }
+pub(crate) fn put_packets<M: GuestTarget>(memory: &mut M, packets: &[Packet<'_>])
+    requires page_sizes { All (λ p. p.page_size ≡ (M.image memory.old).table.page_size) packets.now }
+    requires lawful { All (λ p. place_fault (M.image memory.old).table (fields p) ≡ None) packets.now }
+    ensures { M.image memory.new ≡ with_round (M.image memory.old) (flat_map (packet_pages (M.image memory.old).table) (map fields packets.now)) }
 {
     // for what `table` tells of the memory (`IsImage`): each of its contents has the page size
     let _table = memory.table();
@@ -58,10 +55,10 @@ pub(crate) fn put_packets<A: Allocator>(memory: &mut Memory<A>, packets: &[Packe
 }
 
 // Writes the pages of a packet into the block that it names. Where there is no such block it has no pages.
-fn put_packet<A: Allocator>(memory: &mut Memory<A>, packet: &Packet<'_>)
-    requires page_size { packet.now.page_size ≡ memory.old.table.page_size }
-    requires lawful { place_fault memory.old.table (fields packet.now) ≡ None }
-    ensures { memory.new ≡ with_round memory.old (packet_pages memory.old.table (fields packet.now)) }
+fn put_packet<M: GuestTarget>(memory: &mut M, packet: &Packet<'_>)
+    requires page_size { packet.now.page_size ≡ (M.image memory.old).table.page_size }
+    requires lawful { place_fault (M.image memory.old).table (fields packet.now) ≡ None }
+    ensures { M.image memory.new ≡ with_round (M.image memory.old) (packet_pages (M.image memory.old).table (fields packet.now)) }
 {
     let Some(block) = memory.table().find(packet.id()) else {
         return;
@@ -71,10 +68,10 @@ fn put_packet<A: Allocator>(memory: &mut Memory<A>, packet: &Packet<'_>)
 }
 
 // Writes the pages that a packet brings with their contents.
-fn put_normal<A: Allocator>(memory: &mut Memory<A>, block: usize, packet: &Packet<'_>)
-    requires page_size { packet.now.page_size ≡ memory.old.table.page_size }
-    requires lies { LiesIn memory.old.table block packet.now.bytes.now }
-    ensures { memory.new ≡ with_round memory.old (normal_pages memory.old.table block (fields packet.now)) }
+fn put_normal<M: GuestTarget>(memory: &mut M, block: usize, packet: &Packet<'_>)
+    requires page_size { packet.now.page_size ≡ (M.image memory.old).table.page_size }
+    requires lies { LiesIn (M.image memory.old).table block packet.now.bytes.now }
+    ensures { M.image memory.new ≡ with_round (M.image memory.old) (normal_pages (M.image memory.old).table block (fields packet.now)) }
 {
     let page_size = memory.table().page_size();
     let normal_count = packet.normal_len();
@@ -88,10 +85,10 @@ fn put_normal<A: Allocator>(memory: &mut Memory<A>, block: usize, packet: &Packe
 }
 
 // Writes the pages that a packet says to be zeros.
-fn put_zeros<A: Allocator>(memory: &mut Memory<A>, block: usize, packet: &Packet<'_>)
-    requires page_size { packet.now.page_size ≡ memory.old.table.page_size }
-    requires lies { LiesIn memory.old.table block packet.now.bytes.now }
-    ensures { memory.new ≡ with_round memory.old (zero_pages memory.old.table block (fields packet.now)) }
+fn put_zeros<M: GuestTarget>(memory: &mut M, block: usize, packet: &Packet<'_>)
+    requires page_size { packet.now.page_size ≡ (M.image memory.old).table.page_size }
+    requires lies { LiesIn (M.image memory.old).table block packet.now.bytes.now }
+    ensures { M.image memory.new ≡ with_round (M.image memory.old) (zero_pages (M.image memory.old).table block (fields packet.now)) }
 {
     let page_size = memory.table().page_size();
     let normal_count = packet.normal_len();

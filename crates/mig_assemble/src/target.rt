@@ -5,20 +5,21 @@ ghost use Rattle.mig_mem.specs.Round.{with_round};
 ghost use Rattle.mig_packet.specs.Lent.{fields};
 ghost use Rattle.mig_assemble.specs.declared.fault.RoundFault.TheVariants.{NoMemory as fault_no_memory};
 ghost use Rattle.mig_assemble.specs.Judging.{refusal};
-ghost use Rattle.mig_assemble.specs.Target.{new_target, pages_of_round, Fits, after_round};
+ghost use Rattle.mig_assemble.specs.Target.{new_target, target_over, pages_of_round, Fits, after_round};
 
 use crate::judge::judge;
 use crate::put::{put_packets, put_records};
 use crate::{Gathered, RoundFault};
-use mig_mem::{Dirty, Memory, NoMemory, Table};
+use mig_mem::{Dirty, GuestTarget, Memory, NoMemory, Table};
 use mig_stream::StreamRound;
 use std::alloc::{Allocator, Global};
 use std::marker::Model;
 
-/// The memory of a guest as far as it is loaded: zeros at first, and then what each round leaves.
+/// The memory of a guest as far as it is loaded: what it holds at first, which is zeros where `new` makes it, and then what each
+/// round leaves.
 #[derive(Drop)]
-pub struct Target<A: Allocator = Global> {
-    memory: Memory<A>,
+pub struct Target<A: Allocator = Global, M: GuestTarget = Memory<A>> {
+    memory: M,
     // marks the places of a round while it is judged
     seen: Dirty<A>,
     alloc: A,
@@ -26,16 +27,16 @@ pub struct Target<A: Allocator = Global> {
     base: u64,
 }
 
-impl<A: Allocator> Model for Target<A> {
+impl<A: Allocator, M: GuestTarget> Model for Target<A, M> {
     ghost use Rattle.mig_assemble.specs.Target.{LoadTarget};
 
     ghost Value = { LoadTarget };
 
-    ghost view = { λ t. record { memory = t.memory; rounds = t.rounds; base = t.base } };
+    ghost view = { λ t. record { memory = M.image t.memory; rounds = t.rounds; base = t.base } };
 
     ghost use Rattle.mig_assemble.specs.Target.{IsUnmarked};
 
-    ghost invariant = { λ t. IsUnmarked t.memory t.seen };
+    ghost invariant = { λ t. IsUnmarked (M.image t.memory) t.seen };
 }
 
 impl<A: Allocator + Copy> Target<A> {
@@ -43,8 +44,23 @@ impl<A: Allocator + Copy> Target<A> {
     pub fn new<B: Allocator>(alloc: A, table: &Table<B>) -> Result<Target<A>, NoMemory>
         ensures { IfOk result (λ t. t ≡ new_target table.now) }
     {
-        let memory = Memory::zeroed(alloc, table)?;
-        let seen = Dirty::none(alloc, table)?;
+        match Target::over(alloc, Memory::zeroed(alloc, table)?) {
+            Ok(target) => Ok(target),
+            Err(_) => Err(NoMemory),
+        }
+    }
+}
+
+impl<A: Allocator + Copy, M: GuestTarget> Target<A, M> {
+    /// A memory that is there already, with what it holds, without a round. It takes a bit for each page. An `Err` gives the memory
+    /// back: a growth was refused.
+    pub fn over(alloc: A, memory: M) -> Result<Target<A, M>, M>
+        ensures ok { IfOk result (λ t. t ≡ target_over (M.image memory)) }
+        ensures err { IfErr result (λ m. M.image m ≡ M.image memory) }
+    {
+        let Ok(seen) = Dirty::none(alloc, memory.table()) else {
+            return Err(memory);
+        };
         Ok(Target {
             memory,
             seen,
@@ -80,10 +96,10 @@ impl<A: Allocator + Copy> Target<A> {
     }
 }
 
-impl<A: Allocator> Target<A> {
+impl<A: Allocator, M: GuestTarget> Target<A, M> {
     /// The memory after the rounds so far.
-    pub fn memory(&self) -> &Memory<A>
-        ensures { result.now ≡ self.now.memory }
+    pub fn memory(&self) -> &M
+        ensures { M.image result.now ≡ self.now.memory }
     {
         &self.memory
     }
@@ -103,8 +119,8 @@ impl<A: Allocator> Target<A> {
     }
 
     /// Gives the memory.
-    pub fn into_memory(self) -> Memory<A>
-        ensures { result ≡ self.memory }
+    pub fn into_memory(self) -> M
+        ensures { M.image result ≡ self.memory }
     {
         self.memory
     }

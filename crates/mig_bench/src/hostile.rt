@@ -5,15 +5,15 @@
 //! it has bytes, or a search of the table. A plain guest is there to compare them with.
 
 use crate::guest::{Guest, fill};
-use crate::measure::{Measured, Ratio, best_of_five};
+use crate::measure::{Measured, Ratio, best_of_five, peak, reset_peak};
 use crate::stream::feed_pieces;
 use mig_load::load_single;
 use mig_mem::{MAX_TOTAL, PAGE_SIZE_4K, Table};
 use mig_send::SingleSender;
 use mig_stream::{Mode, StreamReader, StreamWriter};
 use std::alloc::Global;
+use std::io;
 use std::rt::{Clock, Files};
-use std::{fs, io};
 
 /// How many pages the guests have whose pages are sent.
 const PAGES: u64 = 1 << 16;
@@ -249,25 +249,6 @@ fn put_memory(rt: &impl Print, meter: Meter, len: u64, peak: u64) -> io::Result<
         Ratio::of(taken, len),
         Ratio::of(taken, 1_000_000)
     )
-}
-
-// Makes what is resident now the peak, and gives it in bytes; None where the system doesn't do so.
-fn reset_peak<R: Files + AllocGlobal>(rt: &R) -> Option<u64> {
-    fs::write(rt, "/proc/self/clear_refs", "5").ok()?;
-    peak(rt)
-}
-
-// The most bytes that were resident; None where the system doesn't tell.
-fn peak<R: Files + AllocGlobal>(rt: &R) -> Option<u64> {
-    let status = fs::read_to_string(rt, "/proc/self/status").ok()?;
-    peak_in(&status)
-}
-
-// The same in the text of that file, which has it in KiB.
-fn peak_in(status: &str) -> Option<u64> {
-    let line = status.lines().find(|line| line.starts_with("VmHWM:"))?;
-    let word = line.split_whitespace().nth(1)?;
-    word.parse::<u64>().ok()?.checked_mul(1024)
 }
 
 // The stream of one round of a guest whose pages are full of ones.

@@ -9,6 +9,7 @@
 mod deal;
 mod guest;
 mod hostile;
+mod in_place;
 mod load;
 mod measure;
 mod pack;
@@ -38,12 +39,15 @@ fn run<R: Clock + Print + Files + AllocGlobal>(
         Some("zero") => zero::run(rt, alloc, 1 << 28, 1 << 17),
         Some("stream") => stream::run(rt, alloc, 1 << 16),
         Some("load") => load::run(rt, alloc, 1 << 18),
+        Some("in_place") => in_place::run(rt, alloc, 1 << 18),
         Some("packet") => packet::run(rt, alloc, 1 << 9),
         Some("pack") => pack::run(rt, alloc, 1 << 17),
         Some("round") => round::run(rt, alloc, 1 << 9, Carried::Normal),
         Some("judge") => round::run(rt, alloc, 1 << 13, Carried::Zero),
         Some("deal") => deal::run(rt, alloc, 1 << 24),
         Some("hostile") => hostile::run(rt, alloc),
-        _ => println!(rt; "usage: mig_bench zero|stream|load|packet|pack|round|judge|deal|hostile"),
+        _ => println!(rt;
+            "usage: mig_bench zero|stream|load|in_place|packet|pack|round|judge|deal|hostile"
+        ),
     }
 }

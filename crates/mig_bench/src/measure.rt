@@ -1,10 +1,10 @@
-//! How long a work takes, and how that compares with another.
+//! How long a work takes, how that compares with another, and how much memory is resident meanwhile.
 ghost use Rattle.std.specs.Prelude.{◌≡◌, ◌+◌, ◌*◌, ◌/◌, ◌%◌, ◌<◌, ◌++◌, Some, codes};
 ghost use Rattle.std.specs.Fmt.{decimal};
 
-use std::rt::Clock;
+use std::rt::{Clock, Files};
 use std::time::Instant;
-use std::{fmt, io};
+use std::{fmt, fs, io};
 
 const RUNS: usize = 5;
 
@@ -69,4 +69,23 @@ impl fmt::Display for Ratio {
         let h = self.hundredths;
         write!(f, "{}.{}{}", h / 100, h / 10 % 10, h % 10)
     }
+}
+
+/// Makes what is resident now the peak, and gives it in bytes; None where the system doesn't do so.
+pub fn reset_peak<R: Files + AllocGlobal>(rt: &R) -> Option<u64> {
+    fs::write(rt, "/proc/self/clear_refs", "5").ok()?;
+    peak(rt)
+}
+
+/// The most bytes that were resident; None where the system doesn't tell.
+pub fn peak<R: Files + AllocGlobal>(rt: &R) -> Option<u64> {
+    let status = fs::read_to_string(rt, "/proc/self/status").ok()?;
+    peak_in(&status)
+}
+
+// The same in the text of that file, which has it in KiB.
+fn peak_in(status: &str) -> Option<u64> {
+    let line = status.lines().find(|line| line.starts_with("VmHWM:"))?;
+    let word = line.split_whitespace().nth(1)?;
+    word.parse::<u64>().ok()?.checked_mul(1024)
 }

@@ -1,6 +1,6 @@
-//! Tables of some blocks with pages of 4096 bytes, memories of them, sets of their pages, and single pages.
+//! Tables of some blocks, memories of them, sets of their pages, and single pages: of 4096 bytes, but for `table_of`.
 
-use mig_mem::{Dirty, Memory, PAGE_SIZE_4K, Place, Table};
+use mig_mem::{Dirty, Memory, PAGE_SIZE_4K, Place, Table, is_page_size};
 use std::alloc::{AllocError, Allocator};
 
 /// The place of a page.
@@ -22,8 +22,20 @@ pub fn list<A: Allocator + Copy>(
 
 /// The table of such a list.
 pub fn table<A: Allocator + Copy>(alloc: A, entries: &[(&str, u64)]) -> Option<Table<A>> {
+    table_of(alloc, PAGE_SIZE_4K, entries)
+}
+
+/// The table of such a list with pages of this size; None where no page has it.
+pub fn table_of<A: Allocator + Copy>(
+    alloc: A,
+    page_size: u64,
+    entries: &[(&str, u64)],
+) -> Option<Table<A>> {
+    if !is_page_size(page_size) {
+        return None;
+    }
     let list = list(alloc, entries).ok()?;
-    Table::new(alloc, PAGE_SIZE_4K, list).ok()
+    Table::new(alloc, page_size, list).ok()
 }
 
 /// A memory of zeros of such a table.

@@ -7,5 +7,5 @@
 mod guest;
 mod packet;
 
-pub use guest::{at, has_byte, is_full, list, places_of, set, table, zeroed};
+pub use guest::{at, has_byte, is_full, list, places_of, set, table, table_of, zeroed};
 pub use packet::put_page_and_zeros;

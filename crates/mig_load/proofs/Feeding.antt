@@ -1,6 +1,6 @@
 -- A loader that is fed in pieces.
 use Rattle.std.proofs.Common.{ℕ, ◌≡◌, ◌≤◌, ◌<◌, ◌+◌, ◌^◌, List, [], ◌++◌, length, take, refl, sym, ap, ◌∙◌, inl, inr, Bool, true, false, Option, Some, None, subst, arith}
-use Rattle.std.specs.Prelude.{⊤, OnOk, OnErr, Result, Ok, Err}
+use Rattle.std.specs.Prelude.{⊤, IsOk, OnOk, OnErr, Result, Ok, Err}
 use Rattle.std.proofs.lemmas.List.{take-append-le, length-append}
 use Rattle.mig_mem.specs.PageSize.{IsPageSize}
 use Rattle.mig_stream.specs.declared.item.Mode.TheVariants.{Single}
@@ -13,15 +13,16 @@ use Rattle.mig_stream.specs.Law.{StaysRead}
 use Rattle.mig_stream.proofs.Exists.{one_reading_law}
 use Rattle.mig_stream.proofs.Feeding.{reads_short}
 use Rattle.mig_stream.proofs.Longer.{longer_law}
-use Rattle.mig_mem.specs.Round.{after}
+use Rattle.mig_mem.specs.Image.{Image, zero_image}
+use Rattle.mig_mem.specs.Round.{with_rounds}
 use Rattle.mig_assemble.specs.Target.{LoadTarget}
 use Rattle.mig_load.specs.Loader.{loader, rounds_of, put_so_far, HasAllSections, Waits, Loads, HasFirst, HasFed, LoadsSome, HasFedSome}
 use Rattle.mig_load.proofs.Sections.{pages_in, same_reading, are_given, none_there, fed_of}
 
 -- what is in the memory stays the front of the text, where more bytes follow
-first_stays : (p limit : ℕ) (text piece : List ℕ) (ended : Bool) (r : Reader) (t : LoadTarget) → IsPageSize p
-    → Stands (settings Single p limit) (put_so_far text ended t.rounds) r → HasFirst p limit text t → HasFirst p limit (text ++ piece) t
-first_stays p limit text piece ended r t size stands has =
+first_stays : (p limit : ℕ) (first : Image) (text piece : List ℕ) (ended : Bool) (r : Reader) (t : LoadTarget) → IsPageSize p
+    → Stands (settings Single p limit) (put_so_far text ended t.rounds) r → HasFirst p limit first text t → HasFirst p limit first (text ++ piece) t
+first_stays p limit first text piece ended r t size stands has =
     let given = settings Single p limit in
     let before : StreamReading = has.has_table.0 in
     let is_before = has.has_table.1 in
@@ -29,13 +30,13 @@ first_stays p limit text piece ended r t size stands has =
     let stays : StaysRead before now.0 = longer_law given text piece before now.0 size is_before now.1 in
     let few : t.rounds ≤ length before.rounds = are_given p limit text ended r t.rounds before size is_before stands in
     record {
-      has_table = (now.0, now.1, sym (stays.same_table t.memory.table (sym has.has_table.2)));
+      has_table = (now.0, now.1, sym (stays.same_table first.table (sym has.has_table.2)));
       has_memory = λ reading is.
           let one : reading ≡ now.0 = same_reading p limit (text ++ piece) reading now.0 size is now.1 in
           let rounds : reading.rounds ≡ before.rounds ++ stays.more_rounds = ap (λ (x : StreamReading). x.rounds) one ∙ stays.has_rounds in
           has.has_memory before is_before
-          ∙ ap (λ (l : List (List PageRecord)). after t.memory.table (pages_in p l)) (sym (take-append-le t.rounds before.rounds stays.more_rounds few))
-          ∙ ap (λ (l : List (List PageRecord)). after t.memory.table (pages_in p (take t.rounds l))) (sym rounds);
+          ∙ ap (λ (l : List (List PageRecord)). with_rounds first (pages_in p l)) (sym (take-append-le t.rounds before.rounds stays.more_rounds few))
+          ∙ ap (λ (l : List (List PageRecord)). with_rounds first (pages_in p (take t.rounds l))) (sym rounds);
     }
 
 -- a piece more
@@ -49,7 +50,7 @@ fed_longer p limit r s None text piece ended step fed = record {
 fed_longer p limit r s (Some t) text piece ended step fed = record {
   is_page_size = fed.is_page_size;
   stands = step (settings Single p limit) (put_so_far text ended t.rounds) fed.stands;
-  has_first = first_stays p limit text piece ended r t fed.is_page_size fed.stands fed.has_first;
+  has_first = first_stays p limit (zero_image t.memory.table) text piece ended r t fed.is_page_size fed.stands fed.has_first;
 }
 
 -- some text that it was fed
@@ -150,3 +151,7 @@ settled_some (Err e) r s o u some ok waits same =
 pub on_err_so : {R E : Type 0} (result : Result R E) (P Q : Type 0) → OnErr result P → (P → Q) → OnErr result Q
 on_err_so (Ok x) P Q p f = tt
 on_err_so (Err e) P Q p f = f p
+
+-- an answer isn't both
+pub not_err : {R E : Type 0} (result : Result R E) (e : E) → result ≡ Err e → IsOk result → ⊥
+not_err {R} {E} result e is ok = let bad = subst (λ r. IsOk r) is ok in absurd cc

@@ -9,9 +9,9 @@ use Rattle.mig_mem.specs.RamTable.{RamTable, IsTable}
 use Rattle.mig_mem.specs.Place.{IsPlace}
 use Rattle.std.specs.Option.{option_map_or}
 use Rattle.std.proofs.lemmas.List.Elements.{All-head, All-tail}
-use Rattle.mig_mem.specs.Image.{Page, Image, image_of, zero_page}
-use Rattle.mig_mem.specs.Round.{after, with_round, last_at, all_pages, IsRound}
-use Rattle.mig_mem.proofs.Rounds.{after-push, after-nil, all_pages-push}
+use Rattle.mig_mem.specs.Image.{Page, Image, image_of, zero_page, zero_image}
+use Rattle.mig_mem.specs.Round.{after, with_round, with_rounds, last_at, all_pages, IsRound}
+use Rattle.mig_mem.proofs.Rounds.{after-nil, all_pages-push, onto-push, onto-zeros}
 use Rattle.mig_stream.specs.declared.item.Mode.TheVariants.{Single}
 use Rattle.mig_stream.specs.declared.item.StreamState.{StreamState}
 use Rattle.mig_stream.specs.declared.item.StreamState.TheVariants as state
@@ -33,7 +33,7 @@ use Rattle.mig_assemble.specs.Target.{LoadTarget, new_target, pages_of_round, Fi
 use Rattle.mig_load.specs.declared.loaded.Loaded.{Loaded}
 use Rattle.mig_load.specs.declared.fault.LoadFault.{LoadFault}
 use Rattle.mig_load.specs.SingleLoad.{memory_after, verdict_of, IsAnswer, IsWithoutMemory, loaded, unloaded}
-use Rattle.mig_load.specs.Loader.{Loader, loader, memory_of, rounds_of, HasAllSections, Waits, put_so_far, Loads, HasVerdict, Judges, Answers, HasFirst, HasFed}
+use Rattle.mig_load.specs.Loader.{Loader, loader, memory_of, rounds_of, HasAllSections, Waits, put_so_far, Loads, HasVerdict, Judges, Answers, HasFirst, HasPut, HasPutAll, HasFed}
 
 -- the pages of some sections
 abbrev pub pages_in : ℕ → List (List PageRecord) → List (List Page)
@@ -49,12 +49,12 @@ same_reading p limit text a b size is_a is_b =
 -- ---- the loop
 
 -- before the first section
-pub fed_new : (p limit : ℕ) (text : List ℕ) (ended : Bool) (r : Reader) (table : RamTable) (t : LoadTarget) → HasFed p limit (loader r None) text ended
-    → HasTable (settings Single p limit) text (Some table) → t ≡ new_target table → HasFed p limit (loader r (Some t)) text ended
-fed_new p limit text ended r table t fed has is = rw is record {
+pub put_new : (p limit : ℕ) (text : List ℕ) (ended : Bool) (r : Reader) (table : RamTable) (t : LoadTarget) → HasFed p limit (loader r None) text ended
+    → HasTable (settings Single p limit) text (Some table) → t ≡ new_target table → HasPut p limit (zero_image table) text ended r t
+put_new p limit text ended r table t fed has is = rw is record {
   is_page_size = fed.is_page_size;
   stands = fed.stands;
-  has_first = record { has_table = has; has_memory = λ reading _. sym (after-nil table) };
+  has_first = record { has_table = has; has_memory = λ reading _. sym (after-nil table) ∙ onto-zeros table [] };
 }
 
 -- the page size of the table, and that a round that is still to come isn't the 2^63rd
@@ -67,25 +67,30 @@ is_few p limit i text records size has =
     let lt = has.2 in
     omega (arith, few, lt)
 
-pub fits_is : (p limit : ℕ) (text : List ℕ) (ended : Bool) (r : Reader) (t : LoadTarget) (round : RoundOfRecords) → HasFed p limit (loader r (Some t)) text ended
-    → round.page_size ≡ p → All (λ x. IsPlace t.memory.table x.place) round.records → Fits t.memory.table round
-fits_is p limit text ended r t round fed is places = record {
-  has_page_size = is ∙ sym (size_is p limit text t.memory.table fed.is_page_size fed.has_first.has_table);
-  has_places = places;
-}
+-- the memory keeps its table
+pub put_table : (p limit : ℕ) (first : Image) (text : List ℕ) (t : LoadTarget) → HasFirst p limit first text t → t.memory.table ≡ first.table
+put_table p limit first text t has = ap (λ (m : Image). m.table) (has.has_memory has.has_table.0 has.has_table.1)
+
+pub fits_is : (p limit : ℕ) (first : Image) (text : List ℕ) (ended : Bool) (r : Reader) (t : LoadTarget) (round : RoundOfRecords) → HasPut p limit first text ended r t
+    → round.page_size ≡ p → All (λ x. IsPlace first.table x.place) round.records → Fits t.memory.table round
+fits_is p limit first text ended r t round put is places =
+    rw (put_table p limit first text t put.has_first) (record {
+      has_page_size = is ∙ sym (size_is p limit text first.table put.is_page_size put.has_first.has_table);
+      has_places = places;
+    })
 
 -- one section more
-pub fed_more : (p limit : ℕ) (text : List ℕ) (ended : Bool) (r s : Reader) (t u : LoadTarget) (round : RoundOfRecords) → HasFed p limit (loader r (Some t)) text ended
+pub put_more : (p limit : ℕ) (first : Image) (text : List ℕ) (ended : Bool) (r s : Reader) (t u : LoadTarget) (round : RoundOfRecords) → HasPut p limit first text ended r t
     → round.page_size ≡ p → HasRound (settings Single p limit) text t.rounds round.records → Stands (settings Single p limit) (put_so_far text ended (t.rounds + 1)) s
-    → u.memory ≡ with_round t.memory (pages_of_round round) → u.rounds ≡ t.rounds + 1 → HasFed p limit (loader s (Some u)) text ended
-fed_more p limit text ended r s t u round fed is_size is_round stands memory rounds =
-    let has : HasFirst p limit text t = fed.has_first in
-    let size : IsPageSize p = fed.is_page_size in
-    let same : u.memory.table ≡ t.memory.table = ap (λ (m : Image). m.table) memory in record {
+    → u.memory ≡ with_round t.memory (pages_of_round round) → u.rounds ≡ t.rounds + 1 → HasPut p limit first text ended s u
+put_more p limit first text ended r s t u round put is_size is_round stands memory rounds =
+    let has : HasFirst p limit first text t = put.has_first in
+    let size : IsPageSize p = put.is_page_size in
+    record {
       is_page_size = size;
       stands = subst (λ n. Stands (settings Single p limit) (put_so_far text ended n) s) (sym rounds) stands;
       has_first = record {
-        has_table = subst (λ x. HasTable (settings Single p limit) text (Some x)) (sym same) has.has_table;
+        has_table = has.has_table;
         has_memory = λ reading is.
             let one : is_round.0 ≡ reading = same_reading p limit text is_round.0 reading size is_round.1 is in
             let few : t.rounds < length reading.rounds = subst (λ (x : StreamReading). t.rounds < length x.rounds) one is_round.2 in
@@ -96,17 +101,16 @@ fed_more p limit text ended r s t u round fed is_size is_round stands memory rou
             ap (λ (x : List PageRecord). before ++ x ∷ []) (sym here) ∙ sym (take_more reading.rounds t.rounds [] few) in
             memory
             ∙ ap (λ (m : Image). with_round m (pages_of_round round)) (has.has_memory reading is)
-            ∙ ap (λ (n : ℕ). with_round (after t.memory.table (pages_in p before)) (map (page_of n) round.records)) is_size
-            ∙ sym (after-push t.memory.table (pages_in p before) (map (page_of p) round.records))
-            ∙ ap (λ (l : List (List Page)). after t.memory.table l) (sym (map-append (map (page_of p)) before (round.records ∷ [])))
-            ∙ ap (λ (l : List (List PageRecord)). after t.memory.table (pages_in p l)) more
-            ∙ ap (λ (x : RamTable). after x (pages_in p (take (t.rounds + 1) reading.rounds))) (sym same)
-            ∙ ap (λ (n : ℕ). after u.memory.table (pages_in p (take n reading.rounds))) (sym rounds);
+            ∙ ap (λ (n : ℕ). with_round (with_rounds first (pages_in p before)) (map (page_of n) round.records)) is_size
+            ∙ sym (onto-push first (pages_in p before) (map (page_of p) round.records))
+            ∙ ap (λ (l : List (List Page)). with_rounds first l) (sym (map-append (map (page_of p)) before (round.records ∷ [])))
+            ∙ ap (λ (l : List (List PageRecord)). with_rounds first (pages_in p l)) more
+            ∙ ap (λ (n : ℕ). with_rounds first (pages_in p (take n reading.rounds))) (sym rounds);
       };
     }
 
 -- no section is left
-not_more : (p limit : ℕ) (text : List ℕ) (reading : StreamReading) (n : ℕ) → IsReading (settings Single p limit) text reading
+pub not_more : (p limit : ℕ) (text : List ℕ) (reading : StreamReading) (n : ℕ) → IsReading (settings Single p limit) text reading
     → ((i : ℕ) (round : List PageRecord) → HasRound (settings Single p limit) text i round → i < n) → length reading.rounds ≤ n
 not_more p limit text reading n is last = elim (cases_lt n (length reading.rounds)) [
   | inl lt ↦ let bad = last n (slice_index_or reading.rounds n []) (reading, is, lt, refl) in absurd (omega (arith, bad))
@@ -129,24 +133,42 @@ are_given p limit text ended r n reading size is stands =
 -- ---- all sections
 
 -- after the loop
-pub all_put : (p limit : ℕ) (text : List ℕ) (ended : Bool) (r : Reader) (t : LoadTarget) → HasFed p limit (loader r (Some t)) text ended
-    → ((i : ℕ) (round : List PageRecord) → HasRound (settings Single p limit) text i round → i < t.rounds) → HasAllSections p limit (loader r (Some t)) text
-all_put p limit text ended r t fed last =
-    let has : HasFirst p limit text t = fed.has_first in
-    let table : RamTable = t.memory.table in
+pub all_put : (p limit : ℕ) (first : Image) (text : List ℕ) (ended : Bool) (r : Reader) (t : LoadTarget) → HasPut p limit first text ended r t
+    → ((i : ℕ) (round : List PageRecord) → HasRound (settings Single p limit) text i round → i < t.rounds) → HasPutAll p limit first text t
+all_put p limit first text ended r t put last =
+    let has : HasFirst p limit first text t = put.has_first in
     let reading : StreamReading = has.has_table.0 in
     let is_reading = has.has_table.1 in
     let sections : List (List PageRecord) = reading.rounds in
     let most : length sections ≤ t.rounds = not_more p limit text reading t.rounds is_reading last in
-    let least : t.rounds ≤ length sections = are_given p limit text ended r t.rounds reading fed.is_page_size is_reading fed.stands in
-    let all : take t.rounds sections ≡ sections = take_all t.rounds sections most in
+    let least : t.rounds ≤ length sections = are_given p limit text ended r t.rounds reading put.is_page_size is_reading put.stands in
     record {
       reading = reading;
       is_reading = is_reading;
-      has_memory = ap (λ (m : Image). Some m) (has.has_memory reading is_reading ∙ ap (λ (l : List (List PageRecord)). after table (pages_in p l)) all)
-          ∙ ap (λ (x : Option RamTable). memory_after p x sections) has.has_table.2;
+      has_memory = has.has_memory reading is_reading ∙ ap (λ (l : List (List PageRecord)). with_rounds first (pages_in p l)) (take_all t.rounds sections most);
       has_rounds = omega (arith, most, least);
     }
+
+-- a loader's memory began with zeros
+pub put_of : (p limit : ℕ) (text : List ℕ) (ended : Bool) (r : Reader) (t : LoadTarget) → HasFed p limit (loader r (Some t)) text ended
+    → HasPut p limit (zero_image t.memory.table) text ended r t
+put_of p limit text ended r t fed = record { is_page_size = fed.is_page_size; stands = fed.stands; has_first = fed.has_first }
+
+-- all that was put into zeros
+pub loads_put : (p limit : ℕ) (text : List ℕ) (ended : Bool) (r : Reader) (table : RamTable) (t : LoadTarget) → HasPut p limit (zero_image table) text ended r t
+    → HasPutAll p limit (zero_image table) text t → Loads p limit (loader r (Some t)) text ended × HasAllSections p limit (loader r (Some t)) text
+loads_put p limit text ended r table t put all =
+    let reading : StreamReading = all.reading in
+    let one : put.has_first.has_table.0 ≡ reading = same_reading p limit text put.has_first.has_table.0 reading put.is_page_size put.has_first.has_table.1 all.is_reading in
+    let is_table : Some table ≡ reading.table = put.has_first.has_table.2 ∙ ap (λ (x : StreamReading). x.table) one in
+    let has : HasAllSections p limit (loader r (Some t)) text = record {
+      reading = reading;
+      is_reading = all.is_reading;
+      has_memory = ap (λ (m : Image). Some m) (all.has_memory ∙ sym (onto-zeros table (pages_in p reading.rounds)))
+          ∙ ap (λ (x : Option RamTable). memory_after p x reading.rounds) is_table;
+      has_rounds = all.has_rounds;
+    } in
+    (record { is_page_size = put.is_page_size; stands = put.stands; has_sections = inl has }, has)
 
 -- a text without a table has no section
 pub none_there : (p limit : ℕ) (text : List ℕ) (r : Reader) → IsPageSize p → HasTable (settings Single p limit) text None → HasAllSections p limit (loader r None) text
@@ -174,7 +196,8 @@ table_there p m (Some table) sections e =
     let same : m.table ≡ table = ap (λ (x : Image). x.table) is in
     (ap (λ (x : RamTable). Some x) same, is ∙ ap (λ (x : RamTable). after x (pages_in p sections)) (sym same))
 
-first_of_all : (p limit : ℕ) (text : List ℕ) (r : Reader) (t : LoadTarget) → IsPageSize p → HasAllSections p limit (loader r (Some t)) text → HasFirst p limit text t
+first_of_all : (p limit : ℕ) (text : List ℕ) (r : Reader) (t : LoadTarget) → IsPageSize p → HasAllSections p limit (loader r (Some t)) text
+    → HasFirst p limit (zero_image t.memory.table) text t
 first_of_all p limit text r t size all =
     let there = table_there p t.memory all.reading.table all.reading.rounds all.has_memory in
     record {
@@ -183,7 +206,8 @@ first_of_all p limit text r t size all =
           let one : all.reading ≡ reading = same_reading p limit text all.reading reading size all.is_reading is in
           let most : length reading.rounds ≤ t.rounds = subst (λ (x : StreamReading). length x.rounds ≤ t.rounds) one (omega (arith, all.has_rounds)) in
           there.1 ∙ ap (λ (x : StreamReading). after t.memory.table (pages_in p x.rounds)) one
-          ∙ ap (λ (l : List (List PageRecord)). after t.memory.table (pages_in p l)) (sym (take_all t.rounds reading.rounds most));
+          ∙ ap (λ (l : List (List PageRecord)). after t.memory.table (pages_in p l)) (sym (take_all t.rounds reading.rounds most))
+          ∙ onto-zeros t.memory.table (pages_in p (take t.rounds reading.rounds));
     }
 
 -- a loader that stands for a text was fed it
@@ -209,7 +233,7 @@ all_there p limit r o t text ended is loads = elim loads.has_sections [
 -- ---- the answer
 
 -- how a text stands, as a verdict, whether or not it is over
-verdict_over : (ended : Bool) (n : ℕ) (s : StreamState) → verdict_of n (state_at ended s) ≡ verdict_of n s
+pub verdict_over : (ended : Bool) (n : ℕ) (s : StreamState) → verdict_of n (state_at ended s) ≡ verdict_of n s
 verdict_over false n s = refl
 verdict_over true n state.Reading = refl
 verdict_over true n Closed = refl
@@ -279,11 +303,11 @@ load_answers p limit l text a size (inr both) = inr (rw both.1 (none_put p limit
 -- ---- the text of a sender
 
 -- START and END bring no page
-empty_ends : (rounds : List (List Page)) → all_pages ([] ∷ rounds ++ [] ∷ []) ≡ all_pages rounds
+pub empty_ends : (rounds : List (List Page)) → all_pages ([] ∷ rounds ++ [] ∷ []) ≡ all_pages rounds
 empty_ends rounds = all_pages-push ([] ∷ rounds) [] ∙ append-nil (all_pages rounds)
 
 -- the records of the rounds stand for their pages
-pages_sent : (table : RamTable) (rounds : List (List Page)) → All (IsRound table) rounds → pages_in table.page_size (map (map written_record) rounds) ≡ rounds
+pub pages_sent : (table : RamTable) (rounds : List (List Page)) → All (IsRound table) rounds → pages_in table.page_size (map (map written_record) rounds) ≡ rounds
 pages_sent table [] all = refl
 pages_sent table (round ∷ rounds) all =
     ap (λ (x : List Page). x ∷ pages_in table.page_size (map (map written_record) rounds)) (written_pages table round (All-head (IsRound table) round rounds all))
@@ -301,7 +325,7 @@ sections_sent table rounds all =
     ∙ ap (λ (l : List (List Page)). after table ([] ∷ l ++ [] ∷ [])) (pages_sent table rounds all)
     ∙ after_same table ([] ∷ rounds ++ [] ∷ []) rounds (empty_ends rounds)
 
-counted : (rounds : List (List Page)) → length ([] ∷ map (map written_record) rounds ++ [] ∷ []) ≡ length rounds + 2
+pub counted : (rounds : List (List Page)) → length ([] ∷ map (map written_record) rounds ++ [] ∷ []) ≡ length rounds + 2
 counted rounds =
     let both = length-append ([] ∷ map (map written_record) rounds) ([] ∷ []) in
     let same = length-map rounds (map written_record) in

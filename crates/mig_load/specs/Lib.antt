@@ -1,3 +1,4 @@
 pub mod LoadFaultNumber
 pub mod SingleLoad
 pub mod Loader
+pub mod InPlace

@@ -3,8 +3,8 @@ use Rattle.std.specs.Prelude.{◌≡◌, ◌⊎◌, ◌<◌, ◌^◌, ℕ, Bool,
 use Rattle.std.specs.Option.{option_map, option_map_or}
 use Rattle.mig_mem.specs.PageSize.{IsPageSize}
 use Rattle.mig_mem.specs.RamTable.{RamTable}
-use Rattle.mig_mem.specs.Image.{Image}
-use Rattle.mig_mem.specs.Round.{after}
+use Rattle.mig_mem.specs.Image.{Image, zero_image}
+use Rattle.mig_mem.specs.Round.{with_rounds}
 use Rattle.mig_stream.specs.declared.item.Mode.TheVariants.{Single}
 use Rattle.mig_stream.specs.PageRecord.{page_of}
 use Rattle.mig_stream.specs.Reading.{settings, StreamReading, IsReading}
@@ -75,17 +75,40 @@ Answers page_size limit l text a =
 
 -- ---- in the midst of a call
 
--- The first sections of the text are in the memory: as many as it counts.
-pub record HasFirst (page_size limit : ℕ) (text : List ℕ) (t : LoadTarget) : Type 0 where
-  pub has_table : HasTable (settings Single page_size limit) text (Some t.memory.table)
+-- The first sections of the text are in the memory, on top of what it held at first: as many as it counts.
+pub record HasFirst (page_size limit : ℕ) (first : Image) (text : List ℕ) (t : LoadTarget) : Type 0 where
+  pub has_table : HasTable (settings Single page_size limit) text (Some first.table)
   pub has_memory : (reading : StreamReading) → IsReading (settings Single page_size limit) text reading
-      → t.memory ≡ after t.memory.table (map (map (page_of page_size)) (take t.rounds reading.rounds))
+      → t.memory ≡ with_rounds first (map (map (page_of page_size)) (take t.rounds reading.rounds))
 
--- The loader was fed this text, and the sections that its reader gave are in the memory. Others may wait.
+-- A reader was given this text, and the sections that it gave are in the memory. Others may wait.
+pub record HasPut (page_size limit : ℕ) (first : Image) (text : List ℕ) (ended : Bool) (r : Reader) (t : LoadTarget) : Type 0 where
+  pub is_page_size : IsPageSize page_size
+  pub stands : Stands (settings Single page_size limit) (put_so_far text ended t.rounds) r
+  pub has_first : HasFirst page_size limit first text t
+
+-- It was given some text, of fewer than 2^63 bytes.
+pub record HasPutSome (r : Reader) (t : LoadTarget) : Type 0 where
+  pub page_size : ℕ
+  pub limit : ℕ
+  pub first : Image
+  pub text : List ℕ
+  pub ended : Bool
+  pub is_short : length text < 2 ^ 63
+  pub has_put : HasPut page_size limit first text ended r t
+
+-- No section waits: all whole ones are in the memory.
+pub record HasPutAll (page_size limit : ℕ) (first : Image) (text : List ℕ) (t : LoadTarget) : Type 0 where
+  pub reading : StreamReading
+  pub is_reading : IsReading (settings Single page_size limit) text reading
+  pub has_memory : t.memory ≡ with_rounds first (map (map (page_of page_size)) reading.rounds)
+  pub has_rounds : t.rounds ≡ length reading.rounds
+
+-- The loader was fed this text, and the sections that its reader gave are in the memory, which began with zeros. Others may wait.
 pub record HasFed (page_size limit : ℕ) (l : Loader) (text : List ℕ) (ended : Bool) : Type 0 where
   pub is_page_size : IsPageSize page_size
   pub stands : Stands (settings Single page_size limit) (put_so_far text ended (rounds_of l)) l.reader
-  pub has_first : IfSome l.target (HasFirst page_size limit text)
+  pub has_first : IfSome l.target (λ t. HasFirst page_size limit (zero_image t.memory.table) text t)
 
 -- It was fed some text, of fewer than 2^63 bytes.
 pub record HasFedSome (l : Loader) : Type 0 where

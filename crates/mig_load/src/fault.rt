@@ -23,6 +23,8 @@ pub enum Origin {
 pub enum Fault {
     /// The stream's fault.
     Stream(StreamFault),
+    /// The stream is of another table than the memory that was handed in for it.
+    OtherTable,
     /// A growth was refused.
     NoMemory,
 }
@@ -34,6 +36,7 @@ impl Fault {
     {
         match self {
             Fault::Stream(fault) => fault.number(),
+            Fault::OtherTable => 63,
             Fault::NoMemory => NoMemory.number(),
         }
     }
@@ -64,6 +67,11 @@ impl Display for Fault {
     fn fmt<W: fmt::Write>(&self, f: &mut Formatter<W>) -> fmt::Result {
         match self {
             Fault::Stream(fault) => Display::fmt(fault, f),
+            Fault::OtherTable => write!(
+                f,
+                "{}: the stream is of another table than the memory",
+                self.number()
+            ),
             Fault::NoMemory => Display::fmt(&NoMemory, f),
         }
     }

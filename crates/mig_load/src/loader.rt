@@ -3,6 +3,9 @@
 ghost use Rattle.std.specs.Prelude.{◌≡◌, ◌+◌, ◌<◌, ◌≤◌, ◌^◌, ◌++◌, ℕ, Bool, List, [], length, true, false, IsFalse, IsOk, OnOk, OnErr, IfErr};
 ghost use Rattle.std.specs.Option.{option_copied};
 ghost use Rattle.mig_mem.specs.PageSize.{IsPageSize};
+ghost use Rattle.mig_stream.specs.declared.item.Mode.TheVariants.{Single};
+ghost use Rattle.mig_stream.specs.Reading.{settings};
+ghost use Rattle.mig_stream.specs.Reader.{IsSettled};
 ghost use Rattle.mig_load.specs.declared.fault.FeedFault.TheVariants.{NoMemory as fault_no_memory, NoGuestMemory as fault_no_guest_memory};
 ghost use Rattle.mig_load.specs.Loader.{memory_of, rounds_of, HasAllSections, Waits, Loads, Judges, Answers};
 
@@ -14,8 +17,9 @@ use mig_stream::{Mode, StreamReader};
 use std::alloc::{Allocator, Global};
 use std::marker::Model;
 
-/// Loads a guest from the pieces of a single stream. Each section is put into the memory as soon as its footer came, and its buffers
-/// are given back; so it holds the guest, one section, and the bytes of an item that isn't whole.
+/// Loads a guest from the pieces of a single stream. Each section is put into the memory by the call that brings its footer, and its
+/// buffers are given back. So between calls it holds the guest and the pages of one section, which isn't whole, unless sections wait for
+/// want of memory; in a call also the pages that the piece brings.
 #[derive(Drop)]
 pub struct SingleLoader<A: Allocator = Global> {
     alloc: A,
@@ -35,7 +39,7 @@ impl<A: Allocator> Model for SingleLoader<A> {
 }
 
 impl<A: Allocator + Copy> SingleLoader<A> {
-    /// A loader that was fed nothing, of a stream whose pages have this size, and whose size list has at most `limit` bytes.
+    /// A loader that was fed nothing, of a stream whose pages have this size, and whose blocks may have `limit` bytes together.
     pub fn new(alloc: A, page_size: u64, limit: u64) -> SingleLoader<A>
         requires page_size { IsPageSize page_size }
         requires limit { limit ≤ 2 ^ 40 }
@@ -52,7 +56,7 @@ impl<A: Allocator + Copy> SingleLoader<A> {
     }
 
     /// Takes the next piece of the text, and puts the sections that it makes whole into the memory. After the end byte, or a fault,
-    /// its bytes are only counted. The fault says what stands after it.
+    /// its bytes are only counted, and `NoMemory` doesn't come. The fault says what stands after it.
     pub fn feed(&mut self, piece: &[u8]) -> Result<(), FeedFault>
         requires open { IsFalse self.old.reader.ended }
         requires room { self.old.reader.fed + length piece.now < 2 ^ 63 }
@@ -62,7 +66,10 @@ impl<A: Allocator + Copy> SingleLoader<A> {
         ensures waiting { IfErr result (λ fault. fault ≡ fault_no_guest_memory → (page_size limit : ℕ) (text : List ℕ) → Loads page_size limit self.old text false
             → Loads page_size limit self.new (text ++ piece.now) false × Waits page_size limit self.new (text ++ piece.now)) }
         ensures open { IsFalse self.new.reader.ended }
+        ensures settled { IfErr result (λ fault. fault ≡ fault_no_memory → (page_size limit : ℕ) (text : List ℕ) → Loads page_size limit self.old text false
+            → IsSettled (settings Single page_size limit) text → ⊥) }
         ensures fed { OnOk result (self.new.reader.fed ≡ self.old.reader.fed + length piece.now) }
+        ensures counted { IfErr result (λ fault. fault ≡ fault_no_guest_memory → self.new.reader.fed ≡ self.old.reader.fed + length piece.now) }
     {
         let Ok(()) = self.reader.feed(piece) else {
             return Err(FeedFault::NoMemory);

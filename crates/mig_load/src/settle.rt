@@ -2,19 +2,23 @@
 
 ghost use Rattle.std.specs.Prelude.{◌≡◌, ℕ, Bool, List, None, Some, OnOk, OnErr};
 ghost use Rattle.mig_load.specs.SingleLoad.{want_of_memory, verdict_of, unloaded};
-ghost use Rattle.mig_load.specs.Loader.{loader, HasAllSections, Waits, Loads, Judges, Answers, HasFed, HasFedSome};
+ghost use Rattle.mig_mem.specs.Image.{Image};
+ghost use Rattle.mig_load.specs.Loader.{loader, HasAllSections, Waits, Loads, Judges, Answers, HasPut, HasPutSome, HasPutAll, HasFed, HasFedSome};
 
 use crate::{Fault, LoadFault, Loaded, Origin};
 use mig_assemble::Target;
-use mig_mem::NoMemory;
+use mig_mem::{GuestTarget, NoMemory};
 use mig_stream::{StreamFault, StreamReader, StreamState};
 use std::alloc::Allocator;
 
-// Puts each whole section that waits into the memory.
-fn put_sections<A: Allocator>(reader: &mut StreamReader<'_, A>, target: &mut Target<A>)
-    requires { HasFedSome (loader reader.old (Some target.old)) }
-    ensures all { (page_size limit : ℕ) (text : List ℕ) (ended : Bool) → HasFed page_size limit (loader reader.old (Some target.old)) text ended
-        → HasFed page_size limit (loader reader.new (Some target.new)) text ended × HasAllSections page_size limit (loader reader.new (Some target.new)) text }
+/// Puts each whole section that waits into the memory.
+pub(crate) fn put_sections<A: Allocator, M: GuestTarget>(
+    reader: &mut StreamReader<'_, A>,
+    target: &mut Target<A, M>,
+)
+    requires { HasPutSome reader.old target.old }
+    ensures all { (page_size limit : ℕ) (first : Image) (text : List ℕ) (ended : Bool) → HasPut page_size limit first text ended reader.old target.old
+        → HasPut page_size limit first text ended reader.new target.new × HasPutAll page_size limit first text target.new }
     ensures fed { reader.new.fed ≡ reader.old.fed }
     ensures ended { reader.new.ended ≡ reader.old.ended }
 {
@@ -51,8 +55,8 @@ pub(crate) fn settle<A: Allocator + Copy>(
     Ok(())
 }
 
-// How a text stands, as a verdict after so many whole sections.
-fn verdict_at(rounds: u64, state: StreamState) -> Result<(), LoadFault>
+/// How a text stands, as a verdict after so many whole sections.
+pub(crate) fn verdict_at(rounds: u64, state: StreamState) -> Result<(), LoadFault>
     ensures { result ≡ verdict_of rounds state }
 {
     let fault = match state {

@@ -14,7 +14,7 @@ use crate::settle::{answer, settle, without_memory};
 use mig_stream::{Mode, StreamReader};
 use std::alloc::Allocator;
 
-/// Loads a guest from the text of a single stream whose pages have this size, and whose size list has at most `limit` bytes.
+/// Loads a guest from the text of a single stream whose pages have this size, and whose blocks may have `limit` bytes together.
 /// What follows the end byte is not looked at.
 pub fn load_single<A: Allocator + Copy>(
     alloc: A,

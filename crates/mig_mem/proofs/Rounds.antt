@@ -10,12 +10,13 @@ use Rattle.std.proofs.lemmas.List.Elements.{All-head, All-tail, All-weaker, All-
 use Rattle.std.proofs.lemmas.List.Folds.{find-append}
 use Rattle.mig_mem.specs.declared.place.Place.{Place}
 use Rattle.mig_mem.specs.RamTable.{RamTable}
-use Rattle.mig_mem.specs.Place.{place_eq, has_place, IsPlace}
+use Rattle.mig_mem.specs.Place.{place_eq, has_place, places, IsPlace}
 use Rattle.mig_mem.specs.Image.{Page, Image, IsImage, content_at, pages_of, image_of, zero_image, zero_page, with_page}
-use Rattle.mig_mem.specs.Round.{round_of, last_at, all_pages, after, IsRound}
+use Rattle.mig_mem.specs.Round.{round_of, last_at, all_pages, after, with_round, with_rounds, IsRound, RoundsGoOnto}
 use Rattle.mig_mem.proofs.Members.{All-flat_map}
+use Rattle.mig_mem.proofs.TablePlaces.{has_place-places}
 use Rattle.mig_mem.proofs.PlaceOrder.{place_eq-true, place_eq-from, place_eq-flip}
-use Rattle.mig_mem.proofs.Images.{image_agree, image_from, with_page-image_of, content_at-image_of, content_size}
+use Rattle.mig_mem.proofs.Images.{image_agree, image_from, image_is, with_page-image_of, content_at-image_of, content_size}
 
 -- ---- the last page at a place
 
@@ -150,3 +151,51 @@ after_image table rounds all =
     last_of (λ x. length x.content ≡ table.page_size) p (all_pages rounds) (zero_page table.page_size)
     (All-flat_map (λ x. length x.content ≡ table.page_size) (λ (r : List Page). r) rounds (All-weaker (IsRound table) (λ r. All (λ x. length x.content ≡ table.page_size) r) (λ r is_round. is_round.has_sizes) rounds all))
     (λ l. length l ≡ table.page_size) (λ x h. h) (length-replicate table.page_size 0))
+
+-- ---- rounds that are put into a memory
+
+-- the content that pages give a place, or else another
+abbrev given : Place → List Page → List ℕ → List ℕ
+given p xs c = option_map_or (λ (x : Page). x.content) (last_at p xs) c
+
+-- no round
+pub onto-nil : (m : Image) → IsImage m → with_rounds m [] ≡ m
+onto-nil m is =
+    image_agree m.table (λ p. given p [] (content_at m p)) (content_at m) (λ p _. ap (λ (o : Option Page). option_map_or (λ (x : Page). x.content) o (content_at m p)) (last_at-nil p))
+    ∙ sym (image_is m is)
+
+-- one round more
+pub onto-push : (m : Image) (rounds : List (List Page)) (r : List Page) → with_rounds m (rounds ++ r ∷ []) ≡ with_round (with_rounds m rounds) r
+onto-push m rounds r =
+    let was : Place → List ℕ = λ p. given p (all_pages rounds) (content_at m p) in
+    image_agree m.table (λ p. given p (all_pages (rounds ++ r ∷ [])) (content_at m p)) (λ p. given p r (content_at (with_rounds m rounds) p)) (λ p is.
+    ap (λ (l : List Page). given p l (content_at m p)) (all_pages-push rounds r)
+    ∙ ap (λ (o : Option Page). option_map_or (λ (x : Page). x.content) o (content_at m p)) (last_at-append p (all_pages rounds) r)
+    ∙ map_or-or (last_at p r) (last_at p (all_pages rounds)) (content_at m p)
+    ∙ ap (λ (c : List ℕ). given p r c) (sym (content_at-image_of m.table was p is)))
+
+-- rounds onto zeros
+pub onto-zeros : (table : RamTable) (rounds : List (List Page)) → after table rounds ≡ with_rounds (zero_image table) rounds
+onto-zeros table rounds =
+    image_agree table (λ p. given p (all_pages rounds) (zero_page table.page_size)) (λ p. given p (all_pages rounds) (content_at (zero_image table) p)) (λ p is.
+    ap (λ (c : List ℕ). given p (all_pages rounds) c) (sym (content_at-image_of table (λ _. zero_page table.page_size) p is)))
+
+-- what they leave is a memory
+onto_image : (m : Image) (rounds : List (List Page)) → IsImage m → All (IsRound m.table) rounds → IsImage (with_rounds m rounds)
+onto_image m rounds image all =
+    image_from m.table (λ p. given p (all_pages rounds) (content_at m p)) (λ p is.
+    last_of (λ x. length x.content ≡ m.table.page_size) p (all_pages rounds) (content_at m p)
+    (All-flat_map (λ x. length x.content ≡ m.table.page_size) (λ (r : List Page). r) rounds
+    (All-weaker (IsRound m.table) (λ r. All (λ x. length x.content ≡ m.table.page_size) r) (λ r is_round. is_round.has_sizes) rounds all))
+    (λ l. length l ≡ m.table.page_size) (λ x h. h) (content_size m p image is))
+
+pub rounds_onto : RoundsGoOnto
+rounds_onto = record { none = onto-nil; one_more = onto-push; makes_memory = onto_image }
+
+-- a round of all pages
+pub all_pages_sent : (m before : Image) → IsImage m → m.table ≡ before.table → with_round before (round_of m (places m.table)) ≡ m
+all_pages_sent m before image same =
+    ap (λ (t : RamTable). image_of t (λ p. given p (round_of m (places m.table)) (content_at before p))) (sym same)
+    ∙ image_agree m.table (λ p. given p (round_of m (places m.table)) (content_at before p)) (content_at m) (λ p is.
+    ap (λ (o : Option Page). option_map_or (λ (x : Page). x.content) o (content_at before p)) (last_at-round m p (places m.table) (has_place-places m.table p is)))
+    ∙ sym (image_is m image)

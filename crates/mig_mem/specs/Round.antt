@@ -4,8 +4,8 @@ use Rattle.std.specs.List.{flat_map}
 use Rattle.std.specs.Option.{option_map_or}
 use Rattle.mig_mem.specs.declared.place.Place.{Place}
 use Rattle.mig_mem.specs.RamTable.{RamTable}
-use Rattle.mig_mem.specs.Place.{place_eq, IsPlace}
-use Rattle.mig_mem.specs.Image.{Page, Image, IsImage, content_at, pages_of, image_of, zero_page, with_page}
+use Rattle.mig_mem.specs.Place.{place_eq, IsPlace, places}
+use Rattle.mig_mem.specs.Image.{Page, Image, IsImage, content_at, pages_of, image_of, zero_page, zero_image, with_page}
 use Rattle.mig_mem.specs.PlaceSet.{PlaceSet, IsPlaceSet}
 
 -- The round of an image and its dirty places: a page for each of them, in the order given (a dirty set gives them
@@ -35,6 +35,10 @@ pub record IsRound (table : RamTable) (round : List Page) : Type 0 where
 abbrev pub with_round : Image → List Page → Image
 with_round m round = image_of m.table (λ p. option_map_or (λ x. x.content) (last_at p round) (content_at m p))
 
+-- and with rounds in it, one after another
+abbrev pub with_rounds : Image → List (List Page) → Image
+with_rounds m rounds = with_round m (all_pages rounds)
+
 -- The round of a memory and of a set of its table's places is one of that table.
 abbrev pub ImagesMakeRounds : Type 0
 ImagesMakeRounds = (m : Image) (s : PlaceSet) → IsImage m → IsPlaceSet s → s.table ≡ m.table → IsRound m.table (round_of m s.marked)
@@ -51,3 +55,17 @@ OnePageMore = (table : RamTable) (rounds : List (List Page)) (x : Page)
 -- And a round more puts that round into it.
 abbrev pub OneRoundMore : Type 0
 OneRoundMore = (table : RamTable) (rounds : List (List Page)) (round : List Page) → after table (rounds ++ round ∷ []) ≡ with_round (after table rounds) round
+
+-- Rounds that are put into a memory begin with it, and leave one of its table; a round more is put into what those before it left.
+pub record RoundsGoOnto : Type 0 where
+  pub none : (m : Image) → IsImage m → with_rounds m [] ≡ m
+  pub one_more : (m : Image) (rounds : List (List Page)) (round : List Page) → with_rounds m (rounds ++ round ∷ []) ≡ with_round (with_rounds m rounds) round
+  pub makes_memory : (m : Image) (rounds : List (List Page)) → IsImage m → All (IsRound m.table) rounds → IsImage (with_rounds m rounds)
+
+-- The memory after rounds is zeros with these rounds in it.
+abbrev pub RoundsBeginWithZeros : Type 0
+RoundsBeginWithZeros = (table : RamTable) (rounds : List (List Page)) → after table rounds ≡ with_rounds (zero_image table) rounds
+
+-- A round of all pages of a memory leaves that memory, whatever was there before.
+abbrev pub AllPagesMakeMemory : Type 0
+AllPagesMakeMemory = (m before : Image) → IsImage m → m.table ≡ before.table → with_round before (round_of m (places m.table)) ≡ m

@@ -1,9 +1,9 @@
-//! What a sender asks of a guest's memory, whoever keeps it.
+//! What a sender and a loader ask of a guest's memory, whoever keeps it.
 
 ghost use Rattle.std.specs.Prelude.{◌≡◌, ◌↔◌, length, IfSome, IsSome};
 ghost use Rattle.std.specs.Option.{option_copied};
 ghost use Rattle.mig_mem.specs.Place.{IsPlace};
-ghost use Rattle.mig_mem.specs.Image.{Image, IsImage, content};
+ghost use Rattle.mig_mem.specs.Image.{Image, IsImage, content, zero_page, with_page};
 
 use crate::{Memory, Place, Table};
 use std::alloc::Allocator;
@@ -40,5 +40,50 @@ impl<A: Allocator> GuestPages for Memory<A> {
 
     fn page(&self, place: Place) -> Option<&[u8]> {
         Memory::page(self, place)
+    }
+}
+
+/// The memory of a guest into which pages are put: a `Memory`, or a `LentMemoryMut` of the caller's own bytes. To put one takes no
+/// memory, so it can't be refused. No call of the trait gives a page.
+pub trait GuestTarget {
+    /// The allocator of the table.
+    type Alloc: Allocator;
+
+    /// The image that it holds.
+    ghost image: { Self → Image };
+
+    /// The table whose places have a content. It also says what a memory is: one content of the page size for each place.
+    fn table(&self) -> &Table<Self::Alloc>
+        ensures value { result.now ≡ (image self.now).table }
+        ensures image { IsImage (image self.now) };
+
+    /// Writes a whole page. `Table::holds` is the test of the place.
+    fn put_page(&mut self, place: Place, bytes: &[u8])
+        requires place { IsPlace (image self.old).table place }
+        requires bytes { length bytes.now ≡ (image self.old).table.page_size }
+        ensures { image self.new ≡ with_page (image self.old) place bytes.now };
+
+    /// Makes a page zeros. Lent bytes that are zeros aren't written, and neither is a page of a `Memory` that never was, so that such a
+    /// page takes no memory of the system; no contract says so.
+    fn put_zero_page(&mut self, place: Place)
+        requires { IsPlace (image self.old).table place }
+        ensures { image self.new ≡ with_page (image self.old) place (zero_page (image self.old).table.page_size) };
+}
+
+impl<A: Allocator> GuestTarget for Memory<A> {
+    type Alloc = A;
+
+    ghost image = { λ m. m };
+
+    fn table(&self) -> &Table<A> {
+        Memory::table(self)
+    }
+
+    fn put_page(&mut self, place: Place, bytes: &[u8]) {
+        Memory::put_page(self, place, bytes);
+    }
+
+    fn put_zero_page(&mut self, place: Place) {
+        Memory::put_zero_page(self, place);
     }
 }

@@ -3,8 +3,9 @@
 //! Each law is the clause of a function that does nothing, so that it is proved with the crate and callers can have it.
 
 ghost use Rattle.mig_mem.specs.Refusal.{TableIsLawful};
-ghost use Rattle.mig_mem.specs.Round.{ImagesMakeRounds, RoundsMakeMemory, OnePageMore, OneRoundMore};
+ghost use Rattle.mig_mem.specs.Round.{ImagesMakeRounds, RoundsMakeMemory, OnePageMore, OneRoundMore, RoundsGoOnto, RoundsBeginWithZeros, AllPagesMakeMemory};
 ghost use Rattle.mig_mem.specs.Tracking.{TrackingGivesLastImage};
+ghost use Rattle.mig_mem.specs.Lent.{LentPagesAreParts};
 
 /// A list of blocks is refused for no reason exactly where it makes a lawful table. So blocks that keep the limits are
 /// refused by `Table::new` for want of memory alone.
@@ -31,6 +32,28 @@ pub fn one_page_more()
 /// elsewhere.
 pub fn one_round_more()
     ensures { OneRoundMore }
+{}
+
+/// Rounds that are put into a memory begin with what it holds, and leave a memory of its table; a round more is put into what those
+/// before it left.
+pub fn rounds_go_onto()
+    ensures { RoundsGoOnto }
+{}
+
+/// The memory after rounds is zeros with these rounds in it.
+pub fn rounds_begin_with_zeros()
+    ensures { RoundsBeginWithZeros }
+{}
+
+/// A round of all pages of a memory leaves that memory, whatever was there before: so a guest whose sender sends all pages once is
+/// loaded over anything.
+pub fn all_pages_make_memory()
+    ensures { AllPagesMakeMemory }
+{}
+
+/// The content of a place of lent bytes is its page's part of its block's bytes: so whoever knows the one knows the other.
+pub fn lent_pages_are_parts()
+    ensures { LentPagesAreParts }
 {}
 
 /// With faithful tracking from zeros on, the memory after the rounds is the last image: so a sender whose dirty pages

@@ -11,6 +11,7 @@ mod fault;
 mod guest;
 mod laws;
 mod lent;
+mod lent_mut;
 mod marks;
 mod memory;
 mod page_size;
@@ -24,12 +25,14 @@ mod table;
 pub use difference::first_difference;
 pub use dirty::Dirty;
 pub use fault::{NoMemory, TableFault};
-pub use guest::GuestPages;
+pub use guest::{GuestPages, GuestTarget};
 pub use laws::{
-    images_make_rounds, one_page_more, one_round_more, rounds_make_memory, table_is_lawful,
+    all_pages_make_memory, images_make_rounds, lent_pages_are_parts, one_page_more, one_round_more,
+    rounds_begin_with_zeros, rounds_go_onto, rounds_make_memory, table_is_lawful,
     tracking_gives_last_image,
 };
 pub use lent::LentMemory;
+pub use lent_mut::LentMemoryMut;
 pub use memory::Memory;
 pub use page_size::{PAGE_SIZE_4K, PAGE_SIZE_8K, is_page_size};
 pub use place::Place;

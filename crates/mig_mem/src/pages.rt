@@ -37,8 +37,8 @@ impl<A: Allocator> Model for Pages<A> {
     ghost invariant = { λ p. ArePages p.size p.slots p.bytes.items (vec_capacity p.bytes) };
 }
 
-// A page of zeros.
-fn zeros(size: u64) -> &'static [u8]
+/// A page of zeros.
+pub(crate) fn zeros(size: u64) -> &'static [u8]
     requires { IsPageSize size }
     ensures { result.now ≡ zero_page size }
 {

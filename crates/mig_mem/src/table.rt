@@ -9,6 +9,7 @@ ghost use Rattle.mig_mem.specs.Refusal.{refusal};
 use crate::refusal::fault;
 use crate::{NoMemory, Place, TableFault};
 use std::alloc::{Allocator, Global};
+use std::cmp::Ordering;
 use std::marker::Model;
 
 /// The most blocks that a table has.
@@ -28,14 +29,21 @@ struct Span {
     pages: u64,
 }
 
+// A block in the order of the ids: the front of its id, by which most ids are told apart, and its number.
+#[derive(Clone, Copy)]
+struct Entry {
+    front: u64,
+    block: usize,
+}
+
 /// The table of a guest's memory: what QEMU's `RAMBlock` list tells a migration. Blocks are numbered from 0, in the order of the list.
 #[derive(Drop)]
 pub struct Table<A: Allocator = Global> {
     page_size: u64,
     ids: Vec<u8, A>,
     spans: Vec<Span, A>,
-    // the numbers of the blocks in the order of their ids. It only tells where to look for an id first: nothing rests on it
-    order: Vec<usize, A>,
+    // the blocks in the order of their ids. It only tells where to look for an id first: nothing rests on it
+    order: Vec<Entry, A>,
 }
 
 impl<A: Allocator> Model for Table<A> {
@@ -61,13 +69,34 @@ fn id_of<'a>(ids: &'a [u8], spans: &[Span], i: usize) -> &'a [u8] {
     rest.get(..span.len).unwrap_or_default()
 }
 
-// The numbers of the blocks in the order of their ids.
-fn order_of<A: Allocator>(alloc: A, ids: &[u8], spans: &[Span]) -> Result<Vec<usize, A>, NoMemory> {
-    let mut order = Vec::with_capacity(alloc, spans.len())?;
-    for i in 0..spans.len() {
-        order.push(i)?;
+// The first eight bytes of an id as one number, which is in the order of the ids. A shorter id is filled up with zeros, which no id has.
+fn front_of(id: &[u8]) -> u64 {
+    let mut front = 0;
+    for i in 0..8 {
+        let byte = id.get(i).copied().unwrap_or(0);
+        front = front << 8 | u64::from(byte);
     }
-    order.sort_unstable_by(|a, b| id_of(ids, spans, *a).cmp(id_of(ids, spans, *b)));
+    front
+}
+
+// The order of a block's id and of another id: that of their fronts, and where these are equal that of the ids.
+fn order_to(ids: &[u8], spans: &[Span], entry: Entry, front: u64, id: &[u8]) -> Ordering {
+    match entry.front.cmp(&front) {
+        Ordering::Equal => id_of(ids, spans, entry.block).cmp(id),
+        other => other,
+    }
+}
+
+// The blocks in the order of their ids.
+fn order_of<A: Allocator>(alloc: A, ids: &[u8], spans: &[Span]) -> Result<Vec<Entry, A>, NoMemory> {
+    let mut order = Vec::with_capacity(alloc, spans.len())?;
+    for block in 0..spans.len() {
+        let front = front_of(id_of(ids, spans, block));
+        order.push(Entry { front, block })?;
+    }
+    order.sort_unstable_by(|a, b| {
+        order_to(ids, spans, *a, b.front, id_of(ids, spans, b.block))
+    });
     Ok(order)
 }
 
@@ -200,8 +229,9 @@ impl<A: Allocator> Table<A> {
         ensures { IfSome result (λ i. block_of self.now.blocks id.now ≡ Some i) }
     {
         let order = &self.order;
-        let at = order.binary_search_by(|i| id_of(&self.ids, &self.spans, *i).cmp(id));
-        let i = *order.get(at.ok()?)?;
+        let front = front_of(id);
+        let at = order.binary_search_by(|e| order_to(&self.ids, &self.spans, *e, front, id));
+        let i = order.get(at.ok()?)?.block;
         if i < self.len() && self.id(i) == id {
             return Some(i);
         }

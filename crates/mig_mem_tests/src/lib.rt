@@ -4,4 +4,6 @@
 #![tactic(auto)]
 
 #[cfg(test)]
+mod lent_mut;
+#[cfg(test)]
 mod refused;

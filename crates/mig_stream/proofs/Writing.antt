@@ -171,14 +171,14 @@ put_more len named old new pages x within step at size h =
     let before : Writer = (part_from len named old).before in
     let same : (part_from len named new).before ≡ before = before_stays len named old new (x ∷ []) within step in
     let text : new ≡ with_pages (with_head before) (pages ++ x ∷ []) =
-    step ∙ ap (λ (w : Writer). with_pages w (x ∷ [])) h.has_text ∙ with_pages-push (with_head before) pages x in
+    step ∙ ap (λ (w : Writer). with_pages w (x ∷ [])) h.has_pages ∙ with_pages-push (with_head before) pages x in
     let round : IsRound table (pages ++ x ∷ []) = record {
       has_places = All-append (λ y. IsPlace table y.place) pages (x ∷ []) h.is_round.has_places (All-cons (λ y. IsPlace table y.place) x [] at (All-nil (λ y. IsPlace table y.place)));
       has_sizes = All-append (λ y. length y.content ≡ table.page_size) pages (x ∷ []) h.is_round.has_sizes
           (All-cons (λ y. length y.content ≡ table.page_size) x [] size (All-nil (λ y. length y.content ≡ table.page_size)));
     } in
     record {
-      has_text = text ∙ ap (λ (w : Writer). with_pages (with_head w) (pages ++ x ∷ [])) (sym same);
+      has_pages = text ∙ ap (λ (w : Writer). with_pages (with_head w) (pages ++ x ∷ [])) (sym same);
       is_round = subst (λ (w : Writer). IsRound w.table (pages ++ x ∷ [])) (sym same) round;
     }
 
@@ -194,6 +194,6 @@ pub part_ended : (part : PartSoFar) (new : Writer) (pages : List Page) → HasPu
 part_ended part new pages h table text named =
     let old : Writer = part.before in
     let bytes : List ℕ = pages_bytes old.table old.named pages in
-    same_writer new (with_part old (RoundPart pages)) (table ∙ ap (λ (w : Writer). w.table) h.has_text)
-    (text ∙ ap (λ (w : Writer). w.text ++ section_end) h.has_text ∙ append_assoc (old.text ++ part_head) bytes section_end ∙ append_assoc old.text part_head (bytes ++ section_end))
-    (named ∙ ap (λ (w : Writer). w.named) h.has_text)
+    same_writer new (with_part old (RoundPart pages)) (table ∙ ap (λ (w : Writer). w.table) h.has_pages)
+    (text ∙ ap (λ (w : Writer). w.text ++ section_end) h.has_pages ∙ append_assoc (old.text ++ part_head) bytes section_end ∙ append_assoc old.text part_head (bytes ++ section_end))
+    (named ∙ ap (λ (w : Writer). w.named) h.has_pages)

@@ -49,7 +49,7 @@ pub record PartSoFar : Type 0 where
 
 -- These pages have been put into the part, in this order, and they are a round of its table.
 pub record HasPut (part : PartSoFar) (pages : List Page) : Type 0 where
-  pub has_text : part.now ≡ with_pages (with_head part.before) pages
+  pub has_pages : part.now ≡ with_pages (with_head part.before) pages
   pub is_round : IsRound part.before.table pages
 
 -- what stood before stands in front

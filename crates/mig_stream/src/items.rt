@@ -2,7 +2,8 @@
 //!
 //! A function takes one kind of item, whole: it judges it, in the order of the item's faults, and notes what it tells.
 
-ghost use Rattle.std.specs.Prelude.{◌≡◌, ◌+◌, ◌≤◌, ◌==◌, if◌then◌else◌, length, slice_index, OnOk, OnErr};
+ghost use Rattle.std.specs.Prelude.{◌≡◌, ◌+◌, ◌/◌, ◌%◌, ◌≤◌, ◌==◌, if◌then◌else◌, length, slice_index, OnOk, OnErr};
+ghost use Rattle.mig_mem.specs.PageSize.{IsPageSize};
 ghost use Rattle.mig_stream.specs.declared.item.Due.TheVariants as due;
 ghost use Rattle.mig_stream.specs.declared.item.RecordKind.TheVariants as kind;
 ghost use Rattle.mig_stream.specs.declared.item.Filling.TheVariants as filling;
@@ -24,7 +25,7 @@ use crate::piece::Piece;
 use crate::progress::Progress;
 use crate::round::Records;
 use crate::stop::Stop;
-use mig_mem::{MAX_BLOCKS, NoMemory, Place, is_id};
+use mig_mem::{MAX_BLOCKS, NoMemory, PAGE_SIZE_4K, PAGE_SIZE_8K, Place, is_id};
 use std::alloc::Allocator;
 use std::mem;
 
@@ -203,6 +204,7 @@ impl<'a, A: Allocator> Progress<'a, A> {
         Ok(())
     }
 
+    #[inline(always)]
     pub(crate) fn fill_byte(&mut self, place: Place, item: &[u8]) -> Result<(), Stop>
         requires place { IsShort place }
         requires size { length item.now ≡ 1 }
@@ -248,14 +250,12 @@ impl<'a, A: Allocator + Copy> Progress<'a, A> {
         Ok(())
     }
 
+    #[inline(always)]
     pub(crate) fn record_head(&mut self, item: &[u8]) -> Result<(), Stop>
         requires { length item.now ≡ 8 }
         ensures { TakesAs self.old due.RecordHead item.now self.new result }
     {
-        let head = be64(item, 0);
-        let page_size = self.entries.page_size();
-        let page = head / page_size;
-        let flags = (head % page_size) as u16;
+        let (page, flags) = split_head(be64(item, 0), self.entries.page_size());
         match record_kind(flags) {
             None => Err(Stop::Fault(StreamFault::Flags(flags))),
             Some(RecordKind::SizeList) => self.size_list(page),
@@ -294,6 +294,7 @@ impl<'a, A: Allocator + Copy> Progress<'a, A> {
         Ok(())
     }
 
+    #[inline(always)]
     pub(crate) fn page(&mut self, place: Place, item: Piece<'a, '_>) -> Result<(), Stop>
         requires place { IsShort place }
         requires size { length (bytes_of item) ≡ self.old.page_size }
@@ -344,6 +345,19 @@ fn after_entry(left: u64) -> Due
         Due::RecordHead
     } else {
         Due::ListEntry
+    }
+}
+
+// The page number and the flags of a record's head. The sizes are named, so that none is divided by at run time.
+fn split_head(head: u64, page_size: u64) -> (u64, u16)
+    requires { IsPageSize page_size }
+    ensures page { result.0 ≡ head / page_size }
+    ensures flags { result.1 ≡ head % page_size }
+{
+    if page_size == PAGE_SIZE_4K {
+        (head / PAGE_SIZE_4K, (head % PAGE_SIZE_4K) as u16)
+    } else {
+        (head / PAGE_SIZE_8K, (head % PAGE_SIZE_8K) as u16)
     }
 }
 

@@ -102,6 +102,7 @@ impl<'a, A: Allocator + Copy> Progress<'a, A> {
 
 impl<'a, A: Allocator + Copy> Progress<'a, A> {
     /// Takes the item that is due. An `Err` changes nothing.
+    #[inline(always)]
     pub(crate) fn take(&mut self, item: Piece<'a, '_>) -> Result<(), Stop>
         requires { IsItem self.old.page_size self.old.due (bytes_of item) }
         ensures { TakesAs self.old self.old.due (bytes_of item.entry) self.new result }

@@ -24,6 +24,7 @@ fn make_room<A: Allocator>(records: &mut Vec<Record<'_, A>, A>) -> Result<(), No
 }
 
 // Adds a record.
+#[inline(always)]
 fn push<'a, A: Allocator>(
     records: &mut Vec<Record<'a, A>, A>,
     item: Record<'a, A>,

@@ -7,13 +7,19 @@
 #[cfg(test)]
 mod building;
 #[cfg(test)]
+mod in_place;
+#[cfg(test)]
 mod in_use;
 #[cfg(test)]
 mod lent;
 #[cfg(test)]
+mod parts;
+#[cfg(test)]
 mod pieces;
 #[cfg(test)]
 mod refused;
+#[cfg(test)]
+mod refused_parts;
 #[cfg(test)]
 mod rounds;
 #[cfg(test)]

@@ -130,12 +130,13 @@ fn assert_no_round<A: Allocator, B: Allocator>(
 }
 
 // Asserts that a target of a table, made after refused growths, has no round.
-fn assert_new_target(
+fn assert_new_target<A: Allocator + Copy, B: Allocator>(
     rt: &impl Abort,
     heap: &Refusing,
-    table: &Table<&Refusing>,
+    alloc: A,
+    table: &Table<B>,
 ) -> Result<(), Fail> {
-    with_each_growth_refused!(rt, heap, Target::new(heap, table), target => {
+    with_each_growth_refused!(rt, heap, Target::new(alloc, table), target => {
         assert_no_round(rt, &target, table);
     });
 }
@@ -144,7 +145,7 @@ fn assert_new_target(
 fn target_new(rt: HostRuntime) -> Result<(), Fail> {
     let heap = Refusing::new(rt.alloc(), 0);
     let table = table(&heap, &BLOCKS).expect(&rt, "a table");
-    assert_new_target(&rt, &heap, &table)
+    assert_new_target(&rt, &heap, &heap, &table)
 }
 
 // A load's answer, or its fault where that is want of memory, found in putting rounds into memory, with no memory and no
@@ -228,9 +229,9 @@ fn gathered_push(rt: HostRuntime) {
 }
 
 // Whether a round got into a memory with growth `nth` refused. If not, it answered want of memory, and the memory is as it was.
-fn is_put(
+fn is_put<A: Allocator + Copy>(
     rt: &(impl AllocGlobal + Abort),
-    target: &mut Target<&Refusing>,
+    target: &mut Target<A>,
     heap: &Refusing,
     nth: u64,
     round: &StreamRound,
@@ -255,16 +256,17 @@ fn is_put(
 }
 
 // Puts a round into a memory, after runs that were refused.
-fn put_after_refusals(
+fn put_after_refusals<A: Allocator + Copy>(
     rt: &(impl AllocGlobal + Abort),
     heap: &Refusing,
+    alloc: A,
     round: &StreamRound,
     packets: &Gathered<'_>,
 )
     requires { All (λ packet. packet.page_size ≡ 4096) packets.now }
 {
-    let table = table(heap, &[("a", 2)]).expect(rt, "a table");
-    let mut target = Target::new(heap, &table).expect(rt, "a memory");
+    let table = table(alloc, &[("a", 2)]).expect(rt, "a table");
+    let mut target = Target::new(alloc, &table).expect(rt, "a memory");
     for nth in 1..100u64 {
         if is_put(rt, &mut target, heap, nth, round, packets) {
             assert!(rt; nth > 1);
@@ -278,5 +280,5 @@ fn put_after_refusals(
 fn target_round(rt: HostRuntime) {
     let heap = Refusing::new(rt.alloc(), 0);
     let text = text_of_packets(&rt);
-    put_after_refusals(&rt, &heap, &records(&rt), &both_packets(&rt, &text));
+    put_after_refusals(&rt, &heap, &heap, &records(&rt), &both_packets(&rt, &text));
 }

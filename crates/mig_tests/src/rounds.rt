@@ -7,9 +7,8 @@ use mig_assemble::{Gathered, RoundFault, Target};
 use mig_fixtures::{put_page_and_zeros, table};
 use mig_mem::{MAX_TOTAL, PAGE_SIZE_4K};
 use mig_packet::{Packet, PacketRead, put_packet, read_packet};
-use mig_refusing::Refusing;
 use mig_stream::{Mode, StreamReader, StreamRound, StreamWriter};
-use std::alloc::AllocGlobal;
+use std::alloc::{AllocGlobal, Allocator};
 use std::process::Abort;
 
 /// The text of two packets: page 1 of block `a` and page 0 as zeros, and a SYNC.
@@ -74,9 +73,9 @@ pub(crate) fn records(rt: &(impl AllocGlobal + Abort)) -> StreamRound<'static> {
 }
 
 /// Judges a round and puts it into a memory, whose conditions are met.
-pub(crate) fn put_round(
+pub(crate) fn put_round<A: Allocator + Copy>(
     rt: &(impl AllocGlobal + Abort),
-    target: &mut Target<&Refusing>,
+    target: &mut Target<A>,
     round: &StreamRound,
     packets: &Gathered<'_>,
 ) -> Result<(), RoundFault>

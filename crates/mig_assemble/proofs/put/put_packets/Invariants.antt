@@ -8,4 +8,5 @@ use Rattle.mig_assemble.proofs.put.put_packets.Given as goal
 
 abbrev pub invariant-loop-packet : goal.invariant-loop-packet
 invariant-loop-packet g l =
-    l.memory ≡ with_round l.fn.memory (flat_map (λ (p : Packet). packet_pages l.fn.memory.table (fields p)) (take l.packet-index l.packets))
+    g.M.GuestTarget.image l.memory ≡ with_round (g.M.GuestTarget.image l.fn.memory)
+    (flat_map (λ (p : Packet). packet_pages (g.M.GuestTarget.image l.fn.memory).table (fields p)) (take l.packet-index l.packets))

@@ -5,4 +5,6 @@ use Rattle.mig_assemble.proofs.PacketParts.{zero_page_at}
 use Rattle.mig_assemble.proofs.put.put_zeros.Given as goal
 
 abbrev pub invariant-loop-i : goal.invariant-loop-i
-invariant-loop-i g l = l.memory ≡ with_round l.fn.memory (map (zero_page_at l.fn.memory.table l.block l.packet.bytes.now) (range_with_len l.normal_count l.i))
+invariant-loop-i g l =
+    g.M.GuestTarget.image l.memory ≡ with_round (g.M.GuestTarget.image l.fn.memory)
+    (map (zero_page_at (g.M.GuestTarget.image l.fn.memory).table l.block l.packet.bytes.now) (range_with_len l.normal_count l.i))

@@ -8,7 +8,7 @@ use Rattle.mig_assemble.proofs.target.Target.round.Goals as goal
 
 pub put_packets-requires-clause-lawful : goal.put_packets-requires-clause-lawful
 put_packets-requires-clause-lawful g c =
-    let same : c.self-2.inside.memory.table ≡ c.self.inside.seen.table =
+    let same : (g.M.GuestTarget.image c.self-2.inside.memory).table ≡ c.self.inside.seen.table =
     ap (λ (t : LoadTarget). t.memory.table) c.self-2.view_is ∙ ap (λ (m : Image). m.table) c.section.ensures.memory
     ∙ sym (ap (λ (s : PlaceSet). s.table) c.self.invariant) in
     rw same (each_lies_right c.self.inside.seen.table c.self.inside.base
@@ -16,8 +16,9 @@ put_packets-requires-clause-lawful g c =
 
 pub returns-clause-ok : goal.returns-clause-ok
 returns-clause-ok g c =
-    applied c.args.self.now (record { memory = c.self-2.inside.memory; rounds = c.self-2.inside.rounds; base = c.self-2.inside.base }) c.put_packets.new.memory
-    c.args.round.now c.packets-packets.result.now c.args.gathered.now c.packets-packets.ensures
+    applied c.args.self.now
+    (record { memory = g.M.GuestTarget.image c.self-2.inside.memory; rounds = c.self-2.inside.rounds; base = c.self-2.inside.base })
+    (g.M.GuestTarget.image c.put_packets.new.memory) c.args.round.now c.packets-packets.result.now c.args.gathered.now c.packets-packets.ensures
     (ap (λ (t : LoadTarget). t.memory) c.self-2.view_is ∙ c.section.ensures.memory
     ∙ ap (λ (t : LoadTarget). with_round t.memory (pages_of_round c.args.round.now)) c.self.view_is)
     (ap (λ (t : LoadTarget). t.rounds) c.self-2.view_is ∙ c.section.ensures.rounds ∙ ap (λ (t : LoadTarget). t.rounds + 1) c.self.view_is)

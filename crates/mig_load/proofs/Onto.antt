@@ -1,0 +1,338 @@
+-- A loader into memory that is there already.
+use Rattle.std.proofs.Common.{ℕ, ◌≡◌, ◌<◌, ◌≤◌, ◌+◌, ◌^◌, Bool, true, false, List, [], ◌∷◌, ◌++◌, length, map, take, refl, sym, ap, ◌∙◌, inl, inr, Option, Some, None, arith, subst}
+use Rattle.std.specs.Prelude.{⊤, Result}
+use Rattle.std.proofs.lemmas.List.{take_all, take-append-le, map-append, length-append, append-nil}
+use Rattle.mig_mem.specs.PageSize.{IsPageSize}
+use Rattle.mig_mem.specs.RamTable.{RamTable, IsTable}
+use Rattle.mig_mem.specs.Image.{Page, Image, IsImage}
+use Rattle.mig_mem.specs.Round.{with_round, with_rounds}
+use Rattle.mig_mem.proofs.Rounds.{onto-nil}
+use Rattle.mig_stream.specs.declared.item.Mode.TheVariants.{Single}
+use Rattle.mig_stream.specs.declared.item.StreamState.{StreamState}
+use Rattle.mig_stream.specs.declared.item.StreamState.TheVariants.{Reading}
+use Rattle.mig_stream.specs.PageRecord.{PageRecord, page_of}
+use Rattle.mig_stream.specs.Progress.{StreamProgress, start}
+use Rattle.mig_stream.specs.Reading.{Settings, StreamReading, IsReading, state_at}
+use Rattle.mig_stream.specs.Reader.{Reader, Stands, StepsOn, nothing_yet, with_piece, over, HasTable, HasState}
+use Rattle.mig_stream.specs.Written.{written_record, single}
+use Rattle.mig_stream.specs.Law.{StaysRead, closed}
+use Rattle.mig_stream.proofs.Exists.{one_reading_law}
+use Rattle.mig_stream.proofs.Feeding.{reads_short}
+use Rattle.mig_stream.proofs.Limits.{limits_law}
+use Rattle.mig_stream.proofs.Longer.{longer_law}
+use Rattle.mig_stream.proofs.SpelledText.{spelled_law}
+use Rattle.mig_stream.proofs.WrittenText.{written_single}
+use Rattle.mig_assemble.specs.Target.{LoadTarget, target_over}
+use Rattle.mig_load.specs.declared.fault.LoadFault.{LoadFault}
+use Rattle.mig_load.specs.declared.fault.Fault.TheVariants.{OtherTable}
+use Rattle.mig_load.specs.SingleLoad.{at_main, verdict_of}
+use Rattle.mig_load.specs.Loader.{put_so_far, HasPut, HasPutSome, HasPutAll}
+use Rattle.mig_load.specs.InPlace.{in_place, settings_of, IsOfOtherTable, IsOfOwnTable, HasSectionsOnto, LoadsOnto, HasVerdictOnto, SentIsLoadedInPlace, HasFedOnto, HasFedOntoSome, LoadsOntoSome, StandsAtAll}
+use Rattle.mig_load.proofs.Sections.{pages_in, same_reading, are_given, verdict_over, empty_ends, pages_sent, counted}
+
+-- ---- whose table a text has
+
+-- not both
+apart : (first : Image) (reading : StreamReading) → IsOfOwnTable first reading → IsOfOtherTable first reading → ⊥
+apart first reading (inl none) other = absurd (let both : Some other.0 ≡ None = sym other.1 ∙ none in cc)
+apart first reading (inr own) other = other.2 (let both : Some other.0 ≡ Some first.table = sym other.1 ∙ own in cc)
+
+-- of its own table it was before
+own_before : (first : Image) (before now : StreamReading) (o : Option RamTable) → before.table ≡ o → StaysRead before now → IsOfOwnTable first now → IsOfOwnTable first before
+own_before first before now None is stays own = inl is
+own_before first before now (Some x) is stays (inl none) = absurd (let both : Some x ≡ None = sym (stays.same_table x is) ∙ none in cc)
+own_before first before now (Some x) is stays (inr own) = inr (is ∙ (sym (stays.same_table x is) ∙ own))
+
+-- a text without a table has no section
+no_rounds : (first : Image) (limit : ℕ) (text : List ℕ) (reading : StreamReading) → IsTable first.table → IsReading (settings_of first limit) text reading → reading.table ≡ None → reading.rounds ≡ []
+no_rounds first limit text reading table is none = (limits_law (settings_of first limit) text reading table.has_page_size is).has_table_first none
+
+-- of another table it was none before, or that
+none_before : (first : Image) (before now : StreamReading) (o : Option RamTable) (memory : Image) (n : ℕ) → before.table ≡ o → StaysRead before now → IsImage first → IsOfOtherTable first now
+    → (o ≡ None → before.rounds ≡ [])
+    → (IsOfOwnTable first before → (memory ≡ with_rounds first (pages_in first.table.page_size before.rounds)) × (n ≡ length before.rounds))
+    → (IsOfOtherTable first before → (memory ≡ first) × (n ≡ 0)) → (memory ≡ first) × (n ≡ 0)
+none_before first before now None memory n is stays image other none own was =
+    let both = own (inl is) in
+    let empty : before.rounds ≡ [] = none refl in (
+      both.0 ∙ ap (λ (l : List (List PageRecord)). with_rounds first (pages_in first.table.page_size l)) empty ∙ onto-nil first image,
+      both.1 ∙ ap (λ (l : List (List PageRecord)). length l) empty,
+    )
+none_before first before now (Some x) memory n is stays image other none own was =
+    let there : Some other.0 ≡ Some x = sym other.1 ∙ stays.same_table x is in
+    was (x, is, λ e. other.2 (let same : other.0 ≡ x = cc in same ∙ e))
+
+-- ---- a piece more
+
+pub onto_longer : (limit : ℕ) (first : Image) (r s : Reader) (t : LoadTarget) (text piece : List ℕ) (ended : Bool) → StepsOn (with_piece piece) r s
+    → LoadsOnto limit first (in_place r t) text ended → HasFedOnto limit first (in_place s t) (text ++ piece) ended
+onto_longer limit first r s t text piece ended step loads =
+    let given : Settings = settings_of first limit in
+    let size : IsPageSize first.table.page_size = loads.is_table.has_page_size in
+    let has : HasSectionsOnto limit first text t = loads.has_sections in
+    let before : StreamReading = has.reading in
+    let now = one_reading_law given (text ++ piece) size in
+    let stays : StaysRead before now.0 = longer_law given text piece before now.0 size has.is_reading now.1 in
+    record {
+      is_table = loads.is_table;
+      is_image = loads.is_image;
+      taken = length before.rounds;
+      stands = step given (put_so_far text ended (length before.rounds)) loads.stands;
+      reading = now.0;
+      is_reading = now.1;
+      same_table = has.same_table;
+      own = λ mine.
+          let both = has.own (own_before first before now.0 before.table refl stays mine) in
+          let n : t.rounds ≡ length before.rounds = both.1 in
+          let front : take t.rounds now.0.rounds ≡ before.rounds =
+          ap (λ (l : List (List PageRecord)). take t.rounds l) stays.has_rounds ∙ take-append-le t.rounds before.rounds stays.more_rounds (omega (arith, n))
+          ∙ take_all t.rounds before.rounds (omega (arith, n)) in (
+            both.0 ∙ ap (λ (l : List (List PageRecord)). with_rounds first (pages_in first.table.page_size l)) (sym front),
+            sym n,
+          );
+      other = λ o. none_before first before now.0 before.table t.memory t.rounds refl stays loads.is_image o
+          (no_rounds first limit text before loads.is_table has.is_reading) has.own has.other;
+    }
+
+pub onto_piece : (r s : Reader) (t : LoadTarget) (piece : List ℕ) → StepsOn (with_piece piece) r s → LoadsOntoSome (in_place r t) → r.fed + length piece < 2 ^ 63 → HasFedOntoSome (in_place s t)
+onto_piece r s t piece step some room =
+    let fed = some.loads.stands.has_fed in
+    record {
+      limit = some.limit;
+      first = some.first;
+      text = some.text ++ piece;
+      ended = some.ended;
+      is_short = omega (arith, fed, room, length-append some.text piece);
+      has_fed = onto_longer some.limit some.first r s t some.text piece some.ended step some.loads;
+    }
+
+-- the text is over
+pub onto_over : (limit : ℕ) (first : Image) (r s : Reader) (t : LoadTarget) (text : List ℕ) (ended : Bool) → StepsOn over r s → LoadsOnto limit first (in_place r t) text ended
+    → LoadsOnto limit first (in_place s t) text true
+onto_over limit first r s t text ended step loads = record {
+  is_table = loads.is_table;
+  is_image = loads.is_image;
+  has_sections = loads.has_sections;
+  stands = step (settings_of first limit) (put_so_far text ended (length loads.has_sections.reading.rounds)) loads.stands;
+}
+
+pub onto_over_some : (r s : Reader) (t : LoadTarget) → StepsOn over r s → LoadsOntoSome (in_place r t) → LoadsOntoSome (in_place s t)
+onto_over_some r s t step some = record {
+  limit = some.limit;
+  first = some.first;
+  text = some.text;
+  ended = true;
+  is_short = some.is_short;
+  loads = onto_over some.limit some.first r s t some.text some.ended step some.loads;
+}
+
+-- before the first piece
+pub onto_nothing : (limit : ℕ) (first : Image) (r : Reader) (t : LoadTarget) → IsTable first.table → IsImage first → Stands (settings_of first limit) nothing_yet r → t ≡ target_over first
+    → LoadsOnto limit first (in_place r t) [] false
+onto_nothing limit first r t table image stands is =
+    let begin : StreamProgress = start Single first.table.page_size limit in
+    let reading : StreamReading = record { table = None; rounds = []; state = Reading } in
+    rw is (record {
+      is_table = table;
+      is_image = image;
+      stands = stands;
+      has_sections = record {
+        reading = reading;
+        is_reading = record { to = begin; rest = []; reads = reads_short begin [] (omega arith); has_table = refl; has_rounds = refl };
+        same_table = refl;
+        own = λ _. (sym (onto-nil first image), refl);
+        other = λ o. absurd (apart first reading (inl refl) o);
+      };
+    })
+
+pub onto_some : (limit : ℕ) (first : Image) (r : Reader) (t : LoadTarget) (text : List ℕ) (ended : Bool) → length text < 2 ^ 63 → LoadsOnto limit first (in_place r t) text ended
+    → LoadsOntoSome (in_place r t)
+onto_some limit first r t text ended short loads = record { limit = limit; first = first; text = text; ended = ended; is_short = short; loads = loads }
+
+-- ---- its sections are put, or dropped
+
+-- no table, and so no section
+pub put_none : (limit : ℕ) (first : Image) (r : Reader) (t : LoadTarget) (text : List ℕ) (ended : Bool) → HasFedOnto limit first (in_place r t) text ended → HasTable (settings_of first limit) text None
+    → LoadsOnto limit first (in_place r t) text ended
+put_none limit first r t text ended fed has =
+    let size : IsPageSize first.table.page_size = fed.is_table.has_page_size in
+    let one : has.0 ≡ fed.reading = same_reading first.table.page_size limit text has.0 fed.reading size has.1 fed.is_reading in
+    let none : fed.reading.table ≡ None = sym (has.2 ∙ ap (λ (x : StreamReading). x.table) one) in
+    let empty : fed.reading.rounds ≡ [] = no_rounds first limit text fed.reading fed.is_table fed.is_reading none in
+    let own : IsOfOwnTable first fed.reading = inl none in
+    let both = fed.own own in
+    let few : fed.taken ≤ length fed.reading.rounds = are_given first.table.page_size limit text ended r fed.taken fed.reading size fed.is_reading fed.stands in
+    let n : t.rounds ≡ length fed.reading.rounds = (let len = ap (λ (l : List (List PageRecord)). length l) empty in let taken = both.1 in omega (arith, few, len, taken)) in
+    record {
+      is_table = fed.is_table;
+      is_image = fed.is_image;
+      stands = subst (λ n. Stands (settings_of first limit) (put_so_far text ended n) r) (both.1 ∙ n) fed.stands;
+      has_sections = record {
+        reading = fed.reading;
+        is_reading = fed.is_reading;
+        same_table = fed.same_table;
+        own = λ _. (
+          both.0 ∙ ap (λ (l : List (List PageRecord)). with_rounds first (pages_in first.table.page_size l)) (take_all t.rounds fed.reading.rounds (omega (arith, n))),
+          n,
+        );
+        other = λ o. absurd (apart first fed.reading own o);
+      };
+    }
+
+-- the stream's table, by the reader, against the memory's
+mine : (limit : ℕ) (first : Image) (r : Reader) (t : LoadTarget) (text : List ℕ) (ended : Bool) (table : RamTable) → HasFedOnto limit first (in_place r t) text ended
+    → (has : HasTable (settings_of first limit) text (Some table)) → table ≡ t.memory.table → (Some first.table ≡ has.0.table)
+mine limit first r t text ended table fed has same = ap (λ (x : RamTable). Some x) (sym (same ∙ fed.same_table)) ∙ has.2
+
+pub put_own : (limit : ℕ) (first : Image) (r : Reader) (t : LoadTarget) (text : List ℕ) (ended : Bool) (table : RamTable) → HasFedOnto limit first (in_place r t) text ended
+    → HasTable (settings_of first limit) text (Some table) → table ≡ t.memory.table → HasPut first.table.page_size limit first text ended r t
+put_own limit first r t text ended table fed has same =
+    let p : ℕ = first.table.page_size in
+    let size : IsPageSize p = fed.is_table.has_page_size in
+    let is : Some first.table ≡ has.0.table = mine limit first r t text ended table fed has same in
+    let one : has.0 ≡ fed.reading = same_reading p limit text has.0 fed.reading size has.1 fed.is_reading in
+    let both = fed.own (inr (sym (is ∙ ap (λ (x : StreamReading). x.table) one))) in
+    record {
+      is_page_size = size;
+      stands = subst (λ n. Stands (settings_of first limit) (put_so_far text ended n) r) both.1 fed.stands;
+      has_first = record {
+        has_table = (has.0, has.1, is);
+        has_memory = λ reading is_reading. both.0 ∙ ap (λ (x : StreamReading). with_rounds first (pages_in p (take t.rounds x.rounds))) (same_reading p limit text fed.reading reading size fed.is_reading is_reading);
+      };
+    }
+
+pub put_own_some : (r : Reader) (t : LoadTarget) (table : RamTable) (some : HasFedOntoSome (in_place r t)) → HasTable (settings_of some.first some.limit) some.text (Some table)
+    → table ≡ t.memory.table → HasPutSome r t
+put_own_some r t table some has same = record {
+  page_size = some.first.table.page_size;
+  limit = some.limit;
+  first = some.first;
+  text = some.text;
+  ended = some.ended;
+  is_short = some.is_short;
+  has_put = put_own some.limit some.first r t some.text some.ended table some.has_fed has same;
+}
+
+-- all sections of the memory's own table are in it
+pub loads_own : (limit : ℕ) (first : Image) (s : Reader) (u : LoadTarget) (text : List ℕ) (ended : Bool) → IsTable first.table → IsImage first
+    → HasPut first.table.page_size limit first text ended s u → HasPutAll first.table.page_size limit first text u → LoadsOnto limit first (in_place s u) text ended
+loads_own limit first s u text ended table image put all =
+    let p : ℕ = first.table.page_size in
+    let has = put.has_first.has_table in
+    let one : has.0 ≡ all.reading = same_reading p limit text has.0 all.reading put.is_page_size has.1 all.is_reading in
+    let is : all.reading.table ≡ Some first.table = sym (has.2 ∙ ap (λ (x : StreamReading). x.table) one) in
+    record {
+      is_table = table;
+      is_image = image;
+      stands = subst (λ n. Stands (settings_of first limit) (put_so_far text ended n) s) all.has_rounds put.stands;
+      has_sections = record {
+        reading = all.reading;
+        is_reading = all.is_reading;
+        same_table = ap (λ (m : Image). m.table) all.has_memory;
+        own = λ _. (all.has_memory, all.has_rounds);
+        other = λ o. absurd (apart first all.reading (inr is) o);
+      };
+    }
+
+-- the text is of another table
+others : (limit : ℕ) (first : Image) (t : LoadTarget) (text : List ℕ) (table : RamTable) (reading : StreamReading) → IsTable first.table → t.memory.table ≡ first.table
+    → IsReading (settings_of first limit) text reading → HasTable (settings_of first limit) text (Some table) → (table ≡ t.memory.table → ⊥) → IsOfOtherTable first reading
+others limit first t text table reading is same is_reading has differ =
+    let one : has.0 ≡ reading = same_reading first.table.page_size limit text has.0 reading is.has_page_size has.1 is_reading in
+    (table, sym (has.2 ∙ ap (λ (x : StreamReading). x.table) one), λ e. differ (e ∙ sym same))
+
+-- sections of another table are dropped
+pub loads_other : (limit : ℕ) (first : Image) (r s : Reader) (t : LoadTarget) (text : List ℕ) (ended : Bool) (table : RamTable) → HasFedOnto limit first (in_place r t) text ended
+    → HasTable (settings_of first limit) text (Some table) → (table ≡ t.memory.table → ⊥) → StandsAtAll (settings_of first limit) text ended s → LoadsOnto limit first (in_place s t) text ended
+loads_other limit first r s t text ended table fed has differ stands =
+    let o : IsOfOtherTable first fed.reading = others limit first t text table fed.reading fed.is_table fed.same_table fed.is_reading has differ in
+    record {
+      is_table = fed.is_table;
+      is_image = fed.is_image;
+      stands = stands fed.reading fed.is_reading;
+      has_sections = record {
+        reading = fed.reading;
+        is_reading = fed.is_reading;
+        same_table = fed.same_table;
+        own = λ own. absurd (apart first fed.reading own o);
+        other = fed.other;
+      };
+    }
+
+-- ---- the verdict
+
+-- on a text of no other table
+pub judged_own : (limit : ℕ) (first : Image) (r : Reader) (t : LoadTarget) (text : List ℕ) (ended : Bool) (table : RamTable) (state : StreamState) (v : Result ⊤ LoadFault)
+    → LoadsOnto limit first (in_place r t) text ended → HasTable (settings_of first limit) text (Some table) → table ≡ t.memory.table
+    → HasState (settings_of first limit) text ended state → v ≡ verdict_of t.rounds state → HasVerdictOnto limit first text v
+judged_own limit first r t text ended table state v loads has same told is =
+    let p : ℕ = first.table.page_size in
+    let size : IsPageSize p = loads.is_table.has_page_size in
+    let reading : StreamReading = loads.has_sections.reading in
+    let is_reading = loads.has_sections.is_reading in
+    let one : has.0 ≡ reading = same_reading p limit text has.0 reading size has.1 is_reading in
+    let mine : reading.table ≡ Some first.table = sym (ap (λ (x : RamTable). Some x) (sym (same ∙ loads.has_sections.same_table)) ∙ has.2 ∙ ap (λ (x : StreamReading). x.table) one) in
+    let n : t.rounds ≡ length reading.rounds = (loads.has_sections.own (inr mine)).1 in
+    let other : told.0 ≡ reading = same_reading p limit text told.0 reading size told.1 is_reading in
+    let said : state ≡ state_at ended reading.state = told.2 ∙ ap (λ (x : StreamReading). state_at ended x.state) other in
+    record {
+      reading = reading;
+      is_reading = is_reading;
+      own = λ _. is ∙ ap (verdict_of t.rounds) said ∙ verdict_over ended t.rounds reading.state ∙ ap (λ (k : ℕ). verdict_of k reading.state) n;
+      other = λ o. absurd (apart first reading (inr mine) o);
+    }
+
+-- without a table
+pub judged_none : (limit : ℕ) (first : Image) (r : Reader) (t : LoadTarget) (text : List ℕ) (ended : Bool) (state : StreamState) (v : Result ⊤ LoadFault)
+    → LoadsOnto limit first (in_place r t) text ended → HasTable (settings_of first limit) text None
+    → HasState (settings_of first limit) text ended state → v ≡ verdict_of 0 state → HasVerdictOnto limit first text v
+judged_none limit first r t text ended state v loads has told is =
+    let p : ℕ = first.table.page_size in
+    let size : IsPageSize p = loads.is_table.has_page_size in
+    let reading : StreamReading = loads.has_sections.reading in
+    let is_reading = loads.has_sections.is_reading in
+    let one : has.0 ≡ reading = same_reading p limit text has.0 reading size has.1 is_reading in
+    let none : reading.table ≡ None = sym (has.2 ∙ ap (λ (x : StreamReading). x.table) one) in
+    let n : 0 ≡ length reading.rounds = sym (ap (λ (l : List (List PageRecord)). length l) (no_rounds first limit text reading loads.is_table is_reading none)) in
+    let other : told.0 ≡ reading = same_reading p limit text told.0 reading size told.1 is_reading in
+    let said : state ≡ state_at ended reading.state = told.2 ∙ ap (λ (x : StreamReading). state_at ended x.state) other in
+    record {
+      reading = reading;
+      is_reading = is_reading;
+      own = λ _. is ∙ ap (verdict_of 0) said ∙ verdict_over ended 0 reading.state ∙ ap (λ (k : ℕ). verdict_of k reading.state) n;
+      other = λ o. absurd (apart first reading (inl none) o);
+    }
+
+-- of another table
+pub judged_other : (limit : ℕ) (first : Image) (r : Reader) (t : LoadTarget) (text : List ℕ) (ended : Bool) (table : RamTable) (v : Result ⊤ LoadFault)
+    → LoadsOnto limit first (in_place r t) text ended → HasTable (settings_of first limit) text (Some table) → (table ≡ t.memory.table → ⊥)
+    → v ≡ at_main 0 OtherTable → HasVerdictOnto limit first text v
+judged_other limit first r t text ended table v loads has differ is =
+    let has_sections : HasSectionsOnto limit first text t = loads.has_sections in
+    let o : IsOfOtherTable first has_sections.reading = others limit first t text table has_sections.reading loads.is_table has_sections.same_table has_sections.is_reading has differ in
+    record { reading = has_sections.reading; is_reading = has_sections.is_reading; own = λ own. absurd (apart first has_sections.reading own o); other = λ _. is }
+
+-- ---- the text of a sender
+
+pub sent_onto : SentIsLoadedInPlace
+sent_onto limit first rounds t verdict is room all onto v =
+    let table : RamTable = first.table in
+    let p : ℕ = table.page_size in
+    let given : Settings = settings_of first limit in
+    let text : List ℕ = single table rounds in
+    let sections : List (List PageRecord) = [] ∷ map (map written_record) rounds ++ [] ∷ [] in
+    let read : IsReading given text (closed table sections) =
+    subst (λ x. IsReading given x (closed table sections)) (append-nil text) (spelled_law Single limit text [] table sections (written_single table rounds limit is room all)) in
+    let one : onto.reading ≡ closed table sections = same_reading p limit text onto.reading (closed table sections) is.has_page_size onto.is_reading read in
+    let other : v.reading ≡ closed table sections = same_reading p limit text v.reading (closed table sections) is.has_page_size v.is_reading read in
+    let both = onto.own (inr (ap (λ (x : StreamReading). x.table) one)) in
+    let said : verdict ≡ verdict_of (length v.reading.rounds) v.reading.state = v.own (inr (ap (λ (x : StreamReading). x.table) other)) in
+    let records : List (List PageRecord) = map (map written_record) rounds in (
+      both.0
+          ∙ ap (λ (x : StreamReading). with_rounds first (pages_in p x.rounds)) one
+          ∙ ap (λ (l : List (List Page)). with_rounds first l) (map-append (map (page_of p)) ([] ∷ records) ([] ∷ []))
+          ∙ ap (λ (l : List (List Page)). with_rounds first ([] ∷ l ++ [] ∷ [])) (pages_sent table rounds all)
+          ∙ ap (λ (l : List Page). with_round first l) (empty_ends rounds),
+      both.1 ∙ ap (λ (x : StreamReading). length x.rounds) one ∙ counted rounds,
+      said ∙ ap (λ (x : StreamReading). verdict_of (length x.rounds) x.state) other,
+    )

@@ -1,0 +1,186 @@
+//! Guest memory in bytes that the caller keeps: where pages land in them, what stays, and which bytes aren't taken.
+
+ghost use Rattle.mig_mem.specs.PageSize.{IsPageSize};
+
+use mig_fixtures::{at, list};
+use mig_mem::{GuestTarget, LentMemoryMut, PAGE_SIZE_4K, PAGE_SIZE_8K, Place, Table};
+use std::alloc::{AllocGlobal, Allocator};
+use std::process::Abort;
+
+// Two blocks, of two pages and of three.
+const BLOCKS: [(&str, u64); 2] = [("a", 2), ("b", 3)];
+
+// A table of those blocks.
+fn table(rt: &(impl AllocGlobal + Abort), page_size: u64) -> Table
+    requires { IsPageSize page_size }
+{
+    let list = list(rt.alloc(), &BLOCKS).ok().expect(rt, "a list");
+    match Table::new(rt.alloc(), page_size, list) {
+        Ok(table) => table,
+        Err(_) => panic!(rt; "no table"),
+    }
+}
+
+// So many bytes of one value.
+fn bytes_of(rt: &(impl AllocGlobal + Abort), byte: u8, len: u64) -> Vec<u8> {
+    vec![in rt.alloc(); byte; len as usize].expect(rt, "bytes")
+}
+
+// A page whose bytes count up and begin again, in no step that a page has.
+fn counting_page(rt: &(impl AllocGlobal + Abort), size: u64) -> Vec<u8> {
+    let mut page = Vec::new(rt.alloc());
+    for i in 0..size {
+        assert!(rt; page.push((i % 251) as u8).is_ok());
+    }
+    page
+}
+
+// Some bytes one after another.
+fn joined(rt: &(impl AllocGlobal + Abort), parts: &[&[u8]]) -> Vec<u8> {
+    let mut bytes = Vec::new(rt.alloc());
+    for part in parts {
+        assert!(rt; bytes.extend_from_slice(part).is_ok());
+    }
+    bytes
+}
+
+// Puts a page, where the table has its place.
+fn put<A: Allocator>(
+    rt: &impl Abort,
+    memory: &mut LentMemoryMut<'_, '_, A>,
+    place: Place,
+    bytes: &[u8],
+) {
+    assert!(rt; memory.table().holds(place));
+    assert!(rt; memory.table().page_size() == bytes.len() as u64);
+    memory.put_page(place, bytes);
+}
+
+// Makes a page zeros, where the table has its place.
+fn wipe<A: Allocator>(rt: &impl Abort, memory: &mut LentMemoryMut<'_, '_, A>, place: Place) {
+    assert!(rt; memory.table().holds(place));
+    memory.put_zero_page(place);
+}
+
+// Puts a page at the end of each block, and makes a page of bytes and a page of zeros zeros.
+fn put_some<'a, 'b>(
+    rt: &impl Abort,
+    table: &'a Table,
+    blocks: &'a mut [&'b mut [u8]],
+    page: &[u8],
+) -> &'a mut [&'b mut [u8]] {
+    let mut memory = LentMemoryMut::new(table, blocks)
+        .ok()
+        .expect(rt, "a memory");
+    assert!(rt; memory.table().same(table));
+    put(rt, &mut memory, at(1, 2), page);
+    put(rt, &mut memory, at(0, 1), page);
+    wipe(rt, &mut memory, at(1, 0));
+    wipe(rt, &mut memory, at(1, 1));
+    memory.into_blocks()
+}
+
+// Whether a block's bytes are these.
+fn is_same(bytes: &mut [u8], wanted: &[u8]) -> bool {
+    *bytes == *wanted
+}
+
+// Asserts that two blocks are given back that hold these bytes.
+fn assert_given_back(rt: &impl Abort, blocks: &mut [&mut [u8]], first: &[u8], second: &[u8]) {
+    assert!(rt; blocks.len() == 2);
+    assert!(rt; is_same(blocks[0], first));
+    assert!(rt; is_same(blocks[1], second));
+}
+
+// Two values as an array.
+fn both<T: Drop>(one: T, other: T) -> [T; 2] {
+    [one, other]
+}
+
+// Each block's last page is put, of the first one the other page stays, and of the second one the others are zeros: one that held
+// bytes, and one that was zeros.
+fn assert_put(rt: &(impl AllocGlobal + Abort), size: u64)
+    requires { IsPageSize size }
+{
+    let ones = bytes_of(rt, 1, size);
+    let nines = bytes_of(rt, 9, size);
+    let zeros = bytes_of(rt, 0, size);
+    let page = counting_page(rt, size);
+    let mut first = joined(rt, &[&ones, &nines]);
+    let mut second = joined(rt, &[&nines, &zeros, &ones]);
+    let wanted_first = joined(rt, &[&ones, &page]);
+    let wanted_second = joined(rt, &[&zeros, &zeros, &page]);
+    let table = table(rt, size);
+    let mut blocks = both(first.as_mut_slice(), second.as_mut_slice());
+    let back = put_some(rt, &table, &mut blocks, &page);
+    assert_given_back(rt, back, &wanted_first, &wanted_second);
+    assert!(rt; first.as_slice() == wanted_first.as_slice());
+    assert!(rt; second.as_slice() == wanted_second.as_slice());
+}
+
+#[test]
+fn pages_put(rt: HostRuntime) {
+    assert_put(&rt, PAGE_SIZE_4K);
+    assert_put(&rt, PAGE_SIZE_8K);
+}
+
+// Whether bytes are the memory of a table.
+fn is_taken(table: &Table, blocks: &mut [&mut [u8]]) -> bool {
+    LentMemoryMut::new(table, blocks).is_ok()
+}
+
+// Whether two blocks of so many bytes are.
+fn are_taken(rt: &(impl AllocGlobal + Abort), table: &Table, first: u64, second: u64) -> bool {
+    let mut first = bytes_of(rt, 1, first);
+    let mut second = bytes_of(rt, 2, second);
+    is_taken(
+        table,
+        &mut both(first.as_mut_slice(), second.as_mut_slice()),
+    )
+}
+
+// Only blocks of two pages and of three are taken, in this order.
+fn assert_lengths(rt: &(impl AllocGlobal + Abort), size: u64)
+    requires { IsPageSize size }
+{
+    let table = table(rt, size);
+    assert!(rt; are_taken(rt, &table, 2 * size, 3 * size));
+    for (first, second) in [
+        (2 * size - 1, 3 * size),
+        (2 * size + 1, 3 * size),
+        (2 * size, 3 * size - 1),
+        (2 * size, 3 * size + 1),
+        (size, 3 * size),
+        (2 * size, 4 * size),
+        (3 * size, 2 * size),
+        (2 * size, 0),
+    ] {
+        assert!(rt; !are_taken(rt, &table, first, second));
+    }
+}
+
+// The front of some blocks isn't taken, but for that of two.
+fn assert_counts(rt: &(impl AllocGlobal + Abort), size: u64)
+    requires { IsPageSize size }
+{
+    let table = table(rt, size);
+    let mut first = bytes_of(rt, 1, 2 * size);
+    let mut second = bytes_of(rt, 2, 3 * size);
+    let mut third = bytes_of(rt, 3, size);
+    let mut blocks = Vec::new(rt.alloc());
+    assert!(rt; !is_taken(&table, &mut blocks));
+    assert!(rt; blocks.push(first.as_mut_slice()).is_ok());
+    assert!(rt; !is_taken(&table, &mut blocks));
+    assert!(rt; blocks.push(second.as_mut_slice()).is_ok());
+    assert!(rt; is_taken(&table, &mut blocks));
+    assert!(rt; blocks.push(third.as_mut_slice()).is_ok());
+    assert!(rt; !is_taken(&table, &mut blocks));
+}
+
+#[test]
+fn bytes_that_do_not_fit(rt: HostRuntime) {
+    for size in [PAGE_SIZE_4K, PAGE_SIZE_8K] {
+        assert_lengths(&rt, size);
+        assert_counts(&rt, size);
+    }
+}

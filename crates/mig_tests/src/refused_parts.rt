@@ -1,0 +1,357 @@
+//! Growths refused in turn on the path of parts: rounds and parts that are put page by page, and the loader and the target over bytes
+//! that the caller keeps. After a refusal all is as it was, and the end is as if there had been none.
+
+use crate::building::{BLOCKS, finished, image_with, text_of, two_rounds};
+use mig_assemble::Target;
+use mig_fixtures::{at, table};
+use mig_load::InPlaceLoader;
+use mig_mem::{GuestTarget, LentMemoryMut, MAX_TOTAL, Memory, PAGE_SIZE_4K, Place};
+use mig_refusing::Refusing;
+use mig_send::{OpenRound, SingleSender};
+use mig_stream::{Mode, OpenPart, StreamReader, StreamWriter};
+use std::alloc::{AllocGlobal, Allocator};
+use std::process::Abort;
+
+// Puts a page of an image into a round, after refused growths. How many there were.
+fn put_in_round<A: Allocator>(
+    rt: &impl Abort,
+    heap: &Refusing,
+    round: &mut OpenRound<A>,
+    image: &Memory,
+    place: Place,
+) -> u64 {
+    let bytes = image.page(place).expect(rt, "a page");
+    for nth in 1..100u64 {
+        assert!(rt; round.table().holds(place));
+        assert!(rt; round.table().page_size() == bytes.len() as u64);
+        heap.refuse(nth);
+        let run = round.put_page(place, bytes);
+        let is_waiting = heap.is_waiting();
+        heap.refuse(0);
+        assert!(rt; is_waiting == run.is_ok());
+        if run.is_ok() {
+            return nth - 1;
+        }
+    }
+    panic!(rt; "each run had a refusal");
+}
+
+// Begins a round of a sender whose text has no room, after a refused growth.
+fn begin_round<A: Allocator>(
+    rt: &impl Abort,
+    heap: &Refusing,
+    sender: SingleSender<A>,
+) -> OpenRound<A> {
+    heap.refuse(1);
+    let Err(sender) = sender.begin_round() else {
+        panic!(rt; "no refusal");
+    };
+    assert!(rt; !heap.is_waiting());
+    sender.begin_round().ok().expect(rt, "a round")
+}
+
+// The text that a sender, from which so much was drained, makes in all.
+fn joined_text<A: Allocator>(
+    rt: &(impl AllocGlobal + Abort),
+    drained: &[u8],
+    sender: SingleSender<A>,
+) -> Vec<u8> {
+    let rest = sender.finish().ok().expect(rt, "a text");
+    let mut text = Vec::from_slice(rt.alloc(), drained).expect(rt, "bytes");
+    assert!(rt; text.extend_from_slice(&rest).is_ok());
+    text
+}
+
+#[test]
+fn open_round(rt: HostRuntime) {
+    let heap = Refusing::new(rt.alloc(), 0);
+    let image = image_with(&rt, 1, 262_144);
+    let mut sender = SingleSender::new(&heap, image.table()).expect(&rt, "a sender");
+    let drained = sender.drain();
+    let mut round = begin_round(&rt, &heap, sender);
+    let mut refused = put_in_round(&rt, &heap, &mut round, &image, at(0, 1));
+    refused = refused.saturating_add(put_in_round(&rt, &heap, &mut round, &image, at(1, 64)));
+    assert!(rt; refused > 1);
+    let sender = round.end_round().ok().expect(&rt, "a sender");
+    let wanted = text_of(&rt, &image, &[&[at(0, 1), at(1, 64)]]);
+    assert!(rt; joined_text(&rt, &drained, sender).as_slice() == wanted.as_slice());
+}
+
+// Ends a round of the first pages of a block, so many of them. Where a growth is refused there it is ended again, and the text is as if
+// there had been none. Whether one was.
+fn ends_after_refusal(
+    rt: &(impl AllocGlobal + Abort),
+    heap: &Refusing,
+    image: &Memory,
+    count: u64,
+) -> bool {
+    let sender = SingleSender::new(heap, image.table()).expect(rt, "a sender");
+    let mut round = sender.begin_round().ok().expect(rt, "a round");
+    let mut places = Vec::new(rt.alloc());
+    for page in 0..count {
+        put_in_round(rt, heap, &mut round, image, at(1, page));
+        assert!(rt; places.push(at(1, page)).is_ok());
+    }
+    heap.refuse(1);
+    let run = round.end_round();
+    heap.refuse(0);
+    let Err(round) = run else {
+        return false;
+    };
+    let sender = round.end_round().ok().expect(rt, "a sender");
+    let wanted = text_of(rt, image, &[&places]);
+    assert!(rt; joined_text(rt, &[], sender).as_slice() == wanted.as_slice());
+    true
+}
+
+// Of some rounds the text is full to its capacity.
+#[test]
+fn end_round(rt: HostRuntime) {
+    let heap = Refusing::new(rt.alloc(), 0);
+    let image = image_with(&rt, 0, 0);
+    for count in 0..65 {
+        if ends_after_refusal(&rt, &heap, &image, count) {
+            return;
+        }
+    }
+    panic!(rt; "no text was full");
+}
+
+// Puts a page of an image into a part, after refused growths. How many there were.
+fn put_in_part<A: Allocator>(
+    rt: &impl Abort,
+    heap: &Refusing,
+    part: &mut OpenPart<A>,
+    image: &Memory,
+    place: Place,
+) -> u64 {
+    let bytes = image.page(place).expect(rt, "a page");
+    for nth in 1..100u64 {
+        assert!(rt; part.table().holds(place));
+        assert!(rt; part.table().page_size() == bytes.len() as u64);
+        heap.refuse(nth);
+        let run = part.put_page(place, bytes);
+        let is_waiting = heap.is_waiting();
+        heap.refuse(0);
+        assert!(rt; is_waiting == run.is_ok());
+        if run.is_ok() {
+            return nth - 1;
+        }
+    }
+    panic!(rt; "each run had a refusal");
+}
+
+// A part of the first pages of a block, so many of them, begun and ended with a growth refused where there is one. Whether there was
+// one at its end.
+fn part_after_refusals(
+    rt: &(impl AllocGlobal + Abort),
+    heap: &Refusing,
+    image: &Memory,
+    count: u64,
+) -> bool {
+    let mut writer = StreamWriter::new(heap, image.table()).expect(rt, "a writer");
+    let mut text = Vec::from_slice(rt.alloc(), &writer.drain()).expect(rt, "bytes");
+    heap.refuse(1);
+    let Err(writer) = writer.begin_part() else {
+        panic!(rt; "no refusal");
+    };
+    assert!(rt; !heap.is_waiting());
+    let mut part = writer.begin_part().ok().expect(rt, "a part");
+    let mut places = Vec::new(rt.alloc());
+    for page in 0..count {
+        put_in_part(rt, heap, &mut part, image, at(1, page));
+        assert!(rt; places.push(at(1, page)).is_ok());
+    }
+    heap.refuse(1);
+    let run = part.end_part();
+    heap.refuse(0);
+    let is_refused = run.is_err();
+    let writer = match run {
+        Ok(writer) => writer,
+        Err(part) => part.end_part().ok().expect(rt, "a writer"),
+    };
+    assert!(rt; text.extend_from_slice(&finished(rt, writer)).is_ok());
+    assert!(rt; text.as_slice() == text_of(rt, image, &[&places]).as_slice());
+    is_refused
+}
+
+#[test]
+fn open_part(rt: HostRuntime) {
+    let heap = Refusing::new(rt.alloc(), 0);
+    let image = image_with(&rt, 1, 0);
+    let mut refused = 0u64;
+    for count in 0..65 {
+        refused = refused.saturating_add(u64::from(part_after_refusals(&rt, &heap, &image, count)));
+    }
+    assert!(rt; refused > 0);
+}
+
+// A loader over a memory, made after refused growths, each of which gave the memory back.
+fn new_loader<A: Allocator + Copy, M: GuestTarget + Drop>(
+    rt: &impl Abort,
+    heap: &Refusing,
+    alloc: A,
+    mut memory: M,
+) -> InPlaceLoader<A, M> {
+    for nth in 1..100u64 {
+        heap.refuse(nth);
+        let run = InPlaceLoader::new(alloc, memory, MAX_TOTAL);
+        assert!(rt; heap.is_waiting() == run.is_ok());
+        heap.refuse(0);
+        match run {
+            Ok(loader) => {
+                assert!(rt; nth > 1);
+                return loader;
+            }
+            Err(back) => memory = back,
+        }
+    }
+    panic!(rt; "each run had a refusal");
+}
+
+// Feeds a piece after refused growths, each of which changed nothing. How many there were.
+fn feed<A: Allocator + Copy, M: GuestTarget>(
+    rt: &impl Abort,
+    heap: &Refusing,
+    loader: &mut InPlaceLoader<A, M>,
+    piece: &[u8],
+) -> u64 {
+    for nth in 1..100u64 {
+        let fed = loader.fed();
+        let stood = (loader.rounds(), loader.verdict());
+        assert!(rt; !loader.ended());
+        assert!(rt; fed <= MAX_TOTAL);
+        assert!(rt; piece.len() as u64 <= MAX_TOTAL);
+        heap.refuse(nth);
+        let run = loader.feed(piece);
+        let is_waiting = heap.is_waiting();
+        heap.refuse(0);
+        if run.is_ok() {
+            return nth - 1;
+        }
+        assert!(rt; !is_waiting);
+        assert!(rt; loader.fed() == fed);
+        assert!(rt; (loader.rounds(), loader.verdict()) == stood);
+    }
+    panic!(rt; "each run had a refusal");
+}
+
+// Loads a text of two rounds onto a memory, with each growth refused on the way.
+fn load_after_refusals<A: Allocator + Copy, M: GuestTarget + Drop>(
+    rt: &impl Abort,
+    heap: &Refusing,
+    alloc: A,
+    memory: M,
+    text: &[u8],
+) {
+    let mut loader = new_loader(rt, heap, alloc, memory);
+    let mut refused = 0u64;
+    for piece in text.chunks(100) {
+        refused = refused.saturating_add(feed(rt, heap, &mut loader, piece));
+    }
+    loader.end();
+    assert!(rt; refused > 2);
+    assert!(rt; loader.fed() == text.len() as u64);
+    assert!(rt; loader.rounds() == 4);
+    assert!(rt; loader.verdict() == Ok(()));
+}
+
+// A target over a memory, made after refused growths, each of which gave the memory back.
+fn new_target<A: Allocator + Copy, M: GuestTarget + Drop>(
+    rt: &impl Abort,
+    heap: &Refusing,
+    alloc: A,
+    mut memory: M,
+) -> Target<A, M> {
+    for nth in 1..100u64 {
+        heap.refuse(nth);
+        let run = Target::over(alloc, memory);
+        assert!(rt; heap.is_waiting() == run.is_ok());
+        heap.refuse(0);
+        match run {
+            Ok(target) => {
+                assert!(rt; nth > 1);
+                return target;
+            }
+            Err(back) => memory = back,
+        }
+    }
+    panic!(rt; "each run had a refusal");
+}
+
+// Puts the sections of a text of two rounds into a target over a memory.
+fn put_after_refusals<A: Allocator + Copy, M: GuestTarget + Drop>(
+    rt: &(impl AllocGlobal + Abort),
+    heap: &Refusing,
+    alloc: A,
+    memory: M,
+    text: &[u8],
+) {
+    let mut target = new_target(rt, heap, alloc, memory);
+    let mut reader = StreamReader::new(rt.alloc(), Mode::Single, PAGE_SIZE_4K, MAX_TOTAL);
+    assert!(rt; crate::building::feed(rt, &mut reader, text) == Ok(()));
+    for sections in 0..4u64 {
+        assert!(rt; target.rounds() == sections);
+        match reader.take_round() {
+            Ok(Some(round)) => {
+                assert!(rt; target.fits(&round));
+                target.section(&round);
+            }
+            _ => panic!(rt; "no section"),
+        }
+    }
+    assert!(rt; target.base() == 0);
+}
+
+// Two values as an array.
+fn both<T: Drop>(one: T, other: T) -> [T; 2] {
+    [one, other]
+}
+
+// So many pages of nines.
+fn nines(rt: &(impl AllocGlobal + Abort), pages: usize) -> Vec<u8> {
+    assert!(rt; pages <= 100);
+    vec![in rt.alloc(); 9; pages * 4096].expect(rt, "bytes")
+}
+
+// Asserts that two blocks of nines have the text of two rounds in them: page 0 of the first block zeros, page 1 with the first byte 7,
+// page 64 of the second zeros, and all others as they were.
+fn assert_two_rounds(rt: &impl Abort, first: &[u8], second: &[u8]) {
+    assert!(rt; first.len() == 8192);
+    assert!(rt; first.get(4096) == Some(&7));
+    assert!(rt; first.iter().filter(|b| **b == 0).count() == 8191);
+    assert!(rt; second.len() == 65 * 4096);
+    let (front, last) = second.split_at_checked(262_144).expect(rt, "pages");
+    assert!(rt; front.iter().all(|b| *b == 9));
+    assert!(rt; last.iter().all(|b| *b == 0));
+}
+
+#[test]
+fn loader(rt: HostRuntime) {
+    let heap = Refusing::new(rt.alloc(), 0);
+    let table = table(rt.alloc(), &BLOCKS).expect(&rt, "a table");
+    let text = two_rounds(&rt);
+    let mut first = nines(&rt, 2);
+    let mut second = nines(&rt, 65);
+    let mut blocks = both(first.as_mut_slice(), second.as_mut_slice());
+    let memory = LentMemoryMut::new(&table, &mut blocks)
+        .ok()
+        .expect(&rt, "a memory");
+    load_after_refusals(&rt, &heap, &heap, memory, &text);
+    assert_two_rounds(&rt, &first, &second);
+}
+
+#[test]
+fn target(rt: HostRuntime) {
+    let heap = Refusing::new(rt.alloc(), 0);
+    let table = table(rt.alloc(), &BLOCKS).expect(&rt, "a table");
+    let text = two_rounds(&rt);
+    let mut first = nines(&rt, 2);
+    let mut second = nines(&rt, 65);
+    let mut blocks = both(first.as_mut_slice(), second.as_mut_slice());
+    let memory = LentMemoryMut::new(&table, &mut blocks)
+        .ok()
+        .expect(&rt, "a memory");
+    put_after_refusals(&rt, &heap, &heap, memory, &text);
+    assert_two_rounds(&rt, &first, &second);
+}
