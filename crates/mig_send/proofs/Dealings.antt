@@ -98,7 +98,7 @@ all_rise deal (s ∷ spents) [] zip = absurd zip
 all_rise deal (s ∷ spents) (x ∷ shares) zip =
     All-cons (λ (share : Share). AllPairs (λ a b. a < b) share.numbers) x shares zip.0.rise (all_rise deal spents shares zip.1)
 
-shares_are_dealt : SharesAreDealt
+pub shares_are_dealt : SharesAreDealt
 shares_are_dealt deal spents shares zip many once =
     let long : length shares ≡ length spents = AllZip-long (HasShare (new_seat deal)) spents shares zip in
     let end : end_of_work deal + length shares ≡ end_of_deal deal = omega (arith, long, many) in
@@ -135,7 +135,7 @@ record Told {A : Type 0} (deal : DealView) (image : Image) (batches : List Batch
   have_shares : AllZip (HasShare (new_seat deal)) (map (λ (worked : Worked A). worked.spent) answers) shares
   are_sent : AllZip (IsSent deal.base image batches) shares answers
 
-is_sent : {A : Type 0} (deal : DealView) (image : Image) (batches : List BatchOfPages) (worked : Worked A) (h : HasWorked image batches (new_seat deal) worked)
+pub is_sent : {A : Type 0} (deal : DealView) (image : Image) (batches : List BatchOfPages) (worked : Worked A) (h : HasWorked image batches (new_seat deal) worked)
     → IsSent deal.base image batches h.share worked
 is_sent deal image batches worked h = IfOk-weaker worked.packets (λ packets. packets.items ≡ map (claimed_packet deal.base image batches) h.share.numbers)
     (λ packets. answer_text image.table.page_size packets.items worked.last ≡ share_text deal.base image batches h.share)

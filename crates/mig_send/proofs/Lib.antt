@@ -4,3 +4,8 @@ pub mod Cutting
 pub mod Packing
 pub mod Working
 pub mod Dealings
+pub mod Gathering
+pub mod Parts
+pub mod Channels
+pub mod Sendings
+pub mod Counting

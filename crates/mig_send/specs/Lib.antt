@@ -1,8 +1,12 @@
 -- To read first, in this order: what a single stream has been sent, the batches of a round, their packets, what one worker does,
--- and the dealing that workers make together
+-- the dealing that workers make together, rounds that are dealt over several channels, and the sender of these
 pub mod Sending
 pub mod Batches
 pub mod Packing
 pub mod Work
 pub mod Dealing
+pub mod DealtRounds
+pub mod MultiSending
+pub mod Workers
+pub mod Parts
 pub mod SendFaultNumber

@@ -7,9 +7,13 @@ use mig_mem::NoMemory;
 use std::error::Error;
 use std::fmt::{self, Display, Formatter};
 
-/// Why a round was not sent.
+/// Why a sender was not made, or a round not sent.
 #[derive(Clone, Copy, Debug, PartialEq, Eq)]
 pub enum SendFault {
+    /// There is no channel, or there are more than 255.
+    Channels,
+    /// The batch limit is 0, or above what a packet has room for.
+    Limit,
     /// The image or the dirty set is of another table than the sender's.
     OtherTable,
     /// A growth was refused.
@@ -22,6 +26,8 @@ impl SendFault {
         ensures { result ≡ fault_number self }
     {
         match self {
+            SendFault::Channels => 61,
+            SendFault::Limit => 62,
             SendFault::OtherTable => 63,
             SendFault::NoMemory => NoMemory.number(),
         }
@@ -42,6 +48,16 @@ impl From<NoMemory> for SendFault {
 impl Display for SendFault {
     fn fmt<W: fmt::Write>(&self, f: &mut Formatter<W>) -> fmt::Result {
         match self {
+            SendFault::Channels => write!(
+                f,
+                "{}: there is no channel, or there are more than 255",
+                self.number()
+            ),
+            SendFault::Limit => write!(
+                f,
+                "{}: the batch limit is 0, or above the pages of a packet",
+                self.number()
+            ),
             SendFault::OtherTable => write!(
                 f,
                 "{}: the image or the dirty set is of another table",

@@ -1,20 +1,26 @@
 //! Senders of guest memory: they make the texts of a migration from images of a guest and its dirty pages.
 //!
-//! `SingleSender` writes all rounds into one stream. `cut` puts the dirty pages of a round into batches, and `pack` makes the
-//! packet of one; `work` is one worker of several, which does that for the batches that it draws. What a text looks like is
-//! `mig_stream`'s and `mig_packet`'s; which pages are dirty, and when a round is sent, is for the caller.
+//! `SingleSender` writes all rounds into one stream. `MultiSender` sends them on several channels beside a main stream: `cut` puts
+//! the dirty pages of a round into batches, and `pack` makes the packet of one; `work` is one worker of several, which does that for
+//! the batches that it draws. What a text looks like is `mig_stream`'s and `mig_packet`'s; which pages are dirty, and when a round
+//! is sent, is for the caller.
 //!
-//! Definitions to read first, in this order: `Sending`, `Batches`, `Packing`, `Work`, `Dealing` (`specs/`).
+//! Definitions to read first, in this order: `Sending`, `Batches`, `Packing`, `Work`, `Dealing`, `DealtRounds`, `MultiSending`
+//! (`specs/`).
 #![tactic(auto)]
 
 mod batch;
 mod fault;
+mod multi;
 mod packed;
+mod part;
 mod single;
 mod worker;
+mod workers;
 
 pub use batch::{Batch, cut, pages_have_one_cut};
 pub use fault::SendFault;
+pub use multi::{MultiSender, Sent};
 pub use packed::{Packed, pack};
 pub use single::{OpenRound, SingleSender};
 pub use worker::{Worked, work, workers_make_a_dealing};

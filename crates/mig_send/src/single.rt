@@ -6,7 +6,7 @@ ghost use Rattle.mig_mem.specs.Image.{Page};
 ghost use Rattle.mig_mem.specs.Round.{round_of};
 ghost use Rattle.mig_stream.specs.Written.{RoundPart, single, written_so_far};
 ghost use Rattle.mig_stream.specs.Writer.{HasPut};
-ghost use Rattle.mig_send.specs.Sending.{HasSent, HasSentDrained, AreOf};
+ghost use Rattle.mig_send.specs.Sending.{HasSent, HasSentDrained, AreOf, IsRoundFault};
 
 use crate::SendFault;
 use mig_mem::{Dirty, GuestPages, NoMemory, Place, Table};
@@ -48,6 +48,7 @@ impl<A: Allocator> SingleSender<A> {
         dirty: &Dirty<C>,
     ) -> Result<(), SendFault>
         ensures table { self.new.table ≡ self.old.table }
+        ensures faults { IfErr result (λ fault. IsRoundFault fault) }
         ensures other { (result ≡ Err SendFault.OtherTable) ↔ (AreOf self.old.table (G.image image.now) dirty.now → ⊥) }
         ensures ok { OnOk result ((drained : List ℕ) (rounds : List (List Page)) → HasSentDrained drained self.old rounds
             → HasSentDrained drained self.new (rounds ++ round_of (G.image image.now) dirty.now.marked ∷ [])) }

@@ -54,6 +54,8 @@ fn image_with_nine(rt: &(impl AllocGlobal + Abort)) -> Memory {
 // A refused round leaves nothing in the text.
 #[test]
 fn other_tables(rt: HostRuntime) {
+    assert_eq!(rt; SendFault::Channels.number(), 61);
+    assert_eq!(rt; SendFault::Limit.number(), 62);
     assert_eq!(rt; SendFault::OtherTable.number(), 63);
     let image = image_with_nine(&rt);
     let dirty = places_of(rt.alloc(), image.table(), &PLACES).expect(&rt, "a set");

@@ -42,6 +42,18 @@ fn texts_of_faults(rt: HostRuntime) {
     assert_text(
         &rt,
         alloc,
+        SendFault::Channels,
+        "61: there is no channel, or there are more than 255",
+    );
+    assert_text(
+        &rt,
+        alloc,
+        SendFault::Limit,
+        "62: the batch limit is 0, or above the pages of a packet",
+    );
+    assert_text(
+        &rt,
+        alloc,
         SendFault::OtherTable,
         "63: the image or the dirty set is of another table",
     );

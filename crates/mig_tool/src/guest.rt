@@ -106,6 +106,8 @@ impl<A: Allocator + Copy> Guest<A> {
                 self.dirty.clear();
                 Ok(())
             }
+            Err(SendFault::Channels) => unreachable!(),
+            Err(SendFault::Limit) => unreachable!(),
             Err(SendFault::OtherTable) => unreachable!(),
             Err(SendFault::NoMemory) => Err(NoMemory),
         }

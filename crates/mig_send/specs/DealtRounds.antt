@@ -1,0 +1,76 @@
+-- Rounds that are dealt over several channels, and the texts that are made of them.
+use Rattle.std.specs.Prelude.{ℕ, ◌≡◌, ◌+◌, ◌≤◌, ◌<◌, List, [], ◌∷◌, ◌++◌, length, map, flat_map, get_or, All, ⊤}
+use Rattle.std.specs.List.{range_with_len}
+use Rattle.mig_mem.specs.RamTable.{RamTable, IsTable}
+use Rattle.mig_mem.specs.Image.{IsImage}
+use Rattle.mig_mem.specs.PlaceSet.{IsPlaceSet}
+use Rattle.mig_mem.specs.Tracking.{Snapshot}
+use Rattle.mig_stream.specs.Written.{main}
+use Rattle.mig_packet.specs.PageSize.{page_limit}
+use Rattle.mig_packet.specs.Hello.{written_hello}
+use Rattle.mig_send.specs.Batches.{BatchOfPages, IsCut}
+use Rattle.mig_send.specs.Work.{Share}
+use Rattle.mig_send.specs.Dealing.{IsDealing, share_text}
+
+-- ---- a round on several channels
+
+-- A round as it was dealt: the image with its dirty places, the batches that these were cut into, the number of its first packet,
+-- and the share of each channel.
+pub record DealtRound : Type 0 where
+  pub snapshot : Snapshot
+  pub batches : List BatchOfPages
+  pub base : ℕ
+  pub shares : List Share
+
+-- The image and the dirty places are of the table, the batches are those of these places, and the shares deal them over so many
+-- channels.
+pub record IsDealtRound (table : RamTable) (limit channels : ℕ) (round : DealtRound) : Type 0 where
+  pub has_image : IsImage round.snapshot.image
+  pub has_table : round.snapshot.image.table ≡ table
+  pub has_places : IsPlaceSet record { table = table; marked = round.snapshot.dirty }
+  pub has_batches : IsCut limit round.snapshot.dirty round.batches
+  pub has_shares : IsDealing round.base (length round.batches) round.shares
+  pub as_many : length round.shares ≡ channels
+
+-- how many packets all channels have of a round: one for each batch, and a SYNC packet each
+abbrev pub packet_count : DealtRound → ℕ
+packet_count round = length round.batches + length round.shares
+
+-- packets are numbered on from round to round
+abbrev pub AreNumbered : ℕ → List DealtRound → Type 0
+AreNumbered from [] = ⊤
+AreNumbered from (round ∷ rounds) = (round.base ≡ from) × AreNumbered (from + packet_count round) rounds
+
+-- ---- the texts
+
+abbrev pub no_share : Share
+no_share = record { numbers = []; last = 0 }
+
+-- what a channel carries of a round: what is sent of its share
+abbrev pub round_text : ℕ → DealtRound → List ℕ
+round_text channel round = share_text round.base round.snapshot.image round.batches (get_or round.shares channel no_share)
+
+-- a channel's text: its hello, and then what it carries of each round
+abbrev pub channel_text : List ℕ → List DealtRound → ℕ → List ℕ
+channel_text uuid rounds channel = written_hello uuid channel ++ flat_map (round_text channel) rounds
+
+-- the texts of all channels, channel 0 first
+abbrev pub channel_texts : List ℕ → ℕ → List DealtRound → List (List ℕ)
+channel_texts uuid channels rounds = map (channel_text uuid rounds) (range_with_len 0 channels)
+
+-- ---- a sending
+
+-- What a sender is made with: a lawful table, 1 to 255 channels, and a limit of pages to a batch for which a packet has room.
+pub record IsSetting (table : RamTable) (channels limit : ℕ) : Type 0 where
+  pub has_table : IsTable table
+  pub has_channels : (0 < channels) × (channels ≤ 255)
+  pub has_limit : (0 < limit) × (limit ≤ page_limit table.page_size)
+
+-- The texts of some rounds: each round was dealt, their packets are numbered from 0 on, the main stream has a FLUSH for each, and
+-- each channel its hello and what it carries of each.
+pub record IsSending (table : RamTable) (uuid : List ℕ) (limit channels : ℕ) (rounds : List DealtRound) (main_text : List ℕ) (texts : List (List ℕ)) : Type 0 where
+  pub is_set : IsSetting table channels limit
+  pub are_dealt : All (IsDealtRound table limit channels) rounds
+  pub are_numbered : AreNumbered 0 rounds
+  pub has_main : main_text ≡ main table (length rounds)
+  pub has_texts : texts ≡ channel_texts uuid channels rounds

@@ -1,0 +1,235 @@
+//! The sender on several channels: a main stream with a FLUSH for each round, and the rounds' packets on the channels beside it.
+
+ghost use Rattle.std.specs.Prelude.{◌≡◌, ◌↔◌, ◌<◌, ◌≤◌, ◌++◌, ◌∷◌, [], List, ℕ, Err, length, map, replicate, IfOk, IfErr, OnOk, OnErr};
+ghost use Rattle.std.specs.List.{range_with_len};
+ghost use Rattle.mig_stream.specs.Written.{FlushPart, written_so_far};
+ghost use Rattle.mig_packet.specs.Hello.{written_hello};
+ghost use Rattle.mig_send.specs.Sending.{AreOf, IsRoundFault};
+ghost use Rattle.mig_send.specs.Parts.{texts_of};
+ghost use Rattle.mig_send.specs.DealtRounds.{DealtRound, IsSending, channel_text};
+ghost use Rattle.mig_send.specs.MultiSending.{Drained, nothing_drained, HasSentRounds, HasSentOne, KeepsSetting, KeepsCounts, IsRefused, whole_texts, with_main, with_channel};
+
+use crate::SendFault;
+use crate::batch::cut;
+use crate::part::{append_parts, reserve_parts};
+use crate::workers::deal_round;
+use mig_mem::{Dirty, GuestPages, NoMemory, Table};
+use mig_packet::{Gate, hello, page_limit};
+use mig_stream::StreamWriter;
+use std::alloc::{Allocator, Global};
+use std::marker::Model;
+use std::mem;
+use std::thread::Threads;
+use uuid::Uuid;
+
+// The highest number that a round may begin with.
+const LAST_BASE: u64 = 1 << 63;
+
+/// Sends the rounds of one guest on several channels beside a main stream (QEMU's multifd migration, without compression). Each
+/// round is dealt to as many workers as there are channels, each on a thread of its own.
+#[derive(Drop)]
+pub struct MultiSender<A: Allocator = Global> {
+    alloc: A,
+    main: StreamWriter<A>,
+    uuid: Uuid,
+    limit: usize,
+    channels: Vec<Vec<u8, A>, A>,
+    base: u64,
+    rounds: u64,
+}
+
+impl<A: Allocator> Model for MultiSender<A> {
+    ghost use Rattle.mig_send.specs.MultiSending.{MultiSending, IsMultiSending};
+    ghost use Rattle.mig_send.specs.Parts.{texts_of};
+
+    ghost Value = { MultiSending };
+
+    ghost view = { λ s. record { main = s.main; uuid = s.uuid; limit = s.limit; channels = texts_of s.channels.items; base = s.base; rounds = s.rounds } };
+
+    ghost invariant = { λ s. IsMultiSending (record { main = s.main; uuid = s.uuid; limit = s.limit; channels = texts_of s.channels.items; base = s.base; rounds = s.rounds }) };
+}
+
+/// The texts of a migration, or what of them wasn't drained: the main stream's, and those of the channels, channel 0 first.
+#[derive(Drop)]
+pub struct Sent<A: Allocator = Global> {
+    pub main: Vec<u8, A>,
+    pub channels: Vec<Vec<u8, A>, A>,
+}
+
+// The hellos of so many channels.
+fn hellos<A: Allocator + Copy>(
+    alloc: A,
+    uuid: &Uuid,
+    channels: usize,
+) -> Result<Vec<Vec<u8, A>, A>, NoMemory>
+    requires { channels ≤ 255 }
+    ensures texts { IfOk result (λ v. texts_of v.items ≡ map (written_hello uuid.now) (range_with_len 0 channels)) }
+{
+    let mut texts = Vec::with_capacity(alloc, channels)?;
+    'channels: for id in 0..channels {
+        texts.push(Vec::from_slice(alloc, &hello(uuid, id as u8))?)?;
+    }
+    Ok(texts)
+}
+
+impl<A: Allocator + Copy> MultiSender<A> {
+    /// A sender on so many channels, with at most `limit` pages to a packet. It has sent no round yet, and each channel has its
+    /// hello. It keeps a copy of the table.
+    pub fn new<B: Allocator>(
+        alloc: A,
+        table: &Table<B>,
+        uuid: Uuid,
+        channels: usize,
+        limit: usize,
+    ) -> Result<MultiSender<A>, SendFault>
+        ensures made { IfOk result (λ s. (s.main.table ≡ table.now) × (s.uuid ≡ uuid) × (s.limit ≡ limit) × (length s.channels ≡ channels)) }
+        ensures none { IfOk result (λ s. HasSentRounds nothing_drained s []) }
+        ensures refused { IfErr result (λ fault. IsRefused table.now channels limit fault) }
+    {
+        let _blocks = table.len();
+        if channels == 0 || channels > 255 {
+            return Err(SendFault::Channels);
+        }
+        if limit == 0 || limit > page_limit(table.page_size()) {
+            return Err(SendFault::Limit);
+        }
+        let main = StreamWriter::new(alloc, table)?;
+        Ok(MultiSender {
+            alloc,
+            main,
+            channels: hellos(alloc, &uuid, channels)?,
+            uuid,
+            limit,
+            base: 0,
+            rounds: 0,
+        })
+    }
+}
+
+impl<A: Allocator + Copy + Send + Sync> MultiSender<A> {
+    /// Sends a round: cuts the dirty pages into batches, deals these to the workers, and puts each worker's packets, with a SYNC
+    /// packet behind them, on its channel, and a FLUSH on the main stream. An `Err` changes nothing, so the round can be sent
+    /// again. It returns when all workers are done; where no thread can be made, a worker runs on the caller's. Once more than
+    /// 2^63 packets were numbered, each round is refused as for want of memory.
+    pub fn round<
+        R: Threads + Sync,
+        M: GuestPages<Alloc: Sync> + Sync,
+        C: Allocator,
+        G: Gate + Sync,
+    >(&mut self, rt: &R, image: &M, dirty: &Dirty<C>, gate: &G) -> Result<(), SendFault>
+        ensures setting { KeepsSetting self.old self.new }
+        ensures faults { IfErr result (λ fault. IsRoundFault fault) }
+        ensures other { (result ≡ Err SendFault.OtherTable) ↔ (AreOf self.old.main.table (M.image image.now) dirty.now → ⊥) }
+        ensures ok { OnOk result (HasSentOne (record { image = M.image image.now; dirty = dirty.now.marked }) self.old self.new) }
+        ensures err { OnErr result (self.new ≡ self.old) }
+    {
+        let table = self.main.table();
+        if !image.table().same(table) || !dirty.table().same(table) {
+            return Err(SendFault::OtherTable);
+        }
+        if self.base > LAST_BASE {
+            return Err(SendFault::NoMemory);
+        }
+        let page_size = table.page_size();
+        let batches = cut(self.alloc, image.table(), dirty, self.limit)?;
+        let carried = deal_round(
+            rt,
+            self.alloc,
+            self.base,
+            image,
+            &batches,
+            self.channels.len(),
+            gate,
+        )?;
+        reserve_parts(page_size, &mut self.channels, &carried)?;
+        self.main.flush_part()?;
+        append_parts(rt, page_size, &mut self.channels, &carried);
+        self.base += (batches.len() + self.channels.len()) as u64;
+        self.rounds += 1;
+        Ok(())
+    }
+}
+
+impl<A: Allocator> MultiSender<A> {
+    /// The table whose pages it sends.
+    pub fn table(&self) -> &Table<A>
+        ensures { result.now ≡ self.now.main.table }
+    {
+        self.main.table()
+    }
+
+    /// How many channels it has.
+    pub fn channels(&self) -> usize
+        ensures { result ≡ length self.now.channels }
+    {
+        self.channels.len()
+    }
+
+    /// How many packets all channels have so far. It is the number of the next one.
+    pub fn base(&self) -> u64
+        ensures { result ≡ self.now.base }
+    {
+        self.base
+    }
+
+    /// How many rounds were sent.
+    pub fn rounds(&self) -> u64
+        ensures { result ≡ self.now.rounds }
+    {
+        self.rounds
+    }
+
+    /// Hands out the bytes of the main stream that were written and not drained yet, into a buffer: what it held is dropped, and
+    /// its room is used for what is written next. It takes no memory.
+    pub fn drain_main(&mut self, bytes: &mut Vec<u8, A>)
+        ensures counts { KeepsCounts self.old self.new }
+        ensures all { (drained : Drained) (rounds : List DealtRound) → HasSentRounds drained self.old rounds
+            → drained.main ++ bytes.new.items ≡ written_so_far self.old.main.table (replicate (length rounds) FlushPart) }
+        ensures drained { (drained : Drained) (rounds : List DealtRound) → HasSentRounds drained self.old rounds
+            → HasSentRounds (with_main drained bytes.new.items) self.new rounds }
+    {
+        self.main.drain_into(bytes);
+    }
+
+    /// Hands out the bytes of a channel that were written and not drained yet, into a buffer, as `drain_main`.
+    pub fn drain_channel(&mut self, channel: usize, bytes: &mut Vec<u8, A>)
+        requires { channel < length self.old.channels }
+        ensures counts { KeepsCounts self.old self.new }
+        ensures all { (drained : Drained) (rounds : List DealtRound) → HasSentRounds drained self.old rounds
+            → drained.channel channel ++ bytes.new.items ≡ channel_text self.old.uuid rounds channel }
+        ensures drained { (drained : Drained) (rounds : List DealtRound) → HasSentRounds drained self.old rounds
+            → HasSentRounds (with_channel drained channel bytes.new.items) self.new rounds }
+    {
+        bytes.clear();
+        mem::swap(&mut self.channels[channel], bytes);
+    }
+
+    /// Ends the main stream and gives all texts, or what of them wasn't drained; an `Err` gives the sender back as it was.
+    pub fn finish(self) -> Result<Sent<A>, MultiSender<A>>
+        ensures ok { IfOk result (λ sent. (drained : Drained) (rounds : List DealtRound) → HasSentRounds drained self rounds
+            → IsSending self.main.table self.uuid self.limit (length self.channels) rounds (drained.main ++ sent.main.items) (whole_texts drained (texts_of sent.channels.items))) }
+        ensures err { IfErr result (λ s. s ≡ self) }
+    {
+        let MultiSender {
+            alloc,
+            main,
+            uuid,
+            limit,
+            channels,
+            base,
+            rounds,
+        } = self;
+        match main.finish() {
+            Ok(main) => Ok(Sent { main, channels }),
+            Err(main) => Err(MultiSender {
+                alloc,
+                main,
+                uuid,
+                limit,
+                channels,
+                base,
+                rounds,
+            }),
+        }
+    }
+}
