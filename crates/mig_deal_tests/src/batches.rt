@@ -9,8 +9,8 @@ use mig_send::{Batch, Packed, cut, pack};
 use std::alloc::{AllocGlobal, Allocator};
 use std::process::Abort;
 
-// Cuts a set of a table, at a limit that is one.
-fn cut_at<A: Allocator + Copy, B: Allocator>(
+/// Cuts a set of a table, at a limit that is one.
+pub(crate) fn cut_at<A: Allocator + Copy, B: Allocator>(
     rt: &impl Abort,
     alloc: A,
     table: &Table<B>,

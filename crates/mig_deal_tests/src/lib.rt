@@ -1,4 +1,5 @@
-//! Tests of the deal and of the workers that draw from it, on real threads where they share it, with each growth refused.
+//! Tests of the deal, of the workers that draw from it, on real threads where they share it, and of the sender that runs them on
+//! several channels, with each growth refused.
 //!
 //! The worked examples of batches and packets are cases of `mig_rows`.
 #![tactic(auto)]
@@ -9,6 +10,8 @@ mod alone;
 mod batches;
 #[cfg(test)]
 mod deal;
+#[cfg(test)]
+mod multi;
 pub mod workers;
 #[cfg(test)]
 mod working;

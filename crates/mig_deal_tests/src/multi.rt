@@ -1,0 +1,526 @@
+//! The sender on several channels, each channel's worker on a thread of its own: two rounds of one guest, whose texts are also
+//! made by hand, of the same batches and their packets; what refuses a sender or a round; each growth refused; and texts that
+//! are drained between the rounds.
+
+use crate::batches::{cut_at, memory_of};
+use mig_fixtures::{at, places_of, set, table, table_of};
+use mig_mem::{Dirty, Memory, Table};
+use mig_packet::{Gate, OpenGate, Step, hello, put_packet};
+use mig_refusing::Refusing;
+use mig_send::{MultiSender, SendFault, Sent, pack};
+use mig_stream::StreamWriter;
+use std::alloc::{AllocGlobal, Allocator};
+use std::process::Abort;
+use std::sync::atomic::{AtomicU64, Ordering};
+use std::thread::{Threads, yield_now};
+use uuid::Uuid;
+
+const LIMIT: usize = 2;
+
+fn uuid() -> Uuid {
+    Uuid::from_bytes([1, 2, 3, 4, 5, 6, 7, 8, 9, 10, 11, 12, 13, 14, 15, 16])
+}
+
+// ---- the rounds
+
+// A guest's memory, and its dirty pages.
+#[derive(Drop)]
+struct Round {
+    memory: Memory,
+    dirty: Dirty,
+}
+
+// Six pages in four batches: pages 0 and 1 of block 0, then its page 2, and the same of block 1. All but page 1 of block 0 are
+// zeros.
+fn first_round(rt: &(impl AllocGlobal + Abort)) -> Round {
+    let memory = memory_of(rt, &[("a", 3), ("b", 3)]);
+    let places = [at(0, 0), at(0, 1), at(0, 2), at(1, 0), at(1, 1), at(1, 2)];
+    let dirty = places_of(rt.alloc(), memory.table(), &places).expect(rt, "a set");
+    Round { memory, dirty }
+}
+
+// Two pages in two batches, one of zeros and one that no longer is.
+fn second_round(rt: &(impl AllocGlobal + Abort)) -> Round {
+    let mut memory = memory_of(rt, &[("a", 3), ("b", 3)]);
+    assert!(rt; set(&mut memory, 1, 8191, 7));
+    let places = [at(0, 2), at(1, 1)];
+    let dirty = places_of(rt.alloc(), memory.table(), &places).expect(rt, "a set");
+    Round { memory, dirty }
+}
+
+// ---- the texts by hand
+
+// The packets of a round by their numbers, behind those of the rounds before: one for each batch, and a SYNC packet for each
+// channel.
+fn put_round(
+    rt: &(impl AllocGlobal + Abort),
+    packets: &mut Vec<Vec<u8>>,
+    round: &Round,
+    channels: usize,
+) {
+    let run = cut_at(rt, rt.alloc(), round.memory.table(), &round.dirty, LIMIT);
+    for batch in &run.expect(rt, "batches") {
+        let number = packets.len() as u64;
+        let packed = pack(rt.alloc(), &round.memory, batch, number).expect(rt, "a packet");
+        let bytes = Vec::from_slice(rt.alloc(), packed.bytes()).expect(rt, "a packet");
+        assert!(rt; packets.push(bytes).is_ok());
+    }
+    for _ in 0..channels {
+        let number = packets.len() as u64;
+        let mut bytes = Vec::new(rt.alloc());
+        assert!(rt; put_packet(4096, &mut bytes, number, true, &[], &[], &[], &[]).is_ok());
+        assert!(rt; packets.push(bytes).is_ok());
+    }
+}
+
+// The packets of both rounds by their numbers.
+fn packets_by_hand(rt: &(impl AllocGlobal + Abort), channels: usize) -> Vec<Vec<u8>> {
+    let mut packets = Vec::new(rt.alloc());
+    put_round(rt, &mut packets, &first_round(rt), channels);
+    put_round(rt, &mut packets, &second_round(rt), channels);
+    packets
+}
+
+// The text of the only channel.
+fn text_by_hand(rt: &(impl AllocGlobal + Abort)) -> Vec<u8> {
+    let mut text = Vec::from_slice(rt.alloc(), &hello(&uuid(), 0)).expect(rt, "a hello");
+    for packet in &packets_by_hand(rt, 1) {
+        assert!(rt; text.extend_from_slice(packet).is_ok());
+    }
+    text
+}
+
+// The main stream: a FLUSH for each round.
+fn main_by_hand(rt: &(impl AllocGlobal + Abort)) -> Vec<u8> {
+    let round = first_round(rt);
+    let Ok(mut writer) = StreamWriter::new(rt.alloc(), round.memory.table()) else {
+        panic!(rt; "memory")
+    };
+    assert!(rt; writer.flush_part().is_ok());
+    assert!(rt; writer.flush_part().is_ok());
+    let Ok(text) = writer.finish() else {
+        panic!(rt; "memory")
+    };
+    text
+}
+
+// ---- senders
+
+// A sender of the guest's table, on so many channels.
+fn sender_on(rt: &(impl AllocGlobal + Abort), channels: usize) -> MultiSender {
+    let table = table(rt.alloc(), &[("a", 3), ("b", 3)]).expect(rt, "a table");
+    MultiSender::new(rt.alloc(), &table, uuid(), channels, LIMIT).expect(rt, "a sender")
+}
+
+fn send<R: AllocGlobal + Abort + Threads + Sync, G: Gate + Sync>(
+    rt: &R,
+    sender: &mut MultiSender,
+    round: &Round,
+    gate: &G,
+) {
+    assert!(rt; sender.round(rt, &round.memory, &round.dirty, gate) == Ok(()));
+}
+
+fn finish<A: Allocator>(rt: &impl Abort, sender: MultiSender<A>) -> Sent<A> {
+    let Ok(sent) = sender.finish() else {
+        panic!(rt; "memory")
+    };
+    sent
+}
+
+// What stands behind this front of a text.
+fn behind<'a>(text: &'a [u8], front: &[u8]) -> Option<&'a [u8]> {
+    let (start, rest) = text.split_at_checked(front.len())?;
+    if start == front { Some(rest) } else { None }
+}
+
+// Which numbers a channel's packets have, as bits: its text is its hello, and then some of these packets, with rising numbers.
+fn numbers_in<A: Allocator>(
+    rt: &impl Abort,
+    sent: &Sent<A>,
+    channel: u8,
+    packets: &[Vec<u8>],
+) -> u64 {
+    let text = sent.channels.get(usize::from(channel)).expect(rt, "a text");
+    let mut rest = behind(text, &hello(&uuid(), channel)).expect(rt, "a hello");
+    let mut numbers = 0u64;
+    let mut bit = 1u64;
+    for packet in packets {
+        if let Some(more) = behind(rest, packet) {
+            rest = more;
+            numbers |= bit;
+        }
+        bit = bit.wrapping_mul(2);
+    }
+    assert!(rt; rest.is_empty());
+    numbers
+}
+
+// Sends both rounds.
+fn send_both<R: AllocGlobal + Abort + Threads + Sync, G: Gate + Sync>(
+    rt: &R,
+    channels: usize,
+    gate: &G,
+) -> Sent {
+    let mut sender = sender_on(rt, channels);
+    assert!(rt; sender.channels() == channels);
+    let packets = channels as u64;
+    assert!(rt; sender.base() == 0 && sender.rounds() == 0);
+    send(rt, &mut sender, &first_round(rt), gate);
+    assert!(rt; sender.base() == packets.wrapping_add(4) && sender.rounds() == 1);
+    send(rt, &mut sender, &second_round(rt), gate);
+    assert!(rt; sender.base() == packets.wrapping_mul(2).wrapping_add(6) && sender.rounds() == 2);
+    let sent = finish(rt, sender);
+    assert!(rt; sent.main == main_by_hand(rt));
+    assert!(rt; sent.channels.len() == channels);
+    sent
+}
+
+// Asserts the texts of both rounds on one channel.
+fn assert_sent<A: Allocator>(rt: &(impl AllocGlobal + Abort), sent: &Sent<A>) {
+    assert!(rt; sent.main.as_slice() == main_by_hand(rt).as_slice());
+    assert!(rt; sent.channels.len() == 1);
+    let text = sent.channels.first().expect(rt, "a text");
+    assert!(rt; text.as_slice() == text_by_hand(rt).as_slice());
+}
+
+// Asserts the texts of both rounds on two channels. Packets 0 to 3 and 6 and 7 have pages. 4 and 5 are the SYNC packets of the
+// first round, and 8 and 9 those of the second.
+fn assert_two_channels<A: Allocator>(rt: &(impl AllocGlobal + Abort), sent: &Sent<A>) {
+    assert!(rt; sent.main.as_slice() == main_by_hand(rt).as_slice());
+    assert!(rt; sent.channels.len() == 2);
+    let packets = packets_by_hand(rt, 2);
+    assert!(rt; packets.len() == 10);
+    let a = numbers_in(rt, sent, 0, &packets);
+    let b = numbers_in(rt, sent, 1, &packets);
+    assert!(rt; a | b == 0b11_1111_1111 && a & b == 0);
+    for sync in [0b00_0011_0000u64, 0b11_0000_0000] {
+        assert!(rt; (a & sync).count_ones() == 1 && (b & sync).count_ones() == 1);
+    }
+}
+
+// ---- rounds with ample memory
+
+#[test]
+fn two_channels(rt: HostRuntime) {
+    let sent = send_both(&rt, 2, &OpenGate);
+    assert_two_channels(&rt, &sent);
+}
+
+#[test]
+fn one_channel(rt: HostRuntime) {
+    let sent = send_both(&rt, 1, &OpenGate);
+    assert_sent(&rt, &sent);
+}
+
+// A round without dirty pages has the SYNC packets alone.
+#[test]
+fn no_pages(rt: HostRuntime) {
+    let memory = memory_of(&rt, &[("a", 3), ("b", 3)]);
+    let dirty = places_of(rt.alloc(), memory.table(), &[]).expect(&rt, "a set");
+    let round = Round { memory, dirty };
+    let mut sender = sender_on(&rt, 2);
+    send(&rt, &mut sender, &round, &OpenGate);
+    assert!(rt; sender.base() == 2 && sender.rounds() == 1);
+    let sent = finish(&rt, sender);
+    let mut packets = Vec::new(rt.alloc());
+    put_round(&rt, &mut packets, &round, 2);
+    let a = numbers_in(&rt, &sent, 0, &packets);
+    let b = numbers_in(&rt, &sent, 1, &packets);
+    assert!(rt; a.min(b) == 1 && a.max(b) == 2);
+}
+
+// ---- refusals
+
+fn refusal(
+    rt: &(impl AllocGlobal + Abort),
+    table: &Table,
+    channels: usize,
+    limit: usize,
+) -> Option<SendFault> {
+    MultiSender::new(rt.alloc(), table, uuid(), channels, limit).err()
+}
+
+// The number of channels is tested first.
+#[test]
+fn refused_senders(rt: HostRuntime) {
+    let pages_4k = table(rt.alloc(), &[("a", 3)]).expect(&rt, "a table");
+    for (channels, limit) in [(0usize, 1usize), (0, 0), (256, 128), (256, 129)] {
+        assert!(rt; refusal(&rt, &pages_4k, channels, limit) == Some(SendFault::Channels));
+    }
+    for (channels, limit) in [(1usize, 0usize), (255, 129)] {
+        assert!(rt; refusal(&rt, &pages_4k, channels, limit) == Some(SendFault::Limit));
+    }
+    let pages_8k = table_of(rt.alloc(), 8192, &[("a", 3)]).expect(&rt, "a table");
+    assert!(rt; refusal(&rt, &pages_8k, 1, 65) == Some(SendFault::Limit));
+    assert!(rt; refusal(&rt, &pages_4k, 255, 128).is_none());
+    assert!(rt; refusal(&rt, &pages_8k, 1, 64).is_none());
+    assert!(rt; SendFault::Channels.number() == 61 && SendFault::Limit.number() == 62);
+}
+
+// Asserts that a round is refused for its table, and counts neither a packet nor a round.
+fn assert_other_table<R: AllocGlobal + Abort + Threads + Sync>(
+    rt: &R,
+    sender: &mut MultiSender,
+    memory: &Memory,
+    dirty: &Dirty,
+) {
+    let counts = (sender.base(), sender.rounds());
+    let run = sender.round(rt, memory, dirty, &OpenGate);
+    assert!(rt; run == Err(SendFault::OtherTable));
+    assert!(rt; (sender.base(), sender.rounds()) == counts);
+}
+
+// A round of another table, whose block 1 has another id.
+fn other_round(rt: &(impl AllocGlobal + Abort)) -> Round {
+    let memory = memory_of(rt, &[("a", 3), ("c", 3)]);
+    let dirty = places_of(rt.alloc(), memory.table(), &[at(0, 1)]).expect(rt, "a set");
+    Round { memory, dirty }
+}
+
+// The refused rounds leave no trace in the texts.
+#[test]
+fn refused_rounds(rt: HostRuntime) {
+    let mut sender = sender_on(&rt, 1);
+    let other = other_round(&rt);
+    let first = first_round(&rt);
+    assert!(rt; sender.table().same(first.memory.table()));
+    assert_other_table(&rt, &mut sender, &other.memory, &other.dirty);
+    send(&rt, &mut sender, &first, &OpenGate);
+    assert_other_table(&rt, &mut sender, &other.memory, &first.dirty);
+    assert_other_table(&rt, &mut sender, &first.memory, &other.dirty);
+    send(&rt, &mut sender, &second_round(&rt), &OpenGate);
+    assert_sent(&rt, &finish(&rt, sender));
+    assert!(rt; SendFault::OtherTable.number() == 63);
+}
+
+// ---- growths refused
+
+// A sender on so many channels, whose growths were each refused before.
+fn sender_in<'a>(
+    rt: &(impl AllocGlobal + Abort),
+    heap: &'a Refusing,
+    channels: usize,
+) -> MultiSender<&'a Refusing> {
+    let table = table(rt.alloc(), &[("a", 3), ("b", 3)]).expect(rt, "a table");
+    for nth in 1..1000u64 {
+        heap.refuse(nth);
+        match MultiSender::new(heap, &table, uuid(), channels, LIMIT) {
+            Ok(sender) => {
+                assert!(rt; heap.is_waiting() && nth > 1);
+                return sender;
+            }
+            Err(fault) => assert!(rt; fault == SendFault::NoMemory && !heap.is_waiting()),
+        }
+    }
+    panic!(rt; "each run had a refusal");
+}
+
+// Sends a round, each of whose growths was refused before. A refused run counts neither a packet nor a round.
+fn send_in<R: AllocGlobal + Abort + Threads + Sync>(
+    rt: &R,
+    heap: &Refusing,
+    sender: &mut MultiSender<&Refusing>,
+    round: &Round,
+) {
+    let counts = (sender.base(), sender.rounds());
+    for nth in 1..1000u64 {
+        heap.refuse(nth);
+        match sender.round(rt, &round.memory, &round.dirty, &OpenGate) {
+            Ok(()) => {
+                assert!(rt; heap.is_waiting() && nth > 1);
+                return;
+            }
+            Err(fault) => assert!(rt; fault == SendFault::NoMemory && !heap.is_waiting()),
+        }
+        assert!(rt; (sender.base(), sender.rounds()) == counts);
+    }
+    panic!(rt; "each run had a refusal");
+}
+
+// Finishes a sender, whose main stream is drained first, so that its end takes a growth, which is refused once. The refused run
+// gives the sender back.
+fn finish_in<'a>(
+    rt: &impl Abort,
+    heap: &'a Refusing,
+    mut sender: MultiSender<&'a Refusing>,
+) -> Sent<&'a Refusing> {
+    let counts = (sender.base(), sender.rounds());
+    let mut main = Vec::new(heap);
+    sender.drain_main(&mut main);
+    heap.refuse(1);
+    let Err(sender) = sender.finish() else {
+        panic!(rt; "no growth")
+    };
+    assert!(rt; !heap.is_waiting());
+    assert!(rt; (sender.base(), sender.rounds()) == counts);
+    let Sent {
+        main: rest,
+        channels,
+    } = finish(rt, sender);
+    assert!(rt; main.extend_from_slice(&rest).is_ok());
+    Sent { main, channels }
+}
+
+// The texts of both rounds, each of whose growths was refused before.
+fn sent_in<'a, R: AllocGlobal + Abort + Threads + Sync>(
+    rt: &R,
+    heap: &'a Refusing,
+    channels: usize,
+) -> Sent<&'a Refusing> {
+    let mut sender = sender_in(rt, heap, channels);
+    send_in(rt, heap, &mut sender, &first_round(rt));
+    send_in(rt, heap, &mut sender, &second_round(rt));
+    finish_in(rt, heap, sender)
+}
+
+// What was refused leaves no trace in the texts.
+#[test]
+fn growths_refused(rt: HostRuntime) {
+    let heap = Refusing::new(rt.alloc(), 0);
+    let sent = sent_in(&rt, &heap, 1);
+    assert_sent(&rt, &sent);
+}
+
+// With two workers the schedule decides whose growth is refused.
+#[test]
+fn growths_of_two_workers_refused(rt: HostRuntime) {
+    let heap = Refusing::new(rt.alloc(), 0);
+    let sent = sent_in(&rt, &heap, 2);
+    assert_two_channels(&rt, &sent);
+}
+
+// ---- gates
+
+// A gate of four workers. It holds each at its first draw until all four have drawn, and notes what each has drawn and packed, as
+// bits, and how many workers it let go on alone.
+#[derive(Drop)]
+struct Barrier {
+    come: AtomicU64,
+    alone: AtomicU64,
+    drawn: [AtomicU64; 4],
+    packed: [AtomicU64; 4],
+}
+
+fn zeros() -> [AtomicU64; 4] {
+    [
+        AtomicU64::new(0),
+        AtomicU64::new(0),
+        AtomicU64::new(0),
+        AtomicU64::new(0),
+    ]
+}
+
+impl Barrier {
+    fn new() -> Barrier {
+        Barrier {
+            come: AtomicU64::new(0),
+            alone: AtomicU64::new(0),
+            drawn: zeros(),
+            packed: zeros(),
+        }
+    }
+
+    // Waits until four workers have come, and gives up after a while.
+    fn meet(&self) {
+        self.come.fetch_add(1, Ordering::SeqCst);
+        for _ in 0..10_000_000u64 {
+            if self.come.load(Ordering::SeqCst) >= 4 {
+                return;
+            }
+            yield_now();
+        }
+        self.alone.fetch_add(1, Ordering::SeqCst);
+    }
+}
+
+// Notes a number below 64, and says whether it is the first of its channel.
+fn note(numbers: &[AtomicU64], channel: usize, number: u64) -> bool {
+    match numbers.get(channel) {
+        Some(bits) if number < 64 => bits.fetch_or(1 << number, Ordering::SeqCst) == 0,
+        _ => false,
+    }
+}
+
+impl Gate for Barrier {
+    fn pass(&self, channel: usize, step: Step) {
+        match step {
+            Step::Drawn(number) => {
+                if note(&self.drawn, channel, number) {
+                    self.meet();
+                }
+            }
+            Step::Packed(number) => {
+                note(&self.packed, channel, number);
+            }
+            _ => {}
+        }
+    }
+}
+
+// Whether the gate was told of these numbers for this channel, and no others.
+fn is_noted(numbers: &[AtomicU64], channel: u8, wanted: u64) -> bool {
+    numbers
+        .get(usize::from(channel))
+        .is_some_and(|bits| bits.load(Ordering::SeqCst) == wanted)
+}
+
+// Packets 0 to 3, and 8 and 9 of the second round, have pages. When the four go on, each has drawn one of the first four numbers.
+#[test]
+fn four_workers_at_once(rt: HostRuntime) {
+    let gate = Barrier::new();
+    let sent = send_both(&rt, 4, &gate);
+    assert!(rt; gate.alone.load(Ordering::SeqCst) == 0);
+    let packets = packets_by_hand(&rt, 4);
+    for channel in 0..4u8 {
+        let numbers = numbers_in(&rt, &sent, channel, &packets);
+        assert!(rt; (numbers & 0b1111).count_ones() == 1);
+        assert!(rt; is_noted(&gate.drawn, channel, numbers));
+        assert!(rt; is_noted(&gate.packed, channel, numbers & 0b11_0000_1111));
+    }
+}
+
+// ---- draining
+
+// Appends what is drained of a sender's main stream and of its only channel, into a buffer that holds other bytes.
+fn drain(rt: &(impl AllocGlobal + Abort), sender: &mut MultiSender, drained: &mut Sent) {
+    let mut bytes = Vec::from_slice(rt.alloc(), &[5, 6, 7]).expect(rt, "a buffer");
+    sender.drain_main(&mut bytes);
+    assert!(rt; !bytes.is_empty());
+    assert!(rt; drained.main.extend_from_slice(&bytes).is_ok());
+    assert!(rt; sender.channels() == 1);
+    sender.drain_channel(0, &mut bytes);
+    append(rt, drained, &bytes);
+}
+
+// Appends bytes, at least one, to the text of the only channel.
+fn append(rt: &impl Abort, drained: &mut Sent, bytes: &[u8]) {
+    assert!(rt; !bytes.is_empty());
+    let text = drained.channels.first_mut().expect(rt, "a text");
+    assert!(rt; text.extend_from_slice(bytes).is_ok());
+}
+
+// Texts of one channel, which have no bytes yet.
+fn no_texts(rt: &(impl AllocGlobal + Abort)) -> Sent {
+    let mut channels = Vec::new(rt.alloc());
+    assert!(rt; channels.push(Vec::new(rt.alloc())).is_ok());
+    Sent {
+        main: Vec::new(rt.alloc()),
+        channels,
+    }
+}
+
+#[test]
+fn drained_rounds(rt: HostRuntime) {
+    let mut sender = sender_on(&rt, 1);
+    let mut drained = no_texts(&rt);
+    send(&rt, &mut sender, &first_round(&rt), &OpenGate);
+    drain(&rt, &mut sender, &mut drained);
+    send(&rt, &mut sender, &second_round(&rt), &OpenGate);
+    drain(&rt, &mut sender, &mut drained);
+    let rest = finish(&rt, sender);
+    assert!(rt; drained.main.extend_from_slice(&rest.main).is_ok());
+    assert!(rt; rest.channels.len() == 1);
+    assert!(rt; rest.channels.first().is_some_and(|text| text.is_empty()));
+    assert_sent(&rt, &drained);
+}
