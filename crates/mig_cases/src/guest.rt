@@ -4,6 +4,7 @@ use crate::trouble::{Done, Trouble};
 use crate::words::Words;
 use mig_mem::{Dirty, Memory, Place, Table};
 use std::alloc::Global;
+use std::mem;
 
 /// A guest between two lines.
 #[derive(Drop)]
@@ -101,6 +102,14 @@ impl Guest {
     pub fn copy_image(&mut self) -> Done {
         self.image = self.image.try_copy()?;
         Ok(())
+    }
+
+    /// The guest as it is now, with its marks, which it no longer has afterwards.
+    pub fn take_round(&mut self, alloc: Global) -> Result<Guest, Trouble> {
+        let image = self.image.try_copy()?;
+        let unmarked = Dirty::none(alloc, self.image.table())?;
+        let dirty = mem::replace(&mut self.dirty, unmarked);
+        Ok(Guest { image, dirty })
     }
 
     /// `touch BLOCK PAGES`: marks them.

@@ -21,7 +21,7 @@ pub use book::{Book, Section};
 pub use case::Case;
 pub use guest::Guest;
 pub use of_memory::{ask_memory, difference};
-pub use of_packets::{agree, ask_packets, put_fed};
+pub use of_packets::{agree, ask_packets, put_fed, reader_of_channel};
 pub use show::{Pages, put_memory, put_number, put_packet, put_place, put_table};
 pub use trouble::{Done, Trouble};
 pub use words::{Words, bytes_of};

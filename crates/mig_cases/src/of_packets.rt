@@ -40,19 +40,25 @@ pub fn put_fed(out: &mut String, fed: u64, text: &[u8]) -> Done {
     Ok(())
 }
 
-fn read_channel(out: &mut String, case: &Case, text: &[u8]) -> Done {
+/// A reader that was fed a channel's text in pieces of a length, as the case tells it.
+pub fn reader_of_channel(case: &Case, text: &[u8], len: usize) -> Result<ChannelReader, Trouble> {
     if !is_page_size(case.page_size) || case.channels < 1 || case.channels > 255 {
         return Err(Trouble::Line);
     }
+    let mut reader = ChannelReader::new(case.alloc, case.page_size, case.uuid, case.channels);
+    for piece in text.chunks(len.max(1)) {
+        feed(&mut reader, piece)?;
+    }
+    if case.is_over {
+        reader.end();
+    }
+    Ok(reader)
+}
+
+fn read_channel(out: &mut String, case: &Case, text: &[u8]) -> Done {
     for len in &case.pieces {
-        let len = if *len == 0 { text.len().max(1) } else { *len };
-        let mut reader = ChannelReader::new(case.alloc, case.page_size, case.uuid, case.channels);
-        for piece in text.chunks(len) {
-            feed(&mut reader, piece)?;
-        }
-        if case.is_over {
-            reader.end();
-        }
+        let len = if *len == 0 { text.len() } else { *len };
+        let mut reader = reader_of_channel(case, text, len)?;
         let mut answer = String::new(case.alloc);
         put_channel(&mut answer, &mut reader)?;
         put_fed(&mut answer, reader.fed(), text)?;

@@ -11,6 +11,8 @@ mod batches;
 #[cfg(test)]
 mod deal;
 #[cfg(test)]
+mod gates;
+#[cfg(test)]
 mod multi;
 pub mod workers;
 #[cfg(test)]

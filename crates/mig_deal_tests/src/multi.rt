@@ -17,17 +17,18 @@ use uuid::Uuid;
 
 const LIMIT: usize = 2;
 
-fn uuid() -> Uuid {
+/// The UUID of all senders.
+pub(crate) fn uuid() -> Uuid {
     Uuid::from_bytes([1, 2, 3, 4, 5, 6, 7, 8, 9, 10, 11, 12, 13, 14, 15, 16])
 }
 
 // ---- the rounds
 
-// A guest's memory, and its dirty pages.
+/// A guest's memory, and its dirty pages.
 #[derive(Drop)]
-struct Round {
-    memory: Memory,
-    dirty: Dirty,
+pub(crate) struct Round {
+    pub(crate) memory: Memory,
+    pub(crate) dirty: Dirty,
 }
 
 // Six pages in four batches: pages 0 and 1 of block 0, then its page 2, and the same of block 1. All but page 1 of block 0 are
@@ -112,7 +113,8 @@ fn sender_on(rt: &(impl AllocGlobal + Abort), channels: usize) -> MultiSender {
     MultiSender::new(rt.alloc(), &table, uuid(), channels, LIMIT).expect(rt, "a sender")
 }
 
-fn send<R: AllocGlobal + Abort + Threads + Sync, G: Gate + Sync>(
+/// Sends a round, behind a gate.
+pub(crate) fn send<R: AllocGlobal + Abort + Threads + Sync, G: Gate + Sync>(
     rt: &R,
     sender: &mut MultiSender,
     round: &Round,
@@ -121,7 +123,8 @@ fn send<R: AllocGlobal + Abort + Threads + Sync, G: Gate + Sync>(
     assert!(rt; sender.round(rt, &round.memory, &round.dirty, gate) == Ok(()));
 }
 
-fn finish<A: Allocator>(rt: &impl Abort, sender: MultiSender<A>) -> Sent<A> {
+/// The texts of a sender, with ample memory.
+pub(crate) fn finish<A: Allocator>(rt: &impl Abort, sender: MultiSender<A>) -> Sent<A> {
     let Ok(sent) = sender.finish() else {
         panic!(rt; "memory")
     };
@@ -258,6 +261,11 @@ fn refused_senders(rt: HostRuntime) {
     assert!(rt; SendFault::Channels.number() == 61 && SendFault::Limit.number() == 62);
 }
 
+// What a refused round leaves as it was, beside the texts: the next packet's number, the rounds sent, and the channels.
+fn counts<A: Allocator>(sender: &MultiSender<A>) -> (u64, u64, usize) {
+    (sender.base(), sender.rounds(), sender.channels())
+}
+
 // Asserts that a round is refused for its table, and counts neither a packet nor a round.
 fn assert_other_table<R: AllocGlobal + Abort + Threads + Sync>(
     rt: &R,
@@ -265,10 +273,10 @@ fn assert_other_table<R: AllocGlobal + Abort + Threads + Sync>(
     memory: &Memory,
     dirty: &Dirty,
 ) {
-    let counts = (sender.base(), sender.rounds());
+    let before = counts(sender);
     let run = sender.round(rt, memory, dirty, &OpenGate);
     assert!(rt; run == Err(SendFault::OtherTable));
-    assert!(rt; (sender.base(), sender.rounds()) == counts);
+    assert!(rt; counts(sender) == before);
 }
 
 // A round of another table, whose block 1 has another id.
@@ -316,14 +324,15 @@ fn sender_in<'a>(
     panic!(rt; "each run had a refusal");
 }
 
-// Sends a round, each of whose growths was refused before. A refused run counts neither a packet nor a round.
+// Sends a round, each of whose growths was refused before. A refused run counts neither a packet nor a round, and the sender has
+// its channels and its table as before.
 fn send_in<R: AllocGlobal + Abort + Threads + Sync>(
     rt: &R,
     heap: &Refusing,
     sender: &mut MultiSender<&Refusing>,
     round: &Round,
 ) {
-    let counts = (sender.base(), sender.rounds());
+    let before = counts(sender);
     for nth in 1..1000u64 {
         heap.refuse(nth);
         match sender.round(rt, &round.memory, &round.dirty, &OpenGate) {
@@ -333,7 +342,8 @@ fn send_in<R: AllocGlobal + Abort + Threads + Sync>(
             }
             Err(fault) => assert!(rt; fault == SendFault::NoMemory && !heap.is_waiting()),
         }
-        assert!(rt; (sender.base(), sender.rounds()) == counts);
+        assert!(rt; counts(sender) == before);
+        assert!(rt; sender.table().same(round.memory.table()));
     }
     panic!(rt; "each run had a refusal");
 }
@@ -345,7 +355,7 @@ fn finish_in<'a>(
     heap: &'a Refusing,
     mut sender: MultiSender<&'a Refusing>,
 ) -> Sent<&'a Refusing> {
-    let counts = (sender.base(), sender.rounds());
+    let before = counts(&sender);
     let mut main = Vec::new(heap);
     sender.drain_main(&mut main);
     heap.refuse(1);
@@ -353,7 +363,7 @@ fn finish_in<'a>(
         panic!(rt; "no growth")
     };
     assert!(rt; !heap.is_waiting());
-    assert!(rt; (sender.base(), sender.rounds()) == counts);
+    assert!(rt; counts(&sender) == before);
     let Sent {
         main: rest,
         channels,

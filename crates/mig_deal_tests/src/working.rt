@@ -13,26 +13,28 @@ use std::sync::atomic::{AtomicU64, Ordering};
 
 const CHANNEL: usize = 3;
 
-// A gate that keeps what it is told, in order: twice the number of a draw, and one more where its packet was made.
+/// A gate of one channel that keeps what it is told, in order: twice the number of a draw, and one more where its packet was made.
 #[derive(Drop)]
-struct Told {
+pub(crate) struct Told {
+    channel: usize,
     count: AtomicU64,
     steps: Vec<AtomicU64>,
 }
 
 impl Told {
-    fn new(rt: &(impl AllocGlobal + Abort)) -> Told {
+    pub(crate) fn new(rt: &(impl AllocGlobal + Abort), channel: usize) -> Told {
         let mut steps = Vec::new(rt.alloc());
         for _ in 0..16 {
             assert!(rt; steps.push(AtomicU64::new(u64::MAX)).is_ok());
         }
         Told {
+            channel,
             count: AtomicU64::new(0),
             steps,
         }
     }
 
-    fn is(&self, wanted: &[u64]) -> bool {
+    pub(crate) fn is(&self, wanted: &[u64]) -> bool {
         if self.count.load(Ordering::SeqCst) != wanted.len() as u64
             || wanted.len() > self.steps.len()
         {
@@ -50,8 +52,10 @@ impl Told {
 impl Gate for Told {
     fn pass(&self, channel: usize, step: Step) {
         let told = match step {
-            Step::Drawn(number) if channel == CHANNEL => number.wrapping_mul(2),
-            Step::Packed(number) if channel == CHANNEL => number.wrapping_mul(2).wrapping_add(1),
+            Step::Drawn(number) if channel == self.channel => number.wrapping_mul(2),
+            Step::Packed(number) if channel == self.channel => number
+                .wrapping_mul(2)
+                .wrapping_add(1),
             _ => u64::MAX,
         };
         let place = self.count.fetch_add(1, Ordering::SeqCst);
@@ -91,7 +95,7 @@ fn packets_of<A: Allocator + Copy>(
     memory: &Memory,
     run: &Run<'_>,
 ) -> Result<Vec<Packed<A>, A>, NoMemory> {
-    let gate = Told::new(rt);
+    let gate = Told::new(rt, CHANNEL);
     let alone = work_on(rt, alloc, memory, run, &gate);
     assert_eq!(rt; alone.last, run.last);
     assert_eq!(rt; alone.next, run.next);

@@ -8,6 +8,7 @@
 //! answer, and what a case is, `mig_cases` has. It is no part of the product.
 #![tactic(auto)]
 
+mod channels;
 mod judge;
 mod rounds;
 mod run;
@@ -15,29 +16,44 @@ mod show;
 mod streams;
 
 use crate::run::{Count, run_file};
+use std::alloc::AllocGlobal;
 use std::io::{self, BufWriter, Read, Write};
 use std::process::ExitCode;
+use std::rt::Files;
+use std::thread::Threads;
 use std::{env, fs};
 
-fn run_all<W: Write>(rt: &HostRuntime, out: &mut W, count: &mut Count) -> io::Result<()> {
-    let mut has_words = false;
+// The texts of the files that the words name, or without words the input.
+fn texts(rt: &HostRuntime) -> io::Result<Vec<String>> {
+    let mut texts = Vec::new(rt.alloc());
     for name in env::args(rt)?.skip(1) {
-        has_words = true;
-        let text = fs::read_to_string(rt, name.as_str())?;
-        run_file(rt, rt.alloc(), out, &text, count)?;
+        texts.push(fs::read_to_string(rt, name.as_str())?)?;
     }
-    if !has_words {
+    if texts.is_empty() {
         let mut text = String::new(rt.alloc());
         rt.stdin().read_to_string(&mut text)?;
-        run_file(rt, rt.alloc(), out, &text, count)?;
+        texts.push(text)?;
+    }
+    Ok(texts)
+}
+
+fn run_all<R: AllocGlobal + Files + Threads + Sync, W: Write>(
+    rt: &R,
+    out: &mut W,
+    texts: &[String],
+    count: &mut Count,
+) -> io::Result<()> {
+    for text in texts {
+        run_file(rt, rt.alloc(), out, text, count)?;
     }
     Ok(())
 }
 
 fn main(rt: HostRuntime) -> io::Result<ExitCode> {
+    let texts = texts(&rt)?;
     let mut count = Count::none();
     let mut out = BufWriter::new(rt.alloc(), io::writer(&rt))?;
-    run_all(&rt, &mut out, &mut count)?;
+    run_all(&rt, &mut out, &texts, &mut count)?;
     write!(out, "{} cases, {} answers, ", count.cases, count.answers)?;
     match count.wrong {
         0 => writeln!(out, "none wrong")?,

@@ -9,6 +9,7 @@ use mig_send::{Batch, SingleSender, cut, pack};
 use mig_stream::StreamWriter;
 use std::alloc::Global;
 use std::rt::Files;
+use std::thread::Threads;
 
 /// A writer and a sender are given the same rounds; a FLUSH goes to the writer alone.
 #[derive(Drop)]
@@ -21,6 +22,8 @@ struct Senders {
 #[derive(Drop)]
 pub struct Rounds {
     pub case: Case,
+    /// What the guest was at each round, with the marks that it then had.
+    pub rounds: Vec<Guest>,
     senders: Option<Senders>,
 }
 
@@ -28,21 +31,30 @@ impl Rounds {
     pub fn new(alloc: Global) -> Result<Rounds, Trouble> {
         Ok(Rounds {
             case: Case::new(alloc)?,
+            rounds: Vec::new(alloc),
             senders: None,
         })
     }
 
     /// Takes a line that builds something; false where the line is no such line.
-    pub fn take<R: Files>(&mut self, rt: &R, name: &str, words: Words) -> Result<bool, Trouble> {
+    pub fn take<R: Files + Threads + Sync>(
+        &mut self,
+        rt: &R,
+        name: &str,
+        words: Words,
+    ) -> Result<bool, Trouble> {
         let taken = match name {
             "round" => self.round(),
             "flush" => self.flush(),
             "stream" => self.stream(),
             "sent" => self.sent(),
+            "sent_main" => self.sent_main(rt, words),
+            "sent_channel" => self.sent_channel(rt, words),
             "pack" => self.pack(words),
             _ => {
                 if name == "anew" {
                     self.senders = None;
+                    self.rounds.clear();
                 }
                 return self.case.take(rt, name, words);
             }
@@ -66,6 +78,7 @@ impl Rounds {
     // `round`: of the marked pages, which aren't marked afterwards
     fn round(&mut self) -> Done {
         let _ = self.senders()?;
+        let alloc = self.case.alloc;
         let senders = self.senders.as_mut().ok_or(Trouble::Line)?;
         let guest = self.case.guest()?;
         if let Some(writer) = senders.writer.as_mut() {
@@ -80,7 +93,7 @@ impl Rounds {
                 return Err(Trouble::NoMemory);
             }
         }
-        guest.dirty.clear();
+        self.rounds.push(guest.take_round(alloc)?)?;
         Ok(())
     }
 

@@ -9,6 +9,7 @@ use mig_cases::{
 use std::alloc::Global;
 use std::io::{self, Write};
 use std::rt::Files;
+use std::thread::Threads;
 
 /// How many cases there were, how many answers, and how many of these were wrong.
 #[derive(Clone, Copy)]
@@ -36,7 +37,7 @@ impl Count {
 }
 
 /// Runs the cases of a file.
-pub fn run_file<R: Files, W: Write>(
+pub fn run_file<R: Files + Threads + Sync, W: Write>(
     rt: &R,
     alloc: Global,
     out: &mut W,
@@ -59,7 +60,7 @@ pub fn run_file<R: Files, W: Write>(
     Ok(())
 }
 
-fn run_case<R: Files, W: Write>(
+fn run_case<R: Files + Threads + Sync, W: Write>(
     rt: &R,
     alloc: Global,
     out: &mut W,
@@ -77,7 +78,7 @@ fn run_case<R: Files, W: Write>(
 }
 
 // Follows the lines of a case, up to one that can't be followed.
-fn run_lines<R: Files, W: Write>(
+fn run_lines<R: Files + Threads + Sync, W: Write>(
     rt: &R,
     out: &mut W,
     book: &Book<'_>,
@@ -94,7 +95,7 @@ fn run_lines<R: Files, W: Write>(
 }
 
 // Follows a line of a case; false where it can't be followed.
-fn run_line<R: Files, W: Write>(
+fn run_line<R: Files + Threads + Sync, W: Write>(
     rt: &R,
     out: &mut W,
     book: &Book<'_>,
@@ -144,7 +145,7 @@ fn put_answer<W: Write>(
 }
 
 // Follows a line: writes down what it asks is answered; false where it asks nothing.
-fn follow<R: Files>(
+fn follow<R: Files + Threads + Sync>(
     out: &mut String,
     rt: &R,
     book: &Book<'_>,
@@ -167,7 +168,7 @@ fn follow<R: Files>(
 }
 
 // Writes down what a question is answered, whatever the answer that stands beside it.
-fn ask<R: Files>(
+fn ask<R: Files + Threads + Sync>(
     out: &mut String,
     rt: &R,
     book: &Book<'_>,
@@ -175,6 +176,9 @@ fn ask<R: Files>(
     name: &str,
     words: Words,
 ) -> Done {
+    if name == "multi" {
+        return built.multi(out, rt, words);
+    }
     if name == "same" || name == "difference" {
         return ask_other(out, rt, book, &mut built.case, name, words.rest());
     }
@@ -207,7 +211,7 @@ fn ask_guest(
 }
 
 // Asks about a case and another one, which the lines of a name build.
-fn ask_other<R: Files>(
+fn ask_other<R: Files + Threads + Sync>(
     out: &mut String,
     rt: &R,
     book: &Book<'_>,
@@ -221,7 +225,12 @@ fn ask_other<R: Files>(
 }
 
 // Follows the lines of a name, which are to build something.
-fn build<R: Files>(rt: &R, book: &Book<'_>, built: &mut Rounds, name: &str) -> Done {
+fn build<R: Files + Threads + Sync>(
+    rt: &R,
+    book: &Book<'_>,
+    built: &mut Rounds,
+    name: &str,
+) -> Done {
     for line in book.lines_of(name)? {
         let mut words = Words::new(line);
         let word = words.word()?;

@@ -1,13 +1,13 @@
 -- The texts of all channels, by the channels' numbers.
-use Rattle.std.proofs.Common.{ℕ, ◌≡◌, ◌+◌, ◌<◌, List, [], ◌∷◌, ◌++◌, length, map, get_or, ap, sym, subst, refl, ◌∙◌, arith, suc, append-nil, append_assoc}
+use Rattle.std.proofs.Common.{ℕ, ◌≡◌, ◌+◌, ◌<◌, List, [], ◌∷◌, ◌++◌, length, map, get_or, ap, sym, ◌∙◌, arith, suc, append-nil, append_assoc}
 use Rattle.std.specs.Prelude.{flat_map}
-use Rattle.std.specs.List.{range_with_len, AllZip}
+use Rattle.std.specs.List.{range_with_len}
 use Rattle.std.proofs.lemmas.List.{map_push}
 use Rattle.std.proofs.lemmas.List.FromFn.{length-map-range_with_len, get_or-map-range_with_len}
 use Rattle.std.proofs.lemmas.Grind.{flat_map-append}
 use Rattle.mig_deal.proofs.Counts.{range_push}
 use Rattle.mig_packet.specs.Hello.{written_hello}
-use Rattle.mig_send.specs.DealtRounds.{DealtRound, round_text, channel_text, channel_texts}
+use Rattle.mig_send.specs.DealtRounds.{DealtRound, round_text, channel_text}
 
 -- what is made of the numbers from 0 on, and of one number more
 pub one_more : {X : Type 0} (f : ℕ → X) (n : ℕ) → map f (range_with_len 0 n) ++ f n ∷ [] ≡ map f (range_with_len 0 (n + 1))

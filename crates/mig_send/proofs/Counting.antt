@@ -1,13 +1,13 @@
 -- How many places, and so how many batches, there are at most.
-use Rattle.std.proofs.Common.{ℕ, ◌≡◌, ◌+◌, ◌*◌, ◌^◌, ◌<◌, ◌≤◌, ◌⊎◌, List, [], ◌∷◌, ◌++◌, length, take, get_or, ap, sym, subst, refl, ◌∙◌, arith, zero, suc, inl, inr, IsTrue}
+use Rattle.std.proofs.Common.{ℕ, ◌≡◌, ◌+◌, ◌*◌, ◌^◌, ◌<◌, ◌≤◌, ◌⊎◌, List, [], ◌∷◌, length, take, ap, subst, refl, arith, zero, suc, inl, inr, IsTrue}
 use Rattle.std.specs.Prelude.{flat_map, sum_by}
-use Rattle.std.specs.List.{All, AllPairs}
+use Rattle.std.specs.List.{All}
 use Rattle.std.proofs.lemmas.List.{length-map, length-append}
 use Rattle.std.proofs.lemmas.List.Elements.{All-head, All-tail}
 use Rattle.std.proofs.lemmas.List.Concat.{flat_map-cons}
 use Rattle.std.proofs.lemmas.List.Sums.{sum_by-take-le, sum_by-cons}
 use Rattle.mig_mem.specs.declared.place.Place.{Place}
-use Rattle.mig_mem.specs.RamTable.{Block, RamTable, IsTable, block, total_pages}
+use Rattle.mig_mem.specs.RamTable.{Block, RamTable, block, total_pages}
 use Rattle.mig_mem.specs.Place.{IsPlace, place_lt, place_at}
 use Rattle.mig_mem.specs.PlaceSet.{PlaceSet, IsPlaceSet}
 use Rattle.mig_mem.proofs.Members.{InOrder, order_from_AllPairs}

@@ -1,5 +1,5 @@
 -- The answers of workers, one after the other.
-use Rattle.std.proofs.Common.{ℕ, ◌≡◌, List, [], ◌∷◌, ◌++◌, length, map, suc, arith, refl, sym, ap, subst, ◌∙◌, IfOk, IsOkAnd}
+use Rattle.std.proofs.Common.{ℕ, ◌≡◌, List, [], ◌∷◌, ◌++◌, length, suc, arith, sym, ap, subst, ◌∙◌, IfOk, IsOkAnd}
 use Rattle.std.specs.Prelude.{Result, Vec, Ok, Err}
 use Rattle.std.specs.List.{All, AllZip}
 use Rattle.std.proofs.lemmas.List.Elements.{All-cons}

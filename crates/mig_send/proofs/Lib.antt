@@ -9,3 +9,4 @@ pub mod Parts
 pub mod Channels
 pub mod Sendings
 pub mod Counting
+pub mod ReadBack

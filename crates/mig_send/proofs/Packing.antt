@@ -7,7 +7,8 @@ use Rattle.std.proofs.Math.Nat.{mul-div_cancel, mul-lt-mul_of_pos_right}
 use Rattle.std.proofs.Math.Seq.{take-append_seam, drop-append-add}
 use Rattle.std.proofs.lemmas.Nat.{mul-lt}
 use Rattle.std.proofs.lemmas.Bool.{cases_Bool, and_parts, leb-true}
-use Rattle.std.proofs.lemmas.List.{append-nil, length-append, length-map, take_more, map_push}
+use Rattle.std.proofs.lemmas.List.{append-nil, length-append, length-map, get_or-map, take_more, map_push}
+use Rattle.std.proofs.lemmas.List.FromFn.{fill_by_all}
 use Rattle.std.proofs.lemmas.List.Elements.{All-head, All-tail, All-nil, All-cons, All-append, All-map, All-filter, All-weaker, filter-append, filter_passes}
 use Rattle.std.proofs.lemmas.List.Filters.{length-filter_both}
 use Rattle.std.proofs.lemmas.List.Kept.{AllPairs-cons, AllPairs-filter}
@@ -22,7 +23,7 @@ use Rattle.mig_mem.proofs.PageSizes.{page_size_some, page_size_small}
 use Rattle.mig_mem.proofs.Images.{content_size}
 use Rattle.mig_zero.specs.Zero.{is_zero}
 use Rattle.mig_packet.specs.PageSize.{IsPageSize, page_limit}
-use Rattle.mig_packet.specs.Written.{normal_pages, written_head}
+use Rattle.mig_packet.specs.Written.{normal_pages, written_head, IsWritable}
 use Rattle.mig_packet.specs.Packet.{NormalPage}
 use Rattle.mig_send.specs.Batches.{BatchOfPages, batch_places, IsBatch}
 use Rattle.mig_send.specs.Packing.{normals_of, zeros_of, offsets_of, contents_of, IsPacked, packed_of, normal_offsets, zero_offsets, contents_at, packet_at}
@@ -232,41 +233,57 @@ batch_block table batch is = block_of_places batch.block batch.pages is.has_plac
     block_of_places b [] all some = absurd (omega arith)
     block_of_places b (n ∷ pages) all some = (All-head (IsPlace table) (place_at b n) (map (place_at b) pages) all).has_block
 
+-- the pages that aren't zeros have the size of a page
+batch_sizes : (m : Image) (batch : BatchOfPages) → IsImage m → IsBatch m.table batch → All (HasSize m.table.page_size) (normals_of (round_of m (batch_places batch)))
+batch_sizes m batch image is_batch =
+    All-filter (λ page. not (is_zero page.content)) (HasSize m.table.page_size) (round_of m (batch_places batch))
+    (places_have (HasSize m.table.page_size) m (batch_places batch)
+    (All-weaker (IsPlace m.table) (λ p. HasSize m.table.page_size (page_at m p)) (λ p at. content_size m p image at) (batch_places batch) is_batch.has_places))
+
+-- its packet can be written
+pub batch_writable : (m : Image) (batch : BatchOfPages) (number : ℕ) → IsTable m.table → IsImage m → IsBatch m.table batch → number < 2 ^ 64
+    → IsWritable m.table.page_size number (block m.table.blocks batch.block).id (offsets_of m.table.page_size (normals_of (round_of m (batch_places batch))))
+    (contents_of (normals_of (round_of m (batch_places batch)))) (offsets_of m.table.page_size (zeros_of (round_of m (batch_places batch))))
+batch_writable m batch number is image is_batch fits =
+    let table : RamTable = m.table in
+    let b : ℕ = batch.block in
+    let pages : List ℕ = batch.pages in
+    let round : List Page = round_of m (batch_places batch) in
+    let normals : List Page = normals_of round in
+    let count = kinds_length m b pages in
+    let long : length (offsets_of table.page_size normals) ≡ length normals = length-map normals (λ page. page.place.page * table.page_size) in
+    let in_table : b < length table.blocks = batch_block table batch is_batch in
+    record {
+      has_page_size = is.has_page_size;
+      has_number = fits;
+      has_offsets = All-append (λ offset. offset < 2 ^ 64) (offsets_of table.page_size normals) (offsets_of table.page_size (zeros_of round))
+          (offsets_fit (λ c. not (is_zero c)) m b pages is is_batch.has_places) (offsets_fit is_zero m b pages is is_batch.has_places);
+      has_few = omega (arith, count, is_batch.has_few);
+      has_contents = contents_length table.page_size normals (batch_sizes m batch image is_batch) ∙ ap (λ (n : ℕ). n * table.page_size) (sym long);
+      has_short_id = (block_id_length table b is in_table).1;
+      has_whole_id = whole_id (block table.blocks b).id (is.has_ids b (record { id = []; pages = 0 }) in_table);
+    }
+
 pub is_packed : (m : Image) (batch : BatchOfPages) (number : ℕ) → IsTable m.table → IsImage m → IsBatch m.table batch → number < 2 ^ 64
     → IsPacked (packed_of m batch number)
 is_packed m batch number is image is_batch fits =
     let table : RamTable = m.table in
     let b : ℕ = batch.block in
     let pages : List ℕ = batch.pages in
-    let all : All (IsPlace table) (map (place_at b) pages) = is_batch.has_places in
     let some : 0 < table.page_size = page_size_some table.page_size is.has_page_size in
     let round : List Page = round_of m (batch_places batch) in
     let normals : List Page = normals_of round in
-    let sizes : All (HasSize table.page_size) normals = All-filter (λ page. not (is_zero page.content)) (HasSize table.page_size) round
-    (places_have (HasSize table.page_size) m (batch_places batch)
-    (All-weaker (IsPlace table) (λ p. HasSize table.page_size (page_at m p)) (λ p at. content_size m p image at) (batch_places batch) all)) in
-    let count = kinds_length m b pages in
     let long : length (offsets_of table.page_size normals) ≡ length normals = length-map normals (λ page. page.place.page * table.page_size) in
-    let in_table : b < length table.blocks = batch_block table batch is_batch in
     let no_zeros : All (λ page. not (is_zero page.content) ≡ true) normals = filter_passes (λ page. not (is_zero page.content)) round in
     record {
       id = (block table.blocks b).id;
       normal = offsets_of table.page_size normals;
       contents = contents_of normals;
       zero = offsets_of table.page_size (zeros_of round);
-      is_writable = record {
-        has_page_size = is.has_page_size;
-        has_number = fits;
-        has_offsets = All-append (λ offset. offset < 2 ^ 64) (offsets_of table.page_size normals) (offsets_of table.page_size (zeros_of round))
-            (offsets_fit (λ c. not (is_zero c)) m b pages is all) (offsets_fit is_zero m b pages is all);
-        has_few = omega (arith, count, is_batch.has_few);
-        has_contents = contents_length table.page_size normals sizes ∙ ap (λ (n : ℕ). n * table.page_size) (sym long);
-        has_short_id = (block_id_length table b is in_table).1;
-        has_whole_id = whole_id (block table.blocks b).id (is.has_ids b (record { id = []; pages = 0 }) in_table);
-      };
+      is_writable = batch_writable m batch number is image is_batch fits;
       has_bytes = refl;
-      has_some = omega (arith, count, is_batch.has_some);
-      no_zeros = normal_pages_have table.page_size normals (offsets_of table.page_size normals) (λ c. IsFalse (is_zero c)) sizes long
+      has_some = omega (arith, kinds_length m b pages, is_batch.has_some);
+      no_zeros = normal_pages_have table.page_size normals (offsets_of table.page_size normals) (λ c. IsFalse (is_zero c)) (batch_sizes m batch image is_batch) long
           (All-weaker (λ page. not (is_zero page.content) ≡ true) (λ page. IsFalse (is_zero page.content))
           (λ page h. is_false (is_zero page.content) h) normals no_zeros);
       normal_ascends = offsets_ascend (λ c. not (is_zero c)) m b pages some is_batch.is_ascending;
@@ -276,6 +293,30 @@ is_packed m batch number is image is_batch fits =
     is_false : (t : Bool) → not t ≡ true → IsFalse t
     is_false true h = absurd cc
     is_false false h = refl
+
+-- the normal pages of the packet are these, each at its offset and with its content
+abbrev pub at_offset : ℕ → Page → NormalPage
+at_offset size page = record { offset = page.place.page * size; content = page.content }
+
+pub normal_pages_are : (m : Image) (batch : BatchOfPages) → IsImage m → IsBatch m.table batch → (normals : List Page) → normals ≡ normals_of (round_of m (batch_places batch))
+    → normal_pages m.table.page_size (offsets_of m.table.page_size normals) (contents_of normals) ≡ map (at_offset m.table.page_size) normals
+normal_pages_are m batch image is_batch normals is =
+    let size = m.table.page_size in
+    let offset : Page → ℕ = λ page. page.place.page * size in
+    let offsets = offsets_of size normals in
+    let read : ℕ → NormalPage = λ i. record { offset = get_or offsets i 0; content = slice_range (contents_of normals) (i * size) (i * size + size) } in
+    let none : Page = record { place = place_at 0 0; content = [] } in
+    let sizes : All (HasSize size) normals = subst (All (HasSize size)) (sym is) (batch_sizes m batch image is_batch) in
+    let long : length (map (at_offset size) normals) ≡ length offsets = length-map normals (at_offset size) ∙ sym (length-map normals offset) in
+    sym (fill_by_all read (map (at_offset size) normals) (length offsets) (at_offset size none) long
+    (λ k lt.
+    let within : k < length normals = omega (arith, lt, length-map normals offset) in
+    get_or-map (at_offset size) normals k none (at_offset size none) within
+    ∙ page_same (offset (get_or normals k none)) (get_or offsets k 0) (get_or normals k none).content (slice_range (contents_of normals) (k * size) (k * size + size))
+    (sym (get_or-map offset normals k none 0 within)) (sym (content_slice size normals k none sizes within))))
+  where
+    page_same : (i j : ℕ) (x y : List ℕ) → i ≡ j → x ≡ y → ◌≡◌ {A = NormalPage} (record { offset = i; content = x }) (record { offset = j; content = y })
+    page_same i j x y offset content = cc
 
 -- a packet's sizes are far below what their types hold
 pub packet_small : (size normals : ℕ) → IsPageSize size → normals ≤ page_limit size → (page_limit size ≤ 128) × (normals * size < 2 ^ 21)

@@ -1,5 +1,5 @@
 -- Texts of channels, one changed after the other.
-use Rattle.std.proofs.Common.{ℕ, ◌≡◌, ◌⊎◌, ◌<◌, ◌≤◌, ◌+◌, List, [], ◌∷◌, ◌++◌, length, map, get_or, refl, sym, ap, subst, ◌∙◌, inl, inr, arith, zero, suc}
+use Rattle.std.proofs.Common.{ℕ, ◌≡◌, ◌⊎◌, ◌<◌, ◌+◌, List, [], ◌∷◌, ◌++◌, length, get_or, sym, ap, subst, ◌∙◌, inl, inr, arith, zero, suc}
 use Rattle.std.specs.Prelude.{Vec}
 use Rattle.std.specs.List.{slice_set, AllZip}
 use Rattle.std.proofs.Math.Nat.{eq-or-lt_of_le}
@@ -7,7 +7,7 @@ use Rattle.std.proofs.Math.Seq.{map-set_same}
 use Rattle.std.proofs.lemmas.List.{get_or-map, get_or-set_other}
 use Rattle.std.proofs.lemmas.Grind.{get_or-set_at}
 use Rattle.mig_send.specs.declared.workers.Carried.{Carried}
-use Rattle.mig_send.specs.Parts.{HasRoom, HaveRoom, HaveParts, part_text, texts_of}
+use Rattle.mig_send.specs.Parts.{HasRoom, HaveParts, part_text, texts_of}
 
 -- two lists that agree at each place agree place by place
 pub zip_of : {X Y : Type 0} (R : X → Y → Type 0) (xs : List X) (ys : List Y) → length xs ≡ length ys

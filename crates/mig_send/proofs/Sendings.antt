@@ -1,7 +1,7 @@
 -- A sender on several channels that has sent one round more, or was drained, or is finished.
-use Rattle.std.proofs.Common.{ℕ, ◌≡◌, ◌+◌, ◌<◌, ◌≤◌, List, [], ◌∷◌, ◌++◌, length, map, replicate, get_or, ap, sym, subst, refl, ◌∙◌, arith, zero, suc, inl, inr, append-nil, append_assoc}
-use Rattle.std.specs.Prelude.{flat_map, sum_by, Vec}
-use Rattle.std.specs.List.{All, AllZip, range_with_len}
+use Rattle.std.proofs.Common.{ℕ, ◌≡◌, ◌+◌, ◌<◌, List, [], ◌∷◌, ◌++◌, length, replicate, get_or, ap, sym, subst, refl, ◌∙◌, arith, zero, suc, inl, inr, append-nil, append_assoc}
+use Rattle.std.specs.Prelude.{sum_by, Vec}
+use Rattle.std.specs.List.{AllZip, range_with_len}
 use Rattle.std.specs.List.{slice_set}
 use Rattle.std.specs.Prelude.{Bool, ◌==◌, if◌then◌else◌}
 use Rattle.std.proofs.lemmas.List.{length-append, length-map, map-set, get_or-map, get_or-set_other}
@@ -11,7 +11,6 @@ use Rattle.std.proofs.lemmas.Slice.Zip.{AllZip-long}
 use Rattle.mig_mem.proofs.Members.{map_agree, All-range}
 use Rattle.std.proofs.lemmas.List.Elements.{All-push}
 use Rattle.std.proofs.lemmas.List.Sums.{sum_by-append}
-use Rattle.mig_mem.specs.RamTable.{RamTable}
 use Rattle.mig_mem.specs.Image.{Image}
 use Rattle.mig_stream.specs.Written.{Part, FlushPart}
 use Rattle.mig_stream.specs.Writer.{Writer, HasDrained}
@@ -19,10 +18,10 @@ use Rattle.mig_send.specs.declared.workers.Carried.{Carried}
 use Rattle.mig_send.specs.Batches.{BatchOfPages}
 use Rattle.mig_send.specs.Dealing.{share_text}
 use Rattle.mig_send.specs.Work.{Share}
-use Rattle.mig_send.specs.Workers.{IsCarried, HasDealt}
+use Rattle.mig_send.specs.Workers.{IsCarried}
 use Rattle.mig_send.specs.Parts.{HaveParts, part_text, texts_of}
-use Rattle.mig_send.specs.DealtRounds.{DealtRound, IsDealtRound, AreNumbered, IsSending, no_share, packet_count, round_text, channel_text, channel_texts}
-use Rattle.mig_send.specs.MultiSending.{MultiSending, Drained, HasSentRounds, HasSentOne, KeepsSetting, KeepsCounts, with_main, with_channel, whole_texts}
+use Rattle.mig_send.specs.DealtRounds.{DealtRound, IsDealtRound, AreNumbered, no_share, packet_count, round_text, channel_text, channel_texts}
+use Rattle.mig_send.specs.MultiSending.{MultiSending, Drained, HasSentRounds, KeepsSetting, KeepsCounts, with_main, with_channel, whole_texts}
 use Rattle.mig_send.proofs.Channels.{text_push}
 
 -- ---- one round more

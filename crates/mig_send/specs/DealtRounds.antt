@@ -1,5 +1,5 @@
 -- Rounds that are dealt over several channels, and the texts that are made of them.
-use Rattle.std.specs.Prelude.{ℕ, ◌≡◌, ◌+◌, ◌≤◌, ◌<◌, List, [], ◌∷◌, ◌++◌, length, map, flat_map, get_or, All, ⊤}
+use Rattle.std.specs.Prelude.{ℕ, ◌≡◌, ◌+◌, ◌^◌, ◌≤◌, ◌<◌, List, [], ◌∷◌, ◌++◌, length, map, flat_map, get_or, sum_by, All, ⊤}
 use Rattle.std.specs.List.{range_with_len}
 use Rattle.mig_mem.specs.RamTable.{RamTable, IsTable}
 use Rattle.mig_mem.specs.Image.{IsImage}
@@ -60,17 +60,20 @@ channel_texts uuid channels rounds = map (channel_text uuid rounds) (range_with_
 
 -- ---- a sending
 
--- What a sender is made with: a lawful table, 1 to 255 channels, and a limit of pages to a batch for which a packet has room.
-pub record IsSetting (table : RamTable) (channels limit : ℕ) : Type 0 where
+-- What a sender is made with: a lawful table, a UUID of 16 bytes, 1 to 255 channels, and a limit of pages to a batch for which a
+-- packet has room.
+pub record IsSetting (table : RamTable) (uuid : List ℕ) (channels limit : ℕ) : Type 0 where
   pub has_table : IsTable table
+  pub has_uuid : length uuid ≡ 16
   pub has_channels : (0 < channels) × (channels ≤ 255)
   pub has_limit : (0 < limit) × (limit ≤ page_limit table.page_size)
 
--- The texts of some rounds: each round was dealt, their packets are numbered from 0 on, the main stream has a FLUSH for each, and
--- each channel its hello and what it carries of each.
+-- The texts of some rounds: each round was dealt, their packets are numbered from 0 on within 64 bits, the main stream has a FLUSH
+-- for each, and each channel its hello and what it carries of each.
 pub record IsSending (table : RamTable) (uuid : List ℕ) (limit channels : ℕ) (rounds : List DealtRound) (main_text : List ℕ) (texts : List (List ℕ)) : Type 0 where
-  pub is_set : IsSetting table channels limit
+  pub is_set : IsSetting table uuid channels limit
   pub are_dealt : All (IsDealtRound table limit channels) rounds
   pub are_numbered : AreNumbered 0 rounds
+  pub numbers_fit : sum_by packet_count rounds < 2 ^ 64
   pub has_main : main_text ≡ main table (length rounds)
   pub has_texts : texts ≡ channel_texts uuid channels rounds

@@ -1,11 +1,13 @@
 -- To read first, in this order: what a single stream has been sent, the batches of a round, their packets, what one worker does,
--- the dealing that workers make together, rounds that are dealt over several channels, and the sender of these
+-- the dealing that workers make together, rounds that are dealt over several channels, what their texts are read as, and the sender of
+-- these
 pub mod Sending
 pub mod Batches
 pub mod Packing
 pub mod Work
 pub mod Dealing
 pub mod DealtRounds
+pub mod ReadBack
 pub mod MultiSending
 pub mod Workers
 pub mod Parts

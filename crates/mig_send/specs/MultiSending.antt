@@ -1,5 +1,5 @@
 -- A sender on several channels: what it has sent, and what was drained of it.
-use Rattle.std.specs.Prelude.{ℕ, ◌≡◌, ◌+◌, ◌≤◌, ◌<◌, List, [], ◌∷◌, ◌++◌, length, map, replicate, get_or, sum_by, All, ◌⊎◌, ◌==◌, if◌then◌else◌}
+use Rattle.std.specs.Prelude.{ℕ, ◌≡◌, ◌+◌, ◌^◌, ◌≤◌, ◌<◌, List, [], ◌∷◌, ◌++◌, length, map, replicate, get_or, sum_by, All, ◌⊎◌, ◌==◌, if◌then◌else◌}
 use Rattle.std.specs.List.{range_with_len}
 use Rattle.mig_mem.specs.RamTable.{RamTable}
 use Rattle.mig_mem.specs.Tracking.{Snapshot}
@@ -22,10 +22,11 @@ pub record MultiSending : Type 0 where
   pub base : ℕ
   pub rounds : ℕ
 
--- What holds of each: it was made within the limits, and each round had a packet.
+-- What holds of each: it was made within the limits, each round had a packet, and the packets are numbered within 64 bits.
 pub record IsMultiSending (sender : MultiSending) : Type 0 where
-  pub is_set : IsSetting sender.main.table (length sender.channels) sender.limit
+  pub is_set : IsSetting sender.main.table sender.uuid (length sender.channels) sender.limit
   pub has_rounds : sender.rounds ≤ sender.base
+  pub has_base : sender.base < 2 ^ 64
 
 -- what was drained of a sender: of its main stream, and of each channel
 pub record Drained : Type 0 where

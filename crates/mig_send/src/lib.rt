@@ -11,6 +11,7 @@
 
 mod batch;
 mod fault;
+mod laws;
 mod multi;
 mod packed;
 mod part;
@@ -20,6 +21,7 @@ mod workers;
 
 pub use batch::{Batch, cut, pages_have_one_cut};
 pub use fault::SendFault;
+pub use laws::{packets_say_their_pages, sendings_are_read_back};
 pub use multi::{MultiSender, Sent};
 pub use packed::{Packed, pack};
 pub use single::{OpenRound, SingleSender};

@@ -1,4 +1,4 @@
-use Rattle.std.proofs.Common.{ℕ, ◌≡◌, ◌<◌, ◌++◌, length, get_or, subst, sym, arith, ◌∙◌, ap}
+use Rattle.std.proofs.Common.{ℕ, ◌<◌, ◌++◌, length, get_or, subst, sym, arith, ◌∙◌, ap}
 use Rattle.std.specs.Prelude.{Vec}
 use Rattle.mig_send.specs.Parts.{HasRoom, part_text}
 use Rattle.mig_send.proofs.Parts.{parts_of, zip_at}

@@ -1,4 +1,4 @@
-use Rattle.std.proofs.Common.{ℕ, ◌≡◌, ◌<◌, List, refl, subst, arith, ◌∙◌, ap, length}
+use Rattle.std.proofs.Common.{ℕ, ◌<◌, List, refl, subst, arith, ◌∙◌, ap, length}
 use Rattle.std.specs.Prelude.{Vec}
 use Rattle.std.specs.List.{slice_set}
 use Rattle.std.proofs.lemmas.List.{length-map, length-set}

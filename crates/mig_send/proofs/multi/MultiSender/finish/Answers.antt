@@ -1,4 +1,4 @@
-use Rattle.std.proofs.Common.{List, ◌++◌, length, replicate, subst}
+use Rattle.std.proofs.Common.{List, ◌++◌, length, replicate, subst, arith}
 use Rattle.mig_stream.specs.Written.{FlushPart}
 use Rattle.mig_send.specs.Parts.{texts_of}
 use Rattle.mig_send.specs.DealtRounds.{DealtRound, IsSending}
@@ -15,6 +15,7 @@ returns-in-Ok-clause-ok g c =
       is_set = c.self.invariant.is_set;
       are_dealt = sent.are_dealt;
       are_numbered = sent.are_numbered;
+      numbers_fit = omega (arith, sent.has_base, c.self.invariant.has_base);
       has_main = c.in-Ok.ensures.ok drained.main (replicate (length rounds) FlushPart) sent.has_main;
       has_texts = whole c.self.inside.uuid rounds drained texts sent.has_texts;
     })

@@ -1,4 +1,4 @@
-use Rattle.std.proofs.Common.{◌≡◌, ◌∙◌, ◌≤◌, List, ℕ, length, refl, sym, subst, arith}
+use Rattle.std.proofs.Common.{rules, ◌≤◌, ℕ, refl, sym, subst, arith}
 use Rattle.mig_mem.specs.RamTable.{RamTable, IsTable}
 use Rattle.mig_packet.specs.PageSize.{IsPageSize, page_limit}
 use Rattle.mig_send.specs.Parts.{texts_of}
@@ -15,6 +15,7 @@ invariant_of-result g c =
     record {
       is_set = record {
         has_table = subst IsTable (sym table) c.len-blocks.ensures.table;
+        has_uuid = (search rules);
         has_channels = (omega (arith, long, c.if-channels-eq0.false), omega (arith, long, c.if-channels-gt255.false));
         has_limit = (
           omega (arith, c.if-limit-eq0.false),
@@ -23,6 +24,7 @@ invariant_of-result g c =
         );
       };
       has_rounds = omega arith;
+      has_base = omega arith;
     }
 
 pub returns-clause-made : goal.returns-clause-made

@@ -1,4 +1,4 @@
-use Rattle.std.proofs.Common.{rules, ℕ, ◌≡◌, ◌<◌, ◌≤◌, ◌+◌, List, length, refl, subst, sym, arith, ◌∙◌, ap}
+use Rattle.std.proofs.Common.{rules, ℕ, ◌≡◌, ◌+◌, List, length, refl, subst, sym, arith, ap}
 use Rattle.std.specs.Prelude.{Vec}
 use Rattle.std.proofs.lemmas.List.{length-map}
 use Rattle.std.proofs.lemmas.Slice.Zip.{AllZip-long}
@@ -42,11 +42,13 @@ invariant_of-self-2 g c =
     record {
       is_set = record {
         has_table = rw (same) set.has_table;
+        has_uuid = set.has_uuid;
         has_channels = rw long set.has_channels;
         has_limit = rw (same) set.has_limit;
       };
       has_rounds = let before = c.self.invariant.has_rounds in let some = set.has_channels in
           omega (arith, before, some.0, c.len-3.ensures, length-map olds.items (λ (text : Vec ℕ _). text.items), c.append_parts.ensures.len, c.in_ok-reserve_parts.ensures.len, olds.ok.0);
+      has_base = omega (arith, c.if-self-gt-LAST_BASE.false, c.len-2.ensures, c.len-3.ensures);
     }
 
 pub returns-clause-ok : goal.returns-clause-ok

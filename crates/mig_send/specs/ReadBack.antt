@@ -1,0 +1,73 @@
+-- What the texts of a sending are read as.
+use Rattle.std.specs.Prelude.{ℕ, ◌≡◌, ◌<◌, ◌≤◌, ◌^◌, ◌*◌, true, false, List, [], ◌∷◌, ◌++◌, length, map, flat_map, replicate, get_or, Some, None}
+use Rattle.mig_mem.specs.RamTable.{RamTable, IsTable, block}
+use Rattle.mig_mem.specs.Image.{Image, IsImage}
+use Rattle.mig_mem.specs.Round.{round_of}
+use Rattle.mig_stream.specs.declared.item.Mode.TheVariants.{Main}
+use Rattle.mig_stream.specs.Text.{total_bytes}
+use Rattle.mig_stream.specs.Reading as stream
+use Rattle.mig_stream.specs.Law.{closed}
+use Rattle.mig_packet.specs.declared.state.ChannelState.TheVariants.{Closed}
+use Rattle.mig_packet.specs.Packet.{Fields, fields_of}
+use Rattle.mig_packet.specs.Reading.{ChannelReading, IsReading, settings}
+use Rattle.mig_packet.specs.Pieces.{Piece, Hello, Page, Stop, ArePieces}
+use Rattle.mig_send.specs.Batches.{BatchOfPages, IsBatch, batch_places}
+use Rattle.mig_send.specs.Packing.{packed_of, normals_of, zeros_of, offsets_of}
+use Rattle.mig_send.specs.Work.{Share, claimed_packet}
+use Rattle.mig_send.specs.Dealing.{sync_packet}
+use Rattle.mig_send.specs.DealtRounds.{DealtRound, IsSending, no_share}
+
+-- ---- channels
+
+-- the packets of a share, each as its text: those that its numbers claim, in their order, and a SYNC packet of its last number
+abbrev pub share_packets : ℕ → Image → List BatchOfPages → Share → List (List ℕ)
+share_packets base image batches share =
+    map (λ number. (claimed_packet base image batches number).bytes) share.numbers ++ sync_packet image.table.page_size share.last ∷ []
+
+-- the packets of a round that a channel carries
+abbrev pub round_packets : ℕ → DealtRound → List (List ℕ)
+round_packets channel round = share_packets round.base round.snapshot.image round.batches (get_or round.shares channel no_share)
+
+-- what a channel's whole text tells: its own number in its hello, the packets of each round, and that it is closed
+abbrev pub channel_told : List DealtRound → ℕ → ChannelReading
+channel_told rounds channel = record { hello = Some channel; rounds = map (round_packets channel) rounds; state = Closed }
+
+-- and its pieces: the hello, what each packet says, one after another, and a stop without a fault
+abbrev pub channel_pieces : ℕ → List DealtRound → ℕ → List Piece
+channel_pieces page_size rounds channel =
+    Hello channel ∷ map (λ packet. Page (fields_of page_size packet)) (flat_map (round_packets channel) rounds) ++ Stop None ∷ []
+
+-- ---- the law
+
+-- The texts of a sending are read back: the main stream as its table and so many rounds without a record, and each channel as the
+-- packets that it carries of each round.
+pub record AreReadBack (table : RamTable) (uuid : List ℕ) (channels : ℕ) (rounds : List DealtRound) (main_text : List ℕ) (texts : List (List ℕ)) : Type 0 where
+  pub main_is_read : (limit : ℕ) → total_bytes table ≤ limit
+      → stream.IsReading (stream.settings Main table.page_size limit) main_text (closed table (replicate (length rounds) []))
+  pub channels_are_read : (channel : ℕ) → channel < channels
+      → IsReading (settings table.page_size uuid channels) (get_or texts channel []) true (channel_told rounds channel)
+  pub have_pieces : (channel : ℕ) → channel < channels
+      → ArePieces (settings table.page_size uuid channels) (get_or texts channel []) (channel_pieces table.page_size rounds channel)
+
+abbrev pub SendingsAreReadBack : Type 0
+SendingsAreReadBack = (table : RamTable) (uuid : List ℕ) (limit channels : ℕ) (rounds : List DealtRound) (main_text : List ℕ) (texts : List (List ℕ))
+    → IsSending table uuid limit channels rounds main_text texts → AreReadBack table uuid channels rounds main_text texts
+
+-- ---- what the packets say
+
+-- what the packet of a batch says: its number, its block's id, and its pages, those that aren't zeros with their contents
+abbrev pub batch_fields : Image → BatchOfPages → ℕ → Fields
+batch_fields image batch number = record {
+  number = number;
+  sync = false;
+  id = (block image.table.blocks batch.block).id;
+  normal = map (λ page. record { offset = page.place.page * image.table.page_size; content = page.content }) (normals_of (round_of image (batch_places batch)));
+  zero = offsets_of image.table.page_size (zeros_of (round_of image (batch_places batch)));
+}
+
+-- The packet of a batch says the batch's pages, and a SYNC packet says its number and nothing more.
+pub record SayTheirPages : Type 0 where
+  pub batch_says : (image : Image) (batch : BatchOfPages) (number : ℕ) → IsTable image.table → IsImage image → IsBatch image.table batch → number < 2 ^ 64
+      → fields_of image.table.page_size (packed_of image batch number).bytes ≡ batch_fields image batch number
+  pub sync_says : (table : RamTable) (number : ℕ) → IsTable table → number < 2 ^ 64
+      → fields_of table.page_size (sync_packet table.page_size number) ≡ record { number = number; sync = true; id = []; normal = []; zero = [] }
