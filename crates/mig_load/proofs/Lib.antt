@@ -1,3 +1,16 @@
 pub mod Sections
 pub mod Feeding
 pub mod Onto
+pub mod Statuses
+pub mod OneAnswer
+pub mod Examples
+pub mod Judged
+pub mod Received
+pub mod ReceivedTogether
+pub mod DealtBags
+pub mod DealtPackets
+pub mod DealtPages
+pub mod Dealt
+pub mod Sent
+pub mod SentRounds
+pub mod Headline

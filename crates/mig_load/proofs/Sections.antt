@@ -332,11 +332,10 @@ counted rounds =
     omega (arith, both, same)
 
 -- THE TEXT OF A SENDER is loaded whole.
-pub sent_is_loaded : {A : Type 0} (p limit : ℕ) (text : List ℕ) (a : Loaded A) → IsPageSize p → IsAnswer p limit text a ⊎ IsWithoutMemory p limit text a
+pub sent_answer_is : {A : Type 0} (p limit : ℕ) (text : List ℕ) (a : Loaded A) → IsPageSize p → IsAnswer p limit text a
     → (table : RamTable) (rounds : List (List Page)) → IsTable table → table.page_size ≡ p → total_bytes table ≤ limit
-    → All (IsRound table) rounds → text ≡ single table rounds → (a ≡ loaded table rounds) ⊎ IsWithoutMemory p limit text a
-sent_is_loaded p limit text a size (inr want) table rounds is same room all sent = inr want
-sent_is_loaded p limit text a size (inl answer) table rounds is same room all sent =
+    → All (IsRound table) rounds → text ≡ single table rounds → a ≡ loaded table rounds
+sent_answer_is p limit text a size answer table rounds is same room all sent =
     let sections : List (List PageRecord) = [] ∷ map (map written_record) rounds ++ [] ∷ [] in
     let spelled : IsReading (settings Single table.page_size limit) (text ++ []) (closed table sections) =
     spelled_law Single limit text [] table sections (subst (λ x. IsText Single limit x table sections) (sym sent) (written_single table rounds limit is room all)) in
@@ -345,11 +344,18 @@ sent_is_loaded p limit text a size (inl answer) table rounds is same room all se
     let one : answer.reading ≡ closed table sections = same_reading p limit text answer.reading (closed table sections) size answer.is_reading read in
     let count : length sections ≡ length rounds + 2 = counted rounds in
     let n : a.rounds ≡ length rounds + 2 = answer.has_rounds ∙ ap (λ (x : StreamReading). length x.rounds) one ∙ count in
-    inl (loaded_is a (loaded table rounds)
+    loaded_is a (loaded table rounds)
     (answer.has_memory ∙ ap (λ (x : StreamReading). memory_after p x.table x.rounds) one ∙ ap (λ (n : ℕ). memory_after n (Some table) sections) (sym same)
     ∙ ap (λ (m : Image). Some m) (sections_sent table rounds all))
     n
-    (answer.has_verdict ∙ ap (λ (x : StreamReading). verdict_of a.rounds x.state) one))
+    (answer.has_verdict ∙ ap (λ (x : StreamReading). verdict_of a.rounds x.state) one)
+
+pub sent_is_loaded : {A : Type 0} (p limit : ℕ) (text : List ℕ) (a : Loaded A) → IsPageSize p → IsAnswer p limit text a ⊎ IsWithoutMemory p limit text a
+    → (table : RamTable) (rounds : List (List Page)) → IsTable table → table.page_size ≡ p → total_bytes table ≤ limit
+    → All (IsRound table) rounds → text ≡ single table rounds → (a ≡ loaded table rounds) ⊎ IsWithoutMemory p limit text a
+sent_is_loaded p limit text a size (inr want) table rounds is same room all sent = inr want
+sent_is_loaded p limit text a size (inl answer) table rounds is same room all sent =
+    inl (sent_answer_is p limit text a size answer table rounds is same room all sent)
 
 -- ---- what is given
 

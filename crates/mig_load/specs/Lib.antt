@@ -1,4 +1,15 @@
-pub mod LoadFaultNumber
+-- To read first, in this order: the answer of a load of one stream; that of a load of several channels, with the rounds of all texts and
+-- how a source stands at one; what was sent; and the laws
 pub mod SingleLoad
+pub mod Status
+pub mod Texts
+pub mod Rounds
+pub mod MultiLoad
+pub mod Received
+pub mod Dealt
+pub mod Sent
+pub mod Law
+pub mod LoadFaultNumber
+-- loaders that are fed in pieces
 pub mod Loader
 pub mod InPlace

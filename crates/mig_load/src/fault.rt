@@ -4,7 +4,9 @@ ghost use Rattle.std.specs.Prelude.{◌≡◌};
 ghost use Rattle.mig_mem.specs.Refusal.{no_memory_number};
 ghost use Rattle.mig_load.specs.LoadFaultNumber.{fault_number};
 
+use mig_assemble::RoundFault;
 use mig_mem::NoMemory;
+use mig_packet::ChannelFault;
 use mig_stream::StreamFault;
 use std::error::Error;
 use std::fmt::{self, Display, Formatter};
@@ -14,7 +16,9 @@ use std::fmt::{self, Display, Formatter};
 pub enum Origin {
     /// In the stream: the single stream, or the main stream of multifd.
     Main,
-    /// In no text: want of memory is told there.
+    /// In a channel, by its place among the texts that were handed in.
+    Channel(usize),
+    /// In no one text: what all texts bring of a round together, and want of memory, are told there.
     Round,
 }
 
@@ -23,6 +27,16 @@ pub enum Origin {
 pub enum Fault {
     /// The stream's fault.
     Stream(StreamFault),
+    /// The channel's fault.
+    Channel(ChannelFault),
+    /// The round isn't lawful: 54 to 59. A refused growth is `NoMemory` instead.
+    Round(RoundFault),
+    /// The channel's hello names the id of an earlier channel.
+    HelloTwice,
+    /// The channel goes on where the main stream is over.
+    Extra,
+    /// The channel is over where the main stream goes on.
+    Short,
     /// The stream is of another table than the memory that was handed in for it.
     OtherTable,
     /// A growth was refused.
@@ -36,6 +50,11 @@ impl Fault {
     {
         match self {
             Fault::Stream(fault) => fault.number(),
+            Fault::Channel(fault) => fault.number(),
+            Fault::Round(fault) => fault.number(),
+            Fault::HelloTwice => 51,
+            Fault::Extra => 52,
+            Fault::Short => 53,
             Fault::OtherTable => 63,
             Fault::NoMemory => NoMemory.number(),
         }
@@ -57,6 +76,7 @@ impl Display for Origin {
     fn fmt<W: fmt::Write>(&self, f: &mut Formatter<W>) -> fmt::Result {
         match self {
             Origin::Main => f.write_str("the stream"),
+            Origin::Channel(channel) => write!(f, "channel {channel}"),
             Origin::Round => f.write_str("the round"),
         }
     }
@@ -67,12 +87,29 @@ impl Display for Fault {
     fn fmt<W: fmt::Write>(&self, f: &mut Formatter<W>) -> fmt::Result {
         match self {
             Fault::Stream(fault) => Display::fmt(fault, f),
+            Fault::Channel(fault) => Display::fmt(fault, f),
+            Fault::Round(fault) => Display::fmt(fault, f),
+            Fault::NoMemory => Display::fmt(&NoMemory, f),
+            Fault::HelloTwice => write!(
+                f,
+                "{}: the hello names an earlier channel's id",
+                self.number()
+            ),
+            Fault::Extra => write!(
+                f,
+                "{}: the channel goes on where the main stream is over",
+                self.number()
+            ),
+            Fault::Short => write!(
+                f,
+                "{}: the channel is over where the main stream goes on",
+                self.number()
+            ),
             Fault::OtherTable => write!(
                 f,
                 "{}: the stream is of another table than the memory",
                 self.number()
             ),
-            Fault::NoMemory => Display::fmt(&NoMemory, f),
         }
     }
 }

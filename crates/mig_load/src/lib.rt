@@ -7,13 +7,19 @@
 
 mod fault;
 mod in_place;
+mod laws;
 mod loaded;
 mod loader;
 mod settle;
 mod single;
+mod verdict;
 
 pub use fault::{Fault, FeedFault, LoadFault, Origin};
 pub use in_place::{InPlaceLoader, sent_is_loaded_in_place};
+pub use laws::{
+    dealt_rounds_are_lawful, received_tells_status, sendings_are_loaded, texts_have_one_answer,
+};
 pub use loaded::Loaded;
 pub use loader::SingleLoader;
 pub use single::load_single;
+pub use verdict::Verdict;

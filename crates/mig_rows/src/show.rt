@@ -61,6 +61,7 @@ fn put_load_fault(out: &mut String, fault: LoadFault) -> Done {
     write!(out, " round {}", fault.round)?;
     match fault.source {
         Origin::Main => out.push_str(" in main")?,
+        Origin::Channel(channel) => write!(out, " in channel {channel}")?,
         Origin::Round => out.push_str(" in round")?,
     }
     Ok(())

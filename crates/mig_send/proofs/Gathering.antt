@@ -1,20 +1,26 @@
--- The answers of workers, one after the other.
-use Rattle.std.proofs.Common.{ℕ, ◌≡◌, List, [], ◌∷◌, ◌++◌, length, suc, arith, sym, ap, subst, ◌∙◌, IfOk, IsOkAnd}
-use Rattle.std.specs.Prelude.{Result, Vec, Ok, Err}
+-- What the workers of a round leave, one after the other.
+use Rattle.std.proofs.Common.{ℕ, ◌≡◌, ◌<◌, List, [], ◌∷◌, ◌++◌, length, map, get_or, suc, zero, arith, refl, sym, ap, subst, ◌∙◌, append-nil, append_assoc}
+use Rattle.std.specs.Prelude.{Result, Vec, Ok, Err, IsOk, OnOk, reverse}
 use Rattle.std.specs.List.{All, AllZip}
-use Rattle.std.proofs.lemmas.List.Elements.{All-cons}
+use Rattle.std.proofs.lemmas.List.{reverse-append, map_push}
+use Rattle.std.proofs.lemmas.List.Elements.{All-nil, All-cons, All-head, All-tail, All-push}
+use Rattle.std.proofs.lemmas.Slice.Zip.{AllZip-long}
 use Rattle.mig_mem.specs.Image.{Image}
 use Rattle.mig_mem.specs.declared.fault.NoMemory.{NoMemory}
-use Rattle.std.proofs.lemmas.Slice.Zip.{AllZip-long}
 use Rattle.mig_deal.specs.Deal.{DealView, SeatView, HasEachOnce, new_seat, all_drawn, end_of_deal}
-use Rattle.mig_send.specs.declared.worker.Worked.{Worked}
-use Rattle.mig_send.specs.declared.workers.Carried.{Carried}
+use Rattle.mig_send.specs.declared.share.Written.{Written}
+use Rattle.mig_send.specs.declared.workers.Slot.{Slot}
+use Rattle.mig_send.specs.declared.workers.Slot.TheVariants.{Waiting, Running, Done}
 use Rattle.mig_send.specs.Batches.{BatchOfPages}
-use Rattle.mig_send.specs.Packing.{PackedBatch}
-use Rattle.mig_send.specs.Work.{Share, HasShare, HasWorked}
-use Rattle.mig_send.specs.Dealing.{IsDealing}
-use Rattle.mig_send.specs.Workers.{IsCarried, AreGathered, HasDealt}
-use Rattle.mig_send.proofs.Dealings.{shares_are_dealt, is_sent}
+use Rattle.mig_send.specs.Packing.{IsPrefix}
+use Rattle.mig_send.specs.Work.{Share, HasShare}
+use Rattle.mig_send.specs.Dealing.{IsDealing, share_text}
+use Rattle.mig_send.specs.DealtRounds.{no_share}
+use Rattle.mig_send.specs.MultiSending.{texts_of}
+use Rattle.mig_send.specs.Workers.{HasWritten, IsDone, IsAnswer, HadMemory, HasSpent, CarryDealing, slot_text}
+use Rattle.mig_send.proofs.Dealings.{shares_are_dealt}
+
+-- ---- lists
 
 -- two lists that agree place by place, and one place more
 zip_push : {X Y : Type 0} (R : X → Y → Type 0) (xs : List X) (ys : List Y) (x : X) (y : Y) → AllZip R xs ys → R x y → AllZip R (xs ++ x ∷ []) (ys ++ y ∷ [])
@@ -23,37 +29,13 @@ zip_push R [] (b ∷ ys) x y zip last = absurd zip
 zip_push R (a ∷ xs) [] x y zip last = absurd zip
 zip_push R (a ∷ xs) (b ∷ ys) x y zip last = (zip.0, zip_push R xs ys x y zip.1 last)
 
-pub gathered_none : {A : Type 0} (deal : DealView) (image : Image) (batches : List BatchOfPages) (spents : List SeatView) (none : Vec (Carried A) A) → spents ≡ [] → none.items ≡ []
-    → AreGathered deal image batches spents (Ok none)
-gathered_none deal image batches spents none no_spent empty = record {
-  shares = [];
-  have_shares = subst (λ (l : List SeatView). AllZip (HasShare (new_seat deal)) l []) (sym no_spent) tt;
-  are_carried = subst (λ l. AllZip (IsCarried deal.base image batches) [] l) (sym empty) tt;
-}
-
--- one channel more
-carried_more : {A : Type 0} (base : ℕ) (image : Image) (batches : List BatchOfPages) (shares : List Share) (share : Share) (channels after : Result (Vec (Carried A) A) NoMemory)
-    (packets : Result (Vec PackedBatch A) NoMemory) (last : ℕ)
-    → IfOk channels (λ before. AllZip (IsCarried base image batches) shares before.items)
-    → IfOk packets (λ some. IsCarried base image batches share record { packets = some; last = last })
-    → IfOk after (λ more. IsOkAnd channels (λ before. IsOkAnd packets (λ some. more.items ≡ before.items ++ record { packets = some; last = last } ∷ [])))
-    → IfOk after (λ more. AllZip (IsCarried base image batches) (shares ++ share ∷ []) more.items)
-carried_more base image batches shares share channels (Err e) packets last zip one added = tt
-carried_more base image batches shares share (Err e) (Ok more) packets last zip one added = absurd added
-carried_more base image batches shares share (Ok before) (Ok more) (Err e) last zip one added = absurd added
-carried_more base image batches shares share (Ok before) (Ok more) (Ok some) last zip one added =
-    subst (λ l. AllZip (IsCarried base image batches) (shares ++ share ∷ []) l) (sym added)
-    (zip_push (IsCarried base image batches) shares before.items share record { packets = some; last = last } zip one)
-
-pub gathered_more : {A : Type 0} (deal : DealView) (image : Image) (batches : List BatchOfPages) (spents : List SeatView) (channels after : Result (Vec (Carried A) A) NoMemory) (worked : Worked A)
-    → AreGathered deal image batches spents channels → HasWorked image batches (new_seat deal) worked
-    → IfOk after (λ more. IsOkAnd channels (λ before. IsOkAnd worked.packets (λ some. more.items ≡ before.items ++ record { packets = some; last = worked.last } ∷ [])))
-    → AreGathered deal image batches (spents ++ worked.spent ∷ []) after
-gathered_more deal image batches spents channels after worked so_far has added = record {
-  shares = so_far.shares ++ has.share ∷ [];
-  have_shares = zip_push (HasShare (new_seat deal)) spents so_far.shares worked.spent has.share so_far.have_shares has.has_share;
-  are_carried = carried_more deal.base image batches so_far.shares has.share channels after worked.packets worked.last so_far.are_carried (is_sent deal image batches worked has) added;
-}
+-- two lists that agree at each place agree place by place
+pub zip_of : {X Y : Type 0} (R : X → Y → Type 0) (xs : List X) (ys : List Y) → length xs ≡ length ys
+    → ((k : ℕ) (x : X) (y : Y) → k < length ys → R (get_or xs k x) (get_or ys k y)) → AllZip R xs ys
+zip_of R [] [] same each = tt
+zip_of R [] (y ∷ ys) same each = absurd (omega (arith, same))
+zip_of R (x ∷ xs) [] same each = absurd (omega (arith, same))
+zip_of R (x ∷ xs) (y ∷ ys) same each = (each 0 x y (omega arith), zip_of R xs ys (omega (arith, same)) (λ k a b lt. each (suc k) a b (omega (arith, lt))))
 
 -- what holds of a list that was pushed to holds of its front, and of its end
 pub all_front : {X : Type 0} (P : X → Type 0) (xs : List X) (x : X) → All P (xs ++ x ∷ []) → All P xs
@@ -64,18 +46,144 @@ pub all_end : {X : Type 0} (P : X → Type 0) (xs : List X) (x : X) → All P (x
 all_end P [] x all = all 0 x (omega arith)
 all_end P (y ∷ xs) x all = all_end P xs x (λ i d lt. all (suc i) d (omega (arith, lt)))
 
--- what all workers left, where the deal is ended
-pub dealt : {A : Type 0} (deal : DealView) (image : Image) (batches : List BatchOfPages) (spents : List SeatView) (made : Result (Vec (Carried A) A) NoMemory) (base count next : ℕ)
-    → AreGathered deal image batches spents made → deal.base ≡ base → deal.batches ≡ length batches → deal.seats ≡ count → length spents ≡ count
-    → next ≡ end_of_deal deal → HasEachOnce deal.base next (all_drawn spents) → IfOk made (λ some. HasDealt base image batches count some.items)
-dealt deal image batches spents (Err e) base count next gathered is_base as_many seats long end once = tt
-dealt deal image batches spents (Ok some) base count next gathered is_base as_many seats long end once = record {
-  shares = gathered.shares;
-  is_dealing = subst (λ n. IsDealing base n gathered.shares) as_many (subst (λ n. IsDealing n deal.batches gathered.shares) is_base
-      (shares_are_dealt deal spents gathered.shares gathered.have_shares (long ∙ sym seats) (subst (λ n. HasEachOnce deal.base n (all_drawn spents)) end once)));
-  as_many = AllZip-long (HasShare (new_seat deal)) spents gathered.shares gathered.have_shares ∙ long;
-  are_carried = subst (λ n. AllZip (IsCarried n image batches) gathered.shares some.items) is_base gathered.are_carried;
+-- the last of a list that is taken from its end is the next of the whole
+pub taken : {X : Type 0} (whole front back : List X) (x : X) → whole ≡ front ++ reverse (back ++ x ∷ []) → whole ≡ (front ++ x ∷ []) ++ reverse back
+taken whole front back x is =
+    is ∙ (ap (λ l. front ++ l) (reverse-append back (x ∷ [])) ∙ sym (append_assoc front (x ∷ []) (reverse back)))
+
+-- ---- the texts and seats that go into the slots
+
+pub seated_more : {A : Type 0} (olds : List (List ℕ)) (slots new_slots : List (Slot A)) (channels left : List (Vec ℕ A)) (slot : Slot A) (text : Vec ℕ A)
+    → olds ≡ map slot_text slots ++ texts_of (reverse channels) → channels ≡ left ++ text ∷ [] → new_slots ≡ slots ++ slot ∷ [] → slot_text slot ≡ text.items
+    → olds ≡ map slot_text new_slots ++ texts_of (reverse left)
+seated_more olds slots new_slots channels left slot text is from to same =
+    let front = map slot_text slots in
+    is ∙ (ap (λ l. front ++ texts_of l) (ap reverse from ∙ reverse-append left (text ∷ []))
+    ∙ (sym (append_assoc front (text.items ∷ []) (texts_of (reverse left)))
+    ∙ ap (λ (l : List (List ℕ)). l ++ texts_of (reverse left)) (ap (λ (t : List ℕ). front ++ t ∷ []) (sym same) ∙ (sym (map_push slot_text slots slot) ∙ ap (map slot_text) (sym to)))))
+
+-- ---- the texts and seats that come out of the slots
+
+-- From the slots, but for those that are left, came texts and seats, with or without memory.
+pub record HaveReturned {A : Type 0} (slots left : List (Slot A)) (texts : List (Vec ℕ A)) (spents : List SeatView) (made : Result (Unit {0}) NoMemory) : Type 0 where
+  pub done : List (Slot A)
+  pub is_whole : slots ≡ done ++ reverse left
+  pub have_texts : texts_of texts ≡ map slot_text done
+  pub have_spents : AllZip HasSpent done spents
+  pub had_memory : OnOk made (All HadMemory done)
+
+pub returned_none : {A : Type 0} (slots left : List (Slot A)) (texts : List (Vec ℕ A)) (spents : List SeatView) → slots ≡ reverse left → texts ≡ [] → spents ≡ []
+    → HaveReturned slots left texts spents (Ok tt)
+returned_none {A} slots left texts spents whole no_text no_spent = record {
+  done = [];
+  is_whole = whole;
+  have_texts = ap texts_of no_text;
+  have_spents = subst (λ (l : List SeatView). AllZip (HasSpent {A = A}) [] l) (sym no_spent) tt;
+  had_memory = All-nil (HadMemory {A = A});
 }
+
+pub returned_more : {A : Type 0} (slots left : List (Slot A)) (texts new_texts : List (Vec ℕ A)) (spents new_spents : List SeatView) (made more : Result (Unit {0}) NoMemory)
+    (slot : Slot A) (written : Written A) → slot ≡ Done written
+    → HaveReturned slots (left ++ slot ∷ []) texts spents made → new_texts ≡ texts ++ written.text ∷ [] → new_spents ≡ spents ++ written.spent ∷ []
+    → OnOk more (IsOk made × IsOk written.made) → HaveReturned slots left new_texts new_spents more
+returned_more {A} slots left texts new_texts spents new_spents made more slot written is so_far with_text with_spent both = record {
+  done = so_far.done ++ Done written ∷ [];
+  is_whole = taken slots so_far.done left (Done written) (subst (λ (s : Slot A). slots ≡ so_far.done ++ reverse (left ++ s ∷ [])) is so_far.is_whole);
+  have_texts = ap texts_of with_text ∙ (map_push (λ (text : Vec ℕ A). text.items) texts written.text
+      ∙ (ap (λ (l : List (List ℕ)). l ++ written.text.items ∷ []) so_far.have_texts ∙ sym (map_push slot_text so_far.done (Done written))));
+  have_spents = subst (λ (l : List SeatView). AllZip HasSpent (so_far.done ++ Done written ∷ []) l) (sym with_spent)
+      (zip_push HasSpent so_far.done spents (Done written) written.spent so_far.have_spents refl);
+  had_memory = memory made more so_far.had_memory both;
+}
+  where
+    memory : (made more : Result (Unit {0}) NoMemory) → OnOk made (All HadMemory so_far.done) → OnOk more (IsOk made × IsOk written.made)
+        → OnOk more (All HadMemory (so_far.done ++ Done written ∷ []))
+    memory made (Err e) had both = tt
+    memory (Err e) (Ok u) had both = absurd (let wrong = both.0 in cc)
+    memory (Ok v) (Ok u) had both = All-push HadMemory so_far.done (Done written) had both.1
+
+pub returned_all : {A : Type 0} (slots left : List (Slot A)) (texts : List (Vec ℕ A)) (spents : List SeatView) (made : Result (Unit {0}) NoMemory)
+    → HaveReturned slots left texts spents made → length left ≡ 0
+    → (texts_of texts ≡ map slot_text slots) × AllZip HasSpent slots spents × OnOk made (All HadMemory slots)
+returned_all slots [] texts spents made have none =
+    let whole : slots ≡ have.done = have.is_whole ∙ append-nil have.done in (
+      have.have_texts ∙ ap (map slot_text) (sym whole),
+      subst (λ l. AllZip HasSpent l spents) (sym whole) have.have_spents,
+      subst (λ l. OnOk made (All HadMemory l)) (sym whole) have.had_memory,
+    )
+returned_all slots (x ∷ left) texts spents made have none = absurd (omega (arith, none))
+
+-- ---- the dealing that they carry
+
+-- The shares of the workers, and what their texts have of them.
+pub record AreShared {A : Type 0} (deal : DealView) (image : Image) (batches : List BatchOfPages) (before : List (List ℕ)) (slots : List (Slot A)) (spents : List SeatView) : Type 0 where
+  pub shares : List Share
+  pub have_shares : AllZip (HasShare (new_seat deal)) spents shares
+  pub keep_texts : AllZip IsPrefix before (map slot_text slots)
+  pub have_texts : All HadMemory slots → (channel : ℕ) → channel < length before
+      → get_or (map slot_text slots) channel [] ≡ get_or before channel [] ++ share_text deal.base image batches (get_or shares channel no_share)
+
+on_ok : (made : Result (Unit {0}) NoMemory) (P : Type 0) → IsOk made → OnOk made P → P
+on_ok (Ok u) P is p = p
+on_ok (Err e) P is p = absurd cc
+
+shared_more : {A : Type 0} (deal : DealView) (image : Image) (batches : List BatchOfPages) (text : List ℕ) (before : List (List ℕ)) (written : Written A) (slots : List (Slot A))
+    (spent : SeatView) (spents : List SeatView) → HasWritten image batches (new_seat deal) text written → spent ≡ written.spent
+    → AreShared deal image batches before slots spents → AreShared deal image batches (text ∷ before) (Done written ∷ slots) (spent ∷ spents)
+shared_more deal image batches text before written slots spent spents has is rest = record {
+  shares = has.share ∷ rest.shares;
+  have_shares = (subst (λ (s : SeatView). HasShare (new_seat deal) s has.share) (sym is) has.has_share, rest.have_shares);
+  keep_texts = (has.keeps_text, rest.keep_texts);
+  have_texts = λ all channel lt. each all channel lt;
+}
+  where
+    each : All HadMemory (Done written ∷ slots) → (channel : ℕ) → channel < length (text ∷ before)
+        → get_or (map slot_text (Done written ∷ slots)) channel [] ≡ get_or (text ∷ before) channel [] ++ share_text deal.base image batches (get_or (has.share ∷ rest.shares) channel no_share)
+    each all zero lt = on_ok written.made _ (All-head HadMemory (Done written) slots all) has.has_text
+    each all (suc k) lt = rest.have_texts (All-tail HadMemory (Done written) slots all) k (omega (arith, lt))
+
+pub shared : {A : Type 0} (deal : DealView) (image : Image) (batches : List BatchOfPages) (before : List (List ℕ)) (slots : List (Slot A)) (spents : List SeatView)
+    → AllZip (IsDone deal image batches) before slots → AllZip HasSpent slots spents → AreShared deal image batches before slots spents
+shared deal image batches [] [] [] done spent = record { shares = []; have_shares = tt; keep_texts = tt; have_texts = λ all channel lt. absurd (omega (arith, lt)) }
+shared deal image batches [] (x ∷ slots) spents done spent = absurd done
+shared deal image batches (b ∷ before) [] spents done spent = absurd done
+shared deal image batches [] [] (s ∷ spents) done spent = absurd spent
+shared deal image batches (b ∷ before) (x ∷ slots) [] done spent = absurd spent
+shared deal image batches (b ∷ before) (Done written ∷ slots) (s ∷ spents) done spent =
+    shared_more deal image batches b before written slots s spents done.0 spent.0 (shared deal image batches before slots spents done.1 spent.1)
+shared deal image batches (b ∷ before) (Waiting seat text ∷ slots) (s ∷ spents) done spent = absurd done.0
+shared deal image batches (b ∷ before) (Running ∷ slots) (s ∷ spents) done spent = absurd done.0
+
+-- where the deal is ended and all had memory, the texts carry a dealing
+pub carried : {A : Type 0} (deal : DealView) (image : Image) (batches : List BatchOfPages) (before after : List (List ℕ)) (slots : List (Slot A)) (spents : List SeatView)
+    (made : Result (Unit {0}) NoMemory) (base next : ℕ) → AreShared deal image batches before slots spents → after ≡ map slot_text slots → OnOk made (All HadMemory slots)
+    → deal.base ≡ base → deal.batches ≡ length batches → deal.seats ≡ length before → length spents ≡ length before
+    → next ≡ end_of_deal deal → HasEachOnce deal.base next (all_drawn spents) → OnOk made (CarryDealing base image batches before after)
+carried deal image batches before after slots spents (Err e) base next are is had is_base as_many seats long end once = tt
+carried deal image batches before after slots spents (Ok u) base next are is had is_base as_many seats long end once = record {
+  shares = are.shares;
+  is_dealing = subst (λ n. IsDealing base n are.shares) as_many (subst (λ n. IsDealing n deal.batches are.shares) is_base
+      (shares_are_dealt deal spents are.shares are.have_shares (long ∙ sym seats) (subst (λ n. HasEachOnce deal.base n (all_drawn spents)) end once)));
+  as_many = AllZip-long (HasShare (new_seat deal)) spents are.shares are.have_shares ∙ long;
+  have_texts = λ channel lt.
+      let each = are.have_texts had channel lt in
+      ap (λ (l : List (List ℕ)). get_or l channel []) is
+      ∙ (each ∙ ap (λ n. get_or before channel [] ++ share_text n image batches (get_or are.shares channel no_share)) is_base);
+}
+
+-- before anything is written
+pub same_texts : (texts : List (List ℕ)) → AllZip IsPrefix texts texts
+same_texts [] = tt
+same_texts (t ∷ texts) = (record { rest = []; is_text = sym (append-nil t) }, same_texts texts)
+
+pub all_answers : {A : Type 0} (deal : DealView) (image : Image) (batches : List BatchOfPages) (before : List (List ℕ)) (slots : List (Slot A))
+    → AllZip (IsDone deal image batches) before slots → All IsAnswer slots
+all_answers deal image batches [] [] done = All-nil IsAnswer
+all_answers deal image batches [] (x ∷ slots) done = absurd done
+all_answers deal image batches (b ∷ before) [] done = absurd done
+all_answers deal image batches (b ∷ before) (Done written ∷ slots) done = All-cons IsAnswer (Done written) slots tt (all_answers deal image batches before slots done.1)
+all_answers deal image batches (b ∷ before) (Waiting seat text ∷ slots) done = absurd done.0
+all_answers deal image batches (b ∷ before) (Running ∷ slots) done = absurd done.0
 
 -- the seats are all the deal's
 pub own_spents : (deal : DealView) (spents : List SeatView) (shares : List Share) → AllZip (HasShare (new_seat deal)) spents shares → All (λ (spent : SeatView). spent.deal ≡ deal) spents

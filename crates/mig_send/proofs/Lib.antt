@@ -5,7 +5,6 @@ pub mod Packing
 pub mod Working
 pub mod Dealings
 pub mod Gathering
-pub mod Parts
 pub mod Channels
 pub mod Sendings
 pub mod Counting

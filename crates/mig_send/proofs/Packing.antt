@@ -327,18 +327,23 @@ packet_small size normals is few =
     (limit, omega (arith, product))
 
 -- the packet at the offsets of a batch's pages is that of the batch
-pub made : (m : Image) (batch : BatchOfPages) (number size : ℕ) (normal zeros bytes : List ℕ) → 0 < m.table.page_size → size ≡ m.table.page_size
-    → normal ≡ normal_offsets m (batch_places batch) → zeros ≡ zero_offsets m (batch_places batch) → bytes ≡ packet_at m batch.block number normal zeros
-    → record { page_size = size; number = number; bytes = bytes } ≡ packed_of m batch number
-made m batch number size normal zeros bytes some size-is normal-is zeros-is bytes-is =
+pub packet_is : (m : Image) (batch : BatchOfPages) (number : ℕ) (normal zeros : List ℕ) → 0 < m.table.page_size
+    → normal ≡ normal_offsets m (batch_places batch) → zeros ≡ zero_offsets m (batch_places batch)
+    → packet_at m batch.block number normal zeros ≡ (packed_of m batch number).bytes
+packet_is m batch number normal zeros some normal-is zeros-is =
     let n : List ℕ = normal_offsets m (batch_places batch) in
     let z : List ℕ = zero_offsets m (batch_places batch) in
-    let text : bytes ≡ (packed_of m batch number).bytes =
-    bytes-is ∙ ap (λ (l : List ℕ). packet_at m batch.block number l zeros) normal-is ∙ ap (λ (l : List ℕ). packet_at m batch.block number n l) zeros-is
+    ap (λ (l : List ℕ). packet_at m batch.block number l zeros) normal-is ∙ ap (λ (l : List ℕ). packet_at m batch.block number n l) zeros-is
     ∙ ap (λ (l : List ℕ). written_head m.table.page_size number false (block m.table.blocks batch.block).id n z ++ l)
-    (contents_back (λ c. not (is_zero c)) m batch.block batch.pages some) in
+    (contents_back (λ c. not (is_zero c)) m batch.block batch.pages some)
+
+-- the packet that was appended to no text is the packed packet
+pub made : (m : Image) (batch : BatchOfPages) (number size : ℕ) (none bytes : List ℕ) → size ≡ m.table.page_size → none ≡ []
+    → bytes ≡ none ++ (packed_of m batch number).bytes → record { page_size = size; number = number; bytes = bytes } ≡ packed_of m batch number
+made m batch number size none bytes size-is empty bytes-is =
     ap (λ (k : ℕ). record { page_size = k; number = number; bytes = bytes }) size-is
-    ∙ ap (λ (l : List ℕ). record { page_size = m.table.page_size; number = number; bytes = l }) text
+    ∙ ap (λ (l : List ℕ). record { page_size = m.table.page_size; number = number; bytes = l })
+    (bytes-is ∙ ap (λ (l : List ℕ). l ++ (packed_of m batch number).bytes) empty)
 
 -- both kinds of pages have room in a packet
 pub few_kinds : (m : Image) (batch : BatchOfPages) (normal zeros : List ℕ) → IsBatch m.table batch → normal ≡ normal_offsets m (batch_places batch)

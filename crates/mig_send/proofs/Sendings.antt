@@ -1,27 +1,19 @@
 -- A sender on several channels that has sent one round more, or was drained, or is finished.
 use Rattle.std.proofs.Common.{ℕ, ◌≡◌, ◌+◌, ◌<◌, List, [], ◌∷◌, ◌++◌, length, replicate, get_or, ap, sym, subst, refl, ◌∙◌, arith, zero, suc, inl, inr, append-nil, append_assoc}
 use Rattle.std.specs.Prelude.{sum_by, Vec}
-use Rattle.std.specs.List.{AllZip, range_with_len}
+use Rattle.std.specs.List.{range_with_len}
 use Rattle.std.specs.List.{slice_set}
 use Rattle.std.specs.Prelude.{Bool, ◌==◌, if◌then◌else◌}
 use Rattle.std.proofs.lemmas.List.{length-append, length-map, map-set, get_or-map, get_or-set_other}
 use Rattle.std.proofs.lemmas.Grind.{get_or-set_at}
 use Rattle.std.proofs.lemmas.Bool.{cases_Bool, eqb-true, eqb-false}
-use Rattle.std.proofs.lemmas.Slice.Zip.{AllZip-long}
 use Rattle.mig_mem.proofs.Members.{map_agree, All-range}
 use Rattle.std.proofs.lemmas.List.Elements.{All-push}
 use Rattle.std.proofs.lemmas.List.Sums.{sum_by-append}
-use Rattle.mig_mem.specs.Image.{Image}
 use Rattle.mig_stream.specs.Written.{Part, FlushPart}
 use Rattle.mig_stream.specs.Writer.{Writer, HasDrained}
-use Rattle.mig_send.specs.declared.workers.Carried.{Carried}
-use Rattle.mig_send.specs.Batches.{BatchOfPages}
-use Rattle.mig_send.specs.Dealing.{share_text}
-use Rattle.mig_send.specs.Work.{Share}
-use Rattle.mig_send.specs.Workers.{IsCarried}
-use Rattle.mig_send.specs.Parts.{HaveParts, part_text, texts_of}
-use Rattle.mig_send.specs.DealtRounds.{DealtRound, IsDealtRound, AreNumbered, no_share, packet_count, round_text, channel_text, channel_texts}
-use Rattle.mig_send.specs.MultiSending.{MultiSending, Drained, HasSentRounds, KeepsSetting, KeepsCounts, with_main, with_channel, whole_texts}
+use Rattle.mig_send.specs.DealtRounds.{DealtRound, IsDealtRound, AreNumbered, packet_count, round_text, channel_text, channel_texts}
+use Rattle.mig_send.specs.MultiSending.{MultiSending, Drained, HasSentRounds, KeepsSetting, KeepsCounts, with_main, with_channel, whole_texts, texts_of}
 use Rattle.mig_send.proofs.Channels.{text_push}
 
 -- ---- one round more
@@ -67,29 +59,17 @@ sent_more old new round keeps dealt goes_on base count flushed have drained roun
       has_rounds = omega (arith, count, long, sent.has_rounds);
     }
 
--- ---- what was carried
-
-carried_at : {A : Type 0} (base : ℕ) (image : Image) (batches : List BatchOfPages) (shares : List Share) (carried : List (Carried A)) (i : ℕ) (part : Carried A)
-    → AllZip (IsCarried base image batches) shares carried → i < length shares
-    → part_text image.table.page_size (get_or carried i part) ≡ share_text base image batches (get_or shares i no_share)
-carried_at base image batches [] carried i part zip lt = absurd (omega (arith, lt))
-carried_at base image batches (s ∷ shares) [] i part zip lt = absurd zip
-carried_at base image batches (s ∷ shares) (c ∷ carried) zero part zip lt = zip.0
-carried_at base image batches (s ∷ shares) (c ∷ carried) (suc i) part zip lt = carried_at base image batches shares carried i part zip.1 (omega (arith, lt))
-
--- the round of what was carried: each channel has its part
-pub have_round : {A : Type 0} (page_size : ℕ) (round : DealtRound) (carried : List (Carried A)) (olds news : List (List ℕ)) → page_size ≡ round.snapshot.image.table.page_size
-    → AllZip (IsCarried round.base round.snapshot.image round.batches) round.shares carried → length round.shares ≡ length olds → HaveParts page_size olds news carried → HaveRound round olds news
-have_round page_size round [] olds news same zip many have channel lt =
-    absurd (omega (arith, lt, many, AllZip-long (IsCarried round.base round.snapshot.image round.batches) round.shares [] zip))
-have_round page_size round (c ∷ carried) olds news same zip many have channel lt =
-    let long = AllZip-long (IsCarried round.base round.snapshot.image round.batches) round.shares (c ∷ carried) zip in
-    have channel c (omega (arith, lt, many, long))
-    ∙ ap (λ (l : List ℕ). get_or olds channel [] ++ l) (ap (λ (n : ℕ). part_text n (get_or (c ∷ carried) channel c)) same
-    ∙ carried_at round.base round.snapshot.image round.batches round.shares (c ∷ carried) channel c zip (omega (arith, lt, many)))
-
 pub texts_long : {A : Type 0} (xs ys : List (Vec ℕ A)) → length xs ≡ length ys → length (texts_of xs) ≡ length (texts_of ys)
 texts_long xs ys same = let f = λ (text : Vec ℕ _). text.items in length-map xs f ∙ (same ∙ sym (length-map ys f))
+
+-- a sender that is the same keeps its setting
+pub unchanged : (old new : MultiSending) → new ≡ old → KeepsSetting old new
+unchanged old new same = record {
+  same_table = ap (λ (s : MultiSending). s.main.table) same;
+  same_uuid = ap (λ (s : MultiSending). s.uuid) same;
+  same_limit = ap (λ (s : MultiSending). s.limit) same;
+  as_many = ap (λ (s : MultiSending). length s.channels) same;
+}
 
 -- ---- drained
 

@@ -44,7 +44,7 @@ IsSent base image batches share worked =
     IfOk worked.packets (λ packets. answer_text image.table.page_size packets.items worked.last ≡ share_text base image batches share)
 
 -- Workers' answers deal a round's batches from a base on: what is sent of them are the shares of a dealing.
-pub record AreDealing {A : Type 0} (base : ℕ) (image : Image) (batches : List BatchOfPages) (answers : List (Worked A)) : Type 0 where
+pub record MakeADealing {A : Type 0} (base : ℕ) (image : Image) (batches : List BatchOfPages) (answers : List (Worked A)) : Type 0 where
   pub shares : List Share
   pub is_dealing : IsDealing base (length batches) shares
   pub are_sent : AllZip (IsSent base image batches) shares answers
@@ -56,4 +56,4 @@ WorkersMakeADealing A = (deal : DealView) (image : Image) (batches : List BatchO
     → All (HasWorked image batches (new_seat deal)) answers → All (λ (worked : Worked A). IsOk worked.packets) answers
     → length batches ≡ deal.batches → length answers ≡ deal.seats
     → HasEachOnce deal.base (end_of_deal deal) (all_drawn (map (λ (worked : Worked A). worked.spent) answers))
-    → AreDealing deal.base image batches answers
+    → MakeADealing deal.base image batches answers

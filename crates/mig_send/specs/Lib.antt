@@ -10,5 +10,4 @@ pub mod DealtRounds
 pub mod ReadBack
 pub mod MultiSending
 pub mod Workers
-pub mod Parts
 pub mod SendFaultNumber

@@ -1,5 +1,5 @@
 -- A sender on several channels: what it has sent, and what was drained of it.
-use Rattle.std.specs.Prelude.{ℕ, ◌≡◌, ◌+◌, ◌^◌, ◌≤◌, ◌<◌, List, [], ◌∷◌, ◌++◌, length, map, replicate, get_or, sum_by, All, ◌⊎◌, ◌==◌, if◌then◌else◌}
+use Rattle.std.specs.Prelude.{ℕ, ◌≡◌, ◌+◌, ◌^◌, ◌≤◌, ◌<◌, List, [], ◌∷◌, ◌++◌, length, map, replicate, take, get_or, sum_by, All, Vec, ◌⊎◌, ◌==◌, if◌then◌else◌}
 use Rattle.std.specs.List.{range_with_len}
 use Rattle.mig_mem.specs.RamTable.{RamTable}
 use Rattle.mig_mem.specs.Tracking.{Snapshot}
@@ -21,6 +21,16 @@ pub record MultiSending : Type 0 where
   pub channels : List (List ℕ)
   pub base : ℕ
   pub rounds : ℕ
+
+-- what the buffers of some texts hold
+abbrev pub texts_of : {A : Type 0} → List (Vec ℕ A) → List (List ℕ)
+texts_of channels = map (λ text. text.items) channels
+
+-- texts, each cut to the length of its place
+abbrev pub cut_texts : List ℕ → List (List ℕ) → List (List ℕ)
+cut_texts [] texts = texts
+cut_texts (len ∷ lens) [] = []
+cut_texts (len ∷ lens) (text ∷ texts) = take len text ∷ cut_texts lens texts
 
 -- What holds of each: it was made within the limits, each round had a packet, and the packets are numbered within 64 bits.
 pub record IsMultiSending (sender : MultiSending) : Type 0 where

@@ -1,5 +1,5 @@
 -- The packet of a batch.
-use Rattle.std.specs.Prelude.{ℕ, ◌≡◌, ◌+◌, ◌*◌, ◌/◌, ◌<◌, false, not, List, length, map, flat_map, All, AllPairs, IsFalse}
+use Rattle.std.specs.Prelude.{ℕ, ◌≡◌, ◌+◌, ◌*◌, ◌/◌, ◌<◌, false, not, List, ◌++◌, length, map, flat_map, All, AllPairs, IsFalse}
 use Rattle.std.specs.List.{filter}
 use Rattle.mig_mem.specs.declared.place.Place.{Place}
 use Rattle.mig_mem.specs.RamTable.{block}
@@ -76,3 +76,8 @@ packed_of image batch number = record {
   number = number;
   bytes = packet_of image.table.page_size number (block image.table.blocks batch.block).id (round_of image (batch_places batch));
 }
+
+-- a text goes on from what it had, or is that alone
+pub record IsPrefix (front text : List ℕ) : Type 0 where
+  pub rest : List ℕ
+  pub is_text : text ≡ front ++ rest

@@ -16,7 +16,7 @@ abbrev pub claimed_packet : ℕ → Image → List BatchOfPages → ℕ → Pack
 claimed_packet base image batches number = packed_of image (get_or batches (number - base) no_batch) number
 
 -- the deal's numbers claim these batches of a table, one number for each
-pub record AreDealt (deal : DealView) (table : RamTable) (batches : List BatchOfPages) : Type 0 where
+pub record ClaimsBatches (deal : DealView) (table : RamTable) (batches : List BatchOfPages) : Type 0 where
   pub are_batches : All (IsBatch table) batches
   pub as_many : length batches ≡ deal.batches
 

@@ -1,41 +1,70 @@
--- The workers of a round, each with a seat of its own, and what they answer together.
-use Rattle.std.specs.Prelude.{ℕ, ◌≡◌, List, length, Result, Vec, IfOk}
-use Rattle.std.specs.List.{AllZip}
+-- The workers of a round, each with a seat of its own and the text of its channel, and what they write together.
+use Rattle.std.specs.Prelude.{ℕ, ◌≡◌, ◌<◌, List, [], ◌++◌, length, get_or, IsOk, OnOk}
 use Rattle.mig_mem.specs.Image.{Image}
-use Rattle.mig_mem.specs.declared.fault.NoMemory.{NoMemory}
 use Rattle.mig_deal.specs.Deal.{DealView, SeatView, new_seat}
+use Rattle.mig_send.specs.declared.share.Written.{Written}
 use Rattle.mig_send.specs.declared.workers.Slot.{Slot}
 use Rattle.mig_send.specs.declared.workers.Slot.TheVariants.{Waiting, Running, Done}
-use Rattle.mig_send.specs.declared.workers.Carried.{Carried}
 use Rattle.mig_send.specs.Batches.{BatchOfPages}
-use Rattle.mig_send.specs.Work.{Share, HasShare, HasWorked}
-use Rattle.mig_send.specs.Dealing.{IsDealing, answer_text, share_text}
+use Rattle.mig_send.specs.Packing.{IsPrefix}
+use Rattle.mig_send.specs.Work.{Share, HasShare}
+use Rattle.mig_send.specs.Dealing.{IsDealing, share_text}
+use Rattle.mig_send.specs.DealtRounds.{no_share}
+
+-- ---- one worker
+
+-- What a worker leaves that began with some text: that text, and behind it, where there was memory, what is sent of the share that
+-- the worker drew; else a part of it, if any.
+pub record HasWritten {A : Type 0} (image : Image) (batches : List BatchOfPages) (seat : SeatView) (before : List ℕ) (written : Written A) : Type 0 where
+  pub share : Share
+  pub has_share : HasShare seat written.spent share
+  pub keeps_text : IsPrefix before written.text.items
+  pub has_text : OnOk written.made (written.text.items ≡ before ++ share_text seat.deal.base image batches share)
+
+-- ---- slots
 
 -- a new seat of the deal waits here for its worker
 abbrev pub IsReady : {A : Type 0} → DealView → Slot A → Type 0
-IsReady deal (Waiting seat) = seat ≡ new_seat deal
+IsReady deal (Waiting seat text) = seat ≡ new_seat deal
 IsReady deal Running = ⊥
-IsReady deal (Done worked) = ⊥
+IsReady deal (Done written) = ⊥
 
--- the worker of a new seat has left its answer here
-abbrev pub IsDone : {A : Type 0} → DealView → Image → List BatchOfPages → Slot A → Type 0
-IsDone deal image batches (Done worked) = HasWorked image batches (new_seat deal) worked
-IsDone deal image batches (Waiting seat) = ⊥
-IsDone deal image batches Running = ⊥
+-- the text that stands here
+abbrev pub slot_text : {A : Type 0} → Slot A → List ℕ
+slot_text (Waiting seat text) = text.items
+slot_text Running = []
+slot_text (Done written) = written.text.items
 
--- what a channel carries is what is sent of a share
-abbrev pub IsCarried : {A : Type 0} → ℕ → Image → List BatchOfPages → Share → Carried A → Type 0
-IsCarried base image batches share carried = answer_text image.table.page_size carried.packets.items carried.last ≡ share_text base image batches share
+-- a worker has left its answer here
+abbrev pub IsAnswer : {A : Type 0} → Slot A → Type 0
+IsAnswer (Waiting seat text) = ⊥
+IsAnswer Running = ⊥
+IsAnswer (Done written) = Unit {0}
 
--- the shares of some spent seats, and the channels that carry them, where there was memory
-pub record AreGathered {A : Type 0} (deal : DealView) (image : Image) (batches : List BatchOfPages) (spents : List SeatView) (made : Result (Vec (Carried A) A) NoMemory) : Type 0 where
-  pub shares : List Share
-  pub have_shares : AllZip (HasShare (new_seat deal)) spents shares
-  pub are_carried : IfOk made (λ channels. AllZip (IsCarried deal.base image batches) shares channels.items)
+-- the worker of a new seat has written here behind a text
+abbrev pub IsDone : {A : Type 0} → DealView → Image → List BatchOfPages → List ℕ → Slot A → Type 0
+IsDone deal image batches before (Done written) = HasWritten image batches (new_seat deal) before written
+IsDone deal image batches before (Waiting seat text) = ⊥
+IsDone deal image batches before Running = ⊥
 
--- so many channels carry a dealing of the batches from a base on
-pub record HasDealt {A : Type 0} (base : ℕ) (image : Image) (batches : List BatchOfPages) (count : ℕ) (channels : List (Carried A)) : Type 0 where
+-- it had memory for all of its share
+abbrev pub HadMemory : {A : Type 0} → Slot A → Type 0
+HadMemory (Done written) = IsOk written.made
+HadMemory (Waiting seat text) = ⊥
+HadMemory Running = ⊥
+
+-- this is left of its seat
+abbrev pub HasSpent : {A : Type 0} → Slot A → SeatView → Type 0
+HasSpent (Done written) spent = spent ≡ written.spent
+HasSpent (Waiting seat text) spent = ⊥
+HasSpent Running spent = ⊥
+
+-- ---- all workers
+
+-- The channels' texts carry a dealing of the batches from a base on: each has, behind what it had, what is sent of its share.
+pub record CarryDealing (base : ℕ) (image : Image) (batches : List BatchOfPages) (before after : List (List ℕ)) : Type 0 where
   pub shares : List Share
   pub is_dealing : IsDealing base (length batches) shares
-  pub as_many : length shares ≡ count
-  pub are_carried : AllZip (IsCarried base image batches) shares channels
+  pub as_many : length shares ≡ length before
+  pub have_texts : (channel : ℕ) → channel < length before
+      → get_or after channel [] ≡ get_or before channel [] ++ share_text base image batches (get_or shares channel no_share)

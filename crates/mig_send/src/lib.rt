@@ -14,7 +14,7 @@ mod fault;
 mod laws;
 mod multi;
 mod packed;
-mod part;
+mod share;
 mod single;
 mod worker;
 mod workers;

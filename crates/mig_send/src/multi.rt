@@ -1,17 +1,15 @@
 //! The sender on several channels: a main stream with a FLUSH for each round, and the rounds' packets on the channels beside it.
 
-ghost use Rattle.std.specs.Prelude.{◌≡◌, ◌↔◌, ◌<◌, ◌≤◌, ◌++◌, ◌∷◌, [], List, ℕ, Err, length, map, replicate, IfOk, IfErr, OnOk, OnErr};
+ghost use Rattle.std.specs.Prelude.{◌≡◌, ◌↔◌, ◌<◌, ◌≤◌, ◌++◌, ◌∷◌, [], List, ℕ, Err, length, map, replicate, IfOk, IfErr, OnOk, OnErr, vec_len};
 ghost use Rattle.std.specs.List.{range_with_len};
 ghost use Rattle.mig_stream.specs.Written.{FlushPart, written_so_far};
 ghost use Rattle.mig_packet.specs.Hello.{written_hello};
 ghost use Rattle.mig_send.specs.Sending.{AreOf, IsRoundFault};
-ghost use Rattle.mig_send.specs.Parts.{texts_of};
 ghost use Rattle.mig_send.specs.DealtRounds.{DealtRound, IsSending, channel_text};
-ghost use Rattle.mig_send.specs.MultiSending.{Drained, nothing_drained, HasSentRounds, HasSentOne, KeepsSetting, KeepsCounts, IsRefused, whole_texts, with_main, with_channel};
+ghost use Rattle.mig_send.specs.MultiSending.{Drained, nothing_drained, HasSentRounds, HasSentOne, KeepsSetting, KeepsCounts, IsRefused, texts_of, cut_texts, whole_texts, with_main, with_channel};
 
 use crate::SendFault;
 use crate::batch::cut;
-use crate::part::{append_parts, reserve_parts};
 use crate::workers::deal_round;
 use mig_mem::{Dirty, GuestPages, NoMemory, Table};
 use mig_packet::{Gate, hello, page_limit};
@@ -39,8 +37,7 @@ pub struct MultiSender<A: Allocator = Global> {
 }
 
 impl<A: Allocator> Model for MultiSender<A> {
-    ghost use Rattle.mig_send.specs.MultiSending.{MultiSending, IsMultiSending};
-    ghost use Rattle.mig_send.specs.Parts.{texts_of};
+    ghost use Rattle.mig_send.specs.MultiSending.{MultiSending, IsMultiSending, texts_of};
 
     ghost Value = { MultiSending };
 
@@ -70,6 +67,27 @@ fn hellos<A: Allocator + Copy>(
         texts.push(Vec::from_slice(alloc, &hello(uuid, id as u8))?)?;
     }
     Ok(texts)
+}
+
+// The lengths of some texts.
+fn lengths<A: Allocator>(alloc: A, texts: &[Vec<u8, A>]) -> Result<Vec<usize, A>, NoMemory>
+    ensures { IfOk result (λ lens. lens.items ≡ map vec_len texts.now) }
+{
+    let mut lens = Vec::with_capacity(alloc, texts.len())?;
+    'texts: for text in texts {
+        lens.push(text.len())?;
+    }
+    Ok(lens)
+}
+
+// Cuts each text to the length of its place.
+fn cut_back<A: Allocator>(channels: &mut Vec<Vec<u8, A>, A>, lens: &[usize])
+    requires { length lens.now ≡ vec_len channels.old }
+    ensures { texts_of channels.new.items ≡ cut_texts lens.now (texts_of channels.old.items) }
+{
+    'channels: for i in 0..lens.len() {
+        channels[i].truncate(lens[i]);
+    }
 }
 
 impl<A: Allocator + Copy> MultiSender<A> {
@@ -107,8 +125,8 @@ impl<A: Allocator + Copy> MultiSender<A> {
 }
 
 impl<A: Allocator + Copy + Send + Sync> MultiSender<A> {
-    /// Sends a round: cuts the dirty pages into batches, deals these to the workers, and puts each worker's packets, with a SYNC
-    /// packet behind them, on its channel, and a FLUSH on the main stream. An `Err` changes nothing, so the round can be sent
+    /// Sends a round: cuts the dirty pages into batches and deals these to the workers, each of which puts its packets, with a SYNC
+    /// packet behind them, on its channel, and puts a FLUSH on the main stream. An `Err` changes nothing, so the round can be sent
     /// again. It returns when all workers are done; where no thread can be made, a worker runs on the caller's. Once more than
     /// 2^63 packets were numbered, each round is refused as for want of memory.
     pub fn round<
@@ -130,20 +148,24 @@ impl<A: Allocator + Copy + Send + Sync> MultiSender<A> {
         if self.base > LAST_BASE {
             return Err(SendFault::NoMemory);
         }
-        let page_size = table.page_size();
         let batches = cut(self.alloc, image.table(), dirty, self.limit)?;
-        let carried = deal_round(
+        let lens = lengths(self.alloc, &self.channels)?;
+        let Ok(()) = deal_round(
             rt,
             self.alloc,
             self.base,
             image,
             &batches,
-            self.channels.len(),
+            &mut self.channels,
             gate,
-        )?;
-        reserve_parts(page_size, &mut self.channels, &carried)?;
-        self.main.flush_part()?;
-        append_parts(rt, page_size, &mut self.channels, &carried);
+        ) else {
+            cut_back(&mut self.channels, &lens);
+            return Err(SendFault::NoMemory);
+        };
+        let Ok(()) = self.main.flush_part() else {
+            cut_back(&mut self.channels, &lens);
+            return Err(SendFault::NoMemory);
+        };
         self.base += (batches.len() + self.channels.len()) as u64;
         self.rounds += 1;
         Ok(())

@@ -7,7 +7,7 @@ ghost use Rattle.mig_mem.specs.Image.{content_at};
 ghost use Rattle.mig_zero.specs.Zero.{is_zero as zero_test};
 ghost use Rattle.mig_send.specs.Batches.{IsBatch};
 ghost use Rattle.mig_packet.specs.PageSize.{page_limit};
-ghost use Rattle.mig_send.specs.Packing.{IsPacked, packed_of, normal_offsets, zero_offsets, contents_at, packet_at};
+ghost use Rattle.mig_send.specs.Packing.{IsPacked, IsPrefix, packed_of, normal_offsets, zero_offsets, contents_at, packet_at};
 
 use crate::Batch;
 use mig_mem::{GuestPages, NoMemory, Place};
@@ -64,8 +64,8 @@ pub fn pack<A: Allocator + Copy, M: GuestPages, C: Allocator>(
 {
     // For what `len` tells of the table (`IsTable`): its ids, page numbers and page size are such that its packets can be written.
     let _blocks = memory.table().len();
-    let (normal, zero) = offsets(alloc, memory, batch.block, &batch.pages)?;
-    let bytes = packet_text(alloc, memory, batch.block, number, &normal, &zero)?;
+    let mut bytes = Vec::new(alloc);
+    append_packet(&mut bytes, &mut Offsets::new(alloc), memory, batch, number)?;
     Ok(Packed {
         page_size: memory.table().page_size(),
         number,
@@ -73,21 +73,61 @@ pub fn pack<A: Allocator + Copy, M: GuestPages, C: Allocator>(
     })
 }
 
-// The offsets of some pages of a block, in bytes: of those that aren't zeros, and of those that are.
-fn offsets<A: Allocator + Copy, M: GuestPages>(
-    alloc: A,
+/// The offsets of some pages of a block, in bytes: of those that aren't zeros, and of those that are. Who packs several batches keeps
+/// one, so that the lists' memory is used again.
+#[derive(Drop)]
+pub(crate) struct Offsets<A: Allocator> {
+    normal: Vec<u64, A>,
+    zero: Vec<u64, A>,
+}
+
+impl<A: Allocator + Copy> Offsets<A> {
+    /// Those of no page.
+    pub(crate) fn new(alloc: A) -> Offsets<A> {
+        Offsets {
+            normal: Vec::new(alloc),
+            zero: Vec::new(alloc),
+        }
+    }
+}
+
+/// Appends the packet of a batch to a text, with room made for all of it at once. After an `Err` a part of it may have been appended.
+pub(crate) fn append_packet<A: Allocator, M: GuestPages, C: Allocator>(
+    text: &mut Vec<u8, A>,
+    offsets: &mut Offsets<A>,
+    memory: &M,
+    batch: &Batch<C>,
+    number: u64,
+) -> Result<(), NoMemory>
+    requires { IsBatch (M.image memory.now).table batch.now }
+    ensures ok { OnOk result (text.new.items ≡ text.old.items ++ (packed_of (M.image memory.now) batch.now number).bytes) }
+    ensures prefix { IsPrefix text.old.items text.new.items }
+{
+    // As in `pack`.
+    let _blocks = memory.table().len();
+    let Offsets { normal, zero } = offsets;
+    put_offsets(normal, zero, memory, batch.block, &batch.pages)?;
+    append_pages(text, memory, batch.block, number, normal, zero)
+}
+
+// Puts the offsets of some pages of a block into two lists, in place of what these had.
+fn put_offsets<A: Allocator, M: GuestPages>(
+    normal: &mut Vec<u64, A>,
+    zero: &mut Vec<u64, A>,
     memory: &M,
     block: usize,
     pages: &[u64],
-) -> Result<(Vec<u64, A>, Vec<u64, A>), NoMemory>
+) -> Result<(), NoMemory>
     requires table { IsTable (M.image memory.now).table }
     requires places { All (IsPlace (M.image memory.now).table) (map (place_at block) pages.now) }
-    ensures normal { IfOk result (λ lists. lists.0.items ≡ normal_offsets (M.image memory.now) (map (place_at block) pages.now)) }
-    ensures zero { IfOk result (λ lists. lists.1.items ≡ zero_offsets (M.image memory.now) (map (place_at block) pages.now)) }
+    ensures normal { OnOk result (normal.new.items ≡ normal_offsets (M.image memory.now) (map (place_at block) pages.now)) }
+    ensures zero { OnOk result (zero.new.items ≡ zero_offsets (M.image memory.now) (map (place_at block) pages.now)) }
 {
     let page_size = memory.table().page_size();
-    let mut normal = Vec::with_capacity(alloc, pages.len())?;
-    let mut zero = Vec::with_capacity(alloc, pages.len())?;
+    normal.clear();
+    zero.clear();
+    normal.reserve(pages.len())?;
+    zero.reserve(pages.len())?;
     for page in pages {
         let offset = *page * page_size;
         let place = Place { block, page: *page };
@@ -97,7 +137,7 @@ fn offsets<A: Allocator + Copy, M: GuestPages>(
         }
         normal.push(offset)?;
     }
-    Ok((normal, zero))
+    Ok(())
 }
 
 // Whether a page is of zeros; a place that the memory lacks is one of no bytes at all.
@@ -110,47 +150,47 @@ fn is_zero_page<M: GuestPages>(memory: &M, place: Place) -> bool
     }
 }
 
-// The packet of a number with pages of a block: the normal pages and the zero pages by their offsets.
-fn packet_text<A: Allocator, M: GuestPages>(
-    alloc: A,
+// Appends the packet of a number with pages of a block: the normal pages and the zero pages by their offsets.
+fn append_pages<A: Allocator, M: GuestPages>(
+    text: &mut Vec<u8, A>,
     memory: &M,
     block: usize,
     number: u64,
     normal: &[u64],
     zero: &[u64],
-) -> Result<Vec<u8, A>, NoMemory>
+) -> Result<(), NoMemory>
     requires table { IsTable (M.image memory.now).table }
     requires block { block < length (M.image memory.now).table.blocks }
     requires few { length normal.now + length zero.now ≤ page_limit (M.image memory.now).table.page_size }
-    ensures { IfOk result (λ bytes. bytes.items ≡ packet_at (M.image memory.now) block number normal.now zero.now) }
+    ensures ok { OnOk result (text.new.items ≡ text.old.items ++ packet_at (M.image memory.now) block number normal.now zero.now) }
+    ensures prefix { IsPrefix text.old.items text.new.items }
 {
     let table = memory.table();
     let page_size = table.page_size();
-    let len = head_len(page_size) + normal.len() * page_size as usize;
-    let mut bytes = Vec::with_capacity(alloc, len)?;
+    text.reserve(head_len(page_size) + normal.len() * page_size as usize)?;
     let id = table.id(block);
-    let Ok(()) = put_packet_head(page_size, &mut bytes, number, false, id, normal, zero) else {
+    let Ok(()) = put_packet_head(page_size, text, number, false, id, normal, zero) else {
         return Err(NoMemory);
     };
-    append_contents(&mut bytes, memory, block, normal)?;
-    Ok(bytes)
+    append_contents(text, memory, block, normal)
 }
 
 // Appends the contents of the pages of a block that are at these offsets. After an `Err` some of them may have been appended.
 fn append_contents<A: Allocator, M: GuestPages>(
-    bytes: &mut Vec<u8, A>,
+    text: &mut Vec<u8, A>,
     memory: &M,
     block: usize,
     offsets: &[u64],
 ) -> Result<(), NoMemory>
     requires { IsTable (M.image memory.now).table }
-    ensures { OnOk result (bytes.new.items ≡ bytes.old.items ++ contents_at (M.image memory.now) block offsets.now) }
+    ensures ok { OnOk result (text.new.items ≡ text.old.items ++ contents_at (M.image memory.now) block offsets.now) }
+    ensures prefix { IsPrefix text.old.items text.new.items }
 {
     let page_size = memory.table().page_size();
     for offset in offsets {
         let page = *offset / page_size;
         if let Some(content) = memory.page(Place { block, page }) {
-            bytes.extend_from_slice(content)?;
+            text.extend_from_slice(content)?;
         }
     }
     Ok(())

@@ -5,7 +5,7 @@
 ghost use Rattle.std.specs.Prelude.{◌≡◌, ◌∷◌, ◌++◌, [], IfOk, IsOkAnd};
 ghost use Rattle.mig_send.specs.Batches.{IsBatch};
 ghost use Rattle.mig_send.specs.Packing.{packed_of};
-ghost use Rattle.mig_send.specs.Work.{AreDealt, HasWorked};
+ghost use Rattle.mig_send.specs.Work.{ClaimsBatches, HasWorked};
 ghost use Rattle.mig_send.specs.Dealing.{WorkersMakeADealing};
 
 use crate::Batch;
@@ -36,7 +36,7 @@ pub fn work<A: Allocator + Copy, M: GuestPages, C: Allocator, D: Allocator, G: G
     gate: &G,
 ) -> Worked<A>
     requires own { seat.deal ≡ deal.now }
-    requires dealt { AreDealt deal.now (M.image memory.now).table batches.now }
+    requires dealt { ClaimsBatches deal.now (M.image memory.now).table batches.now }
     ensures { HasWorked (M.image memory.now) batches.now seat result }
 {
     let mut seat = seat;

@@ -1,14 +1,16 @@
-//! The workers of a round, each with a seat of its own and on a thread of its own, and what they answer together.
+//! The workers of a round, each with a seat of its own and on a thread of its own, and what they write together.
 
-ghost use Rattle.std.specs.Prelude.{◌≡◌, ◌+◌, ◌<◌, ◌≤◌, ◌∷◌, ◌++◌, [], All, IfOk, IsOkAnd, length, vec_len, vec_capacity};
+ghost use Rattle.std.specs.Prelude.{◌≡◌, ◌+◌, ◌<◌, ◌≤◌, ◌∷◌, ◌++◌, [], All, IsOk, OnOk, length, map, vec_len, vec_capacity};
+ghost use Rattle.std.specs.List.{AllZip};
 ghost use Rattle.mig_deal.specs.Deal.{IsWithinLimits, new_seat};
 ghost use Rattle.mig_send.specs.Batches.{IsBatch};
-ghost use Rattle.mig_send.specs.Work.{AreDealt};
-ghost use Rattle.mig_send.specs.Workers.{IsReady, IsDone, AreGathered, HasDealt};
+ghost use Rattle.mig_send.specs.Packing.{IsPrefix};
+ghost use Rattle.mig_send.specs.Work.{ClaimsBatches};
+ghost use Rattle.mig_send.specs.MultiSending.{texts_of};
+ghost use Rattle.mig_send.specs.Workers.{IsReady, IsDone, IsAnswer, HadMemory, HasSpent, CarryDealing, slot_text};
 
 use crate::Batch;
-use crate::packed::Packed;
-use crate::worker::{Worked, work};
+use crate::share::{Written, write_share};
 use mig_deal::{Deal, Seat, Spent};
 use mig_mem::{GuestPages, NoMemory};
 use mig_packet::Gate;
@@ -16,18 +18,11 @@ use std::alloc::{AllocFailed, Allocator};
 use std::mem;
 use std::thread::{Threads, for_each_mut};
 
-/// A seat before its worker ran, and its answer afterwards.
+/// A seat and the text of its channel before its worker ran, and what the worker left afterwards.
 pub(crate) enum Slot<A: Allocator> {
-    Waiting(Seat),
+    Waiting(Seat, Vec<u8, A>),
     Running,
-    Done(Worked<A>),
-}
-
-/// What a channel carries of a round: its packets, and the number of its last draw.
-#[derive(Drop)]
-pub(crate) struct Carried<A: Allocator> {
-    pub(crate) packets: Vec<Packed<A>, A>,
-    pub(crate) last: u64,
+    Done(Written<A>),
 }
 
 // Runs the worker of a slot.
@@ -41,20 +36,20 @@ fn run_one<A: Allocator + Copy, M: GuestPages, G: Gate>(
     slot: &mut Slot<A>,
 )
     requires ready { IsReady deal.now slot.old }
-    requires dealt { AreDealt deal.now (M.image memory.now).table batches.now }
-    ensures { IsDone deal.now (M.image memory.now) batches.now slot.new }
+    requires batches { ClaimsBatches deal.now (M.image memory.now).table batches.now }
+    ensures { IsDone deal.now (M.image memory.now) batches.now (slot_text slot.old) slot.new }
 {
     match mem::replace(slot, Slot::Running) {
-        Slot::Waiting(seat) => {
-            let worked = work(alloc, deal, seat, channel, memory, batches, gate);
-            match mem::replace(slot, Slot::Done(worked)) {
+        Slot::Waiting(seat, text) => {
+            let written = write_share(alloc, deal, seat, channel, memory, batches, gate, text);
+            match mem::replace(slot, Slot::Done(written)) {
                 Slot::Running => {}
-                Slot::Waiting(_seat) => unreachable!(),
-                Slot::Done(_worked) => unreachable!(),
+                Slot::Waiting(_seat, _text) => unreachable!(),
+                Slot::Done(_written) => unreachable!(),
             }
         }
         Slot::Running => unreachable!(),
-        Slot::Done(_worked) => unreachable!(),
+        Slot::Done(_written) => unreachable!(),
     }
 }
 
@@ -75,8 +70,8 @@ fn run_all<
 )
     requires some { 0 < length slots.old }
     requires ready { All (IsReady deal.now) slots.old }
-    requires dealt { AreDealt deal.now (M.image memory.now).table batches.now }
-    ensures { All (IsDone deal.now (M.image memory.now) batches.now) slots.new }
+    requires batches { ClaimsBatches deal.now (M.image memory.now).table batches.now }
+    ensures { AllZip (IsDone deal.now (M.image memory.now) batches.now) (map slot_text slots.old) slots.new }
 {
     let workers = slots.len();
     for_each_mut(
@@ -84,8 +79,8 @@ fn run_all<
         slots,
         workers,
         &|channel, slot|
-            requires { IsReady deal.now slot.old × AreDealt deal.now (M.image memory.now).table batches.now }
-            ensures { IsDone deal.entry.now (M.image memory.entry.now) batches.entry.now slot.new }
+            requires { IsReady deal.now slot.old × ClaimsBatches deal.now (M.image memory.now).table batches.now }
+            ensures { IsDone deal.entry.now (M.image memory.entry.now) batches.entry.now (slot_text slot.old) slot.new }
         { run_one(alloc, deal, channel, memory, batches, gate, slot) },
     );
 }
@@ -103,68 +98,70 @@ fn put<T, A: Allocator>(list: &mut Vec<T, A>, item: T)
     }
 }
 
-// Each seat into a slot.
-fn seat_all<A: Allocator>(deal: &Deal<A>, mut seats: Vec<Seat, A>, slots: &mut Vec<Slot<A>, A>)
+// Each seat into a slot, with the text of its channel.
+fn seat_all<A: Allocator>(
+    deal: &Deal<A>,
+    mut seats: Vec<Seat, A>,
+    channels: &mut Vec<Vec<u8, A>, A>,
+    slots: &mut Vec<Slot<A>, A>,
+)
     requires new { All (λ seat. seat ≡ new_seat deal.now) seats.items }
+    requires as_many { vec_len seats ≡ vec_len channels.old }
     requires room { (slots.old.items ≡ []) × (vec_len seats ≤ vec_capacity slots.old) }
-    ensures count { vec_len slots.new ≡ vec_len seats }
     ensures ready { All (IsReady deal.now) slots.new.items }
+    ensures texts { map slot_text slots.new.items ≡ texts_of channels.old.items }
+    ensures count { vec_len slots.new ≡ vec_len channels.old }
+    ensures none { channels.new.items ≡ [] }
+    ensures capacity { vec_capacity channels.new ≡ vec_capacity channels.old }
 {
-    'seats: while let Some(seat) = seats.pop() {
-        put(slots, Slot::Waiting(seat));
+    channels.reverse();
+    'texts: while let Some(text) = channels.pop() {
+        let Some(seat) = seats.pop() else {
+            unreachable!()
+        };
+        put(slots, Slot::Waiting(seat, text));
     }
     seats.destroy_empty();
 }
 
-// The channels with one more, or want of memory, also where there was none before.
-fn add<A: Allocator>(
-    channels: Result<Vec<Carried<A>, A>, NoMemory>,
-    packets: Result<Vec<Packed<A>, A>, NoMemory>,
-    last: u64,
-) -> Result<Vec<Carried<A>, A>, NoMemory>
-    ensures { IfOk result (λ after. IsOkAnd channels (λ before. IsOkAnd packets (λ some. after.items ≡ before.items ++ record { packets = some; last = last } ∷ []))) }
+// Whether both had memory.
+fn both(made: Result<(), NoMemory>, other: Result<(), NoMemory>) -> Result<(), NoMemory>
+    ensures { OnOk result (IsOk made × IsOk other) }
 {
-    let mut channels = channels?;
-    channels.push(Carried {
-        packets: packets?,
-        last,
-    })?;
-    Ok(channels)
+    made?;
+    other
 }
 
-// What all workers left: the channels, in the order of the slots, and what is left of the seats.
-fn gather<A: Allocator, M: GuestPages>(
-    alloc: A,
-    deal: &Deal<A>,
-    memory: &M,
-    batches: &[Batch<A>],
+// Puts the texts that all workers left back, in the order of the slots, and what is left of their seats into a list. It answers
+// whether all had memory.
+fn put_back<A: Allocator>(
     mut slots: Vec<Slot<A>, A>,
+    channels: &mut Vec<Vec<u8, A>, A>,
     spents: &mut Vec<Spent, A>,
-) -> Result<Vec<Carried<A>, A>, NoMemory>
-    requires done { All (IsDone deal.now (M.image memory.now) batches.now) slots.items }
-    requires room { (spents.old.items ≡ []) × (vec_len slots ≤ vec_capacity spents.old) }
-    ensures count { vec_len spents.new ≡ vec_len slots }
-    ensures gathered { AreGathered deal.now (M.image memory.now) batches.now spents.new.items result }
+) -> Result<(), NoMemory>
+    requires done { All IsAnswer slots.items }
+    requires channels { (channels.old.items ≡ []) × (vec_len slots ≤ vec_capacity channels.old) }
+    requires spents { (spents.old.items ≡ []) × (vec_len slots ≤ vec_capacity spents.old) }
+    ensures texts { texts_of channels.new.items ≡ map slot_text slots.items }
+    ensures spents { AllZip HasSpent slots.items spents.new.items }
+    ensures made { OnOk result (All HadMemory slots.items) }
 {
     slots.reverse();
-    let mut channels = Ok(Vec::new(alloc));
+    let mut all_made = Ok(());
     'slots: while let Some(slot) = slots.pop() {
         match slot {
-            Slot::Done(worked) => {
-                let Worked {
-                    packets,
-                    last,
-                    spent,
-                } = worked;
+            Slot::Done(written) => {
+                let Written { text, made, spent } = written;
+                put(channels, text);
                 put(spents, spent);
-                channels = add(channels, packets, last);
+                all_made = both(all_made, made);
             }
-            Slot::Waiting(_seat) => unreachable!(),
+            Slot::Waiting(_seat, _text) => unreachable!(),
             Slot::Running => unreachable!(),
         }
     }
     slots.destroy_empty();
-    channels
+    all_made
 }
 
 // Runs the workers of the slots in a list.
@@ -184,15 +181,15 @@ fn run_slots<
 )
     requires some { 0 < vec_len slots.old }
     requires ready { All (IsReady deal.now) slots.old.items }
-    requires dealt { AreDealt deal.now (M.image memory.now).table batches.now }
+    requires batches { ClaimsBatches deal.now (M.image memory.now).table batches.now }
     ensures count { vec_len slots.new ≡ vec_len slots.old }
-    ensures done { All (IsDone deal.now (M.image memory.now) batches.now) slots.new.items }
+    ensures done { AllZip (IsDone deal.now (M.image memory.now) batches.now) (map slot_text slots.old.items) slots.new.items }
 {
     run_all(rt, alloc, deal, memory, batches, gate, slots.as_mut_slice());
 }
 
-/// Deals the batches of a round to so many workers, each on a thread of its own, and gathers what they made of them, a channel
-/// for each worker.
+/// Deals the batches of a round to as many workers as there are channels, each on a thread of its own, which append what they draw to
+/// the channels' texts. After an `Err` parts of it may have been appended.
 pub(crate) fn deal_round<
     R: Threads + Sync,
     A: Allocator + Copy + Send + Sync,
@@ -204,26 +201,28 @@ pub(crate) fn deal_round<
     base: u64,
     memory: &M,
     batches: &[Batch<A>],
-    channels: usize,
+    channels: &mut Vec<Vec<u8, A>, A>,
     gate: &G,
-) -> Result<Vec<Carried<A>, A>, NoMemory>
-    requires limits { IsWithinLimits base (length batches.now) channels }
+) -> Result<(), NoMemory>
+    requires limits { IsWithinLimits base (length batches.now) (vec_len channels.old) }
     requires batches { All (IsBatch (M.image memory.now).table) batches.now }
-    ensures { IfOk result (λ some. HasDealt base (M.image memory.now) batches.now channels some.items) }
+    ensures prefix { AllZip IsPrefix (texts_of channels.old.items) (texts_of channels.new.items) }
+    ensures ok { OnOk result (CarryDealing base (M.image memory.now) batches.now (texts_of channels.old.items) (texts_of channels.new.items)) }
 {
-    let mut slots = Vec::with_capacity(alloc, channels)?;
-    let Ok(mut spents) = Vec::with_capacity(alloc, channels) else {
+    let count = channels.len();
+    let mut slots = Vec::with_capacity(alloc, count)?;
+    let Ok(mut spents) = Vec::with_capacity(alloc, count) else {
         slots.destroy_empty();
         return Err(NoMemory);
     };
-    let Ok((deal, seats)) = Deal::new(alloc, base, batches.len() as u64, channels) else {
+    let Ok((deal, seats)) = Deal::new(alloc, base, batches.len() as u64, count) else {
         slots.destroy_empty();
         spents.destroy_empty();
         return Err(NoMemory);
     };
-    seat_all(&deal, seats, &mut slots);
+    seat_all(&deal, seats, channels, &mut slots);
     run_slots(rt, alloc, &deal, memory, batches, gate, &mut slots);
-    let carried = gather(alloc, &deal, memory, batches, slots, &mut spents);
+    let made = put_back(slots, channels, &mut spents);
     let _next = deal.close(spents);
-    carried
+    made
 }

@@ -70,4 +70,15 @@ fn texts_of_faults(rt: HostRuntime) {
         load,
         "round 3, in the stream: 12: the version of the stream isn't 3",
     );
+    let extra = LoadFault {
+        round: 0,
+        source: Origin::Channel(7),
+        fault: Fault::Extra,
+    };
+    assert_text(
+        &rt,
+        alloc,
+        extra,
+        "round 0, in channel 7: 52: the channel goes on where the main stream is over",
+    );
 }

@@ -26,6 +26,7 @@ comparison a b = if is_none (find (differs a b) (places a.table)) then Same else
 
 abbrev pub in_origin : Origin → List ℕ
 in_origin origin.Main = codes " in main"
+in_origin (origin.Channel channel) = codes " in channel " ++ decimal channel
 in_origin origin.Round = codes " in round"
 
 abbrev pub unloaded : LoadFault → List ℕ

@@ -3,7 +3,7 @@
 ghost use Rattle.std.specs.Prelude.{◌≡◌, ◌++◌, OnOk, IfSome, codes, decimal};
 ghost use Rattle.std.specs.Io.KnownBytes.{Appends};
 ghost use Rattle.mig_tool.specs.Report.{single_line, same_line, refused, scenario_place};
-ghost use Rattle.mig_tool.specs.Answer.{unloaded, printed, status_of};
+ghost use Rattle.mig_tool.specs.Answer.{unloaded, in_origin, printed, status_of};
 
 use crate::check::Answer;
 use crate::fault::{ScenarioFault, ToolFault};
@@ -49,9 +49,18 @@ fn put_unloaded<W: Write>(output: &mut W, fault: LoadFault) -> io::Result<()>
 {
     put_number(output, b"fault ", u64::from(fault.fault.number()))?;
     put_number(output, b" round ", fault.round)?;
-    match fault.source {
-        Origin::Main => output.write_all(b" in main\n"),
-        Origin::Round => output.write_all(b" in round\n"),
+    put_origin(output, fault.source)?;
+    output.write_all(b"\n")
+}
+
+// Writes where a load has its fault.
+fn put_origin<W: Write>(output: &mut W, source: Origin) -> io::Result<()>
+    ensures { OnOk result (Appends (W.contents output.old) (W.contents output.new) (in_origin source)) }
+{
+    match source {
+        Origin::Main => output.write_all(b" in main"),
+        Origin::Channel(channel) => put_number(output, b" in channel ", channel as u64),
+        Origin::Round => output.write_all(b" in round"),
     }
 }
 

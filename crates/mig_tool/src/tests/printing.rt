@@ -4,6 +4,7 @@ use crate::check::Answer;
 use crate::print::{print, status};
 use crate::tests::assert_answer;
 use mig_load::{Fault, LoadFault, Origin};
+use mig_packet::ChannelFault;
 use mig_stream::StreamFault;
 use std::alloc::Global;
 
@@ -17,7 +18,7 @@ fn printed(alloc: Global, fault: LoadFault) -> Option<(u8, Vec<u8>)> {
 
 #[test]
 fn faults_of_a_load(rt: HostRuntime) {
-    let cases: [(u64, Origin, Fault, &[u8]); 4] = [
+    let cases: [(u64, Origin, Fault, &[u8]); 6] = [
         (
             1,
             Origin::Main,
@@ -29,6 +30,18 @@ fn faults_of_a_load(rt: HostRuntime) {
             Origin::Main,
             Fault::Stream(StreamFault::Magic),
             b"fault 11 round 0 in main\n",
+        ),
+        (
+            2,
+            Origin::Channel(0),
+            Fault::Channel(ChannelFault::Unsynced),
+            b"fault 45 round 2 in channel 0\n",
+        ),
+        (
+            0,
+            Origin::Channel(254),
+            Fault::HelloTwice,
+            b"fault 51 round 0 in channel 254\n",
         ),
         (
             0,

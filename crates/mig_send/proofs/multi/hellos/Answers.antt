@@ -3,7 +3,7 @@ use Rattle.std.specs.Prelude.{Vec}
 use Rattle.std.specs.List.{range_with_len}
 use Rattle.std.proofs.lemmas.List.{map_push}
 use Rattle.mig_packet.specs.Hello.{written_hello}
-use Rattle.mig_send.specs.Parts.{texts_of}
+use Rattle.mig_send.specs.MultiSending.{texts_of}
 use Rattle.mig_send.proofs.Channels.{one_more}
 use Rattle.mig_send.proofs.multi.hellos.Goals as goal
 

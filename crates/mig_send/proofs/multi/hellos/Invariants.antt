@@ -1,7 +1,7 @@
 use Rattle.std.proofs.Common.{◌≡◌, map}
 use Rattle.std.specs.List.{range_with_len}
 use Rattle.mig_packet.specs.Hello.{written_hello}
-use Rattle.mig_send.specs.Parts.{texts_of}
+use Rattle.mig_send.specs.MultiSending.{texts_of}
 use Rattle.mig_send.proofs.multi.hellos.Given as goal
 
 abbrev pub invariant-channels : goal.invariant-channels

@@ -2,9 +2,8 @@ use Rattle.std.proofs.Common.{ℕ, ◌<◌, List, refl, subst, arith, ◌∙◌,
 use Rattle.std.specs.Prelude.{Vec}
 use Rattle.std.specs.List.{slice_set}
 use Rattle.std.proofs.lemmas.List.{length-map, length-set}
-use Rattle.mig_send.specs.Parts.{texts_of}
 use Rattle.mig_send.specs.DealtRounds.{DealtRound}
-use Rattle.mig_send.specs.MultiSending.{MultiSending, Drained, HasSentRounds, with_channel}
+use Rattle.mig_send.specs.MultiSending.{MultiSending, Drained, HasSentRounds, with_channel, texts_of}
 use Rattle.mig_send.proofs.Sendings.{drained_channel, texts_long}
 use Rattle.mig_send.proofs.multi.MultiSender.drain_channel.Goals as goal
 

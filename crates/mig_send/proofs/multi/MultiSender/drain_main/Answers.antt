@@ -1,7 +1,6 @@
 use Rattle.std.proofs.Common.{List, refl, subst}
-use Rattle.mig_send.specs.Parts.{texts_of}
 use Rattle.mig_send.specs.DealtRounds.{DealtRound}
-use Rattle.mig_send.specs.MultiSending.{MultiSending, Drained, HasSentRounds, with_main}
+use Rattle.mig_send.specs.MultiSending.{MultiSending, Drained, HasSentRounds, with_main, texts_of}
 use Rattle.mig_send.proofs.Sendings.{drained_main}
 use Rattle.mig_send.proofs.multi.MultiSender.drain_main.Goals as goal
 

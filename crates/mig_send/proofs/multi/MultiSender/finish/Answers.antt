@@ -1,8 +1,7 @@
 use Rattle.std.proofs.Common.{List, ◌++◌, length, replicate, subst, arith}
 use Rattle.mig_stream.specs.Written.{FlushPart}
-use Rattle.mig_send.specs.Parts.{texts_of}
 use Rattle.mig_send.specs.DealtRounds.{DealtRound, IsSending}
-use Rattle.mig_send.specs.MultiSending.{MultiSending, Drained, HasSentRounds, whole_texts}
+use Rattle.mig_send.specs.MultiSending.{MultiSending, Drained, HasSentRounds, whole_texts, texts_of}
 use Rattle.mig_send.proofs.Sendings.{whole}
 use Rattle.mig_send.proofs.multi.MultiSender.finish.Goals as goal
 

@@ -1,7 +1,7 @@
 use Rattle.std.proofs.Common.{rules, ◌≤◌, ℕ, refl, sym, subst, arith}
 use Rattle.mig_mem.specs.RamTable.{RamTable, IsTable}
 use Rattle.mig_packet.specs.PageSize.{IsPageSize, page_limit}
-use Rattle.mig_send.specs.Parts.{texts_of}
+use Rattle.mig_send.specs.MultiSending.{texts_of}
 use Rattle.mig_send.proofs.Channels.{hellos_long, hello_alone}
 use Rattle.mig_send.proofs.multi.MultiSender.new.Goals as goal
 

@@ -1,0 +1,43 @@
+-- The texts of a load on several channels as far as they have come, and what they tell: the main stream's and the channels'.
+use Rattle.std.specs.Prelude.{ℕ, ◌≡◌, Bool, true, List, length, map}
+use Rattle.std.specs.List.{AllZip}
+use Rattle.mig_stream.specs.declared.item.Mode.TheVariants.{Main}
+use Rattle.mig_stream.specs.Reading as stream
+use Rattle.mig_packet.specs.Reading as channel
+
+-- ---- texts
+
+-- a text as far as it has come, and whether it has ended
+pub record Text : Type 0 where
+  pub bytes : List ℕ
+  pub ended : Bool
+
+pub record Texts : Type 0 where
+  pub main : Text
+  pub channels : List Text
+
+abbrev pub ended_text : List ℕ → Text
+ended_text bytes = record { bytes = bytes; ended = true }
+
+abbrev pub ended_texts : List ℕ → List (List ℕ) → Texts
+ended_texts main channels = record { main = ended_text main; channels = map ended_text channels }
+
+-- ---- their readings
+
+-- what the main stream and the channels tell
+pub record Readings : Type 0 where
+  pub main : stream.StreamReading
+  pub channels : List channel.ChannelReading
+
+-- the reading of a main stream, ended or not, whose blocks may have `limit` bytes together
+pub record IsMainReading (page_size limit : ℕ) (text : Text) (reading : stream.StreamReading) : Type 0 where
+  pub found : stream.StreamReading
+  pub is_reading : stream.IsReading (stream.settings Main page_size limit) text.bytes found
+  pub has_end : reading ≡ record found { state = stream.state_at text.ended found.state }
+
+-- These are the readings of the texts, at pages of this size, with blocks of at most `limit` bytes together, and under this UUID. As
+-- many channels are expected as there are texts of channels.
+pub record AreReadings (page_size : ℕ) (uuid : List ℕ) (limit : ℕ) (texts : Texts) (readings : Readings) : Type 0 where
+  pub has_main : IsMainReading page_size limit texts.main readings.main
+  pub has_channels : AllZip (λ (text : Text) (reading : channel.ChannelReading). channel.IsReading (channel.settings page_size uuid (length texts.channels)) text.bytes text.ended reading)
+      texts.channels readings.channels

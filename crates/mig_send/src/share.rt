@@ -1,0 +1,111 @@
+//! A worker of a round on several channels: it writes the packets of its share to its channel's text.
+
+ghost use Rattle.std.specs.Prelude.{◌≡◌, ◌++◌, IsOk, OnOk};
+ghost use Rattle.mig_send.specs.Batches.{IsBatch};
+ghost use Rattle.mig_send.specs.Packing.{IsPrefix, packed_of};
+ghost use Rattle.mig_send.specs.Work.{ClaimsBatches};
+ghost use Rattle.mig_send.specs.Dealing.{sync_packet};
+ghost use Rattle.mig_send.specs.Workers.{HasWritten};
+
+use crate::Batch;
+use crate::packed::{Offsets, append_packet};
+use mig_deal::{Deal, Drawn, Seat, Spent};
+use mig_mem::{GuestPages, NoMemory};
+use mig_packet::{Gate, Step, put_packet};
+use std::alloc::Allocator;
+
+/// What a worker leaves: its channel's text, whether there was memory for all of its share, and what is left of its seat.
+pub(crate) struct Written<A: Allocator> {
+    pub(crate) text: Vec<u8, A>,
+    pub(crate) made: Result<(), NoMemory>,
+    pub(crate) spent: Spent,
+}
+
+/// Draws as `work` does, and appends the packets to the text of the worker's channel, with a SYNC packet behind them. Once a growth
+/// was refused it draws on without packing; then the text goes on from what it had by a part of the share.
+pub(crate) fn write_share<A: Allocator + Copy, M: GuestPages, C: Allocator, D: Allocator, G: Gate>(
+    alloc: A,
+    deal: &Deal<D>,
+    seat: Seat,
+    channel: usize,
+    memory: &M,
+    batches: &[Batch<C>],
+    gate: &G,
+    text: Vec<u8, A>,
+) -> Written<A>
+    requires own { seat.deal ≡ deal.now }
+    requires batches { ClaimsBatches deal.now (M.image memory.now).table batches.now }
+    ensures { HasWritten (M.image memory.now) batches.now seat text.items result }
+{
+    let mut seat = seat;
+    let mut text = text;
+    let mut offsets = Offsets::new(alloc);
+    let mut made = Ok(());
+    'draws: loop {
+        match deal.draw(seat) {
+            Drawn::Work(number, next) => {
+                gate.pass(channel, Step::Drawn(number));
+                seat = next;
+                let batch = &batches[(number - deal.base()) as usize];
+                made = add(
+                    made,
+                    &mut text,
+                    &mut offsets,
+                    channel,
+                    memory,
+                    batch,
+                    number,
+                    gate,
+                );
+            }
+            Drawn::Last(last, spent) => {
+                gate.pass(channel, Step::Drawn(last));
+                made = end(made, &mut text, memory, last);
+                return Written { text, made, spent };
+            }
+        }
+    }
+}
+
+// Appends the packet of one more batch; nothing where memory was refused before.
+fn add<A: Allocator, M: GuestPages, C: Allocator, G: Gate>(
+    made: Result<(), NoMemory>,
+    text: &mut Vec<u8, A>,
+    offsets: &mut Offsets<A>,
+    channel: usize,
+    memory: &M,
+    batch: &Batch<C>,
+    number: u64,
+    gate: &G,
+) -> Result<(), NoMemory>
+    requires { IsBatch (M.image memory.now).table batch.now }
+    ensures made { OnOk result (IsOk made) }
+    ensures ok { OnOk result (text.new.items ≡ text.old.items ++ (packed_of (M.image memory.now) batch.now number).bytes) }
+    ensures prefix { IsPrefix text.old.items text.new.items }
+{
+    made?;
+    append_packet(text, offsets, memory, batch, number)?;
+    gate.pass(channel, Step::Packed(number));
+    Ok(())
+}
+
+// Appends the SYNC packet of a number; nothing where memory was refused before.
+fn end<A: Allocator, M: GuestPages>(
+    made: Result<(), NoMemory>,
+    text: &mut Vec<u8, A>,
+    memory: &M,
+    number: u64,
+) -> Result<(), NoMemory>
+    ensures made { OnOk result (IsOk made) }
+    ensures ok { OnOk result (text.new.items ≡ text.old.items ++ sync_packet (M.image memory.now).table.page_size number) }
+    ensures prefix { IsPrefix text.old.items text.new.items }
+{
+    made?;
+    let table = memory.table();
+    // As in `pack`.
+    let _blocks = table.len();
+    let Ok(()) = put_packet(table.page_size(), text, number, true, &[], &[], &[], &[]) else {
+        return Err(NoMemory);
+    };
+    Ok(())
+}
