@@ -1,5 +1,5 @@
 -- Worked examples of the verdict, computed. A packet is written as its text; the empty one says number 0 and no pages.
-use Rattle.std.proofs.Common.{ℕ, ◌≡◌, List, [], ◌∷◌, refl, Option, Some, None, true, false}
+use Rattle.std.proofs.Common.{ℕ, ◌≡◌, List, [], ◌∷◌, refl, Some, true}
 use Rattle.mig_mem.specs.RamTable.{RamTable}
 use Rattle.mig_stream.specs.declared.item.StreamState.{StreamState}
 use Rattle.mig_stream.specs.declared.item.StreamState.TheVariants as stream
@@ -10,7 +10,7 @@ use Rattle.mig_packet.specs.declared.state.ChannelState.TheVariants as channel
 use Rattle.mig_packet.specs.declared.fault.ChannelFault.TheVariants.{HelloUuid, Unsynced}
 use Rattle.mig_packet.specs.Fields.{be32_at, be64_at}
 use Rattle.mig_packet.specs.Reading.{ChannelReading}
-use Rattle.mig_assemble.specs.declared.fault.RoundFault.TheVariants.{Foreign, Doubled, Missing}
+use Rattle.mig_assemble.specs.declared.fault.RoundFault.TheVariants.{Foreign, Doubled}
 use Rattle.mig_load.specs.declared.fault.Origin.TheVariants as origin
 use Rattle.mig_load.specs.declared.fault.Fault.TheVariants as fault
 use Rattle.mig_load.specs.declared.verdict.Verdict.TheVariants.{Running, Done}

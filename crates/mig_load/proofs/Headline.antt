@@ -20,7 +20,8 @@ use Rattle.mig_load.specs.declared.loaded.Loaded.{Loaded}
 use Rattle.mig_load.specs.declared.verdict.Verdict.{Verdict}
 use Rattle.mig_load.specs.declared.verdict.Verdict.TheVariants.{Done}
 use Rattle.mig_load.specs.SingleLoad.{loaded}
-use Rattle.mig_load.specs.Status.{Whole, Clean, is_whole, is_clean, is_pending, fault_of}
+use Rattle.mig_load.specs.declared.status.Status.TheVariants.{Whole, Clean}
+use Rattle.mig_load.specs.Status.{is_whole, is_clean, is_pending, fault_of}
 use Rattle.mig_load.specs.Texts.{ended_texts, Readings, AreReadings}
 use Rattle.mig_load.specs.Rounds.{refusal_of, refusal_at, pages_at, memory_at}
 use Rattle.mig_load.specs.MultiLoad.{Standing, main_at, channels_at, sources_at, passes, IsFirstStop, failed_with_own, verdict_at, Answer}

@@ -21,7 +21,8 @@ use Rattle.mig_load.specs.declared.fault.LoadFault.{LoadFault}
 use Rattle.mig_load.specs.declared.fault.Fault.TheVariants as fault
 use Rattle.mig_load.specs.declared.verdict.Verdict.{Verdict}
 use Rattle.mig_load.specs.declared.verdict.Verdict.TheVariants.{Running, Done, Failed}
-use Rattle.mig_load.specs.Status.{Status, status_at, main_status, channel_status, stream_end, channel_end, is_whole, is_clean, is_pending, fault_of}
+use Rattle.mig_load.specs.declared.status.Status.{Status}
+use Rattle.mig_load.specs.Status.{status_at, main_status, channel_status, stream_end, channel_end, is_whole, is_clean, is_pending, fault_of}
 use Rattle.mig_load.specs.Texts.{Text, Texts, Readings, AreReadings}
 use Rattle.mig_load.specs.Rounds.{refusal_at}
 use Rattle.mig_load.specs.MultiLoad.{Standing, main_at, channels_at, sources_at, hello_ids, repeated_hello, passes, IsFirstStop, failed, failed_at_first, failed_with_own, verdicts_at}
@@ -31,7 +32,7 @@ use Rattle.mig_load.proofs.Statuses.{status_whole, status_end, stream_ends, chan
 -- ---- no source is pending
 
 -- a source has all rounds before the first that doesn't pass, so it has this round, or these are all
-reached : (k rounds : ℕ) (end : Status) → k ≤ rounds → is_pending end ≡ false → is_pending (status_at k rounds end) ≡ false
+pub reached : (k rounds : ℕ) (end : Status) → k ≤ rounds → is_pending end ≡ false → is_pending (status_at k rounds end) ≡ false
 reached k rounds end few settled = elim (cases_order k rounds) [
   | inl e ↦ ap is_pending (status_end k rounds end e) ∙ settled
   | inr ne ↦ elim ne [
@@ -41,13 +42,13 @@ reached k rounds end few settled = elim (cases_order k rounds) [
 ]
 
 -- a round that passes is one that a source has
-has_round : (k rounds : ℕ) (end : Status) → is_whole end ≡ false → ((j : ℕ) → j < k → is_whole (status_at j rounds end) ≡ true) → k ≤ rounds
+pub has_round : (k rounds : ℕ) (end : Status) → is_whole end ≡ false → ((j : ℕ) → j < k → is_whole (status_at j rounds end) ≡ true) → k ≤ rounds
 has_round k rounds end not_whole all = elim (cases_lt rounds k) [
   | inr few ↦ few
   | inl lt ↦ let t = all rounds lt in let f : is_whole (status_at rounds rounds end) ≡ false = ap is_whole (status_end rounds rounds end refl) ∙ not_whole in absurd cc
 ]
 
-over_settles : (state : StreamState) (over : Bool) → over ≡ true → is_pending (stream_end (state_at over state)) ≡ false
+pub over_settles : (state : StreamState) (over : Bool) → over ≡ true → is_pending (stream_end (state_at over state)) ≡ false
 over_settles stream.Reading over e = rw e refl
 over_settles stream.Closed over e = rw e refl
 over_settles (stream.Bad f) over e = rw e refl
@@ -57,23 +58,23 @@ state_settles channel.Reading settled = absurd (settled refl)
 state_settles channel.Closed settled = refl
 state_settles (channel.Bad f) settled = refl
 
-whole_at : (readings : Readings) (j : ℕ) → passes j readings ≡ true → All (λ (s : Standing). is_whole s.status ≡ true) (sources_at j readings)
+pub whole_at : (readings : Readings) (j : ℕ) → passes j readings ≡ true → All (λ (s : Standing). is_whole s.status ≡ true) (sources_at j readings)
 whole_at readings j t =
     passes_all (λ (s : Standing). is_whole s.status) (sources_at j readings)
     (and_parts (list_all (λ (s : Standing). is_whole s.status) (sources_at j readings)) (is_none (repeated_hello (hello_ids readings))) (and_parts
     (list_all (λ (s : Standing). is_whole s.status) (sources_at j readings) && is_none (repeated_hello (hello_ids readings)))
     (is_none (refusal_at j readings)) t).0).0
 
-abbrev IsWhole : Standing → Type 0
+abbrev pub IsWhole : Standing → Type 0
 IsWhole s = is_whole s.status ≡ true
 
-abbrev IsSettled : Standing → Type 0
+abbrev pub IsSettled : Standing → Type 0
 IsSettled s = is_pending s.status ≡ false
 
 abbrev standing_at : ℕ → (ℕ × ChannelReading) → Standing
 standing_at k c = record { source = origin.Channel c.0; status = channel_status k c.1 }
 
-channels_settled : (given : Settings) (k n : ℕ) (texts : List Text) (channels : List ChannelReading) → IsPageSize given.page_size
+pub channels_settled : (given : Settings) (k n : ℕ) (texts : List Text) (channels : List ChannelReading) → IsPageSize given.page_size
     → AllZip (λ (text : Text) (reading : ChannelReading). IsReading given text.bytes text.ended reading) texts channels
     → All (λ (text : Text). text.ended ≡ true) texts
     → ((j : ℕ) → j < k → All IsWhole (map (standing_at j) (enumerate_from n channels)))
@@ -107,7 +108,7 @@ none_pending p uuid limit texts readings k size main_over over are stop =
 -- ---- and there is an answer
 
 -- no source has a fault, where none is told
-no_fault : (k : ℕ) (sources : List Standing) → first_some (map (failed_with_own k) sources) ≡ None → All (λ (s : Standing). fault_of s.status ≡ None) sources
+pub no_fault : (k : ℕ) (sources : List Standing) → first_some (map (failed_with_own k) sources) ≡ None → All (λ (s : Standing). fault_of s.status ≡ None) sources
 no_fault k [] e = All-nil (λ (s : Standing). fault_of s.status ≡ None)
 no_fault k (s ∷ sources) e =
     let parts = first_none (failed_with_own k s) (map (failed_with_own k) sources) e in
@@ -118,7 +119,7 @@ no_fault k (s ∷ sources) e =
     own (Some f) e = absurd cc
 
 -- sources that are settled and have no fault, none of which has this round, are clean
-all_clean : (sources : List Standing) → All IsSettled sources → All (λ (s : Standing). fault_of s.status ≡ None) sources → All (λ (s : Standing). is_whole s.status ≡ false) sources
+pub all_clean : (sources : List Standing) → All IsSettled sources → All (λ (s : Standing). fault_of s.status ≡ None) sources → All (λ (s : Standing). is_whole s.status ≡ false) sources
     → list_all (λ (s : Standing). is_clean s.status) sources ≡ true
 all_clean [] settled sound not_whole = refl
 all_clean (s ∷ sources) settled faultless not_whole =
@@ -133,7 +134,7 @@ all_clean (s ∷ sources) settled faultless not_whole =
     ) refl
 
 -- and those none of which is clean all have it
-all_whole : (sources : List Standing) → All IsSettled sources → All (λ (s : Standing). fault_of s.status ≡ None) sources → All (λ (s : Standing). is_clean s.status ≡ false) sources
+pub all_whole : (sources : List Standing) → All IsSettled sources → All (λ (s : Standing). fault_of s.status ≡ None) sources → All (λ (s : Standing). is_clean s.status ≡ false) sources
     → list_all (λ (s : Standing). is_whole s.status) sources ≡ true
 all_whole [] settled sound not_clean = refl
 all_whole (s ∷ sources) settled faultless not_clean =
@@ -148,7 +149,7 @@ all_whole (s ∷ sources) settled faultless not_clean =
     ) refl
 
 -- a test that finds nothing
-none_found : (k : ℕ) (test : Status → Bool) (f : Fault) (sources : List Standing) → failed_at_first k test f sources ≡ None → All (λ (s : Standing). test s.status ≡ false) sources
+pub none_found : (k : ℕ) (test : Status → Bool) (f : Fault) (sources : List Standing) → failed_at_first k test f sources ≡ None → All (λ (s : Standing). test s.status ≡ false) sources
 none_found k test f sources e = find_none (λ (s : Standing). test s.status) sources (own (find (λ (s : Standing). test s.status) sources) e)
   where
     own : (o : Option Standing) → option_map (λ (s : Standing). failed k s.source f) o ≡ None → o ≡ None
@@ -158,11 +159,11 @@ none_found k test f sources e = find_none (λ (s : Standing). test s.status) sou
 abbrev main_of : ℕ → Readings → Status
 main_of k readings = main_status k readings.main
 
-then_none : (b : Bool) (v : Verdict) → then_some b v ≡ None → b ≡ false
+pub then_none : (b : Bool) (v : Verdict) → then_some b v ≡ None → b ≡ false
 then_none true v e = absurd cc
 then_none false v e = refl
 
-map_none : {X : Type 0} (f : X → Verdict) (o : Option X) → option_map f o ≡ None → o ≡ None
+pub map_none : {X : Type 0} (f : X → Verdict) (o : Option X) → option_map f o ≡ None → o ≡ None
 map_none f None e = refl
 map_none f (Some x) e = absurd cc
 
@@ -237,7 +238,7 @@ told_pending false f v e running = absurd cc
 told_first : (k : ℕ) (test : Status → Bool) (f : Fault) (sources : List Standing) → IsTold (failed_at_first k test f sources)
 told_first k test f sources = told_fault (λ (s : Standing). record { round = k; source = s.source; fault = f }) (find (λ (s : Standing). test s.status) sources)
 
-all_told : (k : ℕ) (readings : Readings) → list_any (λ (s : Standing). is_pending s.status) (sources_at k readings) ≡ false → All IsTold (verdicts_at k readings)
+pub all_told : (k : ℕ) (readings : Readings) → list_any (λ (s : Standing). is_pending s.status) (sources_at k readings) ≡ false → All IsTold (verdicts_at k readings)
 all_told k readings none =
     let m : Standing = main_at k readings in
     let cs : List Standing = channels_at k readings in

@@ -7,6 +7,7 @@ pub mod Examples
 pub mod Judged
 pub mod Received
 pub mod ReceivedTogether
+pub mod ReceivedSteps
 pub mod DealtBags
 pub mod DealtPackets
 pub mod DealtPages
@@ -14,3 +15,18 @@ pub mod Dealt
 pub mod Sent
 pub mod SentRounds
 pub mod Headline
+pub mod Places
+pub mod InOrder
+pub mod Finding
+pub mod Ends
+pub mod Relays
+pub mod GoingThrough
+pub mod GoneThrough
+pub mod AllGone
+pub mod ToldSources
+pub mod RelayLoads
+pub mod RelayRounds
+pub mod MainStream
+pub mod RelayAnswers
+pub mod Relaying
+pub mod Hellos

@@ -18,7 +18,8 @@ use Rattle.mig_packet.specs.Reading.{ChannelReading, Settings, IsReading, after_
 use Rattle.mig_packet.specs.Law.{EndsWithSync}
 use Rattle.mig_packet.proofs.Limits.{limits_law}
 use Rattle.mig_packet.proofs.Unique.{one_reading}
-use Rattle.mig_load.specs.Status.{Pending, status_at, channel_end}
+use Rattle.mig_load.specs.declared.status.Status.TheVariants.{Pending}
+use Rattle.mig_load.specs.Status.{status_at, channel_end}
 use Rattle.mig_load.specs.Received.{ends_round, round_count, before_rounds, rounds_in, hello_in, end_in, TellsChannel, FrontTellsChannel, StopIsLast, RoundsAreCounted}
 use Rattle.mig_load.proofs.Statuses.{status_whole}
 

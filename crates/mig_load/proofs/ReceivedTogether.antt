@@ -10,7 +10,8 @@ use Rattle.mig_packet.specs.Packet.{Fields, fields_of}
 use Rattle.mig_packet.specs.Pieces.{Piece}
 use Rattle.mig_packet.specs.Reading.{ChannelReading, Settings, settings, IsReading}
 use Rattle.mig_load.specs.declared.fault.Origin.TheVariants as origin
-use Rattle.mig_load.specs.Status.{Status, channel_status}
+use Rattle.mig_load.specs.declared.status.Status.{Status}
+use Rattle.mig_load.specs.Status.{channel_status}
 use Rattle.mig_load.specs.Texts.{Text, ended_text}
 use Rattle.mig_load.specs.Rounds.{channel_packets_at, packet_count_at}
 use Rattle.mig_load.specs.MultiLoad.{Standing}

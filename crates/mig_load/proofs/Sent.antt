@@ -17,7 +17,9 @@ use Rattle.mig_packet.specs.Reading.{Settings, settings, ChannelReading, IsReadi
 use Rattle.mig_send.specs.DealtRounds.{DealtRound, channel_text}
 use Rattle.mig_send.specs.ReadBack.{channel_told, round_packets, AreReadBack, SendingsAreReadBack}
 use Rattle.mig_load.specs.declared.fault.Origin.TheVariants as origin
-use Rattle.mig_load.specs.Status.{Status, Whole, Clean, main_status, channel_status, status_at}
+use Rattle.mig_load.specs.declared.status.Status.{Status}
+use Rattle.mig_load.specs.declared.status.Status.TheVariants.{Whole, Clean}
+use Rattle.mig_load.specs.Status.{main_status, channel_status, status_at}
 use Rattle.mig_load.specs.Texts.{Text, ended_text, ended_texts, Readings, AreReadings}
 use Rattle.mig_load.specs.MultiLoad.{Standing, main_at, channels_at, sources_at, hello_ids, is_same_id, comes_again, repeated_hello}
 use Rattle.mig_load.specs.Sent.{IsSentInAnyOrder}

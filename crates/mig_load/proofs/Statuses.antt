@@ -9,7 +9,9 @@ use Rattle.mig_stream.specs.declared.item.StreamState.{StreamState}
 use Rattle.mig_stream.specs.declared.item.StreamState.TheVariants as stream
 use Rattle.mig_packet.specs.declared.state.ChannelState.{ChannelState}
 use Rattle.mig_packet.specs.declared.state.ChannelState.TheVariants as channel
-use Rattle.mig_load.specs.Status.{Status, Whole, Clean, Bad, Pending, status_at, stream_end, channel_end, is_whole, is_pending, fault_of}
+use Rattle.mig_load.specs.declared.status.Status.{Status}
+use Rattle.mig_load.specs.declared.status.Status.TheVariants.{Whole, Clean, Bad, Pending}
+use Rattle.mig_load.specs.Status.{status_at, stream_end, channel_end, is_whole, is_pending, fault_of}
 
 -- ---- one source
 

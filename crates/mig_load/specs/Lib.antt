@@ -13,3 +13,12 @@ pub mod LoadFaultNumber
 -- loaders that are fed in pieces
 pub mod Loader
 pub mod InPlace
+-- the relay of channels: what its contracts say of pieces, and then the inside, messages in a queue under a rule
+pub mod Pieces
+pub mod Relay
+pub mod Relayed
+pub mod Multi
+pub mod Messages
+pub mod Queue
+pub mod Cursor
+pub mod Ends

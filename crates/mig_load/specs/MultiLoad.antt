@@ -1,5 +1,5 @@
 -- What a load on several channels answers: one function of its texts as far as they have come.
-use Rattle.std.specs.Prelude.{ℕ, ◌≡◌, ◌<◌, Bool, false, ◌&&◌, ◌==◌, if◌then◌else◌, List, [], ◌∷◌, length, map, take, get_or, find, Option, Some, None, is_none, IsTrue, IsFalse}
+use Rattle.std.specs.Prelude.{ℕ, ◌≡◌, ◌⊎◌, ◌<◌, Bool, false, ◌&&◌, ◌==◌, if◌then◌else◌, List, [], ◌∷◌, ◌++◌, length, map, take, get_or, find, Option, Some, None, is_none, IsTrue, IsFalse, Result, Ok, Err, ⊤, Vec}
 use Rattle.std.specs.Bool.{then_some}
 use Rattle.std.specs.List.{list_any, list_all, range_with_len, enumerate_from}
 use Rattle.std.specs.Option.{option_map, unwrap_or}
@@ -9,9 +9,12 @@ use Rattle.mig_load.specs.declared.fault.Origin.{Origin}
 use Rattle.mig_load.specs.declared.fault.Origin.TheVariants as origin
 use Rattle.mig_load.specs.declared.fault.Fault.{Fault}
 use Rattle.mig_load.specs.declared.fault.Fault.TheVariants as fault
+use Rattle.mig_load.specs.declared.fault.LoadFault.{LoadFault}
+use Rattle.mig_load.specs.declared.loaded.Loaded.{Loaded}
 use Rattle.mig_load.specs.declared.verdict.Verdict.{Verdict}
 use Rattle.mig_load.specs.declared.verdict.Verdict.TheVariants.{Running, Done, Failed}
-use Rattle.mig_load.specs.Status.{Status, main_status, channel_status, is_whole, is_clean, is_pending, fault_of}
+use Rattle.mig_load.specs.declared.status.Status.{Status}
+use Rattle.mig_load.specs.Status.{main_status, channel_status, is_whole, is_clean, is_pending, fault_of}
 use Rattle.mig_load.specs.Texts.{Texts, Readings, AreReadings}
 use Rattle.mig_load.specs.Rounds.{refusal_at, memory_at}
 
@@ -22,8 +25,11 @@ pub record Standing : Type 0 where
   pub source : Origin
   pub status : Status
 
+abbrev pub main_standing : Status → Standing
+main_standing status = record { source = origin.Main; status = status }
+
 abbrev pub main_at : ℕ → Readings → Standing
-main_at k readings = record { source = origin.Main; status = main_status k readings.main }
+main_at k readings = main_standing (main_status k readings.main)
 
 -- the channels, each by its place among the texts
 abbrev pub channels_at : ℕ → Readings → List Standing
@@ -77,23 +83,27 @@ failed_at_first k is_such fault sources = option_map (λ s. failed k s.source fa
 abbrev pub failed_with_own : ℕ → Standing → Option Verdict
 failed_with_own k s = option_map (failed k s.source) (fault_of s.status)
 
--- The verdicts that there may be at round k, in the order of judging:
+-- The verdicts that the sources' statuses and hellos may tell at round k, in the order of judging:
 --   running, where a source is pending;
 --   the first source's fault, the main stream's before the channels';
 --   HelloTwice, at the least channel whose hello names an earlier one's id;
 --   done, where all sources are clean;
 --   Extra, at the least channel that has the round, where the main stream is clean;
---   Short, at the least channel that is clean, where the main stream has the round;
---   and why the round isn't lawful.
+--   Short, at the least channel that is clean, where the main stream has the round.
+abbrev pub verdicts_told : ℕ → Standing → List Standing → Option ℕ → List (Option Verdict)
+verdicts_told k main channels repeated =
+    then_some (list_any (λ s. is_pending s.status) (main ∷ channels)) Running ∷
+    first_some (map (failed_with_own k) (main ∷ channels)) ∷
+    option_map (λ j. failed k (origin.Channel j) fault.HelloTwice) repeated ∷
+    then_some (list_all (λ s. is_clean s.status) (main ∷ channels)) Done ∷
+    (if is_clean main.status then failed_at_first k is_whole fault.Extra channels else None) ∷
+    (if is_whole main.status then failed_at_first k is_clean fault.Short channels else None) ∷ []
+
+-- All verdicts that there may be at round k, in the order of judging: those, and then why the round isn't lawful.
 abbrev pub verdicts_at : ℕ → Readings → List (Option Verdict)
 verdicts_at k readings =
-    then_some (list_any (λ s. is_pending s.status) (sources_at k readings)) Running ∷
-    first_some (map (failed_with_own k) (sources_at k readings)) ∷
-    option_map (λ j. failed k (origin.Channel j) fault.HelloTwice) (repeated_hello (hello_ids readings)) ∷
-    then_some (list_all (λ s. is_clean s.status) (sources_at k readings)) Done ∷
-    (if is_clean (main_at k readings).status then failed_at_first k is_whole fault.Extra (channels_at k readings) else None) ∷
-    (if is_whole (main_at k readings).status then failed_at_first k is_clean fault.Short (channels_at k readings) else None) ∷
-    option_map (λ f. failed k origin.Round (fault.Round f)) (refusal_at k readings) ∷ []
+    verdicts_told k (main_at k readings) (channels_at k readings) (repeated_hello (hello_ids readings))
+    ++ option_map (λ f. failed k origin.Round (fault.Round f)) (refusal_at k readings) ∷ []
 
 -- The first that applies. At a round that doesn't pass one of them does.
 abbrev pub verdict_at : ℕ → Readings → Verdict
@@ -115,3 +125,23 @@ pub record IsAnswer (page_size : ℕ) (uuid : List ℕ) (limit : ℕ) (texts : T
   pub has_rounds : IsFirstStop readings answer.rounds
   pub has_memory : answer.memory ≡ memory_at answer.rounds readings
   pub has_verdict : answer.verdict ≡ verdict_at answer.rounds readings
+
+-- The answer where memory was refused: the memory is that after the rounds counted, each of which passes, or None where none was counted.
+pub record IsWithoutMemory (page_size : ℕ) (uuid : List ℕ) (limit : ℕ) (texts : Texts) (answer : Answer) : Type 0 where
+  pub readings : Readings
+  pub are_readings : AreReadings page_size uuid limit texts readings
+  pub have_passed : (j : ℕ) → j < answer.rounds → IsTrue (passes j readings)
+  pub has_memory : (answer.memory ≡ memory_at answer.rounds readings) ⊎ ((answer.memory ≡ None) × (answer.rounds ≡ 0))
+  pub has_verdict : answer.verdict ≡ failed answer.rounds origin.Round fault.NoMemory
+
+-- the answer that a load gave
+abbrev pub as_verdict : Result ⊤ LoadFault → Verdict
+as_verdict (Ok x) = Done
+as_verdict (Err fault) = Failed fault
+
+abbrev pub answer_of : {A : Type 0} → Loaded A → Answer
+answer_of loaded = record { memory = loaded.memory; rounds = loaded.rounds; verdict = as_verdict loaded.verdict }
+
+-- the bytes of texts that a caller holds
+abbrev pub bytes_of : {B : Type 0} → List (Vec ℕ B) → List (List ℕ)
+bytes_of texts = map (λ text. text.items) texts

@@ -7,7 +7,9 @@ use Rattle.mig_packet.specs.Pieces.{Piece, Hello, Page, Stop, ArePieces}
 use Rattle.mig_packet.specs.Reading.{ChannelReading, Settings, settings, IsReading}
 use Rattle.mig_load.specs.declared.fault.Fault.TheVariants as fault
 use Rattle.mig_load.specs.declared.fault.Origin.TheVariants as origin
-use Rattle.mig_load.specs.Status.{Status, Clean, Bad, Pending, status_at, channel_status}
+use Rattle.mig_load.specs.declared.status.Status.{Status}
+use Rattle.mig_load.specs.declared.status.Status.TheVariants.{Clean, Bad, Pending}
+use Rattle.mig_load.specs.Status.{status_at, channel_status}
 use Rattle.mig_load.specs.Texts.{Readings, AreReadings, ended_texts}
 use Rattle.mig_load.specs.Rounds.{channel_packets_at, packets_at, base_at}
 use Rattle.mig_load.specs.MultiLoad.{Standing, channels_at, hello_ids}

@@ -8,14 +8,8 @@ use Rattle.mig_packet.specs.declared.state.ChannelState.TheVariants as channel_s
 use Rattle.mig_packet.specs.Reading.{ChannelReading}
 use Rattle.mig_load.specs.declared.fault.Fault.{Fault}
 use Rattle.mig_load.specs.declared.fault.Fault.TheVariants as fault
-
--- How a source stands at a round: it has the round whole; it is closed behind the rounds before, the main stream by its end byte and a
--- channel by the end of its text; it has a fault behind them; or more of its text is needed.
-pub data Status : Type 0 where
-  Whole : Status
-  Clean : Status
-  Bad : Fault → Status
-  Pending : Status
+use Rattle.mig_load.specs.declared.status.Status.{Status}
+use Rattle.mig_load.specs.declared.status.Status.TheVariants.{Whole, Clean, Bad, Pending}
 
 -- how a text stands behind its whole rounds
 abbrev pub stream_end : StreamState → Status

@@ -1,6 +1,7 @@
 //! Laws of the definitions alone: what holds of the answers of loads on several channels, whatever code gives them.
 //!
-//! Each law is the clause of a function that does nothing, so that it is proved with the crate and callers can have it.
+//! Each law is the clause of a function that does nothing, but for naming the law that it rests on, so that it is proved with the crate and
+//! callers can have it.
 
 ghost use Rattle.mig_load.specs.Law.{HasOneAnswer, EndedTextsAreJudged};
 ghost use Rattle.mig_load.specs.Received.{FrontTellsChannel, StopIsLast, RoundsAreCounted, FrontsTellAllChannels};

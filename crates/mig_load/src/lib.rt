@@ -2,24 +2,46 @@
 //!
 //! What a loader answers is a function of the texts, the page size, the limit and what the memory held, want of memory aside: the memory after the
 //! rounds that they have whole, how many these are, and the first fault after them (`specs/SingleLoad.antt`). The text of a
-//! stream is `mig_stream`'s, and how a round goes into memory `mig_assemble`'s.
+//! stream is `mig_stream`'s, and how a round goes into memory `mig_assemble`'s. Of several channels it is a function of the main stream's text
+//! and of theirs (`specs/MultiLoad.antt`), which names neither threads nor queues.
+//!
+//! A relay hands on the pieces of channels' texts from one thread for each channel to one that loads: each channel has a `Feeder`, a queue,
+//! and its place in the one `Collector`. What a piece is says `mig_packet`; what the two ends promise says `specs/Relay.antt`.
 #![tactic(auto)]
 
+mod channel;
+mod cursor;
 mod fault;
+mod feeder;
 mod in_place;
+mod item;
 mod laws;
 mod loaded;
 mod loader;
+mod log;
+mod message;
+mod multi;
+mod queue;
+mod relay;
+mod relayed;
 mod settle;
 mod single;
+mod status;
+mod taking;
+mod told;
 mod verdict;
 
 pub use fault::{Fault, FeedFault, LoadFault, Origin};
+pub use feeder::{Fed, Feeder, FeederStep};
 pub use in_place::{InPlaceLoader, sent_is_loaded_in_place};
+pub use item::{ChannelEnd, Item};
 pub use laws::{
     dealt_rounds_are_lawful, received_tells_status, sendings_are_loaded, texts_have_one_answer,
 };
 pub use loaded::Loaded;
 pub use loader::SingleLoader;
+pub use multi::load_multi;
+pub use relay::{Collector, Relay};
+pub use relayed::load_relayed;
 pub use single::load_single;
 pub use verdict::Verdict;

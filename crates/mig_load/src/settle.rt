@@ -71,12 +71,12 @@ pub(crate) fn verdict_at(rounds: u64, state: StreamState) -> Result<(), LoadFaul
     })
 }
 
-// The verdict where memory was refused before any section.
-fn no_memory() -> Result<(), LoadFault>
-    ensures { result ≡ want_of_memory 0 }
+/// The verdict where memory was refused after so many rounds.
+pub(crate) fn no_memory(round: u64) -> Result<(), LoadFault>
+    ensures { result ≡ want_of_memory round }
 {
     Err(LoadFault {
-        round: 0,
+        round,
         source: Origin::Round,
         fault: Fault::NoMemory,
     })
@@ -92,7 +92,7 @@ pub(crate) fn verdict<A: Allocator>(
 {
     match (target, reader.table()) {
         (Some(target), _) => verdict_at(target.rounds(), reader.state()),
-        (None, Some(_)) => no_memory(),
+        (None, Some(_)) => no_memory(0),
         (None, None) => verdict_at(0, reader.state()),
     }
 }
@@ -130,6 +130,6 @@ pub(crate) fn without_memory<A: Allocator>() -> Loaded<A>
     Loaded {
         memory: None,
         rounds: 0,
-        verdict: no_memory(),
+        verdict: no_memory(0),
     }
 }

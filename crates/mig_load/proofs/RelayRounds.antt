@@ -1,0 +1,259 @@
+-- The rounds of what a relay brings: how each goes into the memory, and how a load ends.
+use Rattle.std.proofs.Common.{ℕ, ◌≡◌, ◌≢◌, ◌+◌, ◌<◌, ◌≤◌, true, false, List, [], ◌∷◌, ◌++◌, length, map, take, drop, refl, sym, ap, ◌∙◌, inl, inr, Option, Some, None, arith, subst, get_or, sum_by, cond, zero-add}
+use Rattle.std.specs.Prelude.{⊤, ◌^◌, IsTrue, Result, Ok, Err, is_ok}
+use Rattle.std.specs.List.{All, AllZip, range_with_len}
+use Rattle.std.specs.Option.{option_map, option_and_then}
+use Rattle.std.proofs.lemmas.Bool.{cases_order}
+use Rattle.std.proofs.lemmas.List.{length-append, length-map, take-append-drop}
+use Rattle.std.proofs.lemmas.List.Elements.{All-nil, All-cons}
+use Rattle.std.proofs.lemmas.List.Concat.{length-flat_map}
+use Rattle.std.proofs.lemmas.List.Sums.{sum_by-append}
+use Rattle.std.proofs.lemmas.List.FromFn.{map-range_with_len_more}
+use Rattle.mig_mem.specs.RamTable.{RamTable}
+use Rattle.mig_mem.specs.Image.{Page, Image, zero_image}
+use Rattle.mig_mem.specs.Round.{after, with_round}
+use Rattle.mig_mem.proofs.Rounds.{onto-push, onto-zeros}
+use Rattle.mig_stream.specs.PageRecord.{page_of}
+use Rattle.mig_stream.specs.Reading.{settings as main_settings}
+use Rattle.mig_stream.specs.Round.{RoundOfRecords}
+use Rattle.mig_stream.specs.declared.item.StreamState.{StreamState}
+use Rattle.mig_stream.specs.declared.item.Mode.TheVariants.{Main}
+use Rattle.mig_stream.proofs.Limits.{limits_law}
+use Rattle.mig_packet.specs.Packet.{Fields, fields_of}
+use Rattle.mig_packet.specs.declared.packet.Packet.{Packet}
+use Rattle.mig_packet.specs.Pieces.{Piece}
+use Rattle.mig_packet.specs.Reading.{ChannelReading}
+use Rattle.mig_assemble.specs.Judging.{refusal, all_round_pages}
+use Rattle.mig_assemble.specs.Target.{LoadTarget, pages_of_round, after_round}
+use Rattle.mig_load.specs.declared.fault.Origin.TheVariants as origin
+use Rattle.mig_load.specs.declared.fault.Fault.{Fault}
+use Rattle.mig_load.specs.declared.fault.Fault.TheVariants as fault
+use Rattle.mig_load.specs.declared.fault.LoadFault.{LoadFault}
+use Rattle.mig_load.specs.declared.status.Status.{Status}
+use Rattle.mig_load.specs.declared.status.Status.TheVariants.{Whole, Bad}
+use Rattle.mig_load.specs.declared.verdict.Verdict.{Verdict}
+use Rattle.mig_load.specs.declared.verdict.Verdict.TheVariants.{Done, Failed}
+use Rattle.mig_load.specs.SingleLoad.{want_of_memory}
+use Rattle.mig_load.specs.Status.{main_status, stream_end, is_whole}
+use Rattle.mig_load.specs.Texts.{Readings}
+use Rattle.mig_load.specs.Rounds.{record_pages_at, channel_packets_at, packets_at, packet_count_at, base_at, refusal_of, refusal_at, pages_at}
+use Rattle.mig_load.specs.MultiLoad.{passes, as_verdict}
+use Rattle.mig_load.specs.Received.{round_count, rounds_in, ends_round}
+use Rattle.mig_load.specs.Pieces.{QueueEnd}
+use Rattle.mig_load.specs.Relayed.{Continues, IsAtRound, AreAtRound, Load, Loading, HasLoaded, ToldAt, IsAnswered, IsRefused, HaveRounds, HasEnded, EndsAt, Comes}
+use Rattle.mig_load.proofs.Statuses.{status_whole, status_end, stream_ends}
+use Rattle.mig_load.proofs.Received.{counted_law}
+use Rattle.mig_load.proofs.DealtBags.{range-append}
+use Rattle.mig_load.proofs.Relays.{of_relay, sizes_are}
+use Rattle.mig_load.proofs.GoingThrough.{all_go_on}
+use Rattle.mig_load.proofs.ToldSources.{told_bad_main}
+
+-- ---- what was taken
+
+-- a channel that is at round k has the rounds before it, and goes on to have them
+front_rounds : (k at : ℕ) (p q : QueueEnd) → IsAtRound k at p.passed → Continues p q → k ≤ round_count q.passed
+front_rounds k at p q is continues =
+    let front : List Piece = take at p.passed in
+    let split : rounds_in p.passed ≡ is.rounds ++ rounds_in (drop at p.passed) =
+    ap rounds_in (sym (take-append-drop at p.passed)) ∙ is.is_at.has_rounds (drop at p.passed) in
+    let here : k ≤ round_count p.passed =
+    omega (arith, is.has_count, counted_law p.passed, ap (λ (l : List (List Fields)). length l) split, length-append is.rounds (rounds_in (drop at p.passed))) in
+    omega (arith, here, ap round_count continues.begins.has_rest, sum_by-append (λ piece. cond (ends_round piece) 1 0) p.passed continues.begins.rest)
+
+have_rounds : (k : ℕ) (places : List ℕ) (ends now : List QueueEnd) → AreAtRound k places ends → AllZip Continues ends now → HaveRounds k now
+have_rounds k [] [] [] are zip = All-nil (λ (p : QueueEnd). k ≤ round_count p.passed)
+have_rounds k [] [] (q ∷ qs) are zip = absurd zip
+have_rounds k [] (p ∷ ps) now are zip = absurd are
+have_rounds k (at ∷ places) [] now are zip = absurd are
+have_rounds k (at ∷ places) (p ∷ ps) [] are zip = absurd zip
+have_rounds k (at ∷ places) (p ∷ ps) (q ∷ qs) are zip =
+    All-cons (λ (p : QueueEnd). k ≤ round_count p.passed) q qs (front_rounds k at p q are.0 zip.0) (have_rounds k places ps qs are.1 zip.1)
+
+-- ---- how a load ends
+
+pub ends_told : (l : Load) (k : ℕ) (main : Status) (verdict : Verdict) (result : Result ⊤ LoadFault) (places places_now : List ℕ) (ends now : List QueueEnd) (packets : List Fields)
+    → Loading l k places ends → AllZip Continues ends now → ToldAt l k main (Some verdict) places_now now packets → as_verdict result ≡ verdict → HasEnded l k result now
+ends_told l k main verdict result places places_now ends now packets loading zip told is =
+    let stops = told.stops verdict refl in
+    record {
+      is_answered = inl (stops.0, stops.1 ∙ sym is);
+      have_rounds = have_rounds k places ends now loading.are_at zip;
+      through = λ ok. told.through (ap (λ (v : Verdict). Some v) (sym is ∙ done_of result ok));
+    }
+  where
+    done_of : (r : Result ⊤ LoadFault) → is_ok r ≡ true → as_verdict r ≡ Done
+    done_of (Ok x) e = refl
+    done_of (Err f) e = absurd cc
+
+pub ends_bad : (l : Load) (k : ℕ) (f : LoadFault) (places : List ℕ) (ends now : List QueueEnd) → Loading l k places ends → AllZip Continues ends now → IsAnswered l k (Err f) → HasEnded l k (Err f) now
+ends_bad l k f places ends now loading zip answered = record {
+  is_answered = answered;
+  have_rounds = have_rounds k places ends now loading.are_at zip;
+  through = λ ok. absurd cc;
+}
+
+pub ends_without : (l : Load) (k : ℕ) (result : Result ⊤ LoadFault) (places : List ℕ) (ends now : List QueueEnd) → Loading l k places ends → AllZip Continues ends now → result ≡ want_of_memory k
+    → HasEnded l k result now
+ends_without l k result places ends now loading zip is =
+    subst (λ (r : Result ⊤ LoadFault). HasEnded l k r now) (sym is) (ends_bad l k (record { round = k; source = origin.Round; fault = fault.NoMemory }) places ends now loading zip (inr refl))
+
+-- ---- a round goes into the memory
+
+-- the table of a memory that is loaded, which is the main stream's
+pub table_is : (k : ℕ) (readings : Readings) (target : LoadTarget) → HasLoaded k readings target → readings.main.table ≡ Some target.memory.table
+table_is k readings target has = go readings.main.table has.has_memory
+  where
+    go : (o : Option RamTable) → option_map (λ t. after t (map (λ i. pages_at t i readings) (range_with_len 0 k))) o ≡ Some target.memory → o ≡ Some target.memory.table
+    go None e = absurd cc
+    go (Some t) e =
+        let same : after t (map (λ i. pages_at t i readings) (range_with_len 0 k)) ≡ target.memory = cc in ap (λ (m : Image). Some m.table) same
+
+-- the page size of the table
+pub size_is : (l : Load) (k : ℕ) (target : LoadTarget) (places : List ℕ) (ends : List QueueEnd) → Loading l k places ends → HasLoaded k l.readings target → target.memory.table.page_size ≡ l.page_size
+size_is l k target places ends loading has =
+    let main = loading.are_readings.has_main in
+    let table : main.found.table ≡ Some target.memory.table = sym (ap (λ r. r.table) main.has_end) ∙ table_is k l.readings target has in
+    (limits_law (main_settings Main l.page_size l.limit) l.main main.found loading.is_page_size main.is_reading).has_page_size target.memory.table table
+
+pub sizes_of_packets : (l : Load) (k : ℕ) (target : LoadTarget) (places : List ℕ) (ends : List QueueEnd) (packets : List Packet) → Loading l k places ends → HasLoaded k l.readings target
+    → ((page_size : ℕ) → All (λ p. p.source.page_size ≡ page_size) ends → All (λ packet. packet.page_size ≡ page_size) packets)
+    → All (λ packet. packet.page_size ≡ target.memory.table.page_size) packets
+sizes_of_packets l k target places ends packets loading has sizes =
+    subst (λ (n : ℕ). All (λ (packet : Packet). packet.page_size ≡ n) packets) (sym (size_is l k target places ends loading has))
+    (sizes l.page_size (sizes_are l.page_size l.uuid (length l.texts) l.texts ends loading.is_relay.has_sources))
+
+-- the round's pages of records
+pages_are : (l : Load) (target : LoadTarget) (places : List ℕ) (ends : List QueueEnd) (round : RoundOfRecords) → Comes l target places ends round
+    → pages_of_round round ≡ record_pages_at target.memory.table.page_size target.rounds l.readings
+pages_are l target places ends round comes =
+    ap (λ (n : ℕ). map (page_of n) round.records) comes.fits.has_page_size ∙ ap (map (page_of target.memory.table.page_size)) comes.is_round
+
+-- why it is refused
+pub refusal_is : (l : Load) (target : LoadTarget) (places : List ℕ) (ends : List QueueEnd) (round : RoundOfRecords) (packets : List Fields) → Comes l target places ends round
+    → packets ≡ packets_at l.page_size target.rounds l.readings
+    → refusal_at target.rounds l.readings ≡ refusal target.memory.table target.base (pages_of_round round) packets
+refusal_is l target places ends round packets comes are =
+    let table : RamTable = target.memory.table in
+    let k : ℕ = target.rounds in
+    let size : table.page_size ≡ l.page_size = size_is l k target places ends comes.loading comes.has_loaded in
+    let same : packets ≡ packets_at table.page_size k l.readings = are ∙ ap (λ (n : ℕ). packets_at n k l.readings) (sym size) in
+    ap (option_and_then (λ t. refusal_of t k l.readings)) (table_is k l.readings target comes.has_loaded)
+    ∙ ap (λ (n : ℕ). refusal table n (record_pages_at table.page_size k l.readings) (packets_at table.page_size k l.readings)) (sym comes.has_loaded.has_base)
+    ∙ ap (λ (pages : List Page). refusal table target.base pages (packets_at table.page_size k l.readings)) (sym (pages_are l target places ends round comes))
+    ∙ ap (refusal table target.base (pages_of_round round)) (sym same)
+
+-- as many packets as are counted
+packets_counted : (page_size k : ℕ) (readings : Readings) → length (packets_at page_size k readings) ≡ packet_count_at k readings
+packets_counted page_size k readings =
+    length-flat_map (channel_packets_at page_size k) readings.channels
+    ∙ ap (λ (f : ChannelReading → ℕ). sum_by f readings.channels) (λ i reading. length-map (get_or reading.rounds k []) (fields_of page_size) i)
+
+base_more : (k : ℕ) (readings : Readings) → base_at k readings + packet_count_at k readings ≡ base_at (k + 1) readings
+base_more k readings =
+    let count : ℕ → ℕ = λ i. packet_count_at i readings in
+    let last : sum_by count (range_with_len (0 + k) 1) ≡ packet_count_at k readings =
+    ap (λ (n : ℕ). sum_by count (range_with_len n 1)) (zero-add k) ∙ zero-add (packet_count_at k readings) in
+    sym (ap (sum_by count) (range-append 0 k 1) ∙ sum_by-append count (range_with_len 0 k) (range_with_len (0 + k) 1)
+    ∙ ap (λ (n : ℕ). sum_by count (range_with_len 0 k) + n) last)
+
+one_round_more : (table : RamTable) (rounds : List (List Page)) (round : List Page) → after table (rounds ++ round ∷ []) ≡ with_round (after table rounds) round
+one_round_more table rounds round =
+    onto-zeros table (rounds ++ round ∷ []) ∙ onto-push (zero_image table) rounds round ∙ ap (λ (m : Image). with_round m round) (sym (onto-zeros table rounds))
+
+pub round_goes_in : (l : Load) (target new : LoadTarget) (places : List ℕ) (ends : List QueueEnd) (round : RoundOfRecords) (packets : List Fields) → Comes l target places ends round
+    → packets ≡ packets_at l.page_size target.rounds l.readings → new ≡ after_round target round packets → HasLoaded (target.rounds + 1) l.readings new
+round_goes_in l target new places ends round packets comes are is =
+    let table : RamTable = target.memory.table in
+    let k : ℕ = target.rounds in
+    let readings : Readings = l.readings in
+    let size : table.page_size ≡ l.page_size = size_is l k target places ends comes.loading comes.has_loaded in
+    let same : packets ≡ packets_at table.page_size k readings = are ∙ ap (λ (n : ℕ). packets_at n k readings) (sym size) in
+    let is_table : readings.main.table ≡ Some table = table_is k readings target comes.has_loaded in
+    let pages : List (List Page) = map (λ i. pages_at table i readings) (range_with_len 0 k) in
+    let before : after table pages ≡ target.memory =
+    let e : Some (after table pages) ≡ Some target.memory =
+    sym (ap (option_map (λ t. after t (map (λ i. pages_at t i readings) (range_with_len 0 k)))) is_table) ∙ comes.has_loaded.has_memory in cc in
+    let here : pages_at table k readings ≡ all_round_pages table (pages_of_round round) packets =
+    ap (λ (ps : List Page). all_round_pages table ps (packets_at table.page_size k readings)) (sym (pages_are l target places ends round comes))
+    ∙ ap (all_round_pages table (pages_of_round round)) (sym same) in
+    let memory : after table (map (λ i. pages_at table i readings) (range_with_len 0 (k + 1))) ≡ new.memory =
+    ap (after table) (map-range_with_len_more (λ i. pages_at table i readings) 0 k k (omega arith)) ∙ one_round_more table pages (pages_at table k readings)
+    ∙ ap (λ (m : Image). with_round m (pages_at table k readings)) before ∙ ap (with_round target.memory) here ∙ ap (λ (t : LoadTarget). t.memory) (sym is) in
+    record {
+      has_memory = ap (option_map (λ t. after t (map (λ i. pages_at t i readings) (range_with_len 0 (k + 1))))) is_table ∙ ap (λ (m : Image). Some m) memory;
+      has_rounds = ap (λ (t : LoadTarget). t.rounds) is;
+      has_base = ap (λ (t : LoadTarget). t.base) is
+          ∙ ap (λ (n : ℕ). n + length packets) comes.has_loaded.has_base
+          ∙ ap (λ (ps : List Fields). base_at k readings + length ps) are
+          ∙ ap (λ (n : ℕ). base_at k readings + n) (packets_counted l.page_size k readings) ∙ base_more k readings;
+    }
+
+-- the main stream has the round
+pub main_whole : (l : Load) (k : ℕ) → k < length l.readings.main.rounds → Whole ≡ main_status k l.readings.main
+main_whole l k below = sym (status_whole k (length l.readings.main.rounds) (stream_end l.readings.main.state) below)
+
+-- a round that isn't lawful ends the load
+pub ends_refused : (l : Load) (target : LoadTarget) (f : LoadFault) (places places_now : List ℕ) (ends now : List QueueEnd) (round : RoundOfRecords) (packets : List Fields)
+    → Comes l target places ends round → AllZip Continues ends now → ToldAt l target.rounds Whole None places_now now packets
+    → IsRefused target.rounds (refusal target.memory.table target.base (pages_of_round round) packets) (Err f) → HasEnded l target.rounds (Err f) now
+ends_refused l target f places places_now ends now round packets comes zip told refused = elim refused [
+  | inl without ↦ ends_without l target.rounds (Err f) places ends now comes.loading zip without
+  | inr w ↦
+      let stops = told.refused refl w.0 (refusal_is l target places ends round packets comes (told.has_packets refl) ∙ w.1) in
+      ends_bad l target.rounds f places ends now comes.loading zip (inl (stops.0, stops.1 ∙ ap (λ (x : LoadFault). Failed x) (sym w.2)))
+]
+
+-- a lawful one is in the memory, and the next one is due
+pub goes_in : (l : Load) (target new : LoadTarget) (places places_now : List ℕ) (ends now : List QueueEnd) (round : RoundOfRecords) (packets : List Fields)
+    → Comes l target places ends round → AllZip Continues ends now → ToldAt l target.rounds Whole None places_now now packets
+    → refusal target.memory.table target.base (pages_of_round round) packets ≡ None → new ≡ after_round target round packets → new.base ≤ 2 ^ 63
+    → Loading l (target.rounds + 1) places_now now × HasLoaded (target.rounds + 1) l.readings new × (new.base ≤ 2 ^ 63)
+goes_in l target new places places_now ends now round packets comes zip told lawful is few =
+    let k : ℕ = target.rounds in
+    let loading = comes.loading in
+    let here : IsTrue (passes k l.readings) = told.passes refl (refusal_is l target places ends round packets comes (told.has_packets refl) ∙ lawful) in (
+      record {
+        is_page_size = loading.is_page_size;
+        is_relay = of_relay l.page_size l.uuid l.texts ends now loading.is_relay zip;
+        are_readings = loading.are_readings;
+        have_passed = λ j below. elim (cases_order j k) [
+          | inl same ↦ subst (λ i. IsTrue (passes i l.readings)) (sym same) here
+          | inr ne ↦ elim ne [ inl lt ↦ loading.have_passed j lt | inr gt ↦ absurd (omega (arith, below, gt)) ]
+        ];
+        are_at = told.goes_on refl;
+      },
+      round_goes_in l target new places ends round packets comes (told.has_packets refl) is,
+      few,
+    )
+
+-- what is told at the round that has come
+pub told_now : (l : Load) (n : ℕ) (target : LoadTarget) (told found : Option Verdict) (places places_now : List ℕ) (ends now : List QueueEnd) (round : RoundOfRecords) (packets : List Fields)
+    → n ≡ target.rounds → told ≡ found → Comes l target places ends round
+    → (Loading l n places ends → Whole ≡ main_status n l.readings.main → ToldAt l n Whole told places_now now packets) → ToldAt l target.rounds Whole found places_now now packets
+told_now l n target told found places places_now ends now round packets e is comes tells =
+    subst (λ (o : Option Verdict). ToldAt l target.rounds Whole o places_now now packets) is
+    (subst (λ (m : ℕ). Loading l m places ends → Whole ≡ main_status m l.readings.main → ToldAt l m Whole told places_now now packets) e tells comes.loading
+    (main_whole l target.rounds comes.has_round))
+
+-- ---- behind all rounds of the main stream
+
+-- how it stands there
+pub main_ends : (l : Load) (k : ℕ) (state : StreamState) (main : Status) (places : List ℕ) (ends : List QueueEnd) → EndsAt l k state places ends → main ≡ stream_end state
+    → main ≡ main_status k l.readings.main
+main_ends l k state main places ends at is =
+    is ∙ ap stream_end (sym at.has_state) ∙ sym (status_end k (length l.readings.main.rounds) (stream_end l.readings.main.state) (sym at.is_last))
+
+pub ends_at_fault : (l : Load) (k : ℕ) (state : StreamState) (main : Status) (f : Fault) (places : List ℕ) (ends : List QueueEnd) → EndsAt l k state places ends → main ≡ stream_end state
+    → main ≡ Bad f → HasEnded l k (Err (record { round = k; source = origin.Main; fault = f })) ends
+ends_at_fault l k state main f places ends at is bad =
+    let loading = at.loading in
+    let stops = told_bad_main l.page_size l.uuid l.limit l.main l.texts l.readings k f loading.is_page_size loading.are_readings loading.have_passed
+    (sym (main_ends l k state main places ends at is) ∙ bad) in
+    ends_bad l k (record { round = k; source = origin.Main; fault = f }) places ends ends loading (all_go_on ends) (inl (stops.0, stops.1))
+
+-- something is told there: no source has a further round
+pub told_at_end : (l : Load) (k : ℕ) (state : StreamState) (main : Status) (places places_now : List ℕ) (ends now : List QueueEnd) (packets : List Fields) → EndsAt l k state places ends
+    → main ≡ stream_end state → (told : Option Verdict) → ToldAt l k main told places_now now packets → told ≢ None
+told_at_end l k state main places places_now ends now packets at is told tells none =
+    let f : is_whole (stream_end state) ≡ false = stream_ends state in
+    let t : is_whole (stream_end state) ≡ true = ap is_whole (sym is ∙ tells.has_main none) in absurd cc

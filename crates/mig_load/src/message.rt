@@ -1,0 +1,46 @@
+//! A piece as it goes through a channel's queue: numbers alone, which say where in the text it lies.
+
+ghost use Rattle.std.specs.Prelude.{◌≡◌};
+ghost use Rattle.mig_packet.specs.PageSize.{IsPageSize};
+ghost use Rattle.mig_load.specs.Pieces.{as_piece, IsOfPageSize};
+ghost use Rattle.mig_load.specs.Messages.{LiesIn, is_last, piece_in};
+
+use crate::item::{ChannelEnd, Item};
+use mig_packet::{PacketRead, read_packet};
+
+/// Where a piece lies in its text.
+#[derive(Clone, Copy)]
+pub enum Message {
+    /// The hello, with its channel id.
+    Hello(u8),
+    /// A packet: where its first byte is, and how many bytes it has.
+    Page(usize, usize),
+    /// The end of the text.
+    Stop(ChannelEnd),
+}
+
+impl Message {
+    /// Whether it is the last one of its text.
+    pub(crate) fn is_stop(&self) -> bool
+        ensures { result ≡ is_last self.now }
+    {
+        matches!(self, Message::Stop(_))
+    }
+}
+
+/// The piece that lies there.
+pub(crate) fn item_of<'a>(page_size: u64, text: &'a [u8], message: Message) -> Item<'a>
+    requires page_size { IsPageSize page_size }
+    requires lies { LiesIn page_size text.now message }
+    ensures piece { as_piece result ≡ piece_in page_size text.now message }
+    ensures page_size { IsOfPageSize page_size result }
+{
+    match message {
+        Message::Hello(id) => Item::Hello(id),
+        Message::Stop(end) => Item::Stop(end),
+        Message::Page(at, len) => match read_packet(page_size, &text[at..at + len]) {
+            PacketRead::Whole(packet, _) => Item::Page(packet),
+            PacketRead::Cut | PacketRead::Bad(_) => unreachable!(),
+        },
+    }
+}

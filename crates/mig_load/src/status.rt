@@ -1,0 +1,42 @@
+//! How a source of a load stands at a round: the main stream, or a channel.
+
+ghost use Rattle.std.specs.Prelude.{◌≡◌};
+ghost use Rattle.mig_load.specs.Status.{stream_end};
+ghost use Rattle.mig_load.specs.Relayed.{stop_status};
+
+use crate::{ChannelEnd, Fault};
+use mig_stream::StreamState;
+
+/// How a source stands at a round, behind the rounds before.
+#[derive(Clone, Copy)]
+pub enum Status {
+    /// It has the round whole.
+    Whole,
+    /// It is closed: the main stream by its end byte, a channel by the end of its text.
+    Clean,
+    /// It has this fault.
+    Bad(Fault),
+    /// More of its text is needed.
+    Pending,
+}
+
+/// How a main stream stands behind its whole rounds.
+pub(crate) fn stream_end(state: StreamState) -> Status
+    ensures { result ≡ stream_end state }
+{
+    match state {
+        StreamState::Reading => Status::Pending,
+        StreamState::Closed => Status::Clean,
+        StreamState::Bad(fault) => Status::Bad(Fault::Stream(fault)),
+    }
+}
+
+/// How a channel stands behind its whole rounds, as its stop tells.
+pub(crate) fn stop_status(end: ChannelEnd) -> Status
+    ensures { result ≡ stop_status end }
+{
+    match end {
+        ChannelEnd::Clean => Status::Clean,
+        ChannelEnd::Bad(fault) => Status::Bad(Fault::Channel(fault)),
+    }
+}

@@ -1,0 +1,96 @@
+//! Loads of one channel's texts that are cut, or whose numbers are at the ends of their types: a round of page 1 with the first byte 9,
+//! and page 0 as zeros.
+
+use crate::load_texts::{
+    assert_done, assert_failed, assert_full, assert_page_and_zeros, cut, load, main_of, one,
+    page_and_zeros,
+};
+use mig_assemble::RoundFault;
+use mig_load::{Fault, Origin};
+use mig_packet::ChannelFault;
+use mig_stream::StreamFault;
+use std::alloc::AllocGlobal;
+use std::process::Abort;
+use std::sync::Wait;
+use std::thread::Threads;
+
+// The main stream names its table in its first 43 bytes, and its round is whole with byte 68.
+#[test]
+fn main_stream_that_is_cut(rt: HostRuntime) {
+    let main = main_of(&rt, 2, 1);
+    let texts = one(&rt, page_and_zeros(&rt));
+    assert!(rt; main.len() == 101);
+    let fault = Fault::Stream(StreamFault::Truncated);
+    for len in 0..101usize {
+        let loaded = load(&rt, cut(&rt, &main, len), &texts);
+        let rounds = if len < 69 { 0 } else { 1 };
+        assert_failed(&rt, &loaded, rounds, Origin::Main, fault);
+        if len < 43 {
+            assert!(rt; loaded.memory.is_none());
+        } else if len < 69 {
+            assert_full(&rt, &loaded, 2, 0);
+        } else {
+            assert_page_and_zeros(&rt, &loaded);
+        }
+    }
+    let loaded = load(&rt, &main, &texts);
+    assert_done(&rt, &loaded, 1);
+    assert_page_and_zeros(&rt, &loaded);
+}
+
+// Asserts what the load tells of a channel cut to so many bytes. It takes nothing of the round.
+fn assert_cut<R: AllocGlobal + Abort + Threads + Wait + Sync>(
+    rt: &R,
+    main: &[u8],
+    text: &[u8],
+    len: usize,
+    fault: Fault,
+) {
+    let text = Vec::from_slice(rt.alloc(), cut(rt, text, len)).expect(rt, "a text");
+    let loaded = load(rt, main, &one(rt, text));
+    assert_failed(rt, &loaded, 0, Origin::Channel(0), fault);
+    assert_full(rt, &loaded, 2, 0);
+}
+
+// Behind its hello and behind its packet of pages the channel is cut between two items, elsewhere inside one.
+#[test]
+fn channel_that_is_cut(rt: HostRuntime) {
+    let main = main_of(&rt, 2, 1);
+    let text = page_and_zeros(&rt);
+    for len in 0..6848usize {
+        let fault = match len {
+            64 => Fault::Short,
+            5504 => Fault::Channel(ChannelFault::Unsynced),
+            _ => Fault::Channel(ChannelFault::Truncated),
+        };
+        assert_cut(&rt, &main, &text, len, fault);
+    }
+}
+
+// Asserts what the load tells where the channel has these bytes from a place on.
+fn assert_changed<R: AllocGlobal + Abort + Threads + Wait + Sync>(
+    rt: &R,
+    from: usize,
+    bytes: &[u8],
+    fault: RoundFault,
+) {
+    let whole = page_and_zeros(rt);
+    let mut text = Vec::from_slice(rt.alloc(), cut(rt, &whole, from)).expect(rt, "a text");
+    assert!(rt; text.extend_from_slice(bytes).is_ok());
+    assert!(rt; text.len() <= whole.len());
+    assert!(rt; text.extend_from_slice(&whole[text.len()..]).is_ok());
+    let loaded = load(rt, &main_of(rt, 2, 1), &one(rt, text));
+    assert_failed(rt, &loaded, 0, Origin::Round, Fault::Round(fault));
+    assert_full(rt, &loaded, 2, 0);
+}
+
+#[test]
+fn greatest_packet_number(rt: HostRuntime) {
+    assert_changed(&rt, 88, &[0xff; 8], RoundFault::Missing(0));
+}
+
+#[test]
+fn greatest_page_offset(rt: HostRuntime) {
+    let offset = [0xff, 0xff, 0xff, 0xff, 0xff, 0xff, 0xf0, 0];
+    assert_changed(&rt, 384, &offset, RoundFault::Offset(0, 0));
+}
