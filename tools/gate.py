@@ -8,8 +8,9 @@
 
 An edit plants a bug in a crate, and the prover has to refuse it. What it says depends on the crate's own text, on the public text
 (src, specs) of the crates below it, and on the toolchain. The file must-fail.record has a line for each crate whose edits were all
-refused: its name, and a hash of just that. So an edit that is left out was refused with the very same text before it; whatever
-else changed, `rt ci` tries it again.
+refused: its name, and a hash of just that, in which the toolchain stands by its logic (the second part of `rt version`): by what can be
+proved in it, that is, and not by the kit that brings it. So an edit that is left out was refused with the very same text before it, in
+the same logic; whatever else changed, `rt ci` tries it again, and `make gate` tries all, as after a change of the kit.
 """
 import hashlib
 import os
@@ -51,6 +52,12 @@ def files_of(name, parts):
     return sorted(file for part in parts for file in (TOP / "crates" / name / part).rglob("*") if file.is_file())
 
 
+def logic():
+    """The logic of the toolchain, by its sum."""
+    said = subprocess.run(["rt", "version"], check=True, capture_output=True, text=True).stdout.split()
+    return " ".join(said[said.index("logic"):][:2])
+
+
 def key(name, known, toolchain):
     files = files_of(name, OWN) + [file for it in sorted(below(name, known)) for file in files_of(it, PUBLIC)]
     total = hashlib.sha256(f"{toolchain}\n{name}: {' '.join(known[name])}\n".encode())
@@ -62,7 +69,7 @@ def key(name, known, toolchain):
 def keys():
     """The key of each crate that has edits."""
     known = crates()
-    toolchain = subprocess.run(["rt", "version"], check=True, capture_output=True, text=True).stdout.strip()
+    toolchain = logic()
     return {it: key(it, known, toolchain) for it in known if files_of(it, ["must-fail"])}
 
 

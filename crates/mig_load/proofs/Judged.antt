@@ -25,7 +25,7 @@ use Rattle.mig_load.specs.declared.status.Status.{Status}
 use Rattle.mig_load.specs.Status.{status_at, main_status, channel_status, stream_end, channel_end, is_whole, is_clean, is_pending, fault_of}
 use Rattle.mig_load.specs.Texts.{Text, Texts, Readings, AreReadings}
 use Rattle.mig_load.specs.Rounds.{refusal_at}
-use Rattle.mig_load.specs.MultiLoad.{Standing, main_at, channels_at, sources_at, hello_ids, repeated_hello, passes, IsFirstStop, failed, failed_at_first, failed_with_own, verdicts_at}
+use Rattle.mig_load.specs.MultiLoad.{Standing, main_at, channels_at, sources_at, hello_ids, repeated_hello, passes, IsFirstStop, failed, failed_at_first, failed_with_own, verdicts_at, verdict_at}
 use Rattle.mig_load.specs.Law.{EndedTextsAreJudged}
 use Rattle.mig_load.proofs.Statuses.{status_whole, status_end, stream_ends, channel_ends, sound, passes_all, find_none, first_none, first_is}
 
@@ -261,12 +261,15 @@ not_running : (o : Option Verdict) → o ≢ None → IsTold o → unwrap_or o R
 not_running None some told = absurd (some refl)
 not_running (Some v) some told = told v refl
 
+-- where no source is pending more isn't needed
+pub settled_is_told : (k : ℕ) (readings : Readings) → IsFirstStop readings k → All IsSettled (sources_at k readings) → verdict_at k readings ≢ Running
+settled_is_told k readings stop settled =
+    let none : list_any (λ (s : Standing). is_pending s.status) (sources_at k readings) ≡ false =
+    list_any_none (λ (s : Standing). is_pending s.status) (sources_at k readings) settled in
+    not_running (first_some (verdicts_at k readings)) (some_answer k readings stop settled)
+    (λ v e. first_is (λ (x : Verdict). x ≢ Running) (verdicts_at k readings) v (all_told k readings none) e)
+
 pub ended_law : EndedTextsAreJudged
 ended_law = λ p uuid limit texts answer size over is running.
-    let k : ℕ = answer.rounds in
-    let settled = none_pending p uuid limit texts is.readings k size over.0 over.1 is.are_readings is.has_rounds in
-    let none : list_any (λ (s : Standing). is_pending s.status) (sources_at k is.readings) ≡ false =
-    list_any_none (λ (s : Standing). is_pending s.status) (sources_at k is.readings) settled in
-    not_running (first_some (verdicts_at k is.readings)) (some_answer k is.readings is.has_rounds settled)
-    (λ v e. first_is (λ (x : Verdict). x ≢ Running) (verdicts_at k is.readings) v (all_told k is.readings none) e)
+    settled_is_told answer.rounds is.readings is.has_rounds (none_pending p uuid limit texts is.readings answer.rounds size over.0 over.1 is.are_readings is.has_rounds)
     (sym is.has_verdict ∙ running)

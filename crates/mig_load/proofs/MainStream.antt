@@ -20,7 +20,8 @@ use Rattle.mig_load.specs.declared.fault.LoadFault.{LoadFault}
 use Rattle.mig_load.specs.MultiLoad.{passes}
 use Rattle.mig_load.specs.Pieces.{QueueEnd}
 use Rattle.mig_load.specs.Relayed.{Load, Loading, HasLoaded, HasEnded, Comes, Goes, EndsAt}
-use Rattle.mig_load.proofs.RelayRounds.{table_is, size_is}
+use Rattle.mig_load.proofs.Putting.{table_is}
+use Rattle.mig_load.proofs.RelayRounds.{size_is}
 
 -- a main stream's text that is over, so many of whose rounds were taken
 abbrev pub main_so_far : List ℕ → ℕ → SoFar

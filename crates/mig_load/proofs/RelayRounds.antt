@@ -35,13 +35,14 @@ use Rattle.mig_load.specs.declared.verdict.Verdict.{Verdict}
 use Rattle.mig_load.specs.declared.verdict.Verdict.TheVariants.{Done, Failed}
 use Rattle.mig_load.specs.SingleLoad.{want_of_memory}
 use Rattle.mig_load.specs.Status.{main_status, stream_end, is_whole}
-use Rattle.mig_load.specs.Texts.{Readings}
+use Rattle.mig_load.specs.Texts.{Readings, ended_text}
 use Rattle.mig_load.specs.Rounds.{record_pages_at, channel_packets_at, packets_at, packet_count_at, base_at, refusal_of, refusal_at, pages_at}
 use Rattle.mig_load.specs.MultiLoad.{passes, as_verdict}
 use Rattle.mig_load.specs.Received.{round_count, rounds_in, ends_round}
 use Rattle.mig_load.specs.Pieces.{QueueEnd}
 use Rattle.mig_load.specs.Relayed.{Continues, IsAtRound, AreAtRound, Load, Loading, HasLoaded, ToldAt, IsAnswered, IsRefused, HaveRounds, HasEnded, EndsAt, Comes}
 use Rattle.mig_load.proofs.Statuses.{status_whole, status_end, stream_ends}
+use Rattle.mig_load.proofs.Putting.{table_is, size_of_table, refusal_of_round, round_is_put}
 use Rattle.mig_load.proofs.Received.{counted_law}
 use Rattle.mig_load.proofs.DealtBags.{range-append}
 use Rattle.mig_load.proofs.Relays.{of_relay, sizes_are}
@@ -99,21 +100,10 @@ ends_without l k result places ends now loading zip is =
 
 -- ---- a round goes into the memory
 
--- the table of a memory that is loaded, which is the main stream's
-pub table_is : (k : ℕ) (readings : Readings) (target : LoadTarget) → HasLoaded k readings target → readings.main.table ≡ Some target.memory.table
-table_is k readings target has = go readings.main.table has.has_memory
-  where
-    go : (o : Option RamTable) → option_map (λ t. after t (map (λ i. pages_at t i readings) (range_with_len 0 k))) o ≡ Some target.memory → o ≡ Some target.memory.table
-    go None e = absurd cc
-    go (Some t) e =
-        let same : after t (map (λ i. pages_at t i readings) (range_with_len 0 k)) ≡ target.memory = cc in ap (λ (m : Image). Some m.table) same
-
 -- the page size of the table
 pub size_is : (l : Load) (k : ℕ) (target : LoadTarget) (places : List ℕ) (ends : List QueueEnd) → Loading l k places ends → HasLoaded k l.readings target → target.memory.table.page_size ≡ l.page_size
 size_is l k target places ends loading has =
-    let main = loading.are_readings.has_main in
-    let table : main.found.table ≡ Some target.memory.table = sym (ap (λ r. r.table) main.has_end) ∙ table_is k l.readings target has in
-    (limits_law (main_settings Main l.page_size l.limit) l.main main.found loading.is_page_size main.is_reading).has_page_size target.memory.table table
+    size_of_table l.page_size l.limit k (ended_text l.main) l.readings target loading.is_page_size loading.are_readings.has_main has
 
 pub sizes_of_packets : (l : Load) (k : ℕ) (target : LoadTarget) (places : List ℕ) (ends : List QueueEnd) (packets : List Packet) → Loading l k places ends → HasLoaded k l.readings target
     → ((page_size : ℕ) → All (λ p. p.source.page_size ≡ page_size) ends → All (λ packet. packet.page_size ≡ page_size) packets)
@@ -122,71 +112,17 @@ sizes_of_packets l k target places ends packets loading has sizes =
     subst (λ (n : ℕ). All (λ (packet : Packet). packet.page_size ≡ n) packets) (sym (size_is l k target places ends loading has))
     (sizes l.page_size (sizes_are l.page_size l.uuid (length l.texts) l.texts ends loading.is_relay.has_sources))
 
--- the round's pages of records
-pages_are : (l : Load) (target : LoadTarget) (places : List ℕ) (ends : List QueueEnd) (round : RoundOfRecords) → Comes l target places ends round
-    → pages_of_round round ≡ record_pages_at target.memory.table.page_size target.rounds l.readings
-pages_are l target places ends round comes =
-    ap (λ (n : ℕ). map (page_of n) round.records) comes.fits.has_page_size ∙ ap (map (page_of target.memory.table.page_size)) comes.is_round
-
 -- why it is refused
 pub refusal_is : (l : Load) (target : LoadTarget) (places : List ℕ) (ends : List QueueEnd) (round : RoundOfRecords) (packets : List Fields) → Comes l target places ends round
     → packets ≡ packets_at l.page_size target.rounds l.readings
     → refusal_at target.rounds l.readings ≡ refusal target.memory.table target.base (pages_of_round round) packets
 refusal_is l target places ends round packets comes are =
-    let table : RamTable = target.memory.table in
-    let k : ℕ = target.rounds in
-    let size : table.page_size ≡ l.page_size = size_is l k target places ends comes.loading comes.has_loaded in
-    let same : packets ≡ packets_at table.page_size k l.readings = are ∙ ap (λ (n : ℕ). packets_at n k l.readings) (sym size) in
-    ap (option_and_then (λ t. refusal_of t k l.readings)) (table_is k l.readings target comes.has_loaded)
-    ∙ ap (λ (n : ℕ). refusal table n (record_pages_at table.page_size k l.readings) (packets_at table.page_size k l.readings)) (sym comes.has_loaded.has_base)
-    ∙ ap (λ (pages : List Page). refusal table target.base pages (packets_at table.page_size k l.readings)) (sym (pages_are l target places ends round comes))
-    ∙ ap (refusal table target.base (pages_of_round round)) (sym same)
-
--- as many packets as are counted
-packets_counted : (page_size k : ℕ) (readings : Readings) → length (packets_at page_size k readings) ≡ packet_count_at k readings
-packets_counted page_size k readings =
-    length-flat_map (channel_packets_at page_size k) readings.channels
-    ∙ ap (λ (f : ChannelReading → ℕ). sum_by f readings.channels) (λ i reading. length-map (get_or reading.rounds k []) (fields_of page_size) i)
-
-base_more : (k : ℕ) (readings : Readings) → base_at k readings + packet_count_at k readings ≡ base_at (k + 1) readings
-base_more k readings =
-    let count : ℕ → ℕ = λ i. packet_count_at i readings in
-    let last : sum_by count (range_with_len (0 + k) 1) ≡ packet_count_at k readings =
-    ap (λ (n : ℕ). sum_by count (range_with_len n 1)) (zero-add k) ∙ zero-add (packet_count_at k readings) in
-    sym (ap (sum_by count) (range-append 0 k 1) ∙ sum_by-append count (range_with_len 0 k) (range_with_len (0 + k) 1)
-    ∙ ap (λ (n : ℕ). sum_by count (range_with_len 0 k) + n) last)
-
-one_round_more : (table : RamTable) (rounds : List (List Page)) (round : List Page) → after table (rounds ++ round ∷ []) ≡ with_round (after table rounds) round
-one_round_more table rounds round =
-    onto-zeros table (rounds ++ round ∷ []) ∙ onto-push (zero_image table) rounds round ∙ ap (λ (m : Image). with_round m round) (sym (onto-zeros table rounds))
+    refusal_of_round l.page_size l.readings target round packets (size_is l target.rounds target places ends comes.loading comes.has_loaded) comes.has_loaded comes.fits comes.is_round are
 
 pub round_goes_in : (l : Load) (target new : LoadTarget) (places : List ℕ) (ends : List QueueEnd) (round : RoundOfRecords) (packets : List Fields) → Comes l target places ends round
     → packets ≡ packets_at l.page_size target.rounds l.readings → new ≡ after_round target round packets → HasLoaded (target.rounds + 1) l.readings new
 round_goes_in l target new places ends round packets comes are is =
-    let table : RamTable = target.memory.table in
-    let k : ℕ = target.rounds in
-    let readings : Readings = l.readings in
-    let size : table.page_size ≡ l.page_size = size_is l k target places ends comes.loading comes.has_loaded in
-    let same : packets ≡ packets_at table.page_size k readings = are ∙ ap (λ (n : ℕ). packets_at n k readings) (sym size) in
-    let is_table : readings.main.table ≡ Some table = table_is k readings target comes.has_loaded in
-    let pages : List (List Page) = map (λ i. pages_at table i readings) (range_with_len 0 k) in
-    let before : after table pages ≡ target.memory =
-    let e : Some (after table pages) ≡ Some target.memory =
-    sym (ap (option_map (λ t. after t (map (λ i. pages_at t i readings) (range_with_len 0 k)))) is_table) ∙ comes.has_loaded.has_memory in cc in
-    let here : pages_at table k readings ≡ all_round_pages table (pages_of_round round) packets =
-    ap (λ (ps : List Page). all_round_pages table ps (packets_at table.page_size k readings)) (sym (pages_are l target places ends round comes))
-    ∙ ap (all_round_pages table (pages_of_round round)) (sym same) in
-    let memory : after table (map (λ i. pages_at table i readings) (range_with_len 0 (k + 1))) ≡ new.memory =
-    ap (after table) (map-range_with_len_more (λ i. pages_at table i readings) 0 k k (omega arith)) ∙ one_round_more table pages (pages_at table k readings)
-    ∙ ap (λ (m : Image). with_round m (pages_at table k readings)) before ∙ ap (with_round target.memory) here ∙ ap (λ (t : LoadTarget). t.memory) (sym is) in
-    record {
-      has_memory = ap (option_map (λ t. after t (map (λ i. pages_at t i readings) (range_with_len 0 (k + 1))))) is_table ∙ ap (λ (m : Image). Some m) memory;
-      has_rounds = ap (λ (t : LoadTarget). t.rounds) is;
-      has_base = ap (λ (t : LoadTarget). t.base) is
-          ∙ ap (λ (n : ℕ). n + length packets) comes.has_loaded.has_base
-          ∙ ap (λ (ps : List Fields). base_at k readings + length ps) are
-          ∙ ap (λ (n : ℕ). base_at k readings + n) (packets_counted l.page_size k readings) ∙ base_more k readings;
-    }
+    round_is_put l.page_size l.readings target new round packets (size_is l target.rounds target places ends comes.loading comes.has_loaded) comes.has_loaded comes.fits comes.is_round are is
 
 -- the main stream has the round
 pub main_whole : (l : Load) (k : ℕ) → k < length l.readings.main.rounds → Whole ≡ main_status k l.readings.main

@@ -64,7 +64,7 @@ starts_relay p uuid texts ends some start =
 
 -- ---- what was sent
 
-sendings_are_loaded : SendingsAreLoaded
+pub sendings_are_loaded : SendingsAreLoaded
 sendings_are_loaded = sendings_law (sendings_are_read_back (λ limit table n is room. written_main table n limit is room) spelled_law)
 
 pub sending_is_loaded : (p : ℕ) (uuid : List ℕ) (limit : ℕ) (main : List ℕ) (channels : List (List ℕ)) (answer : Answer)

@@ -36,7 +36,7 @@ first_more [] more x e = absurd cc
 first_more (None ∷ os) more x e = first_more os more x e
 first_more (Some y ∷ os) more x e = e
 
-first_behind : {X : Type 0} (os more : List (Option X)) → first_some os ≡ None → first_some (os ++ more) ≡ first_some more
+pub first_behind : {X : Type 0} (os more : List (Option X)) → first_some os ≡ None → first_some (os ++ more) ≡ first_some more
 first_behind [] more e = refl
 first_behind (None ∷ os) more e = first_behind os more e
 first_behind (Some y ∷ os) more e = absurd cc
@@ -72,7 +72,7 @@ none_pending_at p uuid limit main channels readings k size are before =
 -- ---- what is told where all sources have the round, and where nothing is told
 
 -- what the readings' sources tell at a round
-abbrev told_at : ℕ → Readings → List (Option Verdict)
+abbrev pub told_at : ℕ → Readings → List (Option Verdict)
 told_at k readings = verdicts_told k (main_at k readings) (channels_at k readings) (repeated_hello (hello_ids readings))
 
 same_told : (k : ℕ) (readings : Readings) (status : Status) (statuses : List Status) (repeated : Option ℕ) → TellsSources k readings status statuses repeated
@@ -89,7 +89,7 @@ is_whole_status (Bad f) e = absurd cc
 is_whole_status Pending e = absurd cc
 
 -- sources that all have the round, of which none is told alone
-abbrev AreWhole : List Standing → Type 0
+abbrev pub AreWhole : List Standing → Type 0
 AreWhole sources = All IsWhole sources
 
 none_own : (k : ℕ) (sources : List Standing) → AreWhole sources → first_some (map (failed_with_own k) sources) ≡ None
@@ -124,7 +124,7 @@ whole_tells_none k m cs repeated all once =
     rw (waits, own, once, clean, whole, short) refl
 
 -- where none is told, of sources that don't wait, all have the round, and no hello comes again
-none_told : (k : ℕ) (m : Standing) (cs : List Standing) (repeated : Option ℕ) → All IsSettled (m ∷ cs)
+pub none_told : (k : ℕ) (m : Standing) (cs : List Standing) (repeated : Option ℕ) → All IsSettled (m ∷ cs)
     → first_some (verdicts_told k m cs repeated) ≡ None
     → (list_all (λ (s : Standing). is_whole s.status) (m ∷ cs) ≡ true) × (repeated ≡ None)
 none_told k m cs repeated settled none =
@@ -173,10 +173,10 @@ passed_parts k readings t =
     is_absent None e = refl
     is_absent (Some x) e = absurd cc
 
-abbrev round_told : ℕ → Readings → List (Option Verdict)
+abbrev pub round_told : ℕ → Readings → List (Option Verdict)
 round_told k readings = option_map (λ (f : RoundFault). failed k origin.Round (fault.Round f)) (refusal_at k readings) ∷ []
 
-told_first_some : (k : ℕ) (readings : Readings) (v : Verdict) → first_some (told_at k readings) ≡ Some v
+pub told_first_some : (k : ℕ) (readings : Readings) (v : Verdict) → first_some (told_at k readings) ≡ Some v
     → (passes k readings ≡ false) × (first_some (verdicts_at k readings) ≡ Some v)
 told_first_some k readings v e =
     let stops : passes k readings ≡ false = elim (cases_Bool (passes k readings)) [

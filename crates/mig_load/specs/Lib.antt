@@ -9,10 +9,18 @@ pub mod Received
 pub mod Dealt
 pub mod Sent
 pub mod Law
+pub mod Growing
 pub mod LoadFaultNumber
 -- loaders that are fed in pieces
 pub mod Loader
 pub mod InPlace
+-- sessions: what callers see of them, and then the inside, what is kept of each source
+pub mod Session
+pub mod Sources
+pub mod Advancing
+-- pumps, which feed a session what they read
+pub mod Reads
+pub mod Pumping
 -- the relay of channels: what its contracts say of pieces, and then the inside, messages in a queue under a rule
 pub mod Pieces
 pub mod Relay

@@ -1,5 +1,5 @@
 -- The texts of a load on several channels as far as they have come, and what they tell: the main stream's and the channels'.
-use Rattle.std.specs.Prelude.{ℕ, ◌≡◌, Bool, true, List, length, map}
+use Rattle.std.specs.Prelude.{ℕ, ◌≡◌, Bool, true, false, List, [], ◌++◌, length, map, replicate}
 use Rattle.std.specs.List.{AllZip}
 use Rattle.mig_stream.specs.declared.item.Mode.TheVariants.{Main}
 use Rattle.mig_stream.specs.Reading as stream
@@ -15,6 +15,21 @@ pub record Text : Type 0 where
 pub record Texts : Type 0 where
   pub main : Text
   pub channels : List Text
+
+-- of which nothing has come
+abbrev pub no_text : Text
+no_text = record { bytes = []; ended = false }
+
+abbrev pub no_texts : ℕ → Texts
+no_texts channels = record { main = no_text; channels = replicate channels no_text }
+
+-- with a piece more
+abbrev pub with_piece : List ℕ → Text → Text
+with_piece piece text = record text { bytes = text.bytes ++ piece }
+
+-- which has ended
+abbrev pub over : Text → Text
+over text = record text { ended = true }
 
 abbrev pub ended_text : List ℕ → Text
 ended_text bytes = record { bytes = bytes; ended = true }

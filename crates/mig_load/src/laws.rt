@@ -4,6 +4,7 @@
 //! callers can have it.
 
 ghost use Rattle.mig_load.specs.Law.{HasOneAnswer, EndedTextsAreJudged};
+ghost use Rattle.mig_load.specs.Growing.{AnswersStay, WantsStay, RoundsStay};
 ghost use Rattle.mig_load.specs.Received.{FrontTellsChannel, StopIsLast, RoundsAreCounted, FrontsTellAllChannels};
 ghost use Rattle.mig_load.specs.Dealt.{DealtRoundsAreLawful};
 ghost use Rattle.mig_load.specs.Sent.{SendingsAreLoaded, ChannelsLoadAsOneStream};
@@ -15,6 +16,15 @@ use std::alloc::Allocator;
 pub fn texts_have_one_answer()
     ensures one { HasOneAnswer }
     ensures ended { EndedTextsAreJudged }
+{}
+
+/// Texts that go on leave an answer as it is, once it isn't `Running`: whatever bytes follow in them, and whichever of them end, the memory,
+/// the rounds and the verdict stay. So does an answer for want of memory. And a round that was counted stays counted, whatever comes. So a
+/// load can answer before its texts are over.
+pub fn answers_stay()
+    ensures settled { AnswersStay }
+    ensures wanting { WantsStay }
+    ensures rounds { RoundsStay }
 {}
 
 /// A front of a channel's pieces tells of a round what the channel's whole text tells, once it has the round's SYNC packet, or the stop: the

@@ -10,6 +10,8 @@
 #![tactic(auto)]
 
 mod channel;
+mod channel_source;
+mod counts;
 mod cursor;
 mod fault;
 mod feeder;
@@ -19,13 +21,19 @@ mod laws;
 mod loaded;
 mod loader;
 mod log;
+mod main_source;
 mod message;
 mod multi;
+mod piece_reader;
+mod pumping;
 mod queue;
 mod relay;
 mod relayed;
+mod session;
 mod settle;
 mod single;
+mod source;
+mod sources;
 mod status;
 mod taking;
 mod told;
@@ -36,12 +44,17 @@ pub use feeder::{Fed, Feeder, FeederStep};
 pub use in_place::{InPlaceLoader, sent_is_loaded_in_place};
 pub use item::{ChannelEnd, Item};
 pub use laws::{
-    dealt_rounds_are_lawful, received_tells_status, sendings_are_loaded, texts_have_one_answer,
+    answers_stay, dealt_rounds_are_lawful, received_tells_status, sendings_are_loaded,
+    texts_have_one_answer,
 };
 pub use loaded::Loaded;
 pub use loader::SingleLoader;
 pub use multi::load_multi;
+pub use piece_reader::{Counted, PieceReader, ReadFailed};
+pub use pumping::{PumpFault, pump};
 pub use relay::{Collector, Relay};
 pub use relayed::load_relayed;
+pub use session::Session;
 pub use single::load_single;
+pub use source::Source;
 pub use verdict::Verdict;

@@ -23,8 +23,10 @@ use mig_stream::{Mode, StreamReader, StreamRound, StreamState};
 use std::alloc::Allocator;
 use std::sync::Wait;
 
-// Packets are numbered below 2^63: more are refused as for want of memory.
+// Packets are numbered below 2^63, and as many rounds are counted: more are refused as for want of memory. No text in memory has so many.
 const PACKET_LIMIT: u64 = 1 << 63;
+
+const ROUND_LIMIT: u64 = 1 << 63;
 
 // The least channel whose hello names an earlier one's id, which the first round alone tells.
 fn repeated_at<A: Allocator>(round: u64, collector: &Collector<'_, A>) -> Option<usize>
@@ -72,8 +74,8 @@ fn answer_of(verdict: Verdict) -> Result<(), LoadFault>
     }
 }
 
-// Puts a round into the memory, where it is lawful. An `Err` changes nothing.
-fn put<A: Allocator + Copy>(
+/// Puts a round into the memory, where it is lawful. An `Err` changes nothing.
+pub(crate) fn put<A: Allocator + Copy>(
     target: &mut Target<A>,
     round: &StreamRound<'_, A>,
     gathered: &Gathered<'_, A>,
@@ -81,7 +83,6 @@ fn put<A: Allocator + Copy>(
     requires fits { Fits target.old.memory.table round.now }
     requires page_sizes { All (λ p. p.page_size ≡ target.old.memory.table.page_size) gathered.now }
     requires packets { target.old.base ≤ 2 ^ 63 }
-    requires rounds { target.old.rounds < 2 ^ 63 }
     ensures lawful { OnOk result (refusal target.old.memory.table target.old.base (pages_of_round round.now) (map fields gathered.now) ≡ None) }
     ensures ok { OnOk result (target.new ≡ after_round target.old round.now (map fields gathered.now)) }
     ensures few { OnOk result (target.new.base ≤ 2 ^ 63) }
@@ -89,7 +90,7 @@ fn put<A: Allocator + Copy>(
     ensures err { OnErr result (target.new ≡ target.old) }
 {
     let rounds = target.rounds();
-    if gathered.len() as u64 > PACKET_LIMIT - target.base() {
+    if rounds >= ROUND_LIMIT || gathered.len() as u64 > PACKET_LIMIT - target.base() {
         return no_memory(rounds);
     }
     let fault = match target.round(round, gathered) {

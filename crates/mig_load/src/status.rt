@@ -1,10 +1,11 @@
 //! How a source of a load stands at a round: the main stream, or a channel.
 
 ghost use Rattle.std.specs.Prelude.{◌≡◌};
-ghost use Rattle.mig_load.specs.Status.{stream_end};
+ghost use Rattle.mig_load.specs.Status.{stream_end, channel_end};
 ghost use Rattle.mig_load.specs.Relayed.{stop_status};
 
 use crate::{ChannelEnd, Fault};
+use mig_packet::ChannelState;
 use mig_stream::StreamState;
 
 /// How a source stands at a round, behind the rounds before.
@@ -28,6 +29,17 @@ pub(crate) fn stream_end(state: StreamState) -> Status
         StreamState::Reading => Status::Pending,
         StreamState::Closed => Status::Clean,
         StreamState::Bad(fault) => Status::Bad(Fault::Stream(fault)),
+    }
+}
+
+/// How a channel stands behind its whole rounds.
+pub(crate) fn channel_end(state: ChannelState) -> Status
+    ensures { result ≡ channel_end state }
+{
+    match state {
+        ChannelState::Reading => Status::Pending,
+        ChannelState::Closed => Status::Clean,
+        ChannelState::Bad(fault) => Status::Bad(Fault::Channel(fault)),
     }
 }
 

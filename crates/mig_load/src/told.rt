@@ -169,6 +169,22 @@ fn is_bad(status: Status) -> bool
 // How many ids there are.
 const ID_COUNT: usize = 256;
 
+/// The least of some channels whose hello names the id of an earlier one.
+pub(crate) fn repeated_id(hellos: &[Option<u8>]) -> Option<usize>
+    ensures { result ≡ repeated_hello hellos.now }
+{
+    let mut seen = [false; ID_COUNT];
+    for j in 0..hellos.len() {
+        if let Some(id) = hellos[j] {
+            if seen[id as usize] {
+                return Some(j);
+            }
+            seen[id as usize] = true;
+        }
+    }
+    None
+}
+
 /// The least channel whose hello names the id of an earlier one.
 pub(crate) fn repeated_hello<A: Allocator>(collector: &Collector<'_, A>) -> Option<usize>
     ensures { result ≡ repeated_hello (map hello_in (received_of collector.now)) }

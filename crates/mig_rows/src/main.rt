@@ -12,6 +12,7 @@ mod channels;
 mod judge;
 mod rounds;
 mod run;
+mod several;
 mod show;
 mod streams;
 
@@ -20,6 +21,7 @@ use std::alloc::AllocGlobal;
 use std::io::{self, BufWriter, Read, Write};
 use std::process::ExitCode;
 use std::rt::Files;
+use std::sync::Wait;
 use std::thread::Threads;
 use std::{env, fs};
 
@@ -37,7 +39,7 @@ fn texts(rt: &HostRuntime) -> io::Result<Vec<String>> {
     Ok(texts)
 }
 
-fn run_all<R: AllocGlobal + Files + Threads + Sync, W: Write>(
+fn run_all<R: AllocGlobal + Files + Threads + Wait + Sync, W: Write>(
     rt: &R,
     out: &mut W,
     texts: &[String],

@@ -2,6 +2,7 @@
 
 use crate::judge::{judge, sections};
 use crate::rounds::Rounds;
+use crate::several::load_several;
 use crate::streams::ask_stream;
 use mig_cases::{
     Book, Case, Done, Section, Trouble, Words, ask_memory, ask_packets, bytes_of, difference,
@@ -9,6 +10,7 @@ use mig_cases::{
 use std::alloc::Global;
 use std::io::{self, Write};
 use std::rt::Files;
+use std::sync::Wait;
 use std::thread::Threads;
 
 /// How many cases there were, how many answers, and how many of these were wrong.
@@ -37,7 +39,7 @@ impl Count {
 }
 
 /// Runs the cases of a file.
-pub fn run_file<R: Files + Threads + Sync, W: Write>(
+pub fn run_file<R: Files + Threads + Wait + Sync, W: Write>(
     rt: &R,
     alloc: Global,
     out: &mut W,
@@ -60,7 +62,7 @@ pub fn run_file<R: Files + Threads + Sync, W: Write>(
     Ok(())
 }
 
-fn run_case<R: Files + Threads + Sync, W: Write>(
+fn run_case<R: Files + Threads + Wait + Sync, W: Write>(
     rt: &R,
     alloc: Global,
     out: &mut W,
@@ -78,7 +80,7 @@ fn run_case<R: Files + Threads + Sync, W: Write>(
 }
 
 // Follows the lines of a case, up to one that can't be followed.
-fn run_lines<R: Files + Threads + Sync, W: Write>(
+fn run_lines<R: Files + Threads + Wait + Sync, W: Write>(
     rt: &R,
     out: &mut W,
     book: &Book<'_>,
@@ -95,7 +97,7 @@ fn run_lines<R: Files + Threads + Sync, W: Write>(
 }
 
 // Follows a line of a case; false where it can't be followed.
-fn run_line<R: Files + Threads + Sync, W: Write>(
+fn run_line<R: Files + Threads + Wait + Sync, W: Write>(
     rt: &R,
     out: &mut W,
     book: &Book<'_>,
@@ -145,7 +147,7 @@ fn put_answer<W: Write>(
 }
 
 // Follows a line: writes down what it asks is answered; false where it asks nothing.
-fn follow<R: Files + Threads + Sync>(
+fn follow<R: Files + Threads + Wait + Sync>(
     out: &mut String,
     rt: &R,
     book: &Book<'_>,
@@ -168,7 +170,7 @@ fn follow<R: Files + Threads + Sync>(
 }
 
 // Writes down what a question is answered, whatever the answer that stands beside it.
-fn ask<R: Files + Threads + Sync>(
+fn ask<R: Files + Threads + Wait + Sync>(
     out: &mut String,
     rt: &R,
     book: &Book<'_>,
@@ -178,6 +180,9 @@ fn ask<R: Files + Threads + Sync>(
 ) -> Done {
     if name == "multi" {
         return built.multi(out, rt, words);
+    }
+    if name == "load_multi" {
+        return load_several(out, rt, &built.case);
     }
     if name == "same" || name == "difference" {
         return ask_other(out, rt, book, &mut built.case, name, words.rest());
@@ -211,7 +216,7 @@ fn ask_guest(
 }
 
 // Asks about a case and another one, which the lines of a name build.
-fn ask_other<R: Files + Threads + Sync>(
+fn ask_other<R: Files + Threads + Wait + Sync>(
     out: &mut String,
     rt: &R,
     book: &Book<'_>,
@@ -225,7 +230,7 @@ fn ask_other<R: Files + Threads + Sync>(
 }
 
 // Follows the lines of a name, which are to build something.
-fn build<R: Files + Threads + Sync>(
+fn build<R: Files + Threads + Wait + Sync>(
     rt: &R,
     book: &Book<'_>,
     built: &mut Rounds,

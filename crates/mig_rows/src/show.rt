@@ -56,6 +56,7 @@ pub fn put_records(out: &mut String, round: &StreamRound) -> Done {
 fn put_load_fault(out: &mut String, fault: LoadFault) -> Done {
     match fault.fault {
         Fault::Stream(fault) => put_stream_fault(out, fault)?,
+        Fault::Round(fault) => put_round_fault(out, fault)?,
         other => write!(out, "fault {}", other.number())?,
     }
     write!(out, " round {}", fault.round)?;

@@ -1,0 +1,10 @@
+//! The sources of a load on several channels.
+
+/// One of the texts of a load on several channels.
+#[derive(Clone, Copy, Debug, PartialEq, Eq)]
+pub enum Source {
+    /// The main stream.
+    Main,
+    /// A channel, by its place among the channels, from 0. Its hello may name another id.
+    Channel(usize),
+}

@@ -1,0 +1,33 @@
+//! Questions about texts as those of a load on several channels.
+
+use crate::show::put_loaded;
+use mig_cases::{Case, Done, Trouble};
+use mig_load::load_multi;
+use mig_mem::{MAX_TOTAL, is_page_size};
+use mig_packet::OpenGate;
+use std::sync::Wait;
+use std::thread::Threads;
+
+/// Writes down what loading the texts is answered: the first is the main stream, and each further one a channel's.
+pub fn load_several<R: Threads + Wait + Sync>(out: &mut String, rt: &R, case: &Case) -> Done {
+    let Some((main, channels)) = case.texts.split_first() else {
+        return Err(Trouble::Line);
+    };
+    if !is_page_size(case.page_size) || case.limit > MAX_TOTAL {
+        return Err(Trouble::Line);
+    }
+    if channels.is_empty() || channels.len() > 255 {
+        return Err(Trouble::Line);
+    }
+    let loaded = load_multi(
+        rt,
+        case.alloc,
+        case.page_size,
+        &case.uuid,
+        main,
+        channels,
+        case.limit,
+        &OpenGate,
+    );
+    put_loaded(out, &loaded)
+}

@@ -1,0 +1,190 @@
+//! Guests from a seeded generator: what the sender on several channels wrote of each, in random pieces and in a random order of the sources.
+
+ghost use Rattle.std.specs.Prelude.{◌≡◌, ◌<◌, ◌⊎◌};
+
+use crate::checked::CheckedSession;
+use crate::feeding::{feed_next, source_at, text_of};
+use crate::telling::{assert_as_loaded, is_same};
+use mig_fixtures::{at, set, table_of};
+use mig_load::{Loaded, Verdict, load_multi, load_single};
+use mig_mem::{Dirty, Memory, PAGE_SIZE_4K, PAGE_SIZE_8K, Table, is_page_size};
+use mig_packet::OpenGate;
+use mig_send::{MultiSender, Sent, SingleSender};
+use rand_core::Rng;
+use rand_pcg::Pcg32;
+use std::alloc::{AllocGlobal, Allocator};
+use std::process::Abort;
+use std::sync::Wait;
+use std::thread::Threads;
+use uuid::Uuid;
+
+const LIMIT: u64 = 1 << 40;
+
+// The pages of the guest's blocks.
+const PAGES: [u64; 2] = [20, 3];
+
+// A number below `n`; 0 where `n` is 0.
+fn below(random: &mut Pcg32, n: u64) -> u64
+    ensures { (result < n) ⊎ (result ≡ 0) }
+{
+    random.next_u64().checked_rem(n).unwrap_or(0)
+}
+
+// ---- what a guest's rounds are sent as
+
+// A guest's memory after its rounds, and what they were sent as.
+#[derive(Drop)]
+struct Sendings {
+    memory: Memory,
+    single: Vec<u8>,
+    several: Sent,
+}
+
+// The guest writes to some pages, or makes them zeros, and they are marked.
+fn write_some(rt: &impl Abort, memory: &mut Memory, dirty: &mut Dirty, random: &mut Pcg32) {
+    for _ in 0..below(random, 24) {
+        let block = below(random, 2) as usize;
+        let pages = PAGES.get(block).expect(rt, "a block");
+        let page = below(random, *pages);
+        let place = at(block, page);
+        assert!(rt; memory.table().holds(place) && dirty.table().holds(place));
+        assert!(rt; dirty.mark(place).is_ok());
+        if below(random, 3) == 0 {
+            memory.put_zero_page(place);
+            continue;
+        }
+        let size = memory.table().page_size();
+        let offset = page.wrapping_mul(size).wrapping_add(below(random, size));
+        assert!(rt; set(memory, block, offset, (random.next_u32() % 256) as u8));
+    }
+}
+
+// Sends so many rounds of a guest both ways.
+fn send<R: AllocGlobal + Abort + Threads + Sync>(
+    rt: &R,
+    table: &Table,
+    channels: usize,
+    rounds: u64,
+    random: &mut Pcg32,
+) -> Sendings {
+    let limit = 1 + below(random, 4) as usize;
+    let mut memory = Memory::zeroed(rt.alloc(), table).expect(rt, "a memory");
+    let mut single = SingleSender::new(rt.alloc(), table).expect(rt, "a sender");
+    let made = MultiSender::new(rt.alloc(), table, Uuid::nil(), channels, limit);
+    let mut several = made.expect(rt, "a sender");
+    for _ in 0..rounds {
+        let mut dirty = Dirty::none(rt.alloc(), table).expect(rt, "a set");
+        write_some(rt, &mut memory, &mut dirty, random);
+        assert!(rt; single.round(&memory, &dirty).is_ok());
+        assert!(rt; several.round(rt, &memory, &dirty, &OpenGate).is_ok());
+    }
+    let (Ok(single), Ok(several)) = (single.finish(), several.finish()) else {
+        panic!(rt; "memory")
+    };
+    Sendings {
+        memory,
+        single,
+        several,
+    }
+}
+
+// ---- their loads
+
+// Loads the whole texts of several channels.
+fn load<R: AllocGlobal + Abort + Threads + Wait + Sync>(
+    rt: &R,
+    page_size: u64,
+    texts: &Sent,
+) -> Loaded {
+    let channels = texts.channels.as_slice();
+    assert!(rt; 1 <= channels.len() && channels.len() <= 255);
+    assert!(rt; is_page_size(page_size));
+    load_multi(
+        rt,
+        rt.alloc(),
+        page_size,
+        &Uuid::nil(),
+        &texts.main,
+        channels,
+        LIMIT,
+        &OpenGate,
+    )
+}
+
+// The length of a piece: often short, and now and then as long as several packets.
+fn random_len(random: &mut Pcg32) -> usize {
+    let most = match below(random, 3) {
+        0 => 100,
+        1 => 6000,
+        _ => 70_000,
+    };
+    below(random, most) as usize
+}
+
+// Feeds the texts in random pieces and in a random order of the sources, and ends each source behind its text.
+fn feed_randomly<A: Allocator + Copy>(
+    rt: &impl Abort,
+    session: &mut CheckedSession<A>,
+    texts: &Sent,
+    random: &mut Pcg32,
+) {
+    let sources = texts.channels.len().wrapping_add(1);
+    let mut over = 0usize;
+    for _ in 0..1_000_000u64 {
+        let source = source_at(below(random, sources as u64) as usize);
+        if session.ended(rt, source) {
+            continue;
+        }
+        let text = text_of(rt, texts, source);
+        let fed = feed_next(rt, session, source, text, random_len(random));
+        if fed == Ok(false) {
+            session.end(rt, source);
+            over = over.wrapping_add(1);
+        }
+        assert!(rt; fed.is_ok());
+        if over == sources {
+            return;
+        }
+    }
+    panic!(rt; "a source that isn't over");
+}
+
+// Asserts that a guest's rounds are loaded alike in pieces, as whole texts of several channels, and as a single stream.
+fn assert_loaded_alike<R: AllocGlobal + Abort + Threads + Wait + Sync>(
+    rt: &R,
+    page_size: u64,
+    channels: usize,
+    rounds: u64,
+    random: &mut Pcg32,
+) {
+    let blocks = [("pc.ram", PAGES[0]), ("b", PAGES[1])];
+    let table = table_of(rt.alloc(), page_size, &blocks).expect(rt, "a table");
+    let sendings = send(rt, &table, channels, rounds, random);
+    let loaded = load(rt, page_size, &sendings.several);
+    assert!(rt; loaded.rounds == rounds && loaded.verdict == Ok(()));
+    assert!(rt; is_page_size(page_size));
+    let single = load_single(rt.alloc(), page_size, &sendings.single, LIMIT);
+    let wanted = single.memory.as_ref().expect(rt, "a memory");
+    assert!(rt; is_same(wanted, &sendings.memory));
+    for _ in 0..4u8 {
+        let made = CheckedSession::new(rt, rt.alloc(), page_size, channels);
+        let mut session = made.expect(rt, "a session");
+        feed_randomly(rt, &mut session, &sendings.several, random);
+        assert_as_loaded(rt, &session, &loaded);
+        assert!(rt; session.verdict() == Verdict::Done);
+        let memory = session.memory().expect(rt, "a memory");
+        assert!(rt; is_same(memory, wanted));
+    }
+}
+
+#[test]
+fn random_pieces_of_random_guests(rt: HostRuntime) {
+    let mut random = Pcg32::new(1, 0);
+    for page_size in [PAGE_SIZE_4K, PAGE_SIZE_8K] {
+        for channels in [1usize, 2, 4] {
+            for rounds in 0..6u64 {
+                assert_loaded_alike(&rt, page_size, channels, rounds, &mut random);
+            }
+        }
+    }
+}

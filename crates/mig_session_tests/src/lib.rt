@@ -1,0 +1,28 @@
+//! Tests of a load on several channels that is fed in pieces: worked texts byte by byte, texts with a fault, guests from a seeded generator
+//! in random pieces, each growth refused, and what is held meanwhile.
+#![tactic(auto)]
+
+#[cfg(test)]
+mod checked;
+#[cfg(test)]
+mod faulty;
+#[cfg(test)]
+mod feeding;
+#[cfg(test)]
+mod guests;
+#[cfg(test)]
+mod held;
+#[cfg(test)]
+mod pumping;
+#[cfg(test)]
+mod refused;
+#[cfg(test)]
+mod refuses;
+#[cfg(test)]
+mod settled;
+#[cfg(test)]
+mod telling;
+#[cfg(test)]
+mod texts;
+#[cfg(test)]
+mod worked;

@@ -1,0 +1,127 @@
+//! The worked texts of one round on one channel, fed in small pieces.
+
+use crate::checked::CheckedSession;
+use crate::feeding::{feed_text, source_at, text_of};
+use crate::telling::{assert_full, assert_page_and_zeros, assert_tells, failed};
+use crate::texts::{page_and_zeros, set_byte, syncs_on_two};
+use mig_load::{Fault, Origin, Source, Verdict};
+use mig_stream::StreamFault;
+use std::process::Abort;
+
+// Asserts what the session tells behind so many bytes of main, and the whole channel or too little of it.
+fn assert_worked(rt: &impl Abort, session: &CheckedSession, main: u64, has_channel: bool) {
+    let has_round = has_channel && main >= 69;
+    let is_done = main == 101 && session.ended(rt, Source::Channel(0));
+    let verdict = if is_done {
+        Verdict::Done
+    } else {
+        Verdict::Running
+    };
+    assert_tells(rt, session, u64::from(has_round), verdict);
+    if main < 43 {
+        assert!(rt; session.memory().is_none());
+    } else if has_round {
+        assert_page_and_zeros(rt, session);
+    } else {
+        assert_full(rt, session, 2, 0);
+    }
+}
+
+// Feeds a source in pieces of so many bytes, and asserts what is told behind each.
+fn feed_worked(
+    rt: &impl Abort,
+    session: &mut CheckedSession,
+    source: Source,
+    text: &[u8],
+    len: usize,
+) {
+    for piece in text.chunks(len.max(1)) {
+        assert!(rt; session.feed(rt, source, piece) == Ok(()));
+        let main = session.fed(rt, Source::Main);
+        let has_channel = session.fed(rt, Source::Channel(0)) == 6848;
+        assert_worked(rt, session, main, has_channel);
+    }
+}
+
+// It is done with main's last byte, before main is told to be over.
+#[test]
+fn bytes_of_the_channel_and_then_of_main(rt: HostRuntime) {
+    let texts = page_and_zeros(&rt);
+    let made = CheckedSession::new(&rt, rt.alloc(), 4096, 1);
+    let mut session = made.expect(&rt, "a session");
+    let channel = Source::Channel(0);
+    feed_worked(&rt, &mut session, channel, text_of(&rt, &texts, channel), 1);
+    session.end(&rt, channel);
+    assert_worked(&rt, &session, 0, true);
+    feed_worked(&rt, &mut session, Source::Main, &texts.main, 1);
+    assert_tells(&rt, &session, 1, Verdict::Done);
+    assert!(rt; !session.ended(&rt, Source::Main));
+    session.end(&rt, Source::Main);
+    assert_worked(&rt, &session, 101, true);
+}
+
+// The round is whole with the channel's last piece, and the load is done with the second end.
+#[test]
+fn main_and_then_the_channel(rt: HostRuntime) {
+    let texts = page_and_zeros(&rt);
+    let made = CheckedSession::new(&rt, rt.alloc(), 4096, 1);
+    let mut session = made.expect(&rt, "a session");
+    let channel = Source::Channel(0);
+    feed_worked(&rt, &mut session, Source::Main, &texts.main, 7);
+    feed_worked(
+        &rt,
+        &mut session,
+        channel,
+        text_of(&rt, &texts, channel),
+        1000,
+    );
+    assert_tells(&rt, &session, 1, Verdict::Running);
+    session.end(&rt, Source::Main);
+    assert_worked(&rt, &session, 101, true);
+    assert_tells(&rt, &session, 1, Verdict::Running);
+    session.end(&rt, channel);
+    assert_worked(&rt, &session, 101, true);
+    assert_tells(&rt, &session, 1, Verdict::Done);
+}
+
+// Ends the sources in this order, and asserts that it is the main stream's end that settles the load.
+fn assert_cut_main(rt: &impl Abort, mut session: CheckedSession, order: &[usize]) {
+    for number in order {
+        assert_tells(rt, &session, 0, Verdict::Running);
+        session.end(rt, source_at(*number));
+        if *number == 0 {
+            break;
+        }
+    }
+    for number in order {
+        session.end(rt, source_at(*number));
+        let truncated = Fault::Stream(StreamFault::Truncated);
+        assert_tells(rt, &session, 0, failed(0, Origin::Main, truncated));
+        assert_full(rt, &session, 1, 0);
+    }
+}
+
+// A channel's hello is of another UUID, and the main stream is cut inside its round: nothing is told of the one as long as the other may go
+// on, and then the main stream's fault comes first.
+#[test]
+fn bad_channel_beside_a_main_stream_that_is_cut(rt: HostRuntime) {
+    let mut texts = syncs_on_two(&rt);
+    texts.main.truncate(68);
+    let second = texts.channels.get_mut(1).expect(&rt, "a channel");
+    set_byte(&rt, second, 8, 1);
+    for order in [[0usize, 1, 2], [1, 2, 0], [2, 0, 1]] {
+        let made = CheckedSession::new(&rt, rt.alloc(), 4096, 2);
+        let mut session = made.expect(&rt, "a session");
+        for number in 0..3usize {
+            let source = source_at(number);
+            feed_text(
+                &rt,
+                &mut session,
+                source,
+                text_of(&rt, &texts, source),
+                1000,
+            );
+        }
+        assert_cut_main(&rt, session, &order);
+    }
+}
