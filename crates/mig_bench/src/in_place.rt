@@ -5,12 +5,13 @@ ghost use Rattle.std.specs.Prelude.{◌≤◌, ◌*◌, ◌^◌};
 use crate::guest::{Guest, ZERO_TENTHS, fill};
 use crate::measure::{Ratio, peak, reset_peak};
 use crate::yardstick::{PAGE_SIZE, Yardstick, put_title, report};
+use mig_counting::Counting;
 use mig_load::{InPlaceLoader, SingleLoader};
 use mig_mem::{
     Dirty, GuestPages, GuestTarget, LentMemory, LentMemoryMut, MAX_TOTAL, PAGE_SIZE_4K, Place,
 };
 use mig_send::SingleSender;
-use std::alloc::Global;
+use std::alloc::{Allocator, Global};
 use std::io;
 use std::rt::{Clock, Files};
 
@@ -20,7 +21,8 @@ const PART_PAGES: u64 = 1024;
 const PIECE: usize = 65_536;
 
 /// Sends all pages of a guest in parts and loads them, with none, half and nine tenths of them zeros. Beside each time stands the most
-/// memory that was resident meanwhile, over what was before: the sender's guest and the caller's bytes were.
+/// memory that was resident meanwhile, over what was before: the sender's guest and the caller's bytes were. From lent bytes it is
+/// run once more, and the most bytes that it held at once are counted.
 pub fn run<R: Clock + Print + Files + AllocGlobal>(
     rt: &R,
     alloc: Global,
@@ -60,6 +62,25 @@ fn put_peak<R: Print + Files + AllocGlobal>(rt: &R, before: Option<u64>) -> io::
     }
 }
 
+// Prints the most bytes that such a run holds at once, beside both guests.
+fn put_counted<R: Print>(
+    rt: &R,
+    alloc: Global,
+    guest: &Guest,
+    bytes: &[u8],
+    onto: &mut [u8],
+) -> io::Result<()> {
+    let heap = Counting::new(alloc);
+    if between_bytes(&heap, guest, bytes, onto) == 0 {
+        return println!(rt; "no load");
+    }
+    println!(rt;
+        "{:<22}{} MB held at once",
+        "",
+        Ratio::of(heap.peak(), 1_000_000)
+    )
+}
+
 // The bytes of a guest.
 fn bytes_of(alloc: Global, guest: &Guest) -> Option<Vec<u8>> {
     let mut bytes = Vec::new(alloc);
@@ -90,6 +111,7 @@ fn report_lent<R: Clock + Print + Files + AllocGlobal>(
         || between_bytes(alloc, guest, &bytes, &mut onto),
     )?;
     put_peak(rt, before)?;
+    put_counted(rt, alloc, guest, &bytes, &mut onto)?;
     if onto.as_slice() != bytes.as_slice() {
         println!(rt; "other bytes were loaded")?;
     }
@@ -97,7 +119,7 @@ fn report_lent<R: Clock + Print + Files + AllocGlobal>(
 }
 
 // Marks the next pages, from a place on, as many as a part has; and tells where it is to go on.
-fn next_part(dirty: &Dirty, part: &mut Dirty, mut from: Place) -> Option<Place> {
+fn next_part<A: Allocator>(dirty: &Dirty, part: &mut Dirty<A>, mut from: Place) -> Option<Place> {
     part.clear();
     for _ in 0..PART_PAGES {
         let Some(place) = dirty.first_from(from) else {
@@ -119,7 +141,7 @@ trait Loads {
     fn takes(&mut self, piece: &[u8]) -> Option<()>;
 }
 
-impl<M: GuestTarget> Loads for InPlaceLoader<Global, M> {
+impl<A: Allocator + Copy, M: GuestTarget> Loads for InPlaceLoader<A, M> {
     fn takes(&mut self, piece: &[u8]) -> Option<()> {
         if self.ended() || self.fed() > MAX_TOTAL || piece.len() as u64 > MAX_TOTAL {
             return None;
@@ -138,8 +160,8 @@ impl Loads for SingleLoader {
 }
 
 // Sends a guest in parts into a loader.
-fn send<G: GuestPages, L: Loads>(
-    alloc: Global,
+fn send<A: Allocator + Copy, G: GuestPages, L: Loads>(
+    alloc: A,
     image: &G,
     dirty: &Dirty,
     loader: &mut L,
@@ -177,7 +199,12 @@ fn between_memories(alloc: Global, guest: &Guest) -> usize {
 }
 
 // The rounds of a load from lent bytes into others; 0 where it fails.
-fn between_bytes(alloc: Global, guest: &Guest, bytes: &[u8], onto: &mut [u8]) -> usize {
+fn between_bytes<A: Allocator + Copy>(
+    alloc: A,
+    guest: &Guest,
+    bytes: &[u8],
+    onto: &mut [u8],
+) -> usize {
     let table = guest.image.table();
     let blocks = [bytes];
     let mut others = alone(onto);
@@ -194,8 +221,8 @@ fn alone<T: Drop>(one: T) -> [T; 1] {
     [one]
 }
 
-fn rounds_onto<G: GuestPages, M: GuestTarget + Drop>(
-    alloc: Global,
+fn rounds_onto<A: Allocator + Copy, G: GuestPages, M: GuestTarget + Drop>(
+    alloc: A,
     image: &G,
     dirty: &Dirty,
     memory: M,

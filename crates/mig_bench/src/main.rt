@@ -11,10 +11,14 @@ mod guest;
 mod hostile;
 mod in_place;
 mod load;
+mod load_multi;
 mod measure;
+mod multi;
 mod pack;
 mod packet;
 mod round;
+mod sending;
+mod session;
 mod stream;
 mod yardstick;
 mod zero;
@@ -22,6 +26,8 @@ mod zero;
 use crate::round::Carried;
 use std::alloc::Global;
 use std::rt::{Clock, Files};
+use std::sync::Wait;
+use std::thread::Threads;
 use std::{env, io};
 
 fn main(rt: HostRuntime) -> io::Result<()> {
@@ -30,7 +36,7 @@ fn main(rt: HostRuntime) -> io::Result<()> {
 }
 
 // Runs the benchmark that a word names.
-fn run<R: Clock + Print + Files + AllocGlobal>(
+fn run<R: Clock + Print + Files + AllocGlobal + Threads + Wait + Sync>(
     rt: &R,
     alloc: Global,
     word: Option<&str>,
@@ -42,12 +48,14 @@ fn run<R: Clock + Print + Files + AllocGlobal>(
         Some("in_place") => in_place::run(rt, alloc, 1 << 18),
         Some("packet") => packet::run(rt, alloc, 1 << 9),
         Some("pack") => pack::run(rt, alloc, 1 << 17),
+        Some("multi") => multi::run(rt, alloc, 1 << 18),
+        Some("load_multi") => load_multi::run(rt, alloc, 1 << 18),
         Some("round") => round::run(rt, alloc, 1 << 9, Carried::Normal),
         Some("judge") => round::run(rt, alloc, 1 << 13, Carried::Zero),
         Some("deal") => deal::run(rt, alloc, 1 << 24),
         Some("hostile") => hostile::run(rt, alloc),
         _ => println!(rt;
-            "usage: mig_bench zero|stream|load|in_place|packet|pack|round|judge|deal|hostile"
+            "usage: mig_bench zero|stream|load|in_place|packet|pack|multi|load_multi|round|judge|deal|hostile"
         ),
     }
 }

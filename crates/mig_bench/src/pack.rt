@@ -10,8 +10,8 @@ use std::alloc::Global;
 use std::io;
 use std::rt::Clock;
 
-// How many pages a packet may have, at this page size.
-const LIMIT: usize = 524_288 / PAGE_SIZE;
+/// How many pages a packet may have, at this page size.
+pub const LIMIT: usize = 524_288 / PAGE_SIZE;
 
 /// Cuts a guest whose pages are all dirty and packs each batch, with none, half and nine tenths of the pages zeros. Each packet
 /// is dropped as soon as it is made, so that the next one has its memory.

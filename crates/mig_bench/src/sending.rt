@@ -1,0 +1,36 @@
+//! A guest's sender on several channels, and a round of all pages as it sends it.
+
+use crate::guest::Guest;
+use crate::pack::LIMIT;
+use mig_packet::{Gate, OpenGate};
+use mig_send::{MultiSender, Sent};
+use std::alloc::Global;
+use std::thread::Threads;
+use uuid::Uuid;
+
+/// A sender of no round yet; None where memory is refused.
+pub fn sender(alloc: Global, guest: &Guest, channels: usize) -> Option<MultiSender> {
+    MultiSender::new(alloc, guest.image.table(), Uuid::nil(), channels, LIMIT).ok()
+}
+
+/// Sends a round of all pages; None where memory is refused.
+pub fn send<R: Threads + Sync, G: Gate + Sync>(
+    rt: &R,
+    sender: &mut MultiSender,
+    guest: &Guest,
+    gate: &G,
+) -> Option<()> {
+    sender.round(rt, &guest.image, &guest.dirty, gate).ok()
+}
+
+/// The texts of one round of all pages; None where memory is refused.
+pub fn sent<R: Threads + Sync>(
+    rt: &R,
+    alloc: Global,
+    guest: &Guest,
+    channels: usize,
+) -> Option<Sent> {
+    let mut sender = sender(alloc, guest, channels)?;
+    send(rt, &mut sender, guest, &OpenGate)?;
+    sender.finish().ok()
+}
