@@ -1,14 +1,18 @@
 # `make run` runs the tool on its stored scenario, from its source and unproved where it wasn't built yet; `make run SCENARIO=FILE`
 # runs it on another, and `make run WORDS='..'` with words.
 # `make build` proves the tool and what it stands on, and builds it.
-# `make test` is the gate: every proof from nothing, the tests and the programs, and the must-fail edits of each crate that
+# `make lib` proves the library for callers in C and builds it: out/libzimgasol.a, whose header is include/zimgasol.h; `make install PREFIX=DIR`
+# puts both and a pkg-config file below DIR. `make example` builds the programs of examples/c against it and runs them, and `make header` compares
+# the header with the library's exports.
+# `make test` is the gate: every proof from nothing, the tests and the programs, and the must-fail edits that are new or whose crates
 # changed since they were tried. `make edits` tries those alone and records them; `make gate` is the
 # gate with all of them, and records them.
 
 SCENARIO ?= crates/mig_tool/stdin
 WORDS ?=
+PREFIX ?= /usr/local
 
-.PHONY: run build test edits gate
+.PHONY: run build lib header install example test edits gate
 
 run:
 	@tools/run.sh "$(SCENARIO)" $(WORDS)
@@ -17,7 +21,20 @@ build:
 	@cd crates/mig_tool && rt run < stdin
 	@echo "proved and built: crates/mig_tool/out/mig_tool"
 
+lib: header
+	@tools/lib.sh
+
+header:
+	@tools/header.py
+
+install:
+	@tools/install.sh "$(PREFIX)"
+
+example: lib
+	@tools/example.py
+
 test:
+	@tools/header.py
 	@tools/gate.py test
 
 edits:

@@ -1,4 +1,5 @@
-//! Guests from a seeded generator: what the sender on several channels wrote of each, in random pieces and in a random order of the sources.
+//! Guests from a seeded generator: what the sender on several channels wrote of each, in pieces and in a random order of the sources. Small
+//! guests in random pieces, and guests whose rounds have several MiB in pieces as a reader of files or of sockets gives them.
 
 ghost use Rattle.std.specs.Prelude.{◌≡◌, ◌<◌, ◌⊎◌};
 
@@ -20,8 +21,40 @@ use uuid::Uuid;
 
 const LIMIT: u64 = 1 << 40;
 
-// The pages of the guest's blocks.
-const PAGES: [u64; 2] = [20, 3];
+// What kind of guests are drawn, and in what pieces their texts are fed.
+#[derive(Clone, Copy)]
+struct Kind {
+    // The pages of the guest's blocks.
+    pages: [u64; 2],
+    // So many writes are made before a round, and at random fewer than `more` beside them.
+    least: u64,
+    more: u64,
+    // A packet has at most so many pages, or fewer.
+    packet: u64,
+    // The channels' texts have at least so many bytes for each round.
+    bytes: u64,
+    // The length of each piece; where there is none, it is drawn for each.
+    piece: Option<usize>,
+}
+
+const SMALL: Kind = Kind {
+    pages: [20, 3],
+    least: 0,
+    more: 24,
+    packet: 4,
+    bytes: 0,
+    piece: None,
+};
+
+// Rounds with some 1,200 pages and more that aren't zeros.
+const LARGE: Kind = Kind {
+    pages: [3000, 200],
+    least: 3000,
+    more: 3000,
+    packet: 64,
+    bytes: 4 << 20,
+    piece: Some(65_536),
+};
 
 // A number below `n`; 0 where `n` is 0.
 fn below(random: &mut Pcg32, n: u64) -> u64
@@ -40,12 +73,25 @@ struct Sendings {
     several: Sent,
 }
 
+// The block and the page of the page of this number, where the blocks' pages are numbered one block after the other.
+fn place_of(kind: Kind, number: u64) -> (usize, u64) {
+    match number.checked_sub(kind.pages[0]) {
+        None => (0, number),
+        Some(page) => (1, page),
+    }
+}
+
 // The guest writes to some pages, or makes them zeros, and they are marked.
-fn write_some(rt: &impl Abort, memory: &mut Memory, dirty: &mut Dirty, random: &mut Pcg32) {
-    for _ in 0..below(random, 24) {
-        let block = below(random, 2) as usize;
-        let pages = PAGES.get(block).expect(rt, "a block");
-        let page = below(random, *pages);
+fn write_some(
+    rt: &impl Abort,
+    kind: Kind,
+    memory: &mut Memory,
+    dirty: &mut Dirty,
+    random: &mut Pcg32,
+) {
+    let pages = kind.pages[0].wrapping_add(kind.pages[1]);
+    for _ in 0..kind.least.wrapping_add(below(random, kind.more)) {
+        let (block, page) = place_of(kind, below(random, pages));
         let place = at(block, page);
         assert!(rt; memory.table().holds(place) && dirty.table().holds(place));
         assert!(rt; dirty.mark(place).is_ok());
@@ -62,19 +108,20 @@ fn write_some(rt: &impl Abort, memory: &mut Memory, dirty: &mut Dirty, random: &
 // Sends so many rounds of a guest both ways.
 fn send<R: AllocGlobal + Abort + Threads + Sync>(
     rt: &R,
+    kind: Kind,
     table: &Table,
     channels: usize,
     rounds: u64,
     random: &mut Pcg32,
 ) -> Sendings {
-    let limit = 1 + below(random, 4) as usize;
+    let limit = 1 + below(random, kind.packet) as usize;
     let mut memory = Memory::zeroed(rt.alloc(), table).expect(rt, "a memory");
     let mut single = SingleSender::new(rt.alloc(), table).expect(rt, "a sender");
     let made = MultiSender::new(rt.alloc(), table, Uuid::nil(), channels, limit);
     let mut several = made.expect(rt, "a sender");
     for _ in 0..rounds {
         let mut dirty = Dirty::none(rt.alloc(), table).expect(rt, "a set");
-        write_some(rt, &mut memory, &mut dirty, random);
+        write_some(rt, kind, &mut memory, &mut dirty, random);
         assert!(rt; single.round(&memory, &dirty).is_ok());
         assert!(rt; several.round(rt, &memory, &dirty, &OpenGate).is_ok());
     }
@@ -111,8 +158,11 @@ fn load<R: AllocGlobal + Abort + Threads + Wait + Sync>(
     )
 }
 
-// The length of a piece: often short, and now and then as long as several packets.
-fn random_len(random: &mut Pcg32) -> usize {
+// The length of a piece: that of the kind, or else often short, and now and then as long as several packets.
+fn length_of_piece(kind: Kind, random: &mut Pcg32) -> usize {
+    if let Some(len) = kind.piece {
+        return len;
+    }
     let most = match below(random, 3) {
         0 => 100,
         1 => 6000,
@@ -121,9 +171,10 @@ fn random_len(random: &mut Pcg32) -> usize {
     below(random, most) as usize
 }
 
-// Feeds the texts in random pieces and in a random order of the sources, and ends each source behind its text.
+// Feeds the texts in pieces and in a random order of the sources, and ends each source behind its text.
 fn feed_randomly<A: Allocator + Copy>(
     rt: &impl Abort,
+    kind: Kind,
     session: &mut CheckedSession<A>,
     texts: &Sent,
     random: &mut Pcg32,
@@ -136,7 +187,7 @@ fn feed_randomly<A: Allocator + Copy>(
             continue;
         }
         let text = text_of(rt, texts, source);
-        let fed = feed_next(rt, session, source, text, random_len(random));
+        let fed = feed_next(rt, session, source, text, length_of_piece(kind, random));
         if fed == Ok(false) {
             session.end(rt, source);
             over = over.wrapping_add(1);
@@ -149,17 +200,28 @@ fn feed_randomly<A: Allocator + Copy>(
     panic!(rt; "a source that isn't over");
 }
 
+// How many bytes the channels' texts have together.
+fn bytes_of(texts: &Sent) -> u64 {
+    let mut bytes = 0u64;
+    for text in texts.channels.iter() {
+        bytes = bytes.wrapping_add(text.len() as u64);
+    }
+    bytes
+}
+
 // Asserts that a guest's rounds are loaded alike in pieces, as whole texts of several channels, and as a single stream.
 fn assert_loaded_alike<R: AllocGlobal + Abort + Threads + Wait + Sync>(
     rt: &R,
+    kind: Kind,
     page_size: u64,
     channels: usize,
     rounds: u64,
     random: &mut Pcg32,
 ) {
-    let blocks = [("pc.ram", PAGES[0]), ("b", PAGES[1])];
+    let blocks = [("pc.ram", kind.pages[0]), ("b", kind.pages[1])];
     let table = table_of(rt.alloc(), page_size, &blocks).expect(rt, "a table");
-    let sendings = send(rt, &table, channels, rounds, random);
+    let sendings = send(rt, kind, &table, channels, rounds, random);
+    assert!(rt; bytes_of(&sendings.several) >= rounds.wrapping_mul(kind.bytes));
     let loaded = load(rt, page_size, &sendings.several);
     assert!(rt; loaded.rounds == rounds && loaded.verdict == Ok(()));
     assert!(rt; is_page_size(page_size));
@@ -169,7 +231,7 @@ fn assert_loaded_alike<R: AllocGlobal + Abort + Threads + Wait + Sync>(
     for _ in 0..4u8 {
         let made = CheckedSession::new(rt, rt.alloc(), page_size, channels);
         let mut session = made.expect(rt, "a session");
-        feed_randomly(rt, &mut session, &sendings.several, random);
+        feed_randomly(rt, kind, &mut session, &sendings.several, random);
         assert_as_loaded(rt, &session, &loaded);
         assert!(rt; session.verdict() == Verdict::Done);
         let memory = session.memory().expect(rt, "a memory");
@@ -183,8 +245,16 @@ fn random_pieces_of_random_guests(rt: HostRuntime) {
     for page_size in [PAGE_SIZE_4K, PAGE_SIZE_8K] {
         for channels in [1usize, 2, 4] {
             for rounds in 0..6u64 {
-                assert_loaded_alike(&rt, page_size, channels, rounds, &mut random);
+                assert_loaded_alike(&rt, SMALL, page_size, channels, rounds, &mut random);
             }
         }
+    }
+}
+
+#[test]
+fn rounds_of_several_mib_in_pieces_of_64_kib(rt: HostRuntime) {
+    let mut random = Pcg32::new(2, 0);
+    for page_size in [PAGE_SIZE_4K, PAGE_SIZE_8K] {
+        assert_loaded_alike(&rt, LARGE, page_size, 4, 3, &mut random);
     }
 }

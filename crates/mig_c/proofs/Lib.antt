@@ -1,0 +1,4 @@
+pub mod Values
+pub mod Handles
+pub mod Sends
+pub mod Feeds

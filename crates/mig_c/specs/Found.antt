@@ -1,0 +1,72 @@
+-- A load's fault as C sees it.
+use Rattle.std.specs.Prelude.{ℕ, ◌+◌, ◌-◌, ◌^◌, min, Result, Ok, Err, ⊤}
+use Rattle.mig_stream.specs.declared.fault.StreamFault.{StreamFault}
+use Rattle.mig_stream.specs.declared.fault.StreamFault.TheVariants as stream
+use Rattle.mig_packet.specs.declared.fault.ChannelFault.TheVariants as channel
+use Rattle.mig_assemble.specs.declared.fault.RoundFault.{RoundFault}
+use Rattle.mig_assemble.specs.declared.fault.RoundFault.TheVariants as round
+use Rattle.mig_load.specs.LoadFaultNumber.{fault_number}
+use Rattle.mig_load.specs.declared.fault.Fault.{Fault}
+use Rattle.mig_load.specs.declared.fault.Fault.TheVariants as fault
+use Rattle.mig_load.specs.declared.fault.LoadFault.{LoadFault}
+use Rattle.mig_load.specs.declared.fault.Origin.{Origin}
+use Rattle.mig_load.specs.declared.fault.Origin.TheVariants as origin
+use Rattle.mig_load.specs.declared.verdict.Verdict.{Verdict}
+use Rattle.mig_load.specs.declared.verdict.Verdict.TheVariants as verdict
+use Rattle.mig_c.specs.declared.fault.FoundFault.{FoundFault}
+use Rattle.mig_c.specs.Status.{done, running}
+
+-- where it was found: 0 is the main stream, 1 + j channel j, and the largest number the round, which is in no one text
+abbrev pub source_number : Origin → ℕ
+source_number origin.Main = 0
+source_number (origin.Channel j) = min (j + 1) (2 ^ 64 - 1)
+source_number origin.Round = 2 ^ 64 - 1
+
+-- what a fault carries: flags, a byte, a packet's number or a block's, and beside it an offset's number or a page's; zeros where it carries none
+abbrev pub carried_of_stream : StreamFault → ℕ × ℕ
+carried_of_stream (stream.Flags flags) = (flags, 0)
+carried_of_stream (stream.Fill byte) = (byte, 0)
+carried_of_stream _ = (0, 0)
+
+abbrev pub carried_of_round : RoundFault → ℕ × ℕ
+carried_of_round (round.Foreign packet) = (packet, 0)
+carried_of_round (round.Doubled packet) = (packet, 0)
+carried_of_round (round.Missing packet) = (packet, 0)
+carried_of_round (round.UnknownBlock packet) = (packet, 0)
+carried_of_round (round.Offset packet i) = (packet, i)
+carried_of_round (round.DoublePage place) = (place.block, place.page)
+carried_of_round round.NoMemory = (0, 0)
+
+abbrev pub carried : Fault → ℕ × ℕ
+carried (fault.Stream f) = carried_of_stream f
+carried (fault.Channel (channel.PacketFlags flags)) = (flags, 0)
+carried (fault.Round f) = carried_of_round f
+carried _ = (0, 0)
+
+-- C sees this of a fault,
+abbrev pub found_of : LoadFault → FoundFault
+found_of f = record {
+  round = f.round;
+  source = source_number f.source;
+  number = fault_number f.fault;
+  first = (carried f.fault).0;
+  second = (carried f.fault).1;
+}
+
+-- this where there is none,
+abbrev pub no_fault : FoundFault
+no_fault = record { round = 0; source = 0; number = done; first = 0; second = 0 }
+
+-- and this where the load goes on, behind so many rounds.
+abbrev pub goes_on : ℕ → FoundFault
+goes_on rounds = record { round = rounds; source = 0; number = running; first = 0; second = 0 }
+
+-- what C sees of the verdict on one stream, and of that on several channels
+abbrev pub seen_of : Result ⊤ LoadFault → FoundFault
+seen_of (Ok x) = no_fault
+seen_of (Err f) = found_of f
+
+abbrev pub seen_of_verdict : ℕ → Verdict → FoundFault
+seen_of_verdict rounds verdict.Done = no_fault
+seen_of_verdict rounds verdict.Running = goes_on rounds
+seen_of_verdict rounds (verdict.Failed f) = found_of f

@@ -1,0 +1,143 @@
+-- A sender of C: the stream that it writes, and the bytes that were handed out.
+use Rattle.std.specs.Prelude.{◌≡◌, ◌≢◌, ◌≤◌, ◌<◌, ◌++◌, ℕ, List, [], ◌∷◌, drop, take, length, Option, None, Some, ⊤}
+use Rattle.mig_mem.specs.RamTable.{RamTable}
+use Rattle.mig_mem.specs.declared.place.Place.{Place}
+use Rattle.mig_mem.specs.Image.{Page}
+use Rattle.mig_stream.specs.Written.{single}
+use Rattle.mig_stream.specs.Writer.{PartSoFar, HasPut}
+use Rattle.mig_send.specs.Sending.{HasSentDrained}
+use Rattle.mig_c.specs.declared.sender.Sender.{Sender}
+use Rattle.mig_c.specs.declared.sender.Sending.{Sending}
+use Rattle.mig_c.specs.declared.sender.Sending.TheVariants.{Idle, Round, Over}
+use Rattle.mig_c.specs.Status.{IsOneOf, done, no_memory, no_page, bad_length, out_of_turn}
+
+-- the bytes that were drained of the stream's writer and wait to be handed out
+abbrev pub waiting : Sender → List ℕ
+waiting s = drop s.given s.drained.items
+
+-- The writer has sent these rounds of a table, and these bytes of their stream were drained of it. In a round it has sent those before. Where
+-- the stream is ended the rest of it is there.
+abbrev pub HasSentRounds : RamTable → List ℕ → List (List Page) → Sending → Type 0
+HasSentRounds table drained rounds (Idle w) = (w.table ≡ table) × HasSentDrained drained w rounds
+HasSentRounds table drained rounds (Round part) = (part.before.table ≡ table) × HasSentDrained drained part.before rounds
+HasSentRounds table drained rounds (Over text) = drained ++ text.items ≡ single table rounds
+
+-- The sender has sent these rounds of a table, and these bytes of their stream were handed out.
+abbrev pub Sends : RamTable → List ℕ → List (List Page) → Sender → Type 0
+Sends table given rounds s = HasSentRounds table (given ++ waiting s) rounds s.state
+
+-- A round is open, into which these pages were put.
+abbrev pub HasPutPages : List Page → Sending → Type 0
+HasPutPages pages (Idle w) = ⊥
+HasPutPages pages (Round part) = HasPut part pages
+HasPutPages pages (Over text) = ⊥
+
+-- the stream is ended
+abbrev pub IsEnded : Sending → Type 0
+IsEnded (Idle w) = ⊥
+IsEnded (Round part) = ⊥
+IsEnded (Over text) = ⊤
+
+-- a round is open
+abbrev pub IsOpen : Sending → Type 0
+IsOpen (Idle w) = ⊥
+IsOpen (Round part) = ⊤
+IsOpen (Over text) = ⊥
+
+-- no round is open, and the stream goes on
+abbrev pub IsIdle : Sending → Type 0
+IsIdle (Idle w) = ⊤
+IsIdle (Round part) = ⊥
+IsIdle (Over text) = ⊥
+
+-- whatever it had sent and handed out, it still has
+abbrev pub KeepsSent : Sending → Sending → Type 0
+KeepsSent old new = (table : RamTable) (drained : List ℕ) (rounds : List (List Page)) → HasSentRounds table drained rounds old → HasSentRounds table drained rounds new
+
+-- a call changes how far the sender is, and nothing of the bytes that wait
+abbrev pub Changes : (Sending → Sending → Type 0) → Sender → Sender → Type 0
+Changes step old new = step old.state new.state × (waiting new ≡ waiting old)
+
+-- a sender of a table that has sent nothing
+abbrev pub Starts : Option RamTable → Option Sender → Type 0
+Starts table None = ⊥
+Starts None (Some s) = ⊥
+Starts (Some table) (Some s) = Sends table [] [] s × IsIdle s.state
+
+-- What `begin_round` does.
+pub record Begins (status : ℕ) (old new : Sending) : Type 0 where
+  pub is_named : IsOneOf (done ∷ no_memory ∷ out_of_turn ∷ []) status
+  pub begins : status ≡ done → HasPutPages [] new
+  pub keeps : KeepsSent old new
+  pub same : status ≢ done → new ≡ old
+  pub wrong : status ≡ out_of_turn → IsIdle old → ⊥
+  pub in_turn : status ≢ out_of_turn → IsIdle old
+
+-- What `put_page` does.
+pub record Puts (p : Place) (bytes : List ℕ) (status : ℕ) (old new : Sending) : Type 0 where
+  pub is_named : IsOneOf (done ∷ no_memory ∷ no_page ∷ bad_length ∷ out_of_turn ∷ []) status
+  pub puts : status ≡ done → (pages : List Page) → HasPutPages pages old → HasPutPages (pages ++ record { place = p; content = bytes } ∷ []) new
+  pub keeps : KeepsSent old new
+  pub same : status ≢ done → new ≡ old
+  pub wrong : status ≡ out_of_turn → IsOpen old → ⊥
+  pub in_turn : status ≢ out_of_turn → IsOpen old
+
+-- what it does to the round that is open
+pub record Adds (p : Place) (bytes : List ℕ) (status : ℕ) (old new : PartSoFar) : Type 0 where
+  pub is_named : IsOneOf (done ∷ no_memory ∷ no_page ∷ bad_length ∷ []) status
+  pub adds : status ≡ done → (pages : List Page) → HasPut old pages → HasPut new (pages ++ record { place = p; content = bytes } ∷ [])
+  pub same_before : new.before ≡ old.before
+  pub same : status ≢ done → new ≡ old
+
+-- What `end_round` does.
+pub record EndsRound (status : ℕ) (old new : Sending) : Type 0 where
+  pub is_named : IsOneOf (done ∷ no_memory ∷ out_of_turn ∷ []) status
+  pub ends : status ≡ done → (pages : List Page) → HasPutPages pages old → (table : RamTable) (drained : List ℕ) (rounds : List (List Page))
+      → HasSentRounds table drained rounds old → HasSentRounds table drained (rounds ++ pages ∷ []) new
+  pub idle : status ≡ done → IsIdle new
+  pub same : status ≢ done → new ≡ old
+  pub wrong : status ≡ out_of_turn → IsOpen old → ⊥
+  pub in_turn : status ≢ out_of_turn → IsOpen old
+
+-- What `cancel_round` does.
+pub record Cancels (status : ℕ) (old new : Sending) : Type 0 where
+  pub is_named : IsOneOf (done ∷ out_of_turn ∷ []) status
+  pub idle : status ≡ done → IsIdle new
+  pub keeps : KeepsSent old new
+  pub same : status ≢ done → new ≡ old
+  pub wrong : status ≡ out_of_turn → IsOpen old → ⊥
+  pub in_turn : status ≢ out_of_turn → IsOpen old
+
+-- What `finish` does.
+pub record Finishes (status : ℕ) (old new : Sending) : Type 0 where
+  pub is_named : IsOneOf (done ∷ no_memory ∷ out_of_turn ∷ []) status
+  pub ends : status ≡ done → IsEnded new
+  pub keeps : KeepsSent old new
+  pub same : status ≢ done → new ≡ old
+  pub wrong : status ≡ out_of_turn → IsIdle old → ⊥
+  pub in_turn : status ≢ out_of_turn → IsIdle old
+
+-- What `drain` does: it hands out the next bytes, as many as it says, at the front of a buffer. Where it has none of a stream that is ended,
+-- all of it was handed out.
+pub record Drains (count : ℕ) (out : List ℕ) (old new : Sender) : Type 0 where
+  pub fits : count ≤ length out
+  pub hands : (table : RamTable) (given : List ℕ) (rounds : List (List Page)) → Sends table given rounds old → Sends table (given ++ take count out) rounds new
+  pub ended : IsEnded old.state → IsEnded new.state
+  pub all : IsEnded old.state → count ≡ 0 → 0 < length out → (table : RamTable) (given : List ℕ) (rounds : List (List Page)) → Sends table given rounds old
+      → given ≡ single table rounds
+
+-- ---- the two steps of it
+
+-- Where no byte waits, those that were written since are drained.
+pub record Refills (old new : Sender) : Type 0 where
+  pub keeps : (table : RamTable) (given : List ℕ) (rounds : List (List Page)) → Sends table given rounds old → Sends table given rounds new
+  pub ended : IsEnded old.state → IsEnded new.state
+  pub all : IsEnded old.state → waiting new ≡ [] → (table : RamTable) (given : List ℕ) (rounds : List (List Page)) → Sends table given rounds old
+      → given ≡ single table rounds
+
+-- The first bytes that wait are handed out, as many as there is room for.
+pub record Hands (count : ℕ) (out : List ℕ) (old new : Sender) : Type 0 where
+  pub fits : count ≤ length out
+  pub has_front : take count out ++ waiting new ≡ waiting old
+  pub same_state : new.state ≡ old.state
+  pub none : count ≡ 0 → 0 < length out → waiting old ≡ []

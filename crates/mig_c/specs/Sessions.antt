@@ -1,0 +1,54 @@
+-- What the calls of a session do, by their status.
+use Rattle.std.specs.Prelude.{◌≡◌, ◌≢◌, ◌⊎◌, ◌≤◌, ◌<◌, ◌+◌, ◌-◌, ◌^◌, ℕ, List, [], ◌∷◌, length, IsTrue, IsFalse, if◌then◌else◌, ◌==◌, Option, None, Some}
+use Rattle.mig_load.specs.declared.source.Source.{Source}
+use Rattle.mig_load.specs.declared.source.Source.TheVariants as source
+use Rattle.mig_load.specs.declared.verdict.Verdict.TheVariants.{Running}
+use Rattle.mig_load.specs.Texts.{no_texts}
+use Rattle.mig_load.specs.Session.{LoadSession, StandsFor, HasSource, count_of, fed, ended, answer_in, StepsOn, RunsOut, StillLacks}
+use Rattle.mig_load.specs.Advancing.{wants_memory}
+use Rattle.mig_mem.specs.PageSize.{IsPageSize}
+use Rattle.mig_c.specs.Status.{IsOneOf, done, no_memory, bad_page_size, bad_limit, bad_channels, bad_source, is_over, too_long, bad_length}
+
+-- a session that was fed nothing
+abbrev pub Opens : ℕ → List ℕ → ℕ → ℕ → Option LoadSession → Type 0
+Opens page_size uuid channels limit None = ⊥
+Opens page_size uuid channels limit (Some s) = StandsFor page_size uuid limit (no_texts channels) s
+
+-- What `new` does: the first thing that is wrong with what it is given is told.
+pub record OpensSession (page_size : ℕ) (uuid : List ℕ) (channels limit : ℕ) (status : ℕ) (made : Option LoadSession) : Type 0 where
+  pub is_named : IsOneOf (done ∷ no_memory ∷ bad_page_size ∷ bad_limit ∷ bad_channels ∷ bad_length ∷ []) status
+  pub opens : status ≡ done → Opens page_size uuid channels limit made
+  pub foreign_size : status ≡ bad_page_size → IsPageSize page_size → ⊥
+  pub has_size : status ≢ bad_page_size → IsPageSize page_size
+  pub above : status ≡ bad_limit → 2 ^ 40 < limit
+  pub within : status ≢ bad_page_size → status ≢ bad_limit → limit ≤ 2 ^ 40
+  pub no_number : status ≡ bad_channels → (channels ≡ 0) ⊎ (255 < channels)
+  pub numbered : status ≢ bad_page_size → status ≢ bad_limit → status ≢ bad_channels → (1 ≤ channels) × (channels ≤ 255)
+  pub short : status ≡ bad_length → length uuid ≢ 16
+
+-- What `feed` does to a source.
+pub record FeedsSource (from : Source) (piece : List ℕ) (status : ℕ) (old new : LoadSession) : Type 0 where
+  pub is_named : IsOneOf (done ∷ no_memory ∷ bad_source ∷ is_over ∷ too_long ∷ []) status
+  pub steps : status ≡ done → StepsOn (fed from piece) old new
+  pub runs_out : status ≡ no_memory → RunsOut (fed from piece) old new × (new.verdict ≡ wants_memory (answer_in new).rounds)
+  pub lacks : (status ≡ done) → StillLacks (fed from piece) old new
+  pub settled : old.verdict ≢ Running → status ≢ no_memory
+  pub same : status ≢ done → status ≢ no_memory → new ≡ old
+  pub foreign : status ≡ bad_source → HasSource old.counts from → ⊥
+  pub has_source : status ≢ bad_source → HasSource old.counts from
+  pub over : status ≡ is_over → IsTrue (count_of old.counts from).ended
+  pub goes_on : status ≢ bad_source → status ≢ is_over → IsFalse (count_of old.counts from).ended
+  pub long : status ≡ too_long → 2 ^ 64 ≤ (count_of old.counts from).fed + length piece
+
+-- What `end` does to a source.
+pub record EndsSource (from : Source) (status : ℕ) (old new : LoadSession) : Type 0 where
+  pub is_named : IsOneOf (done ∷ bad_source ∷ []) status
+  pub steps : status ≡ done → StepsOn (ended from) old new
+  pub lacks : status ≡ done → StillLacks (ended from) old new
+  pub same : status ≢ done → new ≡ old
+  pub foreign : status ≡ bad_source → HasSource old.counts from → ⊥
+  pub has_source : status ≢ bad_source → HasSource old.counts from
+
+-- the source of a number: 0 is the main stream, 1 + j channel j
+abbrev pub source_of : ℕ → Source
+source_of n = if n == 0 then source.Main else source.Channel (n - 1)

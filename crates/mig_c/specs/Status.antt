@@ -1,0 +1,67 @@
+-- The statuses that calls answer beside the numbers of faults.
+use Rattle.std.specs.Prelude.{ℕ, List, ◌==◌, IsTrue}
+use Rattle.std.specs.List.{list_any}
+
+-- it was done
+abbrev pub done : ℕ
+done = 0
+
+-- a growth was refused, and nothing has changed where nothing else is said
+abbrev pub no_memory : ℕ
+no_memory = 60
+
+-- the load goes on: more of a text is needed
+abbrev pub running : ℕ
+running = 100
+
+-- ---- a call that isn't to be made so, which changes nothing
+
+-- a page size other than 4096 and 8192
+abbrev pub bad_page_size : ℕ
+bad_page_size = 101
+
+-- a limit above 2^40
+abbrev pub bad_limit : ℕ
+bad_limit = 102
+
+-- no channel, or more than 255
+abbrev pub bad_channels : ℕ
+bad_channels = 103
+
+-- no such source
+abbrev pub bad_source : ℕ
+bad_source = 104
+
+-- the source's text is over
+abbrev pub is_over : ℕ
+is_over = 105
+
+-- the text would be too long to be counted
+abbrev pub too_long : ℕ
+too_long = 106
+
+-- no page there
+abbrev pub no_page : ℕ
+no_page = 107
+
+-- a buffer of another length than is needed
+abbrev pub bad_length : ℕ
+bad_length = 108
+
+-- a call out of turn: a round is open, or none is, or the stream is ended
+abbrev pub out_of_turn : ℕ
+out_of_turn = 109
+
+-- more pages than a packet has
+abbrev pub too_many_pages : ℕ
+too_many_pages = 110
+
+-- the piece was taken, and no memory was found for the guest
+abbrev pub waits : ℕ
+waits = 111
+
+-- ----
+
+-- no other status comes
+abbrev pub IsOneOf : List ℕ → ℕ → Type 0
+IsOneOf statuses status = IsTrue (list_any (λ n. n == status) statuses)

@@ -1,0 +1,115 @@
+//! A load's fault as C sees it.
+
+ghost use Rattle.std.specs.Prelude.{◌≡◌};
+ghost use Rattle.mig_c.specs.Found.{source_number, carried_of_stream, carried_of_round, carried, found_of, no_fault, goes_on};
+
+use crate::status::RUNNING;
+use mig_assemble::RoundFault;
+use mig_load::{Fault, LoadFault, Origin};
+use mig_packet::ChannelFault;
+use mig_stream::StreamFault;
+
+/// Where a load ended, and why.
+#[repr(C)]
+#[derive(Clone, Copy)]
+pub struct FoundFault {
+    /// How many rounds were counted before it.
+    pub round: u64,
+    /// Where it is: 0 is the main stream, 1 + j channel j, and the largest number no one text.
+    pub source: u64,
+    /// The fault's number.
+    pub number: u32,
+    /// What the fault carries: flags, a byte, a packet's number, or the number of a block.
+    pub first: u64,
+    /// And beside it: the number of an offset, or of a page.
+    pub second: u64,
+}
+
+// What stands where there is no fault.
+const NONE: FoundFault = FoundFault {
+    round: 0,
+    source: 0,
+    number: 0,
+    first: 0,
+    second: 0,
+};
+
+fn source_number(origin: Origin) -> u64
+    ensures { result ≡ source_number origin }
+{
+    match origin {
+        Origin::Main => 0,
+        Origin::Channel(channel) => (channel as u64).saturating_add(1),
+        Origin::Round => u64::MAX,
+    }
+}
+
+// What a fault of a stream carries.
+fn of_stream(fault: StreamFault) -> (u64, u64)
+    ensures { result ≡ carried_of_stream fault }
+{
+    match fault {
+        StreamFault::Flags(flags) => (u64::from(flags), 0),
+        StreamFault::Fill(byte) => (u64::from(byte), 0),
+        _ => (0, 0),
+    }
+}
+
+// What a fault of a round carries.
+fn of_round(fault: RoundFault) -> (u64, u64)
+    ensures { result ≡ carried_of_round fault }
+{
+    match fault {
+        RoundFault::Foreign(number)
+        | RoundFault::Doubled(number)
+        | RoundFault::Missing(number)
+        | RoundFault::UnknownBlock(number) => (number, 0),
+        RoundFault::Offset(number, i) => (number, i as u64),
+        RoundFault::DoublePage(place) => (place.block as u64, place.page),
+        RoundFault::NoMemory => (0, 0),
+    }
+}
+
+// What a fault carries.
+fn carried(fault: Fault) -> (u64, u64)
+    ensures { result ≡ carried fault }
+{
+    match fault {
+        Fault::Stream(fault) => of_stream(fault),
+        Fault::Channel(ChannelFault::PacketFlags(flags)) => (u64::from(flags), 0),
+        Fault::Round(fault) => of_round(fault),
+        _ => (0, 0),
+    }
+}
+
+/// The fault as C sees it.
+pub(crate) fn found(fault: LoadFault) -> FoundFault
+    ensures { result ≡ found_of fault }
+{
+    let (first, second) = carried(fault.fault);
+    FoundFault {
+        round: fault.round,
+        source: source_number(fault.source),
+        number: u32::from(fault.fault.number()),
+        first,
+        second,
+    }
+}
+
+/// No fault.
+pub(crate) fn none() -> FoundFault
+    ensures { result ≡ no_fault }
+{
+    NONE
+}
+
+/// No fault: the load goes on behind so many rounds.
+pub(crate) fn running(rounds: u64) -> FoundFault
+    ensures { result ≡ goes_on rounds }
+{
+    FoundFault {
+        round: rounds,
+        number: RUNNING,
+        ..NONE
+    }
+}

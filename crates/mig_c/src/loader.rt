@@ -1,0 +1,305 @@
+//! A loader of one stream, which is fed in pieces.
+
+ghost use Rattle.std.specs.Prelude.{◌≡◌, ◌≢◌, ◌≤◌, ◌^◌, IsSome, IfOk, None, Some, IsTrue, length};
+ghost use Rattle.mig_mem.specs.PageSize.{IsPageSize};
+ghost use Rattle.mig_load.specs.Loader.{memory_of, rounds_of};
+ghost use Rattle.mig_c.specs.Status.{done};
+ghost use Rattle.mig_c.specs.Kinds.{loader_in, Turns, Tells};
+ghost use Rattle.mig_c.specs.Reading.{GivesPage, GivesBlock, place_at, block_count};
+ghost use Rattle.mig_c.specs.Loading.{IsFresh, Opens, Feeds, Settles, Ends, TellsVerdict, OpensLoader};
+
+use crate::block::NamedBlock;
+use crate::fault::{FoundFault, found, none};
+use crate::handle::{Handle, LoaderHandle};
+use crate::object::Object;
+use crate::reading;
+use crate::status::{
+    BAD_LIMIT, BAD_PAGE_SIZE, DONE, IS_OVER, MAX_LIMIT, NO_MEMORY, TOO_LONG, WAITS,
+};
+use mig_load::{FeedFault, SingleLoader};
+use mig_mem::{NoMemory, is_page_size};
+use std::alloc::Global;
+
+// The least length of a text that isn't counted any more.
+const ROOM: u64 = 1 << 63;
+
+// A loader in a box.
+fn made(alloc: Global, page_size: u64, limit: u64) -> Result<Box<Object>, NoMemory>
+    requires page_size { IsPageSize page_size }
+    requires limit { limit ≤ 2 ^ 40 }
+    ensures { IfOk result (λ object. Opens page_size limit (loader_in (Some object.value))) }
+{
+    let loader = SingleLoader::new(alloc, page_size, limit);
+    Ok(Box::new(alloc, Object::Loader(loader))?)
+}
+
+/// Makes a loader that was fed nothing.
+#[unsafe(no_mangle)]
+pub extern "C" fn zimgasol_loader_new(
+    alloc: Global,
+    loader: &mut LoaderHandle,
+    page_size: u64,
+    limit: u64,
+) -> u32
+    requires none { loader.old.handle.value ≡ None }
+    ensures opens { OpensLoader page_size limit result (loader_in loader.new.handle.value) }
+    ensures none { result ≢ done → loader.new.handle.value ≡ None }
+{
+    if !is_page_size(page_size) {
+        return BAD_PAGE_SIZE;
+    }
+    if limit > MAX_LIMIT {
+        return BAD_LIMIT;
+    }
+    match made(alloc, page_size, limit) {
+        Ok(object) => {
+            loader.handle = Handle::of(object);
+            DONE
+        }
+        Err(NoMemory) => NO_MEMORY,
+    }
+}
+
+fn feed_loader(loader: &mut SingleLoader<Global>, piece: &[u8]) -> u32
+    ensures { Feeds piece.now result loader.old loader.new }
+{
+    if loader.ended() {
+        return IS_OVER;
+    }
+    if loader.fed() >= ROOM - piece.len() as u64 {
+        return TOO_LONG;
+    }
+    match loader.feed(piece) {
+        Ok(()) => DONE,
+        Err(FeedFault::NoMemory) => NO_MEMORY,
+        Err(FeedFault::NoGuestMemory) => WAITS,
+    }
+}
+
+fn feed(object: &mut Object, piece: &[u8]) -> u32
+    requires { IsSome (loader_in (Some object.old)) }
+    ensures { Turns (Feeds piece.now result) (loader_in (Some object.old)) (loader_in (Some object.new)) }
+{
+    match object {
+        Object::Loader(loader) => feed_loader(loader, piece),
+        _ => unreachable!(),
+    }
+}
+
+/// Takes the next piece of the text, and puts the sections that it makes whole into the memory.
+#[unsafe(no_mangle)]
+pub extern "C" fn zimgasol_loader_feed(
+    alloc: Global,
+    loader: &mut LoaderHandle,
+    piece: &[u8],
+) -> u32
+    requires loader { IsSome (loader_in loader.old.handle.value) }
+    ensures feeds { Turns (Feeds piece.now result) (loader_in loader.old.handle.value) (loader_in loader.new.handle.value) }
+{
+    let mut object = loader.handle.take().into_box(alloc);
+    let status = feed(&mut object, piece);
+    loader.handle = Handle::of(object);
+    status
+}
+
+fn settle_loader(loader: &mut SingleLoader<Global>) -> u32
+    ensures { Settles result loader.old loader.new }
+{
+    match loader.settle() {
+        Ok(()) => DONE,
+        Err(NoMemory) => NO_MEMORY,
+    }
+}
+
+fn settle(object: &mut Object) -> u32
+    requires { IsSome (loader_in (Some object.old)) }
+    ensures { Turns (Settles result) (loader_in (Some object.old)) (loader_in (Some object.new)) }
+{
+    match object {
+        Object::Loader(loader) => settle_loader(loader),
+        _ => unreachable!(),
+    }
+}
+
+/// Puts the sections that wait into the memory, where that couldn't be had before.
+#[unsafe(no_mangle)]
+pub extern "C" fn zimgasol_loader_settle(alloc: Global, loader: &mut LoaderHandle) -> u32
+    requires loader { IsSome (loader_in loader.old.handle.value) }
+    ensures settles { Turns (Settles result) (loader_in loader.old.handle.value) (loader_in loader.new.handle.value) }
+{
+    let mut object = loader.handle.take().into_box(alloc);
+    let status = settle(&mut object);
+    loader.handle = Handle::of(object);
+    status
+}
+
+fn end(object: &mut Object)
+    requires { IsSome (loader_in (Some object.old)) }
+    ensures { Turns Ends (loader_in (Some object.old)) (loader_in (Some object.new)) }
+{
+    match object {
+        Object::Loader(loader) => loader.end(),
+        _ => unreachable!(),
+    }
+}
+
+/// The text is over: no piece is fed from now on.
+#[unsafe(no_mangle)]
+pub extern "C" fn zimgasol_loader_end(alloc: Global, loader: &mut LoaderHandle)
+    requires loader { IsSome (loader_in loader.old.handle.value) }
+    ensures ends { Turns Ends (loader_in loader.old.handle.value) (loader_in loader.new.handle.value) }
+{
+    let mut object = loader.handle.take().into_box(alloc);
+    end(&mut object);
+    loader.handle = Handle::of(object);
+}
+
+fn fault_of(loader: &SingleLoader<Global>) -> FoundFault
+    ensures { TellsVerdict result loader.now }
+{
+    match loader.verdict() {
+        Ok(()) => none(),
+        Err(fault) => found(fault),
+    }
+}
+
+fn fault(object: &Object) -> FoundFault
+    requires { IsSome (loader_in (Some object.now)) }
+    ensures { Tells (TellsVerdict result) (loader_in (Some object.now)) }
+{
+    match object {
+        Object::Loader(loader) => fault_of(loader),
+        _ => unreachable!(),
+    }
+}
+
+/// The verdict on the text so far, as if it were over here.
+#[unsafe(no_mangle)]
+pub extern "C" fn zimgasol_loader_fault(
+    alloc: Global,
+    loader: &mut LoaderHandle,
+    found: &mut FoundFault,
+) -> u32
+    requires loader { IsSome (loader_in loader.old.handle.value) }
+    ensures same { loader.new.handle.value ≡ loader.old.handle.value }
+    ensures number { found.new.number ≡ result }
+    ensures tells { Tells (TellsVerdict found.new) (loader_in loader.old.handle.value) }
+{
+    let object = loader.handle.take().into_box(alloc);
+    let fault = fault(&object);
+    loader.handle = Handle::of(object);
+    *found = fault;
+    fault.number
+}
+
+fn rounds(object: &Object) -> u64
+    requires { IsSome (loader_in (Some object.now)) }
+    ensures { Tells (λ l. result ≡ rounds_of l) (loader_in (Some object.now)) }
+{
+    match object {
+        Object::Loader(loader) => loader.rounds(),
+        _ => unreachable!(),
+    }
+}
+
+/// How many sections are in the memory. START and END count, too.
+#[unsafe(no_mangle)]
+pub extern "C" fn zimgasol_loader_rounds(alloc: Global, loader: &mut LoaderHandle) -> u64
+    requires loader { IsSome (loader_in loader.old.handle.value) }
+    ensures same { loader.new.handle.value ≡ loader.old.handle.value }
+    ensures rounds { Tells (λ l. result ≡ rounds_of l) (loader_in loader.old.handle.value) }
+{
+    let object = loader.handle.take().into_box(alloc);
+    let number = rounds(&object);
+    loader.handle = Handle::of(object);
+    number
+}
+
+fn page(object: &Object, block: usize, page: u64, out: &mut [u8]) -> u32
+    requires { IsSome (loader_in (Some object.now)) }
+    ensures { Tells (λ l. GivesPage (place_at block page) result out.old out.new (memory_of l)) (loader_in (Some object.now)) }
+{
+    match object {
+        Object::Loader(loader) => reading::page(loader.memory(), block, page, out),
+        _ => unreachable!(),
+    }
+}
+
+/// Copies a page of the memory out, into a buffer of its length.
+#[unsafe(no_mangle)]
+pub extern "C" fn zimgasol_loader_page(
+    alloc: Global,
+    loader: &mut LoaderHandle,
+    block: usize,
+    number: u64,
+    out: &mut [u8],
+) -> u32
+    requires loader { IsSome (loader_in loader.old.handle.value) }
+    ensures same { loader.new.handle.value ≡ loader.old.handle.value }
+    ensures gives { Tells (λ l. GivesPage (place_at block number) result out.old out.new (memory_of l)) (loader_in loader.old.handle.value) }
+{
+    let object = loader.handle.take().into_box(alloc);
+    let status = page(&object, block, number, out);
+    loader.handle = Handle::of(object);
+    status
+}
+
+fn blocks(object: &Object) -> usize
+    requires { IsSome (loader_in (Some object.now)) }
+    ensures { Tells (λ l. result ≡ block_count (memory_of l)) (loader_in (Some object.now)) }
+{
+    match object {
+        Object::Loader(loader) => reading::blocks(loader.memory()),
+        _ => unreachable!(),
+    }
+}
+
+/// How many blocks the guest has: 0 where its memory isn't there yet.
+#[unsafe(no_mangle)]
+pub extern "C" fn zimgasol_loader_blocks(alloc: Global, loader: &mut LoaderHandle) -> usize
+    requires loader { IsSome (loader_in loader.old.handle.value) }
+    ensures same { loader.new.handle.value ≡ loader.old.handle.value }
+    ensures count { Tells (λ l. result ≡ block_count (memory_of l)) (loader_in loader.old.handle.value) }
+{
+    let object = loader.handle.take().into_box(alloc);
+    let count = blocks(&object);
+    loader.handle = Handle::of(object);
+    count
+}
+
+fn block(object: &Object, i: usize, out: &mut NamedBlock) -> u32
+    requires { IsSome (loader_in (Some object.now)) }
+    ensures { Tells (λ l. GivesBlock i result out.old out.new (memory_of l)) (loader_in (Some object.now)) }
+{
+    match object {
+        Object::Loader(loader) => reading::block(loader.memory(), i, out),
+        _ => unreachable!(),
+    }
+}
+
+/// Tells a block's id and its number of pages.
+#[unsafe(no_mangle)]
+pub extern "C" fn zimgasol_loader_block(
+    alloc: Global,
+    loader: &mut LoaderHandle,
+    i: usize,
+    out: &mut NamedBlock,
+) -> u32
+    requires loader { IsSome (loader_in loader.old.handle.value) }
+    ensures same { loader.new.handle.value ≡ loader.old.handle.value }
+    ensures gives { Tells (λ l. GivesBlock i result out.old out.new (memory_of l)) (loader_in loader.old.handle.value) }
+{
+    let object = loader.handle.take().into_box(alloc);
+    let status = block(&object, i, out);
+    loader.handle = Handle::of(object);
+    status
+}
+
+/// Frees a loader.
+#[unsafe(no_mangle)]
+pub extern "C" fn zimgasol_loader_free(alloc: Global, loader: &mut LoaderHandle)
+    requires loader { IsSome (loader_in loader.old.handle.value) }
+    ensures none { loader.new.handle.value ≡ None }
+{
+    let _object = loader.handle.take().into_box(alloc);
+}

@@ -1,0 +1,396 @@
+//! A sender of one stream, whose rounds are put page by page, and whose text is drained into buffers of C.
+
+ghost use Rattle.std.specs.Prelude.{◌∷◌, [], ◌≡◌, ◌≢◌, ◌<◌, ◌≤◌, IsSome, IfOk, None, Some, drop, take, length};
+ghost use Rattle.mig_c.specs.Status.{IsOneOf, done, no_memory};
+ghost use Rattle.mig_c.specs.Kinds.{table_in, sender_in, Turns};
+ghost use Rattle.mig_c.specs.Reading.{place_at};
+ghost use Rattle.mig_c.specs.Sending.{Starts, Begins, Puts, EndsRound, Cancels, Finishes, Changes, Adds, Drains, Refills, Hands};
+
+use crate::handle::{Handle, SenderHandle, TableHandle};
+use crate::object::Object;
+use crate::status::{BAD_LENGTH, DONE, NO_MEMORY, NO_PAGE, OUT_OF_TURN};
+use mig_mem::{NoMemory, Place, Table};
+use mig_send::{OpenRound, SingleSender};
+use std::alloc::Global;
+
+/// How far a sender is.
+#[derive(Drop)]
+pub enum Sending {
+    /// Between two rounds, or before the first.
+    Idle(SingleSender<Global>),
+    /// In a round.
+    Round(OpenRound<Global>),
+    /// Behind the end, with what of the stream wasn't drained.
+    Over(Vec<u8>),
+}
+
+/// A sender, and the bytes that were drained of its stream last.
+#[derive(Drop)]
+pub struct Sender {
+    /// How far it is.
+    pub(crate) state: Sending,
+    /// The bytes that were drained last.
+    pub(crate) drained: Vec<u8>,
+    /// How many of them were handed out.
+    pub(crate) given: usize,
+}
+
+// A sender in a box.
+fn made(alloc: Global, table: &Table<Global>) -> Result<Box<Object>, NoMemory>
+    ensures { IfOk result (λ object. Starts (Some table.now) (sender_in (Some object.value))) }
+{
+    let writer = SingleSender::new(alloc, table)?;
+    let sender = Sender {
+        state: Sending::Idle(writer),
+        drained: Vec::new(alloc),
+        given: 0,
+    };
+    Ok(Box::new(alloc, Object::Sender(sender))?)
+}
+
+fn made_of(alloc: Global, table: &Object) -> Result<Box<Object>, NoMemory>
+    requires { IsSome (table_in (Some table.now)) }
+    ensures { IfOk result (λ object. Starts (table_in (Some table.now)) (sender_in (Some object.value))) }
+{
+    match table {
+        Object::Table(table) => made(alloc, table),
+        _ => unreachable!(),
+    }
+}
+
+/// Makes a sender of a table that has sent nothing. It keeps a copy of the table.
+#[unsafe(no_mangle)]
+pub extern "C" fn zimgasol_sender_new(
+    alloc: Global,
+    sender: &mut SenderHandle,
+    table: &mut TableHandle,
+) -> u32
+    requires none { sender.old.handle.value ≡ None }
+    requires table { IsSome (table_in table.old.handle.value) }
+    ensures starts { result ≡ done → Starts (table_in table.old.handle.value) (sender_in sender.new.handle.value) }
+    ensures named { IsOneOf (done ∷ no_memory ∷ []) result }
+    ensures none { result ≢ done → sender.new.handle.value ≡ None }
+    ensures table { table.new.handle.value ≡ table.old.handle.value }
+{
+    let object = table.handle.take().into_box(alloc);
+    let made = made_of(alloc, &object);
+    table.handle = Handle::of(object);
+    match made {
+        Ok(object) => {
+            sender.handle = Handle::of(object);
+            DONE
+        }
+        Err(NoMemory) => NO_MEMORY,
+    }
+}
+
+// Begins a round.
+fn begun(state: Sending) -> (Sending, u32)
+    ensures { Begins result.1 state result.0 }
+{
+    match state {
+        Sending::Idle(sender) => match sender.begin_round() {
+            Ok(round) => (Sending::Round(round), DONE),
+            Err(sender) => (Sending::Idle(sender), NO_MEMORY),
+        },
+        Sending::Round(round) => (Sending::Round(round), OUT_OF_TURN),
+        Sending::Over(text) => (Sending::Over(text), OUT_OF_TURN),
+    }
+}
+
+// Ends the round that is open.
+fn ended(state: Sending) -> (Sending, u32)
+    ensures { EndsRound result.1 state result.0 }
+{
+    match state {
+        Sending::Round(round) => match round.end_round() {
+            Ok(sender) => (Sending::Idle(sender), DONE),
+            Err(round) => (Sending::Round(round), NO_MEMORY),
+        },
+        Sending::Idle(sender) => (Sending::Idle(sender), OUT_OF_TURN),
+        Sending::Over(text) => (Sending::Over(text), OUT_OF_TURN),
+    }
+}
+
+// Leaves out the round that is open.
+fn cancelled(state: Sending) -> (Sending, u32)
+    ensures { Cancels result.1 state result.0 }
+{
+    match state {
+        Sending::Round(round) => (Sending::Idle(round.cancel()), DONE),
+        Sending::Idle(sender) => (Sending::Idle(sender), OUT_OF_TURN),
+        Sending::Over(text) => (Sending::Over(text), OUT_OF_TURN),
+    }
+}
+
+// Ends the stream.
+fn finished(state: Sending) -> (Sending, u32)
+    ensures { Finishes result.1 state result.0 }
+{
+    match state {
+        Sending::Idle(sender) => match sender.finish() {
+            Ok(text) => (Sending::Over(text), DONE),
+            Err(sender) => (Sending::Idle(sender), NO_MEMORY),
+        },
+        Sending::Round(round) => (Sending::Round(round), OUT_OF_TURN),
+        Sending::Over(text) => (Sending::Over(text), OUT_OF_TURN),
+    }
+}
+
+// Takes the state out of a sender, which is to get one again.
+fn take_state(alloc: Global, sender: &mut Sender) -> Sending
+    ensures state { result ≡ sender.old.state }
+    ensures drained { sender.new.drained ≡ sender.old.drained }
+    ensures given { sender.new.given ≡ sender.old.given }
+{
+    std::mem::replace(&mut sender.state, Sending::Over(Vec::new(alloc)))
+}
+
+fn begin_round(alloc: Global, object: &mut Object) -> u32
+    requires { IsSome (sender_in (Some object.old)) }
+    ensures { Turns (Changes (Begins result)) (sender_in (Some object.old)) (sender_in (Some object.new)) }
+{
+    match object {
+        Object::Sender(sender) => {
+            let (state, status) = begun(take_state(alloc, sender));
+            sender.state = state;
+            status
+        }
+        _ => unreachable!(),
+    }
+}
+
+/// Begins a round whose pages are put one by one.
+#[unsafe(no_mangle)]
+pub extern "C" fn zimgasol_sender_begin_round(alloc: Global, sender: &mut SenderHandle) -> u32
+    requires sender { IsSome (sender_in sender.old.handle.value) }
+    ensures begins { Turns (Changes (Begins result)) (sender_in sender.old.handle.value) (sender_in sender.new.handle.value) }
+{
+    let mut object = sender.handle.take().into_box(alloc);
+    let status = begin_round(alloc, &mut object);
+    sender.handle = Handle::of(object);
+    status
+}
+
+// Puts a page into a round.
+fn put(round: &mut OpenRound<Global>, place: Place, bytes: &[u8]) -> u32
+    ensures { Adds place bytes.now result round.old round.new }
+{
+    if !round.table().holds(place) {
+        return NO_PAGE;
+    }
+    if bytes.len() as u64 != round.table().page_size() {
+        return BAD_LENGTH;
+    }
+    match round.put_page(place, bytes) {
+        Ok(()) => DONE,
+        Err(NoMemory) => NO_MEMORY,
+    }
+}
+
+fn put_page(object: &mut Object, place: Place, bytes: &[u8]) -> u32
+    requires { IsSome (sender_in (Some object.old)) }
+    ensures { Turns (Changes (Puts place bytes.now result)) (sender_in (Some object.old)) (sender_in (Some object.new)) }
+{
+    match object {
+        Object::Sender(sender) => match &mut sender.state {
+            Sending::Round(round) => put(round, place, bytes),
+            _ => OUT_OF_TURN,
+        },
+        _ => unreachable!(),
+    }
+}
+
+/// Sends a page: a place of the table, and its bytes as they were read.
+#[unsafe(no_mangle)]
+pub extern "C" fn zimgasol_sender_put_page(
+    alloc: Global,
+    sender: &mut SenderHandle,
+    block: usize,
+    number: u64,
+    bytes: &[u8],
+) -> u32
+    requires sender { IsSome (sender_in sender.old.handle.value) }
+    ensures puts { Turns (Changes (Puts (place_at block number) bytes.now result)) (sender_in sender.old.handle.value) (sender_in sender.new.handle.value) }
+{
+    let place = Place {
+        block,
+        page: number,
+    };
+    let mut object = sender.handle.take().into_box(alloc);
+    let status = put_page(&mut object, place, bytes);
+    sender.handle = Handle::of(object);
+    status
+}
+
+fn end_round(alloc: Global, object: &mut Object) -> u32
+    requires { IsSome (sender_in (Some object.old)) }
+    ensures { Turns (Changes (EndsRound result)) (sender_in (Some object.old)) (sender_in (Some object.new)) }
+{
+    match object {
+        Object::Sender(sender) => {
+            let (state, status) = ended(take_state(alloc, sender));
+            sender.state = state;
+            status
+        }
+        _ => unreachable!(),
+    }
+}
+
+/// Ends the round that is open: it has the pages that were put, in the order in which they were.
+#[unsafe(no_mangle)]
+pub extern "C" fn zimgasol_sender_end_round(alloc: Global, sender: &mut SenderHandle) -> u32
+    requires sender { IsSome (sender_in sender.old.handle.value) }
+    ensures ends { Turns (Changes (EndsRound result)) (sender_in sender.old.handle.value) (sender_in sender.new.handle.value) }
+{
+    let mut object = sender.handle.take().into_box(alloc);
+    let status = end_round(alloc, &mut object);
+    sender.handle = Handle::of(object);
+    status
+}
+
+fn cancel_round(alloc: Global, object: &mut Object) -> u32
+    requires { IsSome (sender_in (Some object.old)) }
+    ensures { Turns (Changes (Cancels result)) (sender_in (Some object.old)) (sender_in (Some object.new)) }
+{
+    match object {
+        Object::Sender(sender) => {
+            let (state, status) = cancelled(take_state(alloc, sender));
+            sender.state = state;
+            status
+        }
+        _ => unreachable!(),
+    }
+}
+
+/// Leaves out the round that is open: the sender is as it was before.
+#[unsafe(no_mangle)]
+pub extern "C" fn zimgasol_sender_cancel_round(alloc: Global, sender: &mut SenderHandle) -> u32
+    requires sender { IsSome (sender_in sender.old.handle.value) }
+    ensures cancels { Turns (Changes (Cancels result)) (sender_in sender.old.handle.value) (sender_in sender.new.handle.value) }
+{
+    let mut object = sender.handle.take().into_box(alloc);
+    let status = cancel_round(alloc, &mut object);
+    sender.handle = Handle::of(object);
+    status
+}
+
+fn finish(alloc: Global, object: &mut Object) -> u32
+    requires { IsSome (sender_in (Some object.old)) }
+    ensures { Turns (Changes (Finishes result)) (sender_in (Some object.old)) (sender_in (Some object.new)) }
+{
+    match object {
+        Object::Sender(sender) => {
+            let (state, status) = finished(take_state(alloc, sender));
+            sender.state = state;
+            status
+        }
+        _ => unreachable!(),
+    }
+}
+
+/// Ends the stream: what of it waits is still to be drained.
+#[unsafe(no_mangle)]
+pub extern "C" fn zimgasol_sender_finish(alloc: Global, sender: &mut SenderHandle) -> u32
+    requires sender { IsSome (sender_in sender.old.handle.value) }
+    ensures finishes { Turns (Changes (Finishes result)) (sender_in sender.old.handle.value) (sender_in sender.new.handle.value) }
+{
+    let mut object = sender.handle.take().into_box(alloc);
+    let status = finish(alloc, &mut object);
+    sender.handle = Handle::of(object);
+    status
+}
+
+// Drains what was written, where no drained byte waits.
+fn refill(sender: &mut Sender)
+    ensures { Refills sender.old sender.new }
+{
+    if sender.given < sender.drained.len() {
+        return;
+    }
+    match &mut sender.state {
+        Sending::Idle(writer) => {
+            writer.drain_into(&mut sender.drained);
+            sender.given = 0;
+        }
+        Sending::Round(_) => {}
+        Sending::Over(text) => {
+            sender.drained.clear();
+            std::mem::swap(&mut sender.drained, text);
+            sender.given = 0;
+        }
+    }
+}
+
+// The bytes behind those that were handed out.
+fn behind(drained: &[u8], given: usize) -> &[u8]
+    ensures { result.now ≡ drop given drained.now }
+{
+    match drained.get(given..) {
+        Some(rest) => rest,
+        None => &[],
+    }
+}
+
+// Copies as many bytes to the front of a buffer as it has room for.
+fn copy_front(bytes: &[u8], out: &mut [u8]) -> usize
+    ensures fits { result ≤ length out.new }
+    ensures within { result ≤ length bytes.now }
+    ensures front { take result out.new ≡ take result bytes.now }
+    ensures none { result ≡ 0 → 0 < length out.new → length bytes.now ≡ 0 }
+{
+    let count = bytes.len().min(out.len());
+    out[..count].copy_from_slice(&bytes[..count]);
+    count
+}
+
+// Hands out the first bytes that wait.
+fn hand_out(sender: &mut Sender, out: &mut [u8]) -> usize
+    ensures { Hands result out.new sender.old sender.new }
+{
+    let count = copy_front(behind(&sender.drained, sender.given), out);
+    sender.given += count;
+    count
+}
+
+fn drain_sender(sender: &mut Sender, out: &mut [u8]) -> usize
+    ensures { Drains result out.new sender.old sender.new }
+{
+    refill(sender);
+    hand_out(sender, out)
+}
+
+fn drain(object: &mut Object, out: &mut [u8]) -> usize
+    requires { IsSome (sender_in (Some object.old)) }
+    ensures { Turns (Drains result out.new) (sender_in (Some object.old)) (sender_in (Some object.new)) }
+{
+    match object {
+        Object::Sender(sender) => drain_sender(sender, out),
+        _ => unreachable!(),
+    }
+}
+
+/// Hands out the next bytes of the stream, and tells how many: 0 where none waits.
+#[unsafe(no_mangle)]
+pub extern "C" fn zimgasol_sender_drain(
+    alloc: Global,
+    sender: &mut SenderHandle,
+    out: &mut [u8],
+) -> usize
+    requires sender { IsSome (sender_in sender.old.handle.value) }
+    ensures drains { Turns (Drains result out.new) (sender_in sender.old.handle.value) (sender_in sender.new.handle.value) }
+{
+    let mut object = sender.handle.take().into_box(alloc);
+    let count = drain(&mut object, out);
+    sender.handle = Handle::of(object);
+    count
+}
+
+/// Frees a sender.
+#[unsafe(no_mangle)]
+pub extern "C" fn zimgasol_sender_free(alloc: Global, sender: &mut SenderHandle)
+    requires sender { IsSome (sender_in sender.old.handle.value) }
+    ensures none { sender.new.handle.value ≡ None }
+{
+    let _object = sender.handle.take().into_box(alloc);
+}

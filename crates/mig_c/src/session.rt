@@ -1,0 +1,290 @@
+//! A load of several channels, which is fed in pieces by source.
+
+ghost use Rattle.std.specs.Prelude.{◌≡◌, ◌≢◌, ◌≤◌, ◌^◌, IsSome, IfOk, None, Some, length};
+ghost use Rattle.mig_mem.specs.PageSize.{IsPageSize};
+ghost use Rattle.mig_load.specs.Session.{answer_in};
+ghost use Rattle.mig_c.specs.Status.{done};
+ghost use Rattle.mig_c.specs.Kinds.{session_in, Turns, Tells};
+ghost use Rattle.mig_c.specs.Found.{seen_of_verdict};
+ghost use Rattle.mig_c.specs.Reading.{GivesPage, GivesBlock, place_at, block_count};
+ghost use Rattle.mig_c.specs.Sessions.{Opens, OpensSession, FeedsSource, EndsSource, source_of};
+
+use crate::block::NamedBlock;
+use crate::fault::{FoundFault, found, none, running};
+use crate::handle::{Handle, SessionHandle};
+use crate::object::Object;
+use crate::reading;
+use crate::sized::SizedSession;
+use crate::status::{
+    BAD_CHANNELS, BAD_LENGTH, BAD_LIMIT, BAD_PAGE_SIZE, DONE, MAX_LIMIT, NO_MEMORY,
+};
+use mig_load::{Source, Verdict};
+use mig_mem::{NoMemory, is_page_size};
+use std::alloc::Global;
+use uuid::Uuid;
+
+// The source of a number.
+fn source_of(number: usize) -> Source
+    ensures { result ≡ source_of number }
+{
+    if number == 0 {
+        return Source::Main;
+    }
+    Source::Channel(number - 1)
+}
+
+// A session in a box.
+fn made(
+    alloc: Global,
+    page_size: u64,
+    uuid: &Uuid,
+    channels: usize,
+    limit: u64,
+) -> Result<Box<Object>, NoMemory>
+    requires page_size { IsPageSize page_size }
+    requires channels { (1 ≤ channels) × (channels ≤ 255) }
+    requires limit { limit ≤ 2 ^ 40 }
+    ensures { IfOk result (λ object. Opens page_size uuid.now channels limit (session_in (Some object.value))) }
+{
+    let session = SizedSession::new(alloc, page_size, uuid, channels, limit)?;
+    Ok(Box::new(alloc, Object::Session(session))?)
+}
+
+/// Makes a session that was fed nothing, of so many channels under a UUID of 16 bytes.
+#[unsafe(no_mangle)]
+pub extern "C" fn zimgasol_session_new(
+    alloc: Global,
+    session: &mut SessionHandle,
+    page_size: u64,
+    uuid: &[u8],
+    channels: usize,
+    limit: u64,
+) -> u32
+    requires none { session.old.handle.value ≡ None }
+    ensures opens { OpensSession page_size uuid.now channels limit result (session_in session.new.handle.value) }
+    ensures none { result ≢ done → session.new.handle.value ≡ None }
+{
+    if !is_page_size(page_size) {
+        return BAD_PAGE_SIZE;
+    }
+    if limit > MAX_LIMIT {
+        return BAD_LIMIT;
+    }
+    if channels == 0 || channels > 255 {
+        return BAD_CHANNELS;
+    }
+    let Ok(uuid) = Uuid::from_slice(uuid) else {
+        return BAD_LENGTH;
+    };
+    match made(alloc, page_size, &uuid, channels, limit) {
+        Ok(object) => {
+            session.handle = Handle::of(object);
+            DONE
+        }
+        Err(NoMemory) => NO_MEMORY,
+    }
+}
+
+fn feed(object: &mut Object, source: Source, piece: &[u8]) -> u32
+    requires { IsSome (session_in (Some object.old)) }
+    ensures { Turns (FeedsSource source piece.now result) (session_in (Some object.old)) (session_in (Some object.new)) }
+{
+    match object {
+        Object::Session(session) => session.feed(source, piece),
+        _ => unreachable!(),
+    }
+}
+
+/// Takes the next piece of a source's text, and puts the rounds that it makes whole into the memory.
+#[unsafe(no_mangle)]
+pub extern "C" fn zimgasol_session_feed(
+    alloc: Global,
+    session: &mut SessionHandle,
+    source: usize,
+    piece: &[u8],
+) -> u32
+    requires session { IsSome (session_in session.old.handle.value) }
+    ensures feeds { Turns (FeedsSource (source_of source) piece.now result) (session_in session.old.handle.value) (session_in session.new.handle.value) }
+{
+    let mut object = session.handle.take().into_box(alloc);
+    let status = feed(&mut object, source_of(source), piece);
+    session.handle = Handle::of(object);
+    status
+}
+
+fn end(object: &mut Object, source: Source) -> u32
+    requires { IsSome (session_in (Some object.old)) }
+    ensures { Turns (EndsSource source result) (session_in (Some object.old)) (session_in (Some object.new)) }
+{
+    match object {
+        Object::Session(session) => session.end(source),
+        _ => unreachable!(),
+    }
+}
+
+/// The text of a source is over.
+#[unsafe(no_mangle)]
+pub extern "C" fn zimgasol_session_end(
+    alloc: Global,
+    session: &mut SessionHandle,
+    source: usize,
+) -> u32
+    requires session { IsSome (session_in session.old.handle.value) }
+    ensures ends { Turns (EndsSource (source_of source) result) (session_in session.old.handle.value) (session_in session.new.handle.value) }
+{
+    let mut object = session.handle.take().into_box(alloc);
+    let status = end(&mut object, source_of(source));
+    session.handle = Handle::of(object);
+    status
+}
+
+fn verdict_of(session: &SizedSession) -> FoundFault
+    ensures { result ≡ seen_of_verdict (answer_in session.now).rounds session.now.verdict }
+{
+    match session.verdict() {
+        Verdict::Done => none(),
+        Verdict::Running => running(session.rounds()),
+        Verdict::Failed(fault) => found(fault),
+    }
+}
+
+fn verdict(object: &Object) -> FoundFault
+    requires { IsSome (session_in (Some object.now)) }
+    ensures { Tells (λ s. result ≡ seen_of_verdict (answer_in s).rounds s.verdict) (session_in (Some object.now)) }
+{
+    match object {
+        Object::Session(session) => verdict_of(session),
+        _ => unreachable!(),
+    }
+}
+
+/// How the load stands on the texts so far.
+#[unsafe(no_mangle)]
+pub extern "C" fn zimgasol_session_verdict(
+    alloc: Global,
+    session: &mut SessionHandle,
+    found: &mut FoundFault,
+) -> u32
+    requires session { IsSome (session_in session.old.handle.value) }
+    ensures same { session.new.handle.value ≡ session.old.handle.value }
+    ensures number { found.new.number ≡ result }
+    ensures tells { Tells (λ s. found.new ≡ seen_of_verdict (answer_in s).rounds s.verdict) (session_in session.old.handle.value) }
+{
+    let object = session.handle.take().into_box(alloc);
+    let fault = verdict(&object);
+    session.handle = Handle::of(object);
+    *found = fault;
+    fault.number
+}
+
+fn rounds(object: &Object) -> u64
+    requires { IsSome (session_in (Some object.now)) }
+    ensures { Tells (λ s. result ≡ (answer_in s).rounds) (session_in (Some object.now)) }
+{
+    match object {
+        Object::Session(session) => session.rounds(),
+        _ => unreachable!(),
+    }
+}
+
+/// How many rounds are in the memory.
+#[unsafe(no_mangle)]
+pub extern "C" fn zimgasol_session_rounds(alloc: Global, session: &mut SessionHandle) -> u64
+    requires session { IsSome (session_in session.old.handle.value) }
+    ensures same { session.new.handle.value ≡ session.old.handle.value }
+    ensures rounds { Tells (λ s. result ≡ (answer_in s).rounds) (session_in session.old.handle.value) }
+{
+    let object = session.handle.take().into_box(alloc);
+    let number = rounds(&object);
+    session.handle = Handle::of(object);
+    number
+}
+
+fn page(object: &Object, block: usize, page: u64, out: &mut [u8]) -> u32
+    requires { IsSome (session_in (Some object.now)) }
+    ensures { Tells (λ s. GivesPage (place_at block page) result out.old out.new (answer_in s).memory) (session_in (Some object.now)) }
+{
+    match object {
+        Object::Session(session) => reading::page(session.memory(), block, page, out),
+        _ => unreachable!(),
+    }
+}
+
+/// Copies a page of the memory out, into a buffer of its length.
+#[unsafe(no_mangle)]
+pub extern "C" fn zimgasol_session_page(
+    alloc: Global,
+    session: &mut SessionHandle,
+    block: usize,
+    number: u64,
+    out: &mut [u8],
+) -> u32
+    requires session { IsSome (session_in session.old.handle.value) }
+    ensures same { session.new.handle.value ≡ session.old.handle.value }
+    ensures gives { Tells (λ s. GivesPage (place_at block number) result out.old out.new (answer_in s).memory) (session_in session.old.handle.value) }
+{
+    let object = session.handle.take().into_box(alloc);
+    let status = page(&object, block, number, out);
+    session.handle = Handle::of(object);
+    status
+}
+
+fn blocks(object: &Object) -> usize
+    requires { IsSome (session_in (Some object.now)) }
+    ensures { Tells (λ s. result ≡ block_count (answer_in s).memory) (session_in (Some object.now)) }
+{
+    match object {
+        Object::Session(session) => reading::blocks(session.memory()),
+        _ => unreachable!(),
+    }
+}
+
+/// How many blocks the guest has: 0 where its memory isn't there yet.
+#[unsafe(no_mangle)]
+pub extern "C" fn zimgasol_session_blocks(alloc: Global, session: &mut SessionHandle) -> usize
+    requires session { IsSome (session_in session.old.handle.value) }
+    ensures same { session.new.handle.value ≡ session.old.handle.value }
+    ensures count { Tells (λ s. result ≡ block_count (answer_in s).memory) (session_in session.old.handle.value) }
+{
+    let object = session.handle.take().into_box(alloc);
+    let count = blocks(&object);
+    session.handle = Handle::of(object);
+    count
+}
+
+fn block(object: &Object, i: usize, out: &mut NamedBlock) -> u32
+    requires { IsSome (session_in (Some object.now)) }
+    ensures { Tells (λ s. GivesBlock i result out.old out.new (answer_in s).memory) (session_in (Some object.now)) }
+{
+    match object {
+        Object::Session(session) => reading::block(session.memory(), i, out),
+        _ => unreachable!(),
+    }
+}
+
+/// Tells a block's id and its number of pages.
+#[unsafe(no_mangle)]
+pub extern "C" fn zimgasol_session_block(
+    alloc: Global,
+    session: &mut SessionHandle,
+    i: usize,
+    out: &mut NamedBlock,
+) -> u32
+    requires session { IsSome (session_in session.old.handle.value) }
+    ensures same { session.new.handle.value ≡ session.old.handle.value }
+    ensures gives { Tells (λ s. GivesBlock i result out.old out.new (answer_in s).memory) (session_in session.old.handle.value) }
+{
+    let object = session.handle.take().into_box(alloc);
+    let status = block(&object, i, out);
+    session.handle = Handle::of(object);
+    status
+}
+
+/// Frees a session.
+#[unsafe(no_mangle)]
+pub extern "C" fn zimgasol_session_free(alloc: Global, session: &mut SessionHandle)
+    requires session { IsSome (session_in session.old.handle.value) }
+    ensures none { session.new.handle.value ≡ None }
+{
+    let _object = session.handle.take().into_box(alloc);
+}

@@ -1,0 +1,46 @@
+//! What calls answer beside the numbers of faults.
+
+/// It was done.
+pub(crate) const DONE: u32 = 0;
+
+/// A growth was refused.
+pub(crate) const NO_MEMORY: u32 = 60;
+
+/// The load goes on: more of a text is needed.
+pub(crate) const RUNNING: u32 = 100;
+
+/// A page size other than 4096 and 8192.
+pub(crate) const BAD_PAGE_SIZE: u32 = 101;
+
+/// A limit above 2^40.
+pub(crate) const BAD_LIMIT: u32 = 102;
+
+/// No channel, or more than 255.
+pub(crate) const BAD_CHANNELS: u32 = 103;
+
+/// No such source.
+pub(crate) const BAD_SOURCE: u32 = 104;
+
+/// The source's text is over.
+pub(crate) const IS_OVER: u32 = 105;
+
+/// The text would be too long to be counted.
+pub(crate) const TOO_LONG: u32 = 106;
+
+/// No page there.
+pub(crate) const NO_PAGE: u32 = 107;
+
+/// A buffer of another length than is needed.
+pub(crate) const BAD_LENGTH: u32 = 108;
+
+/// A call out of turn: a round is open, or none is, or the stream is ended.
+pub(crate) const OUT_OF_TURN: u32 = 109;
+
+/// More pages than a packet has.
+pub(crate) const TOO_MANY_PAGES: u32 = 110;
+
+/// The piece was taken, and no memory was found for the guest.
+pub(crate) const WAITS: u32 = 111;
+
+/// The most bytes that a guest's blocks may have together.
+pub(crate) const MAX_LIMIT: u64 = 1 << 40;

@@ -1,0 +1,97 @@
+/* Loads a stream from standard input, as it comes, and prints what came of it.
+ *
+ *   load [-p PAGE_SIZE] [-l LIMIT] [-c BYTES] [-o FILE]
+ *
+ * Pages have 4096 bytes where -p says nothing else, the guest may have 2^30 bytes, and the stream is fed in pieces of 65536: -c sets another
+ * length. -o writes the memory to a file, block after block. It prints `single BYTES sections S`, with status 0; `fault N round R` with
+ * status 1; or why it can't begin, with status 3.
+ */
+#include "zimgasol.h"
+#include <stdio.h>
+#include <stdlib.h>
+#include <string.h>
+
+/* Feeds all of standard input. Answers how many bytes that were, or -1 where it can't be read or there is no memory. */
+static long long feed_input(zimgasol_loader *loader, size_t cut) {
+    uint8_t *piece = malloc(cut);
+    long long total = 0;
+    size_t len;
+    if (piece == NULL) return -1;
+    while ((len = fread(piece, 1, cut, stdin)) > 0) {
+        uint32_t status = zimgasol_loader_feed(loader, piece, len);
+        if (status != ZIMGASOL_DONE) {
+            fprintf(stderr, "a piece was refused: %u\n", status);
+            free(piece);
+            return -1;
+        }
+        total += (long long)len;
+    }
+    free(piece);
+    zimgasol_loader_end(loader);
+    return ferror(stdin) ? -1 : total;
+}
+
+/* Copies the guest's memory into a buffer of its own, block after block. */
+static uint8_t *copied_memory(zimgasol_loader *loader, size_t page_size, size_t *len) {
+    size_t blocks = zimgasol_loader_blocks(loader);
+    uint64_t pages = 0;
+    zimgasol_block block;
+    for (size_t i = 0; i < blocks; i++) {
+        if (zimgasol_loader_block(loader, i, &block) != ZIMGASOL_DONE) return NULL;
+        pages += block.pages;
+    }
+    uint8_t *memory = malloc(pages * page_size + 1), *at = memory;
+    if (memory == NULL) return NULL;
+    for (size_t i = 0; i < blocks; i++) {
+        zimgasol_loader_block(loader, i, &block);
+        for (uint64_t page = 0; page < block.pages; page++, at += page_size) {
+            if (zimgasol_loader_page(loader, i, page, at, page_size) != ZIMGASOL_DONE) {
+                free(memory);
+                return NULL;
+            }
+        }
+    }
+    *len = (size_t)(at - memory);
+    return memory;
+}
+
+static int write_memory(zimgasol_loader *loader, size_t page_size, const char *name) {
+    size_t len = 0;
+    uint8_t *memory = copied_memory(loader, page_size, &len);
+    FILE *file = memory == NULL ? NULL : fopen(name, "wb");
+    int done = file != NULL && fwrite(memory, 1, len, file) == len;
+    if (file != NULL && fclose(file) != 0) done = 0;
+    free(memory);
+    return done;
+}
+
+int main(int count, char **words) {
+    uint64_t page_size = 4096, limit = 1 << 30;
+    size_t cut = 65536;
+    const char *output = NULL;
+    for (int i = 1; i + 1 < count; i += 2) {
+        if (strcmp(words[i], "-p") == 0) page_size = strtoull(words[i + 1], NULL, 10);
+        else if (strcmp(words[i], "-l") == 0) limit = strtoull(words[i + 1], NULL, 10);
+        else if (strcmp(words[i], "-c") == 0) cut = strtoull(words[i + 1], NULL, 10);
+        else if (strcmp(words[i], "-o") == 0) output = words[i + 1];
+    }
+
+    zimgasol_loader loader = {0};
+    zimgasol_fault fault;
+    uint32_t status = cut == 0 ? ZIMGASOL_BAD_LENGTH : zimgasol_loader_new(&loader, page_size, limit);
+    if (status != ZIMGASOL_DONE) {
+        fprintf(stderr, "no loader: %u\n", status);
+        return 3;
+    }
+    long long bytes = feed_input(&loader, cut);
+    status = bytes < 0 ? 3 : 0;
+    if (bytes >= 0 && zimgasol_loader_fault(&loader, &fault) != ZIMGASOL_DONE) {
+        printf("fault %u round %llu\n", fault.number, (unsigned long long)fault.round);
+        status = 1;
+    } else if (bytes >= 0) {
+        printf("single %lld sections %llu\n", bytes, (unsigned long long)zimgasol_loader_rounds(&loader));
+        if (output != NULL && !write_memory(&loader, page_size, output)) status = 3;
+    }
+    zimgasol_loader_free(&loader);
+    return (int)status;
+}

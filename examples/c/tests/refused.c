@@ -1,0 +1,237 @@
+/* Each allocation refused in turn. A guest of two blocks is sent, loaded by a loader and by a session, and read out, with the nth call of malloc
+ * or realloc refused: the call that wanted it says so, and is made again. What comes of it is the same as with no refusal, and no block is left.
+ * It is linked with -Wl,--wrap=malloc,--wrap=realloc,--wrap=free. */
+#include "zimgasol.h"
+#include <stdio.h>
+#include <stdlib.h>
+#include <string.h>
+
+void *__real_malloc(size_t len);
+void *__real_realloc(void *at, size_t len);
+void __real_free(void *at);
+
+static long counted, refused, held, refusals;
+
+static int is_refused(void) {
+    int is = ++counted == refused;
+    refusals += is;
+    return is;
+}
+
+void *__wrap_malloc(size_t len) {
+    if (is_refused()) return NULL;
+    void *at = __real_malloc(len);
+    held += at != NULL;
+    return at;
+}
+
+void *__wrap_realloc(void *at, size_t len) {
+    if (is_refused()) return NULL;
+    void *now = __real_realloc(at, len);
+    held += at == NULL && now != NULL;
+    return now;
+}
+
+void __wrap_free(void *at) {
+    held -= at != NULL;
+    __real_free(at);
+}
+
+enum { PAGE = 4096, MOST = 1 << 17 };
+
+static uint8_t page[PAGE], text[MOST], main_text[MOST], channel_text[MOST];
+static size_t text_len, main_len, channel_len;
+
+#define WANT(test) do { if (!(test)) { printf("refusal %ld: line %d: %s\n", refused, __LINE__, #test); exit(1); } } while (0)
+
+/* Makes a call, and makes it again where it was refused. */
+#define AGAIN(call) do { uint32_t status = (call); if (status == ZIMGASOL_NO_MEMORY) { WANT(refusals == 1); status = (call); } WANT(status == ZIMGASOL_DONE); } while (0)
+
+static void fill(uint8_t first, uint8_t other) {
+    memset(page, other, PAGE);
+    page[0] = first;
+}
+
+static void drain(zimgasol_sender *sender) {
+    size_t len;
+    while ((len = zimgasol_sender_drain(sender, text + text_len, 1000)) > 0) {
+        text_len += len;
+        WANT(text_len + 1000 < MOST);
+    }
+}
+
+static void send(void) {
+    zimgasol_block blocks[2] = {{.id = "a", .pages = 3}, {.id = "pc.ram", .pages = 2}};
+    zimgasol_table table = {0};
+    zimgasol_sender sender = {0};
+    size_t entry;
+    AGAIN(zimgasol_table_new(&table, PAGE, blocks, 2, &entry));
+    AGAIN(zimgasol_sender_new(&sender, &table));
+    text_len = 0;
+    for (int round = 0; round < 3; round++) {
+        AGAIN(zimgasol_sender_begin_round(&sender));
+        fill((uint8_t)(round + 1), 7);
+        AGAIN(zimgasol_sender_put_page(&sender, 0, 2, page, PAGE));
+        fill(0, 0);
+        AGAIN(zimgasol_sender_put_page(&sender, 1, (uint64_t)(round & 1), page, PAGE));
+        if (round == 1) AGAIN(zimgasol_sender_cancel_round(&sender));
+        else AGAIN(zimgasol_sender_end_round(&sender));
+        if (round == 0) drain(&sender);
+    }
+    AGAIN(zimgasol_sender_finish(&sender));
+    drain(&sender);
+    zimgasol_table_free(&table);
+    zimgasol_sender_free(&sender);
+}
+
+static void load(size_t cut) {
+    zimgasol_loader loader = {0};
+    zimgasol_fault fault;
+    AGAIN(zimgasol_loader_new(&loader, PAGE, 1 << 20));
+    for (size_t at = 0; at < text_len; at += cut) {
+        size_t len = text_len - at < cut ? text_len - at : cut;
+        uint32_t status = zimgasol_loader_feed(&loader, text + at, len);
+        if (status == ZIMGASOL_NO_MEMORY) status = zimgasol_loader_feed(&loader, text + at, len);
+        if (status == ZIMGASOL_WAITS) {
+            WANT(zimgasol_loader_fault(&loader, &fault) == ZIMGASOL_NO_MEMORY && fault.source == ZIMGASOL_ROUND);
+            WANT(zimgasol_loader_blocks(&loader) == 0);
+            status = zimgasol_loader_settle(&loader);
+        }
+        WANT(status == ZIMGASOL_DONE);
+    }
+    zimgasol_loader_end(&loader);
+    WANT(zimgasol_loader_feed(&loader, text, 1) == ZIMGASOL_IS_OVER);
+    WANT(zimgasol_loader_fault(&loader, &fault) == ZIMGASOL_DONE && fault.number == 0);
+    WANT(zimgasol_loader_rounds(&loader) == 4);
+    WANT(zimgasol_loader_blocks(&loader) == 2);
+    zimgasol_block block;
+    WANT(zimgasol_loader_block(&loader, 1, &block) == ZIMGASOL_DONE && block.pages == 2 && strcmp((char *)block.id, "pc.ram") == 0);
+    WANT(zimgasol_loader_block(&loader, 2, &block) == ZIMGASOL_NO_PAGE);
+    WANT(zimgasol_loader_page(&loader, 0, 2, page, PAGE) == ZIMGASOL_DONE && page[0] == 3 && page[PAGE - 1] == 7);
+    WANT(zimgasol_loader_page(&loader, 1, 1, page, PAGE) == ZIMGASOL_DONE && page[0] == 0);
+    WANT(zimgasol_loader_page(&loader, 1, 2, page, PAGE) == ZIMGASOL_NO_PAGE);
+    WANT(zimgasol_loader_page(&loader, 1, 1, page, PAGE - 1) == ZIMGASOL_BAD_LENGTH);
+    zimgasol_loader_free(&loader);
+}
+
+/* The main stream of a round of a block of two pages, and its channel. */
+static void put_be(uint64_t number, int bytes) {
+    while (bytes-- > 0) main_text[main_len++] = (uint8_t)(number >> 8 * bytes);
+}
+
+static void put_main(void) {
+    main_len = 0;
+    put_be(0x5145564D, 4), put_be(3, 4);
+    put_be(1, 1), put_be(1, 4), put_be(3, 1), put_be(0x72616D, 3), put_be(0, 4), put_be(4, 4);
+    put_be(2 * PAGE | 4, 8), put_be(1, 1), put_be('a', 1), put_be(2 * PAGE, 8), put_be(0x10, 8), put_be(0x7E, 1), put_be(1, 4);
+    put_be(2, 1), put_be(1, 4), put_be(0x200, 8), put_be(0x10, 8), put_be(0x7E, 1), put_be(1, 4);
+    put_be(3, 1), put_be(1, 4), put_be(0x10, 8), put_be(0x7E, 1), put_be(1, 4), put_be(0, 1);
+}
+
+static void put_channel(void) {
+    static const uint8_t uuid[16] = {1, 2, 3};
+    static const uint64_t normal[1] = {PAGE}, zero[1] = {0};
+    size_t written;
+    channel_len = 0;
+    AGAIN(zimgasol_hello(uuid, 16, 0, channel_text, 64));
+    channel_len = 64;
+    fill(9, 0);
+    AGAIN(zimgasol_put_packet(PAGE, 0, false, (const uint8_t *)"a", 1, normal, 1, page, PAGE, zero, 1, channel_text + channel_len, MOST - channel_len, &written));
+    channel_len += written;
+    AGAIN(zimgasol_put_packet(PAGE, 1, true, (const uint8_t *)"", 0, normal, 0, page, 0, zero, 0, channel_text + channel_len, MOST - channel_len, &written));
+    channel_len += written;
+    WANT(channel_len == 6848);
+    WANT(zimgasol_put_packet(PAGE, 1, true, (const uint8_t *)"", 0, normal, 0, page, 0, zero, 0, channel_text, 10, &written) != ZIMGASOL_DONE);
+    WANT(zimgasol_put_packet(4095, 1, true, (const uint8_t *)"", 0, normal, 0, page, 0, zero, 0, channel_text, 10, &written) == ZIMGASOL_BAD_PAGE_SIZE);
+    WANT(zimgasol_hello(uuid, 15, 0, page, 64) == ZIMGASOL_BAD_LENGTH && zimgasol_hello(uuid, 16, 0, page, 63) == ZIMGASOL_BAD_LENGTH);
+}
+
+/* Feeds both texts in turn. Answers the status that was refused, or DONE. */
+static uint32_t feed_session(zimgasol_session *session, size_t cut) {
+    uint32_t found = ZIMGASOL_DONE;
+    for (size_t at = 0; at < main_len || at < channel_len; at += cut) {
+        if (at < channel_len) {
+            uint32_t status = zimgasol_session_feed(session, ZIMGASOL_CHANNEL(0), channel_text + at, channel_len - at < cut ? channel_len - at : cut);
+            if (status != ZIMGASOL_DONE) found = status;
+        }
+        if (at < main_len) {
+            uint32_t status = zimgasol_session_feed(session, ZIMGASOL_MAIN, main_text + at, main_len - at < cut ? main_len - at : cut);
+            if (status != ZIMGASOL_DONE) found = status;
+        }
+    }
+    WANT(zimgasol_session_end(session, ZIMGASOL_MAIN) == ZIMGASOL_DONE && zimgasol_session_end(session, ZIMGASOL_CHANNEL(0)) == ZIMGASOL_DONE);
+    WANT(zimgasol_session_end(session, ZIMGASOL_CHANNEL(1)) == ZIMGASOL_BAD_SOURCE);
+    return found;
+}
+
+static void load_several(size_t cut) {
+    static const uint8_t uuid[16] = {1, 2, 3};
+    zimgasol_session session = {0};
+    zimgasol_fault fault;
+    AGAIN(zimgasol_session_new(&session, PAGE, uuid, 16, 1, 1 << 20));
+    WANT(zimgasol_session_verdict(&session, &fault) == ZIMGASOL_RUNNING);
+    uint32_t found = feed_session(&session, cut);
+    if (found == ZIMGASOL_NO_MEMORY) {
+        WANT(refusals == 1 && zimgasol_session_verdict(&session, &fault) == ZIMGASOL_NO_MEMORY && fault.source == ZIMGASOL_ROUND);
+        zimgasol_session_free(&session);
+        AGAIN(zimgasol_session_new(&session, PAGE, uuid, 16, 1, 1 << 20));
+        found = feed_session(&session, cut);
+    }
+    WANT(found == ZIMGASOL_DONE && zimgasol_session_verdict(&session, &fault) == ZIMGASOL_DONE && fault.number == 0);
+    WANT(zimgasol_session_feed(&session, ZIMGASOL_MAIN, page, 1) == ZIMGASOL_IS_OVER && zimgasol_session_feed(&session, 2, page, 1) == ZIMGASOL_BAD_SOURCE);
+    WANT(zimgasol_session_rounds(&session) == 1 && zimgasol_session_blocks(&session) == 1);
+    zimgasol_block block;
+    WANT(zimgasol_session_block(&session, 0, &block) == ZIMGASOL_DONE && block.pages == 2 && block.id[0] == 'a' && block.id[1] == 0);
+    WANT(zimgasol_session_page(&session, 0, 1, page, PAGE) == ZIMGASOL_DONE && page[0] == 9 && page[1] == 0);
+    zimgasol_session_free(&session);
+}
+
+/* Calls that aren't to be made so. */
+static void misuse(void) {
+    static const uint8_t uuid[16] = {0};
+    zimgasol_block blocks[2] = {{.id = "a", .pages = 1}, {.id = "a", .pages = 1}};
+    zimgasol_table table = {0};
+    zimgasol_loader loader = {0};
+    zimgasol_session session = {0};
+    zimgasol_sender sender = {0};
+    size_t entry = 9;
+    WANT(zimgasol_table_new(&table, 100, blocks, 1, &entry) == ZIMGASOL_BAD_PAGE_SIZE);
+    WANT(zimgasol_table_new(&table, PAGE, blocks, 0, &entry) == ZIMGASOL_NO_BLOCKS);
+    WANT(zimgasol_table_new(&table, PAGE, blocks, 2, &entry) == ZIMGASOL_ID_TWICE && entry == 1);
+    blocks[0].pages = 0;
+    WANT(zimgasol_table_new(&table, PAGE, blocks, 1, &entry) == ZIMGASOL_NO_PAGES && entry == 0);
+    blocks[0].pages = 1ull << 60;
+    WANT(zimgasol_table_new(&table, PAGE, blocks, 1, &entry) == ZIMGASOL_TOO_LARGE);
+    memset(blocks[0].id, 'b', 256);
+    WANT(zimgasol_table_new(&table, PAGE, blocks, 1, &entry) == ZIMGASOL_ID && entry == 0 && table.at == NULL);
+    WANT(zimgasol_loader_new(&loader, PAGE, (1ull << 40) + 1) == ZIMGASOL_BAD_LIMIT && zimgasol_loader_new(&loader, 1, 1) == ZIMGASOL_BAD_PAGE_SIZE);
+    WANT(zimgasol_session_new(&session, PAGE, uuid, 16, 0, 1) == ZIMGASOL_BAD_CHANNELS && zimgasol_session_new(&session, PAGE, uuid, 16, 256, 1) == ZIMGASOL_BAD_CHANNELS);
+    WANT(zimgasol_session_new(&session, PAGE, uuid, 15, 1, 1) == ZIMGASOL_BAD_LENGTH && session.at == NULL);
+    WANT(zimgasol_table_new(&table, PAGE, blocks + 1, 1, &entry) == ZIMGASOL_DONE && zimgasol_sender_new(&sender, &table) == ZIMGASOL_DONE);
+    WANT(zimgasol_sender_put_page(&sender, 0, 0, page, PAGE) == ZIMGASOL_OUT_OF_TURN && zimgasol_sender_end_round(&sender) == ZIMGASOL_OUT_OF_TURN);
+    WANT(zimgasol_sender_cancel_round(&sender) == ZIMGASOL_OUT_OF_TURN && zimgasol_sender_begin_round(&sender) == ZIMGASOL_DONE);
+    WANT(zimgasol_sender_begin_round(&sender) == ZIMGASOL_OUT_OF_TURN && zimgasol_sender_finish(&sender) == ZIMGASOL_OUT_OF_TURN);
+    WANT(zimgasol_sender_put_page(&sender, 0, 1, page, PAGE) == ZIMGASOL_NO_PAGE && zimgasol_sender_put_page(&sender, 0, 0, page, 1) == ZIMGASOL_BAD_LENGTH);
+    zimgasol_sender_free(&sender);
+    zimgasol_table_free(&table);
+    WANT(table.at == NULL && sender.at == NULL);
+}
+
+int main(int count, char **words) {
+    long first = count > 1 ? strtol(words[1], NULL, 10) : 0, last = count > 2 ? strtol(words[2], NULL, 10) : 100000, runs = 0, most = 0;
+    misuse();
+    put_main();
+    for (refused = first; refused <= last; refused++) {
+        counted = refusals = 0;
+        send();
+        load(1000);
+        put_channel();
+        load_several(700);
+        WANT(held == 0);
+        runs++;
+        most = counted > most ? counted : most;
+        if (refused > 0 && refusals == 0) break;
+    }
+    printf("%ld runs of up to %ld allocations, with none refused, then the first, then the second: all answers right, no block left\n", runs, most);
+    return 0;
+}

@@ -1,0 +1,505 @@
+#!/usr/bin/env python3
+"""Builds the C programs of examples/c against out/libzimgasol.a, and runs them.
+
+The worked examples of crates/mig_rows/data (`load.txt` and `several.txt`) are asked of the library through C: each text that the library's own
+program reads there is made here byte by byte or by the sender behind the header, fed in pieces of several lengths, and its answer has to be the
+one that stands beside it, every prefix and every fault of them. Then the two example programs send and load files of memory, and a program has
+each allocation refused in turn. All but the examples as data run under valgrind too, where it is there.
+"""
+
+import ctypes
+import itertools
+import os
+import pathlib
+import re
+import shutil
+import subprocess
+import sys
+
+TOP = pathlib.Path(__file__).resolve().parent.parent
+OUT = TOP / "out/c"
+LIBRARY = TOP / "out/libzimgasol.a"
+FLAGS = ["-std=c11", "-O1", "-g", "-Wall", "-Wextra", "-Werror", f"-I{TOP}/include"]
+CUTS = (0, 1, 7, 100, 4096)
+DATA = TOP / "crates/mig_rows/data"
+LIMIT = 1 << 40
+RUNNING, WAITS = 100, 111
+
+CC = os.environ.get("CC", "cc")
+VALGRIND = ["valgrind", "-q", "--error-exitcode=99", "--leak-check=full", "--errors-for-leak-kinds=all"] if shutil.which("valgrind") else None
+
+
+def build(name, source, *flags):
+    OUT.mkdir(parents=True, exist_ok=True)
+    subprocess.run([CC, *FLAGS, *flags, "-o", OUT / name, TOP / source, LIBRARY], check=True)
+
+
+class Block(ctypes.Structure):
+    _fields_ = [("id", ctypes.c_uint8 * 256), ("pages", ctypes.c_uint64)]
+
+
+class Fault(ctypes.Structure):
+    _fields_ = [("round", ctypes.c_uint64), ("source", ctypes.c_uint64), ("number", ctypes.c_uint32), ("first", ctypes.c_uint64), ("second", ctypes.c_uint64)]
+
+
+class Library:
+    """The header's calls, on a shared library that is made of the archive for these runs alone."""
+
+    def __init__(self):
+        shared = OUT / "libzimgasol_check.so"
+        OUT.mkdir(parents=True, exist_ok=True)
+        subprocess.run([CC, "-shared", "-o", shared, "-Wl,-Bsymbolic", "-Wl,--whole-archive", LIBRARY, "-Wl,--no-whole-archive"], check=True)
+        self.calls = ctypes.CDLL(str(shared))
+        for name in ("sender_drain", "loader_blocks", "session_blocks"):
+            getattr(self.calls, "zimgasol_" + name).restype = ctypes.c_size_t
+        for name in ("loader_rounds", "session_rounds"):
+            getattr(self.calls, "zimgasol_" + name).restype = ctypes.c_uint64
+        for name in ("table_new", "sender_new", "hello", "put_packet"):
+            getattr(self.calls, "zimgasol_" + name).restype = ctypes.c_uint32
+
+    def call(self, name, *arguments):
+        return getattr(self.calls, "zimgasol_" + name)(*arguments)
+
+    def done(self, name, *arguments):
+        status = self.call(name, *arguments)
+        if status != 0:
+            raise RuntimeError(f"{name}: {status}")
+
+
+def u64(number):
+    return ctypes.c_uint64(number)
+
+
+def size(number):
+    return ctypes.c_size_t(number)
+
+
+def numbers(values):
+    return (ctypes.c_uint64 * (len(values) + 1))(*values)
+
+
+# ---- what a case builds
+
+
+class Guest:
+    """A guest's blocks, its memory, and the rounds of its marked pages."""
+
+    def __init__(self):
+        self.page, self.blocks, self.memory, self.marked, self.rounds = 4096, [], {}, set(), []
+
+    def content(self, place):
+        return self.memory.get(place, bytes(self.page))
+
+    def end_round(self):
+        self.rounds.append([(place, self.content(place)) for place in sorted(self.marked)])
+        self.marked = set()
+
+
+def be(number, length):
+    return number.to_bytes(length, "big")
+
+
+EOS = bytes.fromhex("0000000000000010 7e 00000001")
+
+
+def main_stream(guest):
+    """QEMU's main stream of multifd, with one FLUSH a round."""
+    total = sum(pages for pages, _ in guest.blocks) * guest.page
+    text = b"QEVM" + be(3, 4) + be(1, 1) + be(1, 4) + b"\x03ram" + be(0, 4) + be(4, 4) + be(total | 4, 8)
+    for pages, name in guest.blocks:
+        text += be(len(name), 1) + name + be(pages * guest.page, 8)
+    text += EOS
+    for _ in guest.rounds:
+        text += be(2, 1) + be(1, 4) + be(0x200, 8) + EOS
+    return text + be(3, 1) + be(1, 4) + EOS + b"\0"
+
+
+class Texts:
+    """What the lines of a case build, by the library behind the header."""
+
+    def __init__(self, library):
+        self.library, self.named = library, {}
+
+    def sent(self, guest):
+        """A single stream of the guest's rounds, by the sender."""
+        library = self.library
+        blocks = (Block * (len(guest.blocks) + 1))()
+        for block, (pages, name) in zip(blocks, guest.blocks):
+            block.pages = pages
+            for i, byte in enumerate(name):
+                block.id[i] = byte
+        table, sender, entry, text = ctypes.c_void_p(), ctypes.c_void_p(), size(0), b""
+        library.done("table_new", ctypes.byref(table), u64(guest.page), blocks, size(len(guest.blocks)), ctypes.byref(entry))
+        library.done("sender_new", ctypes.byref(sender), ctypes.byref(table))
+        buffer = ctypes.create_string_buffer(1000)
+
+        def drained():
+            text = b""
+            while length := library.call("sender_drain", ctypes.byref(sender), buffer, size(1000)):
+                text += buffer.raw[:length]
+            return text
+
+        for pages in guest.rounds:
+            library.done("sender_begin_round", ctypes.byref(sender))
+            for (block, number), content in pages:
+                library.done("sender_put_page", ctypes.byref(sender), size(block), u64(number), content, size(len(content)))
+            library.done("sender_end_round", ctypes.byref(sender))
+            text += drained()
+        library.done("sender_finish", ctypes.byref(sender))
+        text += drained()
+        library.call("table_free", ctypes.byref(table))
+        library.call("sender_free", ctypes.byref(sender))
+        return text
+
+    def hello(self, channel):
+        out = ctypes.create_string_buffer(64)
+        self.library.done("hello", bytes(16), size(16), ctypes.c_uint8(channel), out, size(64))
+        return out.raw
+
+    def packet(self, page_size, number, sync, name, normal, contents, zero):
+        out, written = ctypes.create_string_buffer(1 << 20), size(0)
+        self.library.done("put_packet", u64(page_size), u64(number), ctypes.c_bool(sync), name, size(len(name)), numbers(normal), size(len(normal)),
+                          contents, size(len(contents)), numbers(zero), size(len(zero)), out, size(1 << 20), ctypes.byref(written))
+        return out.raw[:written.value]
+
+    def only_channel(self, guest, limit):
+        """The text of the only channel of a sender: of each round its batches, and a SYNC packet."""
+        text, number = self.hello(0), 0
+        for pages in guest.rounds:
+            for block, of_block in itertools.groupby(pages, key=lambda page: page[0][0]):
+                of_block = list(of_block)
+                for at in range(0, len(of_block), limit):
+                    batch = of_block[at:at + limit]
+                    normal = [page for page in batch if any(page[1])]
+                    zero = [page for page in batch if not any(page[1])]
+                    text += self.packet(guest.page, number, False, guest.blocks[block][1], [p[0][1] * guest.page for p in normal],
+                                        b"".join(p[1] for p in normal), [p[0][1] * guest.page for p in zero])
+                    number += 1
+            text += self.packet(guest.page, number, True, b"", [], b"", [])
+            number += 1
+        return text
+
+    def packet_line(self, guest, words):
+        number, sync, name, normal, zero, first, other = int(words[0]), False, b"", [], [], 0, 0
+        words = words[1:]
+        while words:
+            word = words.pop(0)
+            if word == "sync":
+                sync = True
+            elif word == "id":
+                name = words.pop(0).encode()
+            elif word == "normal":
+                normal = offsets(guest.page, words.pop(0))
+            elif word == "zero":
+                zero = offsets(guest.page, words.pop(0))
+            elif word == "first":
+                first = int(words.pop(0))
+            elif word == "fill":
+                other = int(words.pop(0))
+        content = bytes([first]) + bytes([other]) * (guest.page - 1)
+        return self.packet(guest.page, number, sync, name, normal, content * len(normal), zero)
+
+
+def span(word):
+    first, _, last = word.partition("-")
+    return range(int(first), int(last or first) + 1)
+
+
+def offsets(page_size, word):
+    return [page * page_size for page in span(word[1:])] if word.startswith("p") else [int(word)]
+
+
+def hexadecimal(words):
+    """Bytes as runs of hexadecimal digits, such as `7e 00*40`."""
+    text = b""
+    for run in re.split(r"[ ,]+", " ".join(words).strip()):
+        digits, _, times = run.partition("*")
+        text += bytes.fromhex(digits) * int(times or 1)
+    return text
+
+
+# ---- what is asked
+
+
+def source_name(source):
+    return {0: "main", (1 << 64) - 1: "round"}.get(source, f"channel {source - 1}")
+
+
+def verdict_name(fault):
+    if fault.number == 0:
+        return "ok"
+    carried = ""
+    if fault.number in (27, 31, 41, 54, 55, 56, 57):
+        carried = f"({fault.first})"
+    elif fault.number == 58:
+        carried = f"({fault.first}, {fault.second})"
+    return f"fault {fault.number}{carried} round {fault.round} in {source_name(fault.source)}"
+
+
+def runs_of(content):
+    return ",".join(f"{byte:02x}" + (f"*{n}" if n > 1 else "") for byte, n in ((k, len(list(g))) for k, g in itertools.groupby(content)))
+
+
+class Asked:
+    """A load through the header: one stream, or a main stream and its channels."""
+
+    def __init__(self, library, kind):
+        self.library, self.kind, self.handle = library, kind, ctypes.c_void_p()
+
+    def call(self, name, *arguments):
+        return self.library.call(f"{self.kind}_{name}", ctypes.byref(self.handle), *arguments)
+
+    def done(self, name, *arguments):
+        self.library.done(f"{self.kind}_{name}", ctypes.byref(self.handle), *arguments)
+
+    def memory(self, page_size):
+        count = self.call("blocks")
+        if count == 0:
+            return "none"
+        told, buffer, block = [], ctypes.create_string_buffer(page_size), Block()
+        for i in range(count):
+            self.done("block", size(i), ctypes.byref(block))
+            for number in range(block.pages):
+                self.done("page", size(i), u64(number), buffer, size(page_size))
+                if any(buffer.raw):
+                    told.append((i, number, runs_of(buffer.raw)))
+        lines = []
+        while told:
+            block_number, first, content = told.pop(0)
+            last = first
+            while told and told[0] == (block_number, last + 1, content):
+                last = told.pop(0)[1]
+            place = f"{block_number}.{first}" + (f"-{last}" if last > first else "")
+            lines.append(f"{place}={content}")
+        return "; ".join(lines) or "zeros"
+
+    def answer(self, page_size):
+        fault = Fault()
+        self.call("fault" if self.kind == "loader" else "verdict", ctypes.byref(fault))
+        told = f"{verdict_name(fault)}; rounds {self.call('rounds')}; {self.memory(page_size)}"
+        self.call("free")
+        return told
+
+
+def pieces(text, cut):
+    return [text] if cut == 0 else [text[at:at + cut] for at in range(0, len(text), cut)]
+
+
+def load_single(library, page_size, limit, text, cut):
+    asked = Asked(library, "loader")
+    asked.done("new", u64(page_size), u64(limit))
+    for piece in pieces(text, cut):
+        asked.done("feed", piece, size(len(piece)))
+    asked.call("end")
+    return asked.answer(page_size)
+
+
+def load_multi(library, page_size, limit, texts, cut):
+    asked = Asked(library, "session")
+    asked.done("new", u64(page_size), bytes(16), size(16), size(len(texts) - 1), u64(limit))
+    for turn in itertools.zip_longest(*(pieces(text, cut) for text in reversed(texts))):
+        for source, piece in zip(reversed(range(len(texts))), turn):
+            if piece is not None:
+                asked.done("feed", size(source), piece, size(len(piece)))
+    for source in range(len(texts)):
+        asked.done("end", size(source))
+    return asked.answer(page_size)
+
+
+class Case:
+    def __init__(self, texts):
+        self.texts_made, self.guest, self.texts, self.limit, self.channels = texts, Guest(), [], LIMIT, 1
+
+    def build(self, word, words):
+        """Whether the line builds something that is known here."""
+        guest, made = self.guest, self.texts_made
+        if word == "page":
+            guest.page = int(words[0])
+        elif word == "block":
+            guest.blocks.append((int(words[0]), words[1].encode()))
+        elif word == "set":
+            block, offset, byte = (int(it) for it in words)
+            place = (block, offset // guest.page)
+            content = bytearray(guest.content(place))
+            content[offset % guest.page] = byte
+            guest.memory[place] = bytes(content)
+            guest.marked.add(place)
+        elif word in ("fill", "touch"):
+            for number in span(words[1]):
+                if word == "fill":
+                    guest.memory[int(words[0]), number] = bytes([int(words[2])]) * guest.page
+                guest.marked.add((int(words[0]), number))
+        elif word == "round":
+            guest.end_round()
+        elif word == "sent":
+            self.texts.append(made.sent(guest))
+        elif word == "sent_main":
+            self.texts.append(main_stream(guest))
+        elif word == "sent_channel":
+            if self.channels != 1:
+                # which packets a channel has is for the threads to settle
+                return False
+            self.texts.append(made.only_channel(guest, int(words[0])))
+        elif word == "channels":
+            self.channels = int(words[0])
+        elif word == "new":
+            self.texts.append(b"")
+        elif word == "hello":
+            self.texts[-1] += made.hello(int(words[0]))
+        elif word == "packet":
+            self.texts[-1] += made.packet_line(guest, words)
+        elif word == "put":
+            self.texts[-1] += hexadecimal(words)
+        elif word == "at":
+            place, there = int(words[0]), hexadecimal(words[1:])
+            text = self.texts[-1]
+            self.texts[-1] = text[:place] + there + text[place + len(there):]
+        elif word == "cut":
+            self.texts[-1] = self.texts[-1][:int(words[0])]
+        elif word == "repeat":
+            first, last = int(words[0]), int(words[1])
+            text = self.texts[-1]
+            self.texts[-1] = text[:last] + text[first:last] + text[last:]
+        elif word == "limit":
+            self.limit = int(words[0])
+        else:
+            return False
+        return True
+
+
+class Rows:
+    """The files of cases, as far as they ask what the header offers."""
+
+    def __init__(self, library):
+        self.library, self.made, self.named = library, Texts(library), {}
+        self.asked, self.wrong, self.skipped = 0, 0, 0
+
+    def want(self, name, question, got, wanted):
+        self.asked += 1
+        if got != wanted:
+            self.wrong += 1
+            print(f"{name}: {question}: {got}, not {wanted}")
+
+    def ask(self, name, case, question, wanted):
+        text = case.texts[-1] if case.texts else b""
+        if question == "length":
+            self.want(name, question, str(len(text)), wanted)
+        elif question == "bytes":
+            self.want(name, question, text.hex(), hexadecimal(wanted.split()).hex())
+        elif question == "load_single":
+            for cut in CUTS:
+                self.want(name, f"{question} in pieces of {cut}", load_single(self.library, case.guest.page, case.limit, text, cut), wanted)
+        elif question == "load_multi":
+            for cut in CUTS[:1] + CUTS[2:]:
+                self.want(name, f"{question} in pieces of {cut}", load_multi(self.library, case.guest.page, case.limit, case.texts, cut), wanted)
+        elif question.startswith("each ") and question.endswith("load_single"):
+            _, first, last, _ = question.split()
+            for length in range(int(first), int(last) + 1):
+                self.want(name, f"{length} bytes", load_single(self.library, case.guest.page, case.limit, text[:length], length // 2), wanted)
+        else:
+            self.skipped += 1
+
+    def run(self, path):
+        case, name, lines, known = None, None, [], True
+        for line in path.read_text().splitlines() + ["case"]:
+            line = line.split("  #")[0].strip()
+            if not line or line.startswith("#"):
+                continue
+            word, _, rest = line.partition(" ")
+            if word in ("case", "text"):
+                if lines and lines[0] == "text":
+                    self.named[name] = lines[1:]
+                case, name, lines, known = Case(self.made), rest, [word], True
+            else:
+                lines.append(line)
+                known = known and self.line(name, case, line)
+
+    def line(self, name, case, line):
+        """Whether the case can go on."""
+        question, equals, wanted = line.partition(" = ")
+        if equals:
+            self.ask(name, case, question, wanted)
+            return True
+        word, *words = line.split()
+        if word == "from":
+            return all(self.line(name, case, it) for it in self.named[line[5:]] if " = " not in it)
+        if case.build(word, words):
+            return True
+        self.skipped += 1
+        return False
+
+
+# ---- the programs
+
+
+def run(*words, stdin=None, wanted=None, status=0):
+    words = [str(word) for word in words]
+    done = subprocess.run(words, stdin=stdin, capture_output=True)
+    if done.returncode != status or (wanted is not None and done.stdout.decode(errors="replace").strip() != wanted):
+        sys.exit(f"{' '.join(words)}: status {done.returncode}\n{done.stdout.decode(errors='replace')[:2000]}{done.stderr.decode()[:4000]}")
+    return done.stdout
+
+
+def memory_file(name, page_size, pages):
+    """A file of memory with pages of zeros among others, the last one short."""
+    content = b"".join(bytes(page_size) if i % 5 == 2 else bytes([i % 251 + 1]) * page_size for i in range(pages))[:-100]
+    (OUT / name).write_bytes(content)
+    return content
+
+
+def send_and_load(before):
+    """The two example programs, one behind the other."""
+    cases = 0
+    for page_size, pages, most in ((4096, 1, 256), (4096, 300, 256), (4096, 30, 1), (8192, 40, 7)):
+        content = memory_file("memory", page_size, pages)
+        stream = OUT / "stream"
+        stream.write_bytes(run(*before, OUT / "send", "-p", page_size, "-n", most, OUT / "memory"))
+        sections = -(-pages // most) + 2
+        for cut in (1, 7, 100, 4096, 65536) if not before else (1000,):
+            with stream.open("rb") as file:
+                run(*before, OUT / "load", "-p", page_size, "-c", cut, "-o", OUT / "loaded", stdin=file,
+                    wanted=f"single {stream.stat().st_size} sections {sections}")
+            if (OUT / "loaded").read_bytes().rstrip(b"\0") != content.rstrip(b"\0") or (OUT / "loaded").stat().st_size != pages * page_size:
+                sys.exit("the memory that was loaded isn't the one that was sent")
+            cases += 1
+    return cases
+
+
+def stored_scenario(before, rows):
+    """The stream of the tool's stored scenario, at several cuts, and what is left of it where it is hostile."""
+    stream = OUT / "scenario"
+    case = Case(rows.made)
+    for line in (TOP / "crates/mig_tool/stdin").read_text().splitlines():
+        word, *words = line.split()
+        case.build(word, words)
+    stream.write_bytes(rows.made.sent(case.guest))
+    wanted = (TOP / "crates/mig_tool/stdout").read_text().splitlines()[0]
+    for cut in (1, 7, 100, 4096, 9000):
+        with stream.open("rb") as file:
+            run(*before, OUT / "load", "-c", cut, stdin=file, wanted=wanted)
+    for change, told in ((b"\0" + stream.read_bytes()[1:], "fault 11 round 0"), (stream.read_bytes()[:-1], "fault 34 round 3"), (b"", "fault 34 round 0")):
+        (OUT / "hostile").write_bytes(change)
+        with (OUT / "hostile").open("rb") as file:
+            run(*before, OUT / "load", stdin=file, wanted=told, status=1)
+
+
+def main():
+    if not LIBRARY.exists():
+        sys.exit("out/libzimgasol.a isn't there: make lib")
+    build("load", "examples/c/load.c")
+    build("send", "examples/c/send.c")
+    build("refused", "examples/c/tests/refused.c", "-Wl,--wrap=malloc,--wrap=realloc,--wrap=free")
+    rows = Rows(Library())
+    for name in ("load.txt", "several.txt"):
+        rows.run(DATA / name)
+    print(f"worked examples through C: {rows.asked} asked, {rows.wrong} wrong, {rows.skipped} not of this header")
+    for before in [[]] + ([VALGRIND] if VALGRIND else []):
+        under = " under valgrind" if before else ""
+        stored_scenario(before, rows)
+        print(f"the stored scenario's stream, and three hostile ones: as the tool{under}")
+        print(f"files of memory sent and loaded: {send_and_load(before)} as they were{under}")
+        print(run(*before, OUT / "refused", *([0, 12] if before else [])).decode().strip() + under)
+    sys.exit(1 if rows.wrong else 0)
+
+
+main()
