@@ -33,8 +33,10 @@ install:
 example: lib
 	@tools/example.py
 
+# (the lists of cases in docs/EXAMPLES.md are those of the data: tools/case_lists.py writes them)
 test:
 	@tools/header.py
+	@tools/case_lists.py --check
 	@tools/gate.py test
 
 edits:
