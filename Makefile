@@ -33,10 +33,11 @@ install:
 example: lib
 	@tools/example.py
 
-# (the lists of cases in docs/EXAMPLES.md are those of the data: tools/case_lists.py writes them)
+# (the header is compared with the library's exports, the lists of cases in docs/EXAMPLES.md with the data, and README's quotations with the code)
 test:
 	@tools/header.py
 	@tools/case_lists.py --check
+	@tools/quotes.py
 	@tools/gate.py test
 
 edits:

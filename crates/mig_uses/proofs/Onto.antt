@@ -1,0 +1,23 @@
+-- A stream that was fed whole to a loader in place.
+use Rattle.std.proofs.Common.{ℕ, ◌≡◌, ◌≤◌, List, subst, true}
+use Rattle.std.specs.Prelude.{All, Result, Ok, Err, ⊤}
+use Rattle.mig_mem.specs.Image.{Page, Image}
+use Rattle.mig_mem.specs.Round.{IsRound, with_rounds}
+use Rattle.mig_stream.specs.Text.{total_bytes}
+use Rattle.mig_stream.specs.Written.{single}
+use Rattle.mig_load.specs.declared.fault.LoadFault.{LoadFault}
+use Rattle.mig_load.specs.InPlace.{InPlace, LoadsOnto, HasSectionsOnto, HasVerdictOnto}
+use Rattle.mig_load.proofs.Onto.{sent_onto}
+
+-- the text of a sender is in the memory, and the verdict is Ok
+pub loaded_onto : (limit : ℕ) (first : Image) (l : InPlace) (text : List ℕ) (verdict : Result ⊤ LoadFault) → LoadsOnto limit first l text true → HasVerdictOnto limit first text verdict
+    → (rounds : List (List Page)) → total_bytes first.table ≤ limit → All (IsRound first.table) rounds → text ≡ single first.table rounds
+    → (l.target.memory ≡ with_rounds first rounds) × (verdict ≡ Ok _)
+loaded_onto limit first l text verdict loads told rounds room are is =
+    let all = sent_onto limit first rounds l.target verdict loads.is_table room are
+    (subst (λ (t : List ℕ). HasSectionsOnto limit first t l.target) is loads.has_sections)
+    (subst (λ (t : List ℕ). HasVerdictOnto limit first t verdict) is told) in
+    (all.0, all.2)
+
+pub never_err : (verdict : Result ⊤ LoadFault) (fault : LoadFault) → verdict ≡ Err fault → verdict ≡ Ok _ → ⊥
+never_err verdict fault bad good = absurd cc

@@ -1,0 +1,5 @@
+pub mod Backup
+pub mod LiveGuest
+pub mod Incoming
+pub mod Comparison
+pub mod Migration

@@ -1,0 +1,97 @@
+//! A stream that is loaded as it comes, and refused as soon as that is known: a host that receives guests closes the connection then.
+
+ghost use Rattle.std.specs.Prelude.{◌≡◌, ◌↔◌, ◌+◌, ◌<◌, ◌^◌, ◌++◌, ℕ, List, false, IsFalse, IsTrue, IfOk, OnOk, length};
+ghost use Rattle.mig_load.specs.Loader.{Loads};
+ghost use Rattle.mig_uses.specs.Incoming.{IsTold};
+
+use mig_load::{Fault, FeedFault, LoadFault, SingleLoader};
+use mig_stream::StreamFault;
+use std::alloc::Allocator;
+
+/// How a stream stands that is still coming.
+#[derive(Clone, Copy, Debug, PartialEq, Eq)]
+pub enum Incoming {
+    /// More is to come.
+    Coming,
+    /// It is whole: the guest's memory is there.
+    Whole,
+    /// It is refused, whatever comes. The memory has the rounds before the fault.
+    Refused(LoadFault),
+}
+
+// Whether a text lacks no more than what is still to come.
+fn is_unfinished(fault: Fault) -> bool
+    ensures { IsTrue result ↔ (fault ≡ Fault.Stream StreamFault.Truncated) }
+{
+    fault == Fault::Stream(StreamFault::Truncated)
+}
+
+/// Takes the next piece of a stream, of any length, as a socket gives it, and tells how the stream stands. An `Err` is want of memory, and
+/// says nothing of the stream: `FeedFault` has what to do then.
+pub fn take_piece<A: Allocator + Copy>(
+    loader: &mut SingleLoader<A>,
+    piece: &[u8],
+) -> Result<Incoming, FeedFault>
+    requires open { IsFalse loader.old.reader.ended }
+    requires room { loader.old.reader.fed + length piece.now < 2 ^ 63 }
+    ensures told { IfOk result (λ told. (page_size limit : ℕ) (text : List ℕ) → Loads page_size limit loader.old text false
+        → IsTold page_size limit (text ++ piece.now) told) }
+    ensures loads { OnOk result ((page_size limit : ℕ) (text : List ℕ) → Loads page_size limit loader.old text false
+        → Loads page_size limit loader.new (text ++ piece.now) false) }
+    ensures open { IsFalse loader.new.reader.ended }
+    ensures fed { OnOk result (loader.new.reader.fed ≡ loader.old.reader.fed + length piece.now) }
+{
+    loader.feed(piece)?;
+    match loader.verdict() {
+        Ok(()) => Ok(Incoming::Whole),
+        Err(fault) if is_unfinished(fault.fault) => Ok(Incoming::Coming),
+        Err(fault) => Ok(Incoming::Refused(fault)),
+    }
+}
+
+#[cfg(test)]
+mod tests {
+    use super::*;
+    use crate::back_up;
+    use mig_fixtures::zeroed;
+    use mig_mem::PAGE_SIZE_4K;
+    use std::alloc::AllocGlobal;
+    use std::process::Abort;
+
+    // The stream of two pages of zeros: its opening has 61 bytes, of which the last 13 end START; the round has 18 and records of 16
+    // bytes and of 9; the end has 19, of which the last is the end byte.
+    fn stream(rt: &(impl AllocGlobal + Abort)) -> Vec<u8> {
+        let memory = zeroed(rt.alloc(), &[("pc.ram", 2)]).expect(rt, "a memory");
+        let text = back_up(rt.alloc(), &memory).expect(rt, "a stream");
+        assert_eq!(rt; text.len(), 61 + 18 + 16 + 9 + 19);
+        text
+    }
+
+    // Feeds a stream byte by byte, up to the first byte with which it doesn't run on. Gives the number of bytes, and how it stands.
+    fn first_told(rt: &(impl AllocGlobal + Abort), text: &[u8]) -> (u64, Incoming) {
+        let mut loader = SingleLoader::new(rt.alloc(), PAGE_SIZE_4K, 1 << 20);
+        for byte in text.chunks(1) {
+            assert!(rt; !loader.ended() && loader.fed() < 1000);
+            let told = take_piece(&mut loader, byte).expect(rt, "memory");
+            if told != Incoming::Coming {
+                return (loader.fed(), told);
+            }
+        }
+        (loader.fed(), Incoming::Coming)
+    }
+
+    #[test]
+    fn told_at_the_first_byte_that_settles_it(rt: HostRuntime) {
+        let mut text = stream(&rt);
+        assert!(rt; first_told(&rt, &text) == (123, Incoming::Whole));
+        let front = text.get(..122).expect(&rt, "a front");
+        assert!(rt; first_told(&rt, front) == (122, Incoming::Coming));
+        // the type byte behind the opening, which is to be that of a PART or of END: fault 13, behind START's round
+        *text.get_mut(61).expect(&rt, "a byte") = 0x7F;
+        let (fed, told) = first_told(&rt, &text);
+        let Incoming::Refused(fault) = told else {
+            panic!(rt; "a fault")
+        };
+        assert!(rt; fed == 62 && fault.round == 1 && fault.fault.number() == 13);
+    }
+}

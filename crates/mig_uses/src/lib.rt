@@ -1,0 +1,25 @@
+//! Uses of the library, as a caller writes them: a module for each, with a contract and a test. They are there to be read and copied.
+//!
+//! Read them in this order. `backup` and `live_guest` are the single stream, of a guest that is paused and of one that runs on;
+//! `incoming` and `in_place` load such a stream as it comes, and where the guest is to run. `migration` moves a guest on several channels,
+//! and `two_readers` loads what comes of it from readers. `comparison` and `notice` are what comes after a load: whether two memories are
+//! the same, and what a user is told.
+#![tactic(auto)]
+
+mod backup;
+mod comparison;
+mod in_place;
+mod incoming;
+mod live_guest;
+mod migration;
+mod notice;
+mod two_readers;
+
+pub use backup::{back_up, every_page, restore};
+pub use comparison::{Comparison, compare};
+pub use in_place::load_onto;
+pub use incoming::{Incoming, take_piece};
+pub use live_guest::LiveGuest;
+pub use migration::{deliver, finish, load_arrived, send_round};
+pub use notice::{Notice, notice_of};
+pub use two_readers::load_from;

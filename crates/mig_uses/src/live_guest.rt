@@ -1,0 +1,113 @@
+//! A guest that runs on while it is sent: each round has only the pages that were written since the last one.
+
+ghost use Rattle.std.specs.Prelude.{◌≡◌, ◌∷◌, ◌++◌, [], List, IfOk, OnOk, OnErr};
+ghost use Rattle.mig_mem.specs.Tracking.{Snapshot};
+
+use mig_mem::{Dirty, Memory, NoMemory, Place, Table};
+use mig_send::{SendFault, SingleSender};
+use std::alloc::{Allocator, Global};
+
+/// A guest of a hypervisor that tracks its writes, and the sender of its rounds.
+#[derive(Drop)]
+pub struct LiveGuest<A: Allocator = Global> {
+    pub memory: Memory<A>,
+    /// The pages that were written since the last round.
+    pub dirty: Dirty<A>,
+    pub sender: SingleSender<A>,
+}
+
+impl<A: Allocator + Copy> LiveGuest<A> {
+    ghost use Rattle.mig_uses.specs.LiveGuest.{IsTracked};
+
+    /// A guest with a memory of zeros, of which nothing was sent. A receiver begins with zeros too, so no page is marked.
+    pub fn new(alloc: A, table: &Table<A>) -> Result<LiveGuest<A>, NoMemory>
+        ensures { IfOk result (λ guest. IsTracked guest []) }
+    {
+        // `len` also says that the table keeps the limits
+        let _blocks = table.len();
+        Ok(LiveGuest {
+            memory: Memory::zeroed(alloc, table)?,
+            dirty: Dirty::none(alloc, table)?,
+            sender: SingleSender::new(alloc, table)?,
+        })
+    }
+}
+
+impl<A: Allocator> LiveGuest<A> {
+    ghost use Rattle.mig_mem.specs.Image.{with_byte};
+    ghost use Rattle.mig_uses.specs.Backup.{BringsMemory};
+    ghost use Rattle.mig_uses.specs.LiveGuest.{IsTracked, snapshot_of};
+
+    /// The guest writes a byte, and its page is marked: a page that is left unmarked is lost on the way. False where there is no such byte.
+    pub fn write(&mut self, block: usize, offset: u64, byte: u8) -> bool
+        ensures { (sent : List Snapshot) → IsTracked self.old sent → IsTracked self.new sent }
+    {
+        let table = self.memory.table();
+        if block >= table.len() || offset >= table.pages(block) * table.page_size() {
+            return false;
+        }
+        let page = offset / table.page_size();
+        let place = Place { block, page };
+        if !self.dirty.table().holds(place) {
+            return false;
+        }
+        self.memory.set(block, offset, byte);
+        self.dirty.mark(place).is_ok()
+    }
+
+    /// Sends the pages that were written since the last round, and begins the next one with none. An `Err` changes nothing, so that the
+    /// marks are still there for another try.
+    pub fn send_round(&mut self) -> Result<(), SendFault>
+        ensures sent { OnOk result ((sent : List Snapshot) → IsTracked self.old sent → IsTracked self.new (sent ++ snapshot_of self.old.memory self.old.dirty ∷ [])) }
+        ensures none { OnOk result (self.new.dirty.marked ≡ []) }
+        ensures memory { self.new.memory ≡ self.old.memory }
+        ensures err { OnErr result (self.new ≡ self.old) }
+    {
+        self.sender.round(&self.memory, &self.dirty)?;
+        self.dirty.clear();
+        Ok(())
+    }
+
+    /// Sends what is left of a guest that is paused now, and ends the stream. Whoever loads it has the guest's memory as it is here.
+    pub fn finish(mut self) -> Result<Vec<u8, A>, SendFault>
+        ensures { IfOk result (λ text. (sent : List Snapshot) → IsTracked self sent → BringsMemory self.memory text.items) }
+    {
+        self.send_round()?;
+        let LiveGuest {
+            memory: _,
+            dirty: _,
+            sender,
+        } = self;
+        match sender.finish() {
+            Ok(text) => Ok(text),
+            Err(_) => Err(SendFault::NoMemory),
+        }
+    }
+}
+
+#[cfg(test)]
+mod tests {
+    use super::*;
+    use crate::restore;
+    use mig_fixtures::{at, is_full, table};
+    use mig_mem::PAGE_SIZE_4K;
+
+    // The first round has pages 0 and 3 of four, and the second only page 3, which was written again. So there is no record of the
+    // others: the stream has 61 bytes before its rounds, 18 for each, and 19 behind. The first page names its block, in 7 bytes.
+    #[test]
+    fn two_rounds(rt: HostRuntime) {
+        let table = table(rt.alloc(), &[("pc.ram", 4)]).expect(&rt, "a table");
+        let mut guest = LiveGuest::new(rt.alloc(), &table).expect(&rt, "a guest");
+        assert!(rt;
+            guest.write(0, 0, 1) && guest.write(0, 12_288, 2) && !guest.write(0, 16_384, 3)
+        );
+        assert!(rt; guest.dirty.count() == 2 && guest.send_round() == Ok(()));
+        assert!(rt; guest.write(0, 12_289, 4) && guest.dirty.count() == 1);
+        let text = guest.finish().expect(&rt, "a stream");
+        assert_eq!(rt; text.len(), 61 + 18 + (4111 + 4104) + 18 + 4104 + 19);
+        let there = restore(rt.alloc(), PAGE_SIZE_4K, &text, 1 << 20).expect(&rt, "a memory");
+        assert!(rt; is_full(&there, at(0, 1), 0) && is_full(&there, at(0, 2), 0));
+        let last = there.page(at(0, 3)).expect(&rt, "a page");
+        assert!(rt; last.starts_with(&[2, 4, 0]));
+    }
+}

@@ -1,0 +1,54 @@
+//! A load that failed, told to a user: the fault's number, where it is, and its words.
+
+ghost use Rattle.std.specs.Prelude.{◌≡◌, IfOk};
+ghost use Rattle.mig_load.specs.LoadFaultNumber.{fault_number};
+
+use mig_load::{LoadFault, Origin};
+use std::alloc::{AllocError, Allocator, Global};
+
+/// What a user is told of a load that failed.
+#[derive(Drop)]
+pub struct Notice<A: Allocator = Global> {
+    /// The fault's number, as `docs/FAULTS.md` has it. 60 is want of memory, after which the same load may be tried again.
+    pub number: u8,
+    /// How many rounds came before it. They are in the memory.
+    pub rounds: u64,
+    /// Which text it is in.
+    pub source: Origin,
+    /// All of it in words, on one line.
+    pub words: String<A>,
+}
+
+/// Makes the notice of a fault, for a log and for a person. Only its words take memory.
+pub fn notice_of<A: Allocator + Copy>(alloc: A, fault: LoadFault) -> Result<Notice<A>, AllocError>
+    ensures number { IfOk result (λ notice. notice.number ≡ fault_number fault.fault) }
+    ensures place { IfOk result (λ notice. (notice.rounds ≡ fault.round) × (notice.source ≡ fault.source)) }
+{
+    Ok(Notice {
+        number: fault.fault.number(),
+        rounds: fault.round,
+        source: fault.source,
+        words: format!(in alloc; "{fault}")?,
+    })
+}
+
+#[cfg(test)]
+mod tests {
+    use super::*;
+    use crate::restore;
+    use mig_mem::PAGE_SIZE_4K;
+
+    #[test]
+    fn told(rt: HostRuntime) {
+        // a file header of another magic than QEVM, and of version 3
+        let Err(fault) = restore(rt.alloc(), PAGE_SIZE_4K, b"QEVN\0\0\0\x03", 1 << 20) else {
+            panic!(rt; "a fault")
+        };
+        let notice = notice_of(rt.alloc(), fault).expect(&rt, "memory");
+        assert!(rt; notice.number == 11 && notice.rounds == 0 && notice.source == Origin::Main);
+        assert_eq!(rt;
+            notice.words.as_str(),
+            "round 0, in the stream: 11: the text doesn't begin with QEVM"
+        );
+    }
+}

@@ -1,0 +1,86 @@
+//! A load on one channel beside its main stream, from two readers: files, or sockets of which each is read to its end.
+
+ghost use Rattle.std.specs.Prelude.{◌≡◌, ◌≤◌, ◌^◌, ℕ, List, [], ◌∷◌, Some, IfOk};
+ghost use Rattle.mig_mem.specs.PageSize.{IsPageSize};
+ghost use Rattle.mig_load.specs.Texts.{ended_texts};
+ghost use Rattle.mig_load.specs.Session.{StandsFor};
+
+use mig_load::{Counted, PumpFault, Session, Source, pump};
+use std::alloc::Allocator;
+use std::io::Read;
+use uuid::Uuid;
+
+// The most reads of one reader.
+const TURNS: u64 = 1 << 40;
+
+/// Loads what two readers give, the main stream first. The session then tells how it stands (`verdict`), and has the memory. An `Err` says
+/// which read failed, or that memory was refused.
+pub fn load_from<A: Allocator + Copy, M: Read + Drop, C: Read + Drop>(
+    alloc: A,
+    page_size: u64,
+    uuid: &Uuid,
+    main: M,
+    channel: C,
+    limit: u64,
+) -> Result<Session<A>, PumpFault>
+    requires page_size { IsPageSize page_size }
+    requires limit { limit ≤ 2 ^ 40 }
+    ensures { (main_text channel_text : List ℕ) → M.remaining main ≡ Some main_text → C.remaining channel ≡ Some channel_text
+        → IfOk result (StandsFor page_size uuid.now limit (ended_texts main_text (channel_text ∷ []))) }
+{
+    let mut session = Session::new(alloc, page_size, uuid, 1, limit)?;
+    pump(
+        alloc,
+        &mut Counted::new(main),
+        &mut session,
+        Source::Main,
+        TURNS,
+    )?;
+    let channel_0 = Source::Channel(0);
+    pump(
+        alloc,
+        &mut Counted::new(channel),
+        &mut session,
+        channel_0,
+        TURNS,
+    )?;
+    Ok(session)
+}
+
+#[cfg(test)]
+mod tests {
+    use super::*;
+    use mig_fixtures::{at, is_full, places_of, zeroed};
+    use mig_load::Verdict;
+    use mig_mem::PAGE_SIZE_4K;
+    use mig_send::{MultiSender, OpenGate};
+
+    // A round of two pages of zeros on one channel. Its main stream has 61 bytes, a FLUSH of 26 and an end of 19, and its channel a hello of
+    // 64 bytes and two packets of 1,344.
+    #[test]
+    fn from_slices(rt: HostRuntime) {
+        let memory = zeroed(rt.alloc(), &[("pc.ram", 2)]).expect(&rt, "a memory");
+        let dirty = places_of(rt.alloc(), memory.table(), &[at(0, 0), at(0, 1)]).expect(
+            &rt, "a set",
+        );
+        let made = MultiSender::new(rt.alloc(), memory.table(), Uuid::nil(), 1, 128);
+        let mut sender = made.expect(&rt, "a sender");
+        assert!(rt; sender.round(&rt, &memory, &dirty, &OpenGate) == Ok(()));
+        let sent = sender.finish().ok().expect(&rt, "texts");
+        let channel = sent.channels.first().expect(&rt, "a channel").as_slice();
+        let main = sent.main.as_slice();
+        let made = load_from(
+            rt.alloc(),
+            PAGE_SIZE_4K,
+            &Uuid::nil(),
+            main,
+            channel,
+            1 << 20,
+        );
+        let session = made.expect(&rt, "a session");
+        assert!(rt; session.verdict() == Verdict::Done && session.rounds() == 1);
+        assert!(rt; session.fed(Source::Main) == 61 + 26 + 19);
+        let there = session.memory().expect(&rt, "a memory");
+        assert!(rt; is_full(there, at(0, 0), 0) && is_full(there, at(0, 1), 0));
+    }
+}
