@@ -11,4 +11,8 @@ pub mod Entries
 pub mod Verdicts
 pub mod Checking
 pub mod Reporting
+pub mod CommandLine
+pub mod Others
+pub mod Sendings
+pub mod Filled
 mod Made

@@ -1,5 +1,5 @@
 -- A scenario that isn't refused makes its image.
-use Rattle.std.proofs.Common.{◌≡◌, List, [], ◌∷◌, refl, inl, Option, Some, None}
+use Rattle.std.proofs.Common.{◌≡◌, List, [], ◌∷◌, refl, Option, Some, None}
 use Rattle.std.specs.Prelude.{not, is_none, All, IsTrue}
 use Rattle.std.specs.Option.{option_map, option_or}
 use Rattle.mig_mem.specs.First.{first_some}
@@ -23,21 +23,21 @@ unmapped f None e = refl
 unmapped f (Some x) e = absurd cc
 
 pub made : ScenariosMakeTheirImage
-made text none =
+made size text is_size none =
     let ls : List ScenarioLine = lines_of text in
     let syntax : Option ScenarioFault = option_map fault.Syntax (first_line is_none (forms text)) in
     let order : Option ScenarioFault = option_map fault.Order (late_block ls) in
-    let table : Option ScenarioFault = option_map fault.Table (table_refusal (table_of ls)) in
-    let range : Option ScenarioFault = option_map fault.Range (first_line (λ l. not (is_within (table_of ls) l)) ls) in
+    let table : Option ScenarioFault = option_map fault.Table (table_refusal (table_of size ls)) in
+    let range : Option ScenarioFault = option_map fault.Range (first_line (λ l. not (is_within (table_of size ls) l)) ls) in
     let last : Option ScenarioFault = option_map fault.Unsent (unsent ls) in
     let a = both_none syntax (first_some (order ∷ (table ∷ (range ∷ (last ∷ []))))) none in
     let b = both_none order (first_some (table ∷ (range ∷ (last ∷ [])))) a.1 in
     let c = both_none table (first_some (range ∷ (last ∷ []))) b.1 in
     let d = both_none range (first_some (last ∷ [])) c.1 in
     let e = both_none last None d.1 in
-    let is : IsTable (table_of ls) = (table_law (table_of ls) (inl refl)).0 (unmapped fault.Table (table_refusal (table_of ls)) c.0) in
-    let within : All (λ l. IsTrue (is_within (table_of ls) l)) ls = all_within (is_within (table_of ls)) ls (unmapped fault.Range (first_line (λ l. not (is_within (table_of ls) l)) ls) d.0) in
+    let is : IsTable (table_of size ls) = (table_law (table_of size ls) is_size).0 (unmapped fault.Table (table_refusal (table_of size ls)) c.0) in
+    let within : All (λ l. IsTrue (is_within (table_of size ls) l)) ls = all_within (is_within (table_of size ls)) ls (unmapped fault.Range (first_line (λ l. not (is_within (table_of size ls) l)) ls) d.0) in
     record {
-      are_rounds = played_are_rounds (table_of ls) ls is within;
-      has_image = played_is_sent (table_of ls) ls is within (unmapped fault.Unsent (unsent ls) e.0);
+      are_rounds = played_are_rounds (table_of size ls) ls is within;
+      has_image = played_is_sent (table_of size ls) ls is within (unmapped fault.Unsent (unsent ls) e.0);
     }

@@ -30,14 +30,14 @@ abbrev first_fault : Option ℕ → Option ℕ → Option TableFault → Option 
 first_fault syntax order table range unsent = first_some (
     option_map fault.Syntax syntax ∷ (option_map fault.Order order ∷ (option_map fault.Table table ∷ (option_map fault.Range range ∷ (option_map fault.Unsent unsent ∷ [])))))
 
-abbrev outside : List ScenarioLine → Option ℕ
-outside ls = first_line (λ l. not (is_within (table_of ls) l)) ls
+abbrev outside : ℕ → List ScenarioLine → Option ℕ
+outside size ls = first_line (λ l. not (is_within (table_of size ls) l)) ls
 
-judged : (text : List ℕ) (ls : List ScenarioLine) → forms text ≡ map Some ls → refusal text ≡ first_fault None (late_block ls) (table_refusal (table_of ls)) (outside ls) (unsent ls)
-judged text ls h =
+judged : (size : ℕ) (text : List ℕ) (ls : List ScenarioLine) → forms text ≡ map Some ls → refusal size text ≡ first_fault None (late_block ls) (table_refusal (table_of size ls)) (outside size ls) (unsent ls)
+judged size text ls h =
     let syntax : first_line is_none (forms text) ≡ None = ap (λ (fs : List (Option ScenarioLine)). first_line is_none fs) h ∙ ap (λ (o : Option ℕ). option_map suc o) (all_known ls) in
-    ap (λ (o : Option ℕ). first_fault o (late_block (lines_of text)) (table_refusal (table_of (lines_of text))) (outside (lines_of text)) (unsent (lines_of text))) syntax
-    ∙ ap (λ (l : List ScenarioLine). first_fault None (late_block l) (table_refusal (table_of l)) (outside l) (unsent l)) (lines_are text ls h)
+    ap (λ (o : Option ℕ). first_fault o (late_block (lines_of text)) (table_refusal (table_of size (lines_of text))) (outside size (lines_of text)) (unsent (lines_of text))) syntax
+    ∙ ap (λ (l : List ScenarioLine). first_fault None (late_block l) (table_refusal (table_of size l)) (outside size l) (unsent l)) (lines_are text ls h)
 
 order_first : (n : ℕ) (order : Option ℕ) (table : Option TableFault) (range unsent : Option ℕ) → order ≡ Some n → first_fault None order table range unsent ≡ Some (fault.Order n)
 order_first n order table range unsent a = rw a refl
@@ -58,24 +58,24 @@ no_fault : (order : Option ℕ) (table : Option TableFault) (range unsent : Opti
     → first_fault None order table range unsent ≡ None
 no_fault order table range unsent a b c d = rw (a, b, c, d) refl
 
-pub refused_order : (text : List ℕ) (ls : List ScenarioLine) (n : ℕ) → forms text ≡ map Some ls → late_block ls ≡ Some n → refusal text ≡ Some (fault.Order n)
-refused_order text ls n h a = judged text ls h ∙ order_first n (late_block ls) (table_refusal (table_of ls)) (outside ls) (unsent ls) a
+pub refused_order : (size : ℕ) (text : List ℕ) (ls : List ScenarioLine) (n : ℕ) → forms text ≡ map Some ls → late_block ls ≡ Some n → refusal size text ≡ Some (fault.Order n)
+refused_order size text ls n h a = judged size text ls h ∙ order_first n (late_block ls) (table_refusal (table_of size ls)) (outside size ls) (unsent ls) a
 
-pub refused_table : (text : List ℕ) (ls : List ScenarioLine) (f : TableFault) → forms text ≡ map Some ls → late_block ls ≡ None → table_refusal (table_of ls) ≡ Some f
-    → refusal text ≡ Some (fault.Table f)
-refused_table text ls f h a b = judged text ls h ∙ table_first f (late_block ls) (table_refusal (table_of ls)) (outside ls) (unsent ls) a b
+pub refused_table : (size : ℕ) (text : List ℕ) (ls : List ScenarioLine) (f : TableFault) → forms text ≡ map Some ls → late_block ls ≡ None → table_refusal (table_of size ls) ≡ Some f
+    → refusal size text ≡ Some (fault.Table f)
+refused_table size text ls f h a b = judged size text ls h ∙ table_first f (late_block ls) (table_refusal (table_of size ls)) (outside size ls) (unsent ls) a b
 
-pub refused_range : (text : List ℕ) (ls : List ScenarioLine) (n : ℕ) → forms text ≡ map Some ls → late_block ls ≡ None → table_refusal (table_of ls) ≡ None
-    → first_line (λ l. not (is_within (table_of ls) l)) ls ≡ Some n → refusal text ≡ Some (fault.Range n)
-refused_range text ls n h a b c = judged text ls h ∙ range_first n (late_block ls) (table_refusal (table_of ls)) (outside ls) (unsent ls) a b c
+pub refused_range : (size : ℕ) (text : List ℕ) (ls : List ScenarioLine) (n : ℕ) → forms text ≡ map Some ls → late_block ls ≡ None → table_refusal (table_of size ls) ≡ None
+    → first_line (λ l. not (is_within (table_of size ls) l)) ls ≡ Some n → refusal size text ≡ Some (fault.Range n)
+refused_range size text ls n h a b c = judged size text ls h ∙ range_first n (late_block ls) (table_refusal (table_of size ls)) (outside size ls) (unsent ls) a b c
 
-pub refused_unsent : (text : List ℕ) (ls : List ScenarioLine) (n : ℕ) → forms text ≡ map Some ls → late_block ls ≡ None → table_refusal (table_of ls) ≡ None
-    → first_line (λ l. not (is_within (table_of ls) l)) ls ≡ None → unsent ls ≡ Some n → refusal text ≡ Some (fault.Unsent n)
-refused_unsent text ls n h a b c d = judged text ls h ∙ unsent_first n (late_block ls) (table_refusal (table_of ls)) (outside ls) (unsent ls) a b c d
+pub refused_unsent : (size : ℕ) (text : List ℕ) (ls : List ScenarioLine) (n : ℕ) → forms text ≡ map Some ls → late_block ls ≡ None → table_refusal (table_of size ls) ≡ None
+    → first_line (λ l. not (is_within (table_of size ls) l)) ls ≡ None → unsent ls ≡ Some n → refusal size text ≡ Some (fault.Unsent n)
+refused_unsent size text ls n h a b c d = judged size text ls h ∙ unsent_first n (late_block ls) (table_refusal (table_of size ls)) (outside size ls) (unsent ls) a b c d
 
-pub not_refused : (text : List ℕ) (ls : List ScenarioLine) → forms text ≡ map Some ls → late_block ls ≡ None → table_refusal (table_of ls) ≡ None
-    → first_line (λ l. not (is_within (table_of ls) l)) ls ≡ None → unsent ls ≡ None → refusal text ≡ None
-not_refused text ls h a b c d = judged text ls h ∙ no_fault (late_block ls) (table_refusal (table_of ls)) (outside ls) (unsent ls) a b c d
+pub not_refused : (size : ℕ) (text : List ℕ) (ls : List ScenarioLine) → forms text ≡ map Some ls → late_block ls ≡ None → table_refusal (table_of size ls) ≡ None
+    → first_line (λ l. not (is_within (table_of size ls) l)) ls ≡ None → unsent ls ≡ None → refusal size text ≡ None
+not_refused size text ls h a b c d = judged size text ls h ∙ no_fault (late_block ls) (table_refusal (table_of size ls)) (outside size ls) (unsent ls) a b c d
 
 -- ---- where no line passes a test
 

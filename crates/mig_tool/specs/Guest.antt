@@ -1,5 +1,5 @@
 -- What a scenario makes of a guest: images, with the pages that are marked in each.
-use Rattle.std.specs.Prelude.{◌/◌, ◌++◌, List, [], ◌∷◌, replicate}
+use Rattle.std.specs.Prelude.{ℕ, ◌/◌, ◌++◌, List, [], ◌∷◌, replicate}
 use Rattle.std.specs.List.{fold}
 use Rattle.mig_mem.specs.RamTable.{RamTable}
 use Rattle.mig_mem.specs.Place.{place_at}
@@ -48,5 +48,5 @@ abbrev pub played : RamTable → List ScenarioLine → ScenarioGuest
 played table ls = fold after_line (new_guest table) ls
 
 -- the rounds of a scenario
-abbrev pub rounds_from : List ScenarioLine → List (List Page)
-rounds_from ls = rounds_of (played (table_of ls) ls).snapshots
+abbrev pub rounds_from : ℕ → List ScenarioLine → List (List Page)
+rounds_from page_size ls = rounds_of (played (table_of page_size ls) ls).snapshots

@@ -1,4 +1,6 @@
 pub mod Line
+pub mod Request
+pub mod Words
 pub mod Seen
 pub mod Scenario
 pub mod Guest
@@ -6,4 +8,5 @@ pub mod Playing
 pub mod Report
 pub mod Answer
 pub mod Inputs
+pub mod Feeding
 pub mod Law

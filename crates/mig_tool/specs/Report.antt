@@ -52,13 +52,13 @@ same_line = codes "same\n"
 abbrev pub checked : RamTable → List (List Page) → List ℕ
 checked table rounds = single_line (length (single table rounds)) (length rounds + 2) ++ same_line
 
-abbrev pub report_as : List ScenarioLine → Option ScenarioFault → Report
-report_as ls (Some f) = record { text = refused f; status = 1 }
-report_as ls None = record { text = checked (table_of ls) (rounds_from ls); status = 0 }
+abbrev pub report_as : ℕ → List ScenarioLine → Option ScenarioFault → Report
+report_as page_size ls (Some f) = record { text = refused f; status = 1 }
+report_as page_size ls None = record { text = checked (table_of page_size ls) (rounds_from page_size ls); status = 0 }
 
--- The report of a scenario: its refusal, or the stream of its rounds, which loads to the last image.
-abbrev pub report : List ℕ → Report
-report text = report_as (lines_of text) (refusal text)
+-- The report of a scenario with pages of this size: its refusal, or the stream of its rounds, which loads to the last image.
+abbrev pub report : ℕ → List ℕ → Report
+report page_size text = report_as page_size (lines_of text) (refusal page_size text)
 
 -- the answers for want of memory: outside of a load, and in it, after so many rounds
 abbrev pub IsWantOfMemory : Report → Type 0

@@ -11,10 +11,6 @@ use Rattle.mig_tool.specs.declared.fault.ScenarioFault.{ScenarioFault}
 use Rattle.mig_tool.specs.declared.fault.ScenarioFault.TheVariants as fault
 use Rattle.mig_tool.specs.Line.{ScenarioLine, EmptyLine, BlockLine, StepLine, lines, line_of}
 
--- the size of a scenario's pages
-abbrev pub page_size : ℕ
-page_size = 4096
-
 -- the lines that have a form
 abbrev pub known : List (Option ScenarioLine) → List ScenarioLine
 known [] = []
@@ -47,8 +43,9 @@ blocks_of (BlockLine pages id ∷ rest) = record { id = id; pages = pages } ∷ 
 blocks_of (EmptyLine ∷ rest) = blocks_of rest
 blocks_of (StepLine step ∷ rest) = blocks_of rest
 
-abbrev pub table_of : List ScenarioLine → RamTable
-table_of ls = record { page_size = page_size; blocks = blocks_of ls }
+-- the table of these, with pages of this size
+abbrev pub table_of : ℕ → List ScenarioLine → RamTable
+table_of page_size ls = record { page_size = page_size; blocks = blocks_of ls }
 
 -- ---- faults, by the number of a line; lines count from 1
 
@@ -76,12 +73,12 @@ is_within table other = true
 abbrev pub unsent : List ScenarioLine → Option ℕ
 unsent ls = let rest = after_last is_round ls in option_map (λ i. length ls - length rest + suc i) (position is_step rest)
 
--- Why a text is no scenario: the first that applies.
-abbrev pub refusal : List ℕ → Option ScenarioFault
-refusal text = let ls = lines_of text in first_some (
+-- Why a text is no scenario of pages of this size: the first that applies.
+abbrev pub refusal : ℕ → List ℕ → Option ScenarioFault
+refusal page_size text = let ls = lines_of text in first_some (
     option_map fault.Syntax (first_line is_none (forms text))
     ∷ (option_map fault.Order (late_block ls)
-    ∷ (option_map fault.Table (table_refusal (table_of ls))
-    ∷ (option_map fault.Range (first_line (λ l. not (is_within (table_of ls) l)) ls)
+    ∷ (option_map fault.Table (table_refusal (table_of page_size ls))
+    ∷ (option_map fault.Range (first_line (λ l. not (is_within (table_of page_size ls) l)) ls)
     ∷ (option_map fault.Unsent (unsent ls)
     ∷ [])))))

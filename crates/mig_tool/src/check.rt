@@ -1,85 +1,182 @@
-//! The check of a scenario: its rounds become a stream, which is loaded and compared with the guest.
+//! The check of a scenario: its rounds become a stream, and on channels several texts; these are loaded and compared with the guest.
 
-ghost use Rattle.std.specs.Prelude.{◌≡◌, ◌⊎◌, None, Some, IfOk, IfErr, OnOk};
+ghost use Rattle.std.specs.Prelude.{ℕ, ◌≡◌, ◌⊎◌, ⊤, List, None, Some, Ok, Err, true, length, is_some, IfSome, IsSomeAnd, IfOk, IfErr, OnOk};
+ghost use Rattle.mig_load.specs.declared.fault.LoadFault.{LoadFault};
+ghost use Rattle.mig_mem.specs.PageSize.{IsPageSize};
 ghost use Rattle.mig_tool.specs.Scenario.{refusal};
-ghost use Rattle.mig_tool.specs.Answer.{comparison, Answers, IsRoundTrip};
+ghost use Rattle.mig_tool.specs.Request.{bytes_in};
+ghost use Rattle.mig_tool.specs.Answer.{Answers, answer_from, IsLoadOf, HasRoundTrip};
 
-use crate::fault::{ScenarioFault, ToolFault};
-use crate::guest::{Sent, play};
+use crate::answer::{Answer, ChannelsChecked, Checked, Comparison};
+use crate::comparison::compared;
+use crate::fault::ScenarioFault;
+use crate::guest::{Played, play};
 use crate::judge::judge;
-use mig_load::{LoadFault, Loaded, load_single};
-use mig_mem::{MAX_TOTAL, Memory, PAGE_SIZE_4K, first_difference};
+use crate::request::Layout;
+use crate::senders::{Senders, Texts};
+use crate::sending::total_len;
+use mig_load::{Fault, LoadFault, Loaded, Origin, load_multi, load_single};
+use mig_mem::{MAX_TOTAL, Memory};
+use mig_packet::OpenGate;
+use mig_send::Sent;
 use std::alloc::Allocator;
+use std::sync::Wait;
+use std::thread::Threads;
+use uuid::Uuid;
 
-/// What the tool answers.
-#[derive(Clone, Copy)]
-pub enum Answer {
-    /// The scenario's stream has so many bytes and so many sections, and loads to the guest's memory.
-    Checked(usize, u64),
-    /// The input is no scenario, or memory was refused.
-    Refused(ScenarioFault),
-    /// The stream wasn't loaded.
-    Unloaded(LoadFault),
-    /// The words, the input or a file was refused.
-    Failed(ToolFault),
-}
-
-/// What comes of comparing two memories.
-#[derive(Clone, Copy)]
-pub enum Comparison {
-    Same,
-    Differs,
-}
-
-// Compares two memories, page by page.
-fn compare<A: Allocator, B: Allocator>(a: &Memory<A>, b: &Memory<B>) -> Comparison
-    requires { a.now.table ≡ b.now.table }
-    ensures { result ≡ comparison a.now b.now }
+// The guest of a scenario in the end with the texts of its rounds, and what loading the single stream answers.
+fn round_trip<H: Threads + Sync, A: Allocator + Copy + Send + Sync>(
+    rt: &H,
+    alloc: A,
+    text: &[u8],
+    layout: Layout,
+) -> Result<(Played<A>, Loaded<A>), ScenarioFault>
+    ensures ok { IfOk result (λ p. HasRoundTrip (bytes_in layout.page_size) text.now p.0 p.1) }
+    ensures one { IfOk result (λ p. layout.channels ≡ 0 → p.0.texts.several ≡ None) }
+    ensures lawful { OnOk result (refusal (bytes_in layout.page_size) text.now ≡ None) }
+    ensures err { IfErr result (λ e. (e ≡ ScenarioFault.NoMemory) ⊎ (refusal (bytes_in layout.page_size) text.now ≡ Some e)) }
 {
-    match first_difference(a, b) {
-        None => Comparison::Same,
-        Some(_) => Comparison::Differs,
+    let page_size = layout.page_size.bytes();
+    let scenario = judge(alloc, page_size, text)?;
+    // only for what it says: the table keeps the limits
+    let _blocks = scenario.table.len();
+    let senders = Senders::both(alloc, &scenario.table, layout, Uuid::nil())?;
+    let played = play(rt, alloc, &scenario.table, &scenario.lines, senders)?;
+    let loaded = load_stream(alloc, page_size, &played.texts);
+    Ok((played, loaded))
+}
+
+// Loads the single stream that was sent.
+fn load_stream<A: Allocator + Copy>(alloc: A, page_size: u64, texts: &Texts<A>) -> Loaded<A>
+    requires page_size { IsPageSize page_size }
+    requires text { is_some texts.now.single ≡ true }
+    ensures { IsSomeAnd texts.now.single (λ text. IsLoadOf page_size text.items result) }
+{
+    match &texts.single {
+        Some(text) => load_single(alloc, page_size, text, MAX_TOTAL),
+        None => unreachable!(),
     }
 }
 
-// The guest of a scenario in the end with the stream of its rounds, and what loading that stream answers.
-fn round_trip<A: Allocator + Copy>(
-    alloc: A,
-    text: &[u8],
-) -> Result<(Sent<A>, Loaded<A>), ScenarioFault>
-    ensures ok { IfOk result (λ p. IsRoundTrip text.now p.0.image p.0.text.items p.1) }
-    ensures lawful { OnOk result (refusal text.now ≡ None) }
-    ensures err { IfErr result (λ e. (e ≡ ScenarioFault.NoMemory) ⊎ (refusal text.now ≡ Some e)) }
+// How many rounds were loaded, and how their memory compares with the guest's.
+fn compare_loaded<H: Threads, A: Allocator>(
+    rt: &H,
+    loaded: &Loaded<A>,
+    image: &Memory<A>,
+) -> Result<(u64, Comparison), Answer>
+    ensures fault { (e : LoadFault) → loaded.now.verdict ≡ Err e → result ≡ Err (Answer.Unloaded e) }
+    ensures same { (v : ⊤) → loaded.now.verdict ≡ Ok v → loaded.now.memory ≡ Some image.now
+        → (result ≡ Ok (loaded.now.rounds, Comparison.Same)) ⊎ (result ≡ Err (Answer.Refused ScenarioFault.NoMemory)) }
 {
-    let scenario = judge(alloc, text)?;
-    // only for what it says: the table keeps the limits
-    let _blocks = scenario.table.len();
-    let sent = play(alloc, &scenario.table, &scenario.lines)?;
-    let loaded = load_single(alloc, PAGE_SIZE_4K, &sent.text, MAX_TOTAL);
-    Ok((sent, loaded))
+    if let Err(fault) = loaded.verdict {
+        return Err(Answer::Unloaded(fault));
+    }
+    let round = loaded.rounds;
+    match &loaded.memory {
+        Some(memory) if memory.table().same(image.table()) => {
+            Ok((round, compared(rt, memory, image)?))
+        }
+        _ => Err(Answer::Unloaded(LoadFault {
+            round,
+            source: Origin::Main,
+            fault: Fault::OtherTable,
+        })),
+    }
+}
+
+// Loads what was sent on several channels.
+fn load_sent<H: Threads + Wait + Sync, A: Allocator + Copy + Send + Sync>(
+    rt: &H,
+    alloc: A,
+    layout: Layout,
+    sent: &Sent<A>,
+) -> Loaded<A> {
+    let channels = sent.channels.len();
+    if channels == 0 || channels > 255 {
+        return Loaded {
+            memory: None,
+            rounds: 0,
+            verdict: Ok(()),
+        };
+    }
+    load_multi(
+        rt,
+        alloc,
+        layout.page_size.bytes(),
+        &Uuid::nil(),
+        &sent.main,
+        &sent.channels,
+        MAX_TOTAL,
+        &OpenGate,
+    )
+}
+
+// The length of the single stream.
+fn single_len<A: Allocator>(texts: &Texts<A>) -> usize
+    ensures { IfSome texts.now.single (λ text. result ≡ length text.items) }
+{
+    match &texts.single {
+        Some(text) => text.len(),
+        None => 0,
+    }
+}
+
+// What comes of a scenario whose single stream was loaded.
+fn check_texts<H: Threads + Wait + Sync, A: Allocator + Copy + Send + Sync>(
+    rt: &H,
+    alloc: A,
+    layout: Layout,
+    played: &Played<A>,
+    loaded: &Loaded<A>,
+) -> Result<Checked, Answer>
+    ensures { (page_size : ℕ) (text : List ℕ) → HasRoundTrip page_size text played.now loaded.now → refusal page_size text ≡ None
+        → played.now.texts.several ≡ None → Answers page_size text (answer_from result) }
+{
+    let single = single_len(&played.texts);
+    let (sections, of_single) = match compare_loaded(rt, loaded, &played.image) {
+        Ok(pair) => pair,
+        Err(answer) => return Err(answer),
+    };
+    let Some(sent) = &played.texts.several else {
+        return Ok(Checked {
+            single,
+            sections,
+            several: None,
+            comparison: of_single,
+        });
+    };
+    let loaded = load_sent(rt, alloc, layout, sent);
+    let (rounds, of_several) = compare_loaded(rt, &loaded, &played.image)?;
+    Ok(Checked {
+        single,
+        sections,
+        several: Some(ChannelsChecked {
+            main: sent.main.len(),
+            channels: total_len(&sent.channels),
+            rounds,
+        }),
+        comparison: match of_single {
+            Comparison::Same => of_several,
+            Comparison::Differs(_, _) => of_single,
+        },
+    })
 }
 
 /// The answer on a scenario.
-pub(crate) fn check<A: Allocator + Copy>(alloc: A, text: &[u8]) -> Answer
-    ensures { Answers text.now result }
+pub(crate) fn check<H: Threads + Wait + Sync, A: Allocator + Copy + Send + Sync>(
+    rt: &H,
+    alloc: A,
+    text: &[u8],
+    layout: Layout,
+) -> Answer
+    ensures { layout.channels ≡ 0 → Answers (bytes_in layout.page_size) text.now result }
 {
-    let (sent, loaded) = match round_trip(alloc, text) {
+    let (played, loaded) = match round_trip(rt, alloc, text, layout) {
         Ok(pair) => pair,
         Err(fault) => return Answer::Refused(fault),
     };
-    let Loaded {
-        memory,
-        rounds,
-        verdict,
-    } = loaded;
-    if let Err(fault) = verdict {
-        return Answer::Unloaded(fault);
-    }
-    let Some(memory) = memory else {
-        unreachable!();
-    };
-    match compare(&memory, &sent.image) {
-        Comparison::Same => Answer::Checked(sent.text.len(), rounds),
-        Comparison::Differs => unreachable!(),
+    match check_texts(rt, alloc, layout, &played, &loaded) {
+        Ok(checked) => Answer::Checked(checked),
+        Err(answer) => answer,
     }
 }

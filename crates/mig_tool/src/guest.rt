@@ -1,62 +1,77 @@
-//! The guest of a scenario: it plays the lines, and sends each round as it comes.
+//! The guest of a scenario: it plays the lines, and hands each round on as it comes.
 
-ghost use Rattle.std.specs.Prelude.{◌≡◌, map, replicate, All, IsTrue, IfOk, OnOk};
+ghost use Rattle.std.specs.Prelude.{◌≡◌, map, replicate, [], None, All, IsTrue, IfSome, IfOk, OnOk};
 ghost use Rattle.mig_mem.specs.Place.{place_at, IsPlace};
 ghost use Rattle.mig_mem.specs.Image.{with_page};
 ghost use Rattle.mig_mem.specs.PlaceSet.{with_place};
 ghost use Rattle.mig_mem.specs.Tracking.{rounds_of};
-ghost use Rattle.mig_stream.specs.Written.{single};
-ghost use Rattle.mig_tool.specs.Scenario.{page_size, is_step_within, is_within};
+ghost use Rattle.mig_tool.specs.Scenario.{is_step_within, is_within};
 ghost use Rattle.mig_tool.specs.Guest.{ScenarioGuest, new_guest, after_step, played};
 ghost use Rattle.mig_tool.specs.declared.line.Step.TheVariants.{Round};
-ghost use Rattle.mig_tool.specs.Playing.{AreOneTable, Holds};
+ghost use Rattle.mig_tool.specs.Playing.{AreSendersOf, HaveSent, AreTexts, AreLike, AreOneTable, Holds};
 ghost use Rattle.mig_tool.specs.Seen.{seen};
 
 use crate::line::{Line, Step};
-use mig_mem::{Dirty, Memory, NoMemory, PAGE_SIZE_4K, Place, Table};
-use mig_send::{SendFault, SingleSender};
+use crate::senders::{Senders, Texts};
+use mig_mem::{Dirty, Memory, NoMemory, PAGE_SIZE_8K, Place, Table};
 use std::alloc::{Allocator, Global};
+use std::thread::Threads;
 
 // A guest between two lines.
 #[derive(Drop)]
 struct Guest<A: Allocator = Global> {
     image: Memory<A>,
     dirty: Dirty<A>,
-    sender: SingleSender<A>,
+    senders: Senders<A>,
 }
 
-/// What became of a scenario: the guest's memory in the end, and the stream of its rounds.
+/// What became of a scenario: the guest's memory in the end, and the texts of its rounds.
 #[derive(Drop)]
-pub(crate) struct Sent<A: Allocator = Global> {
+pub(crate) struct Played<A: Allocator = Global> {
     pub(crate) image: Memory<A>,
-    pub(crate) text: Vec<u8, A>,
+    pub(crate) texts: Texts<A>,
 }
 
-// A page of one byte.
-fn page_of(byte: u8) -> [u8; PAGE_SIZE_4K as usize]
-    ensures { result ≡ replicate page_size byte }
+// As many bytes as the largest page has, all the same.
+fn bytes_of(byte: u8) -> [u8; PAGE_SIZE_8K as usize]
+    ensures { result ≡ replicate 8192 byte }
 {
-    [byte; PAGE_SIZE_4K as usize]
+    [byte; PAGE_SIZE_8K as usize]
 }
 
-impl<A: Allocator + Copy> Guest<A> {
+// Fills a page with a byte.
+fn fill_page<A: Allocator>(image: &mut Memory<A>, place: Place, byte: u8)
+    requires { IsPlace image.old.table place }
+    ensures { image.new ≡ with_page image.old place (replicate image.old.table.page_size byte) }
+{
+    let content = bytes_of(byte);
+    // only for what it says: the table keeps the limits, that of its page size among them
+    let _blocks = image.table().len();
+    let size = image.table().page_size() as usize;
+    image.put_page(place, &content[..size]);
+}
+
+impl<A: Allocator + Copy + Send + Sync> Guest<A> {
     // Zeros, without a mark and without a round.
-    fn new(alloc: A, table: &Table<A>) -> Result<Guest<A>, NoMemory>
-        ensures { IfOk result (λ g. Holds g (new_guest table.now)) }
+    fn new(alloc: A, table: &Table<A>, senders: Senders<A>) -> Result<Guest<A>, NoMemory>
+        requires table { AreSendersOf table.now senders }
+        requires fresh { HaveSent senders [] }
+        ensures holds { IfOk result (λ g. Holds g (new_guest table.now)) }
+        ensures senders { IfOk result (λ g. g.senders ≡ senders) }
     {
         Ok(Guest {
             image: Memory::zeroed(alloc, table)?,
             dirty: Dirty::none(alloc, table)?,
-            sender: SingleSender::new(alloc, table)?,
+            senders,
         })
     }
 
     // Takes a step. After an `Err` a part of it may be done.
-    fn take(&mut self, step: Step) -> Result<(), NoMemory>
+    fn take<H: Threads + Sync>(&mut self, rt: &H, step: Step) -> Result<(), NoMemory>
         requires within { IsTrue (is_step_within self.old.image.table step) }
         requires one_table { AreOneTable self.old }
-        requires page_size { self.old.image.table.page_size ≡ page_size }
         ensures table { self.new.image.table ≡ self.old.image.table }
+        ensures kinds { AreLike self.old.senders self.new.senders }
         ensures ok { OnOk result ((g : ScenarioGuest) → Holds self.old g → Holds self.new (after_step g step)) }
     {
         match step {
@@ -70,7 +85,7 @@ impl<A: Allocator + Copy> Guest<A> {
                 self.mark(block, page)
             }
             Step::Touch(block, page) => self.mark(block, page),
-            Step::Round => self.send(),
+            Step::Round => self.send(rt),
         }
     }
 
@@ -86,58 +101,54 @@ impl<A: Allocator + Copy> Guest<A> {
 
     // Fills a page with a byte.
     fn fill(&mut self, block: u64, page: u64, byte: u8)
-        requires place { IsPlace self.old.image.table (place_at block page) }
-        requires page_size { self.old.image.table.page_size ≡ page_size }
+        requires { IsPlace self.old.image.table (place_at block page) }
         ensures { self.new ≡ record self.old { image = with_page self.old.image (place_at block page) (replicate self.old.image.table.page_size byte) } }
     {
         let block = block as usize;
-        let content = page_of(byte);
-        self.image.put_page(Place { block, page }, &content);
+        fill_page(&mut self.image, Place { block, page }, byte);
     }
 
     // Sends the marked pages, and clears the marks.
-    fn send(&mut self) -> Result<(), NoMemory>
+    fn send<H: Threads + Sync>(&mut self, rt: &H) -> Result<(), NoMemory>
         requires { AreOneTable self.old }
         ensures image { self.new.image ≡ self.old.image }
+        ensures kinds { AreLike self.old.senders self.new.senders }
         ensures ok { OnOk result ((g : ScenarioGuest) → Holds self.old g → Holds self.new (after_step g Round)) }
     {
-        match self.sender.round(&self.image, &self.dirty) {
-            Ok(()) => {
-                self.dirty.clear();
-                Ok(())
-            }
-            Err(SendFault::Channels) => unreachable!(),
-            Err(SendFault::Limit) => unreachable!(),
-            Err(SendFault::OtherTable) => unreachable!(),
-            Err(SendFault::NoMemory) => Err(NoMemory),
-        }
+        self.senders.round(rt, &self.image, &self.dirty)?;
+        self.dirty.clear();
+        Ok(())
     }
 }
 
-/// Plays the lines of a scenario.
-pub(crate) fn play<A: Allocator + Copy>(
+/// Plays the lines of a scenario, and sends its rounds.
+pub(crate) fn play<H: Threads + Sync, A: Allocator + Copy + Send + Sync>(
+    rt: &H,
     alloc: A,
     table: &Table<A>,
     lines: &[Line],
-) -> Result<Sent<A>, NoMemory>
-    requires page_size { table.now.page_size ≡ page_size }
+    senders: Senders<A>,
+) -> Result<Played<A>, NoMemory>
     requires within { All (λ l. IsTrue (is_within table.now l)) (map seen lines.now) }
-    ensures image { IfOk result (λ s. s.image ≡ (played table.now (map seen lines.now)).image) }
-    ensures text { IfOk result (λ s. s.text.items ≡ single table.now (rounds_of (played table.now (map seen lines.now)).snapshots)) }
+    requires table { AreSendersOf table.now senders }
+    requires fresh { HaveSent senders [] }
+    ensures table { IfOk result (λ p. p.image.table ≡ table.now) }
+    ensures image { IfOk result (λ p. p.image ≡ (played table.now (map seen lines.now)).image) }
+    ensures texts { IfOk result (λ p. AreTexts table.now senders (rounds_of (played table.now (map seen lines.now)).snapshots) p.texts) }
 {
-    let mut guest = Guest::new(alloc, table)?;
+    let mut guest = Guest::new(alloc, table, senders)?;
     for line in lines {
         if let Line::Step(step) = line {
-            guest.take(*step)?;
+            guest.take(rt, *step)?;
         }
     }
     let Guest {
         image,
         dirty: _,
-        sender,
+        senders,
     } = guest;
-    match sender.finish() {
-        Ok(text) => Ok(Sent { image, text }),
-        Err(_) => Err(NoMemory),
-    }
+    Ok(Played {
+        image,
+        texts: senders.finish()?,
+    })
 }

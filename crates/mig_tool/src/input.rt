@@ -5,7 +5,7 @@ ghost use Rattle.std.specs.Io.KnownBytes.{Consumes, IsAtEnd};
 ghost use Rattle.mig_tool.specs.Inputs.{HasRead};
 ghost use Rattle.mig_tool.specs.Answer.{IsUnread};
 
-use crate::check::Answer;
+use crate::answer::Answer;
 use crate::fault::{ScenarioFault, ToolFault};
 use std::alloc::Allocator;
 use std::io::Read;
@@ -15,6 +15,9 @@ const MAX_READS: usize = 65_536;
 
 /// The most bytes of one read.
 const MAX_READ_LEN: usize = 65_536;
+
+/// The most bytes that an input can have.
+pub(crate) const MAX_LEN: u64 = 65_535 * 65_536;
 
 // A buffer of so many bytes.
 fn buffer_of<A: Allocator>(alloc: A, len: usize) -> Result<Vec<u8, A>, Answer>
@@ -48,16 +51,19 @@ fn read_more<A: Allocator, R: Read>(
     }
 }
 
-/// The bytes of an input up to its end, or the answer where it can't be had.
+/// The bytes of an input up to its end, or the answer where it can't be had. There is room for some from the start.
 pub(crate) fn read_whole<A: Allocator + Copy, R: Read>(
     alloc: A,
     input: &mut R,
+    room: usize,
 ) -> Result<Vec<u8, A>, Answer>
     ensures err { IfErr result IsUnread }
     ensures ok { IfOk result (λ text. Consumes (R.remaining input.old) (R.remaining input.new) text.items × IsAtEnd (R.remaining input.new)) }
 {
     let mut buffer = buffer_of(alloc, MAX_READ_LEN)?;
-    let mut text = Vec::new(alloc);
+    let Ok(mut text) = Vec::with_capacity(alloc, room) else {
+        return Err(Answer::Refused(ScenarioFault::NoMemory));
+    };
     for _ in 0..MAX_READS {
         if read_more(input, &mut buffer, &mut text)? == 0 {
             return Ok(text);

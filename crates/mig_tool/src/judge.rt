@@ -1,13 +1,14 @@
 //! The judging of a scenario: its table and its lines, or the first fault that applies.
 
 ghost use Rattle.std.specs.Prelude.{◌≡◌, ◌⊎◌, map, None, Some, IfOk, IfErr, OnOk, not, IsTrue, All};
+ghost use Rattle.mig_mem.specs.PageSize.{IsPageSize};
 ghost use Rattle.mig_mem.specs.Refusal.{refusal as table_refusal};
 ghost use Rattle.mig_tool.specs.Scenario.{lines_of as lines_said, table_of as table_said, late_block, is_within, is_step_within, first_line, unsent, refusal};
 ghost use Rattle.mig_tool.specs.Seen.{seen};
 
 use crate::fault::ScenarioFault;
 use crate::line::{Line, Step, lines_of};
-use mig_mem::{NoMemory, PAGE_SIZE_4K, Table, TableFault};
+use mig_mem::{NoMemory, Table, TableFault};
 use std::alloc::{Allocator, Global};
 
 /// A scenario that has no fault.
@@ -34,10 +35,15 @@ fn late_block(lines: &[Line]) -> Option<usize>
 }
 
 // The table of the blocks.
-fn table_of<A: Allocator + Copy>(alloc: A, lines: &[Line]) -> Result<Table<A>, TableFault>
-    ensures ok { IfOk result (λ t. t ≡ table_said (map seen lines.now)) }
-    ensures lawful { OnOk result (table_refusal (table_said (map seen lines.now)) ≡ None) }
-    ensures err { IfErr result (λ e. (e ≡ TableFault.NoMemory) ⊎ (table_refusal (table_said (map seen lines.now)) ≡ Some e)) }
+fn table_of<A: Allocator + Copy>(
+    alloc: A,
+    page_size: u64,
+    lines: &[Line],
+) -> Result<Table<A>, TableFault>
+    requires { IsPageSize page_size }
+    ensures ok { IfOk result (λ t. t ≡ table_said page_size (map seen lines.now)) }
+    ensures lawful { OnOk result (table_refusal (table_said page_size (map seen lines.now)) ≡ None) }
+    ensures err { IfErr result (λ e. (e ≡ TableFault.NoMemory) ⊎ (table_refusal (table_said page_size (map seen lines.now)) ≡ Some e)) }
 {
     let mut blocks = Vec::new(alloc);
     for line in lines {
@@ -48,7 +54,7 @@ fn table_of<A: Allocator + Copy>(alloc: A, lines: &[Line]) -> Result<Table<A>, T
             }
         }
     }
-    Table::new(alloc, PAGE_SIZE_4K, blocks)
+    Table::new(alloc, page_size, blocks)
 }
 
 // A buffer with the same bytes.
@@ -118,22 +124,24 @@ fn fault_of(fault: TableFault) -> ScenarioFault
     }
 }
 
-/// The scenario that a text is, or why it is none.
+/// The scenario that a text is, with pages of this size, or why it is none.
 pub(crate) fn judge<A: Allocator + Copy>(
     alloc: A,
+    page_size: u64,
     text: &[u8],
 ) -> Result<Scenario<'_, A>, ScenarioFault>
-    ensures ok { IfOk result (λ s. (s.table ≡ table_said (lines_said text.now)) × (map seen s.lines.items ≡ lines_said text.now)) }
+    requires { IsPageSize page_size }
+    ensures ok { IfOk result (λ s. (s.table ≡ table_said page_size (lines_said text.now)) × (map seen s.lines.items ≡ lines_said text.now)) }
     ensures within { IfOk result (λ s. All (λ l. IsTrue (is_within s.table l)) (map seen s.lines.items)) }
     ensures sent { OnOk result (unsent (lines_said text.now) ≡ None) }
-    ensures lawful { OnOk result (refusal text.now ≡ None) }
-    ensures err { IfErr result (λ e. (e ≡ ScenarioFault.NoMemory) ⊎ (refusal text.now ≡ Some e)) }
+    ensures lawful { OnOk result (refusal page_size text.now ≡ None) }
+    ensures err { IfErr result (λ e. (e ≡ ScenarioFault.NoMemory) ⊎ (refusal page_size text.now ≡ Some e)) }
 {
     let lines = lines_of(alloc, text)?;
     if let Some(line) = late_block(&lines) {
         return Err(ScenarioFault::Order(line));
     }
-    let table = match table_of(alloc, &lines) {
+    let table = match table_of(alloc, page_size, &lines) {
         Ok(table) => table,
         Err(fault) => return Err(fault_of(fault)),
     };

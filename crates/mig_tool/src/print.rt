@@ -2,10 +2,10 @@
 
 ghost use Rattle.std.specs.Prelude.{◌≡◌, ◌++◌, OnOk, IfSome, codes, decimal};
 ghost use Rattle.std.specs.Io.KnownBytes.{Appends};
-ghost use Rattle.mig_tool.specs.Report.{single_line, same_line, refused, scenario_place};
-ghost use Rattle.mig_tool.specs.Answer.{unloaded, in_origin, printed, status_of};
+ghost use Rattle.mig_tool.specs.Report.{refused, scenario_place};
+ghost use Rattle.mig_tool.specs.Answer.{unloaded, in_origin, comparison_line, channels_line, checked_lines, sent_line, loaded_line, printed, comparison_status, tool_status, status_of};
 
-use crate::check::Answer;
+use crate::answer::{Answer, ChannelsChecked, Checked, Comparison};
 use crate::fault::{ScenarioFault, ToolFault};
 use itoa::Buffer;
 use mig_load::{LoadFault, Origin};
@@ -64,13 +64,60 @@ fn put_origin<W: Write>(output: &mut W, source: Origin) -> io::Result<()>
     }
 }
 
-// Writes the lines of a scenario that was checked.
-fn put_checked<W: Write>(output: &mut W, len: usize, sections: u64) -> io::Result<()>
-    ensures { OnOk result (Appends (W.contents output.old) (W.contents output.new) (single_line len sections ++ same_line)) }
+// Writes what comes of comparing two memories.
+fn put_comparison<W: Write>(output: &mut W, comparison: Comparison) -> io::Result<()>
+    ensures { OnOk result (Appends (W.contents output.old) (W.contents output.new) (comparison_line comparison)) }
 {
-    put_number(output, b"single ", len as u64)?;
-    put_number(output, b" sections ", sections)?;
-    output.write_all(b"\nsame\n")
+    match comparison {
+        Comparison::Same => output.write_all(b"same\n"),
+        Comparison::Differs(count, first) => {
+            put_number(output, b"differs ", count)?;
+            put_number(output, b" first ", first.block as u64)?;
+            put_number(output, b" ", first.page)?;
+            output.write_all(b"\n")
+        }
+    }
+}
+
+// Writes the line of what was sent on channels.
+fn put_channels<W: Write>(output: &mut W, checked: ChannelsChecked) -> io::Result<()>
+    ensures { OnOk result (Appends (W.contents output.old) (W.contents output.new) (channels_line checked)) }
+{
+    put_number(output, b"multi ", checked.main as u64)?;
+    put_number(output, b" ", checked.channels)?;
+    put_number(output, b" rounds ", checked.rounds)?;
+    output.write_all(b"\n")
+}
+
+// Writes the lines of a scenario that was checked.
+fn put_checked<W: Write>(output: &mut W, checked: Checked) -> io::Result<()>
+    ensures { OnOk result (Appends (W.contents output.old) (W.contents output.new) (checked_lines checked)) }
+{
+    put_number(output, b"single ", checked.single as u64)?;
+    put_number(output, b" sections ", checked.sections)?;
+    output.write_all(b"\n")?;
+    if let Some(several) = checked.several {
+        put_channels(output, several)?;
+    }
+    put_comparison(output, checked.comparison)
+}
+
+// Writes the line of what was sent into files.
+fn put_sent<W: Write>(output: &mut W, main: usize, channels: u64) -> io::Result<()>
+    ensures { OnOk result (Appends (W.contents output.old) (W.contents output.new) (sent_line main channels)) }
+{
+    put_number(output, b"sent ", main as u64)?;
+    put_number(output, b" ", channels)?;
+    output.write_all(b"\n")
+}
+
+// Writes the line of what was loaded.
+fn put_loaded<W: Write>(output: &mut W, kind: &[u8], count: u64) -> io::Result<()>
+    ensures { OnOk result (Appends (W.contents output.old) (W.contents output.new) (loaded_line kind.now count)) }
+{
+    output.write_all(b"loaded ")?;
+    put_number(output, kind, count)?;
+    output.write_all(b"\n")
 }
 
 /// Writes an answer, and lets nothing of it stay behind.
@@ -78,7 +125,11 @@ pub(crate) fn print<W: Write>(output: &mut W, answer: Answer) -> io::Result<()>
     ensures { OnOk result (IfSome (printed answer) (λ r. Appends (W.contents output.old) (W.contents output.new) r.text)) }
 {
     match answer {
-        Answer::Checked(len, sections) => put_checked(output, len, sections)?,
+        Answer::Checked(checked) => put_checked(output, checked)?,
+        Answer::Sent(main, channels) => put_sent(output, main, channels)?,
+        Answer::LoadedSections(sections) => put_loaded(output, b"sections ", sections)?,
+        Answer::LoadedRounds(rounds) => put_loaded(output, b"rounds ", rounds)?,
+        Answer::Compared(comparison) => put_comparison(output, comparison)?,
         Answer::Refused(fault) => put_refused(output, fault)?,
         Answer::Unloaded(fault) => put_unloaded(output, fault)?,
         Answer::Failed(fault) => writeln!(output, "{fault}")?,
@@ -86,14 +137,36 @@ pub(crate) fn print<W: Write>(output: &mut W, answer: Answer) -> io::Result<()>
     output.flush()
 }
 
+// The status that goes with what comes of comparing two memories.
+fn compared_status(comparison: Comparison) -> u8
+    ensures { result ≡ comparison_status comparison }
+{
+    match comparison {
+        Comparison::Same => 0,
+        Comparison::Differs(_, _) => 4,
+    }
+}
+
+// The status that goes with a fault of the tool's own.
+fn failed_status(fault: ToolFault) -> u8
+    ensures { result ≡ tool_status fault }
+{
+    match fault {
+        ToolFault::ImageLen => 1,
+        ToolFault::Batch | ToolFault::Uuid | ToolFault::Feed | ToolFault::Words => 2,
+        ToolFault::TooManyReads | ToolFault::Unread | ToolFault::Unwritten => 3,
+    }
+}
+
 /// The status that goes with an answer.
 pub(crate) fn status(answer: Answer) -> u8
     ensures { result ≡ status_of answer }
 {
     match answer {
-        Answer::Checked(_, _) => 0,
+        Answer::Checked(checked) => compared_status(checked.comparison),
+        Answer::Compared(comparison) => compared_status(comparison),
+        Answer::Sent(_, _) | Answer::LoadedSections(_) | Answer::LoadedRounds(_) => 0,
         Answer::Refused(_) | Answer::Unloaded(_) => 1,
-        Answer::Failed(ToolFault::Words) => 2,
-        Answer::Failed(_) => 3,
+        Answer::Failed(fault) => failed_status(fault),
     }
 }

@@ -1,35 +1,43 @@
 //! The tool as a function: its words, its input and its output, and the status that it ends with.
 
-ghost use Rattle.std.specs.Prelude.{◌≡◌, ◌≢◌, ◌⊎◌, []};
+ghost use Rattle.std.specs.Prelude.{◌≡◌, ◌≢◌, ◌≤◌, ◌⊎◌, [], map};
 ghost use Rattle.mig_tool.specs.Answer.{AnswersInput, HasPrinted, HasReported, status_of};
+ghost use Rattle.mig_tool.specs.Words.{AskPlainCheck, IsPlain, IsPlainCheck, HasLimit, texts_of};
 
-use crate::check::{Answer, check};
-use crate::fault::ToolFault;
+use crate::answer::Answer;
+use crate::check::check;
+use crate::comparing::compare;
 use crate::input::read_whole;
+use crate::loading::load;
 use crate::print::{print, status};
-use std::alloc::{Alloc, Allocator};
+use crate::request::{Layout, Request};
+use crate::sending::send;
+use crate::words::asked;
+use std::alloc::{AllocGlobal, Allocator};
+use std::fs::Files;
 use std::io::{Read, Write};
+use std::sync::Wait;
+use std::thread::Threads;
 
 // The status where the output fails.
 const OUTPUT_FAILED: u8 = 3;
 
-/// Runs the tool. Without words it reads a scenario from the input, writes its rounds as a single stream, loads it, compares the
-/// memory with the guest's, and prints what came of it. There are no words yet. Status 3 is answered where the input can't be
-/// read whole, and where the output fails; then no text is promised.
-pub fn run<H: Alloc<A = A>, A: Allocator + Copy, R: Read, W: Write>(
-    rt: &H,
-    words: &[String<A>],
-    input: &mut R,
-    output: &mut W,
-) -> u8
-    ensures report { words.now ≡ [] → result ≢ 3
+/// Runs the tool: does what the words ask for, prints what came of it, and gives the status. The words are those behind the
+/// program's name. Without words, and with `check` alone, it reads a scenario from the input, writes its rounds as a single stream,
+/// loads it, and compares the memory with the guest's. Where the output fails the status is 3, and no text is promised.
+pub fn run<
+    H: AllocGlobal + Files + Threads + Wait + Sync,
+    A: Allocator + Copy + Send + Sync,
+    R: Read,
+    W: Write,
+>(rt: &H, alloc: A, words: &[String], input: &mut R, output: &mut W) -> u8
+    ensures report { AskPlainCheck (texts_of words.now) → result ≢ 3
         → HasReported (R.remaining input.old) (R.remaining input.new) (W.contents output.old) (W.contents output.new) result }
-    ensures words { words.now ≢ [] → ((result ≡ 2) ⊎ (result ≡ 3)) × (input.new ≡ input.old) }
+    ensures status { result ≤ 4 }
 {
-    let answer = if words.is_empty() {
-        answer(rt.alloc(), input)
-    } else {
-        Answer::Failed(ToolFault::Words)
+    let answer = match asked(rt.alloc(), words) {
+        Ok(request) => answer_to(rt, alloc, &request, input),
+        Err(answer) => answer,
     };
     end_with(output, answer)
 }
@@ -45,12 +53,38 @@ pub(crate) fn end_with<W: Write>(output: &mut W, answer: Answer) -> u8
     }
 }
 
-// The answer on an input.
-fn answer<A: Allocator + Copy, R: Read>(alloc: A, input: &mut R) -> Answer
-    ensures { AnswersInput (R.remaining input.old) (R.remaining input.new) result }
+// The answer to what is asked for.
+fn answer_to<H: Files + Threads + Wait + Sync, A: Allocator + Copy + Send + Sync, R: Read>(
+    rt: &H,
+    alloc: A,
+    request: &Request,
+    input: &mut R,
+) -> Answer
+    requires { HasLimit request.now }
+    ensures { IsPlainCheck request.now → AnswersInput (R.remaining input.old) (R.remaining input.new) result }
 {
-    match read_whole(alloc, input) {
-        Ok(text) => check(alloc, &text),
+    let answer = match request {
+        Request::Check(layout) => return check_input(rt, alloc, *layout, input),
+        Request::Send(request) => send(rt, alloc, request),
+        Request::Load(request) => load(rt, alloc, request),
+        Request::Compare(request) => compare(rt, alloc, request),
+    };
+    match answer {
+        Ok(answer) | Err(answer) => answer,
+    }
+}
+
+// The answer on an input.
+fn check_input<H: Threads + Wait + Sync, A: Allocator + Copy + Send + Sync, R: Read>(
+    rt: &H,
+    alloc: A,
+    layout: Layout,
+    input: &mut R,
+) -> Answer
+    ensures { IsPlain layout → AnswersInput (R.remaining input.old) (R.remaining input.new) result }
+{
+    match read_whole(alloc, input, 0) {
+        Ok(text) => check(rt, alloc, &text, layout),
         Err(answer) => answer,
     }
 }

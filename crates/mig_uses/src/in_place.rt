@@ -22,8 +22,9 @@ fn without_memory() -> LoadFault
     }
 }
 
-/// Loads a stream into a memory that is there, as the blocks of a machine (`LentMemoryMut`). What it held stays where the stream brings no
-/// page. After an `Err` some rounds may be in it: the guest must not run. A stream of other blocks than the memory's has fault 63.
+/// Loads a stream, whose whole text is there, into a memory that is there, as the blocks of a machine (`LentMemoryMut`). What it held stays
+/// where the stream brings no page. After an `Err` some rounds may be in it: the guest must not run. A stream of other blocks than the
+/// memory's has fault 63.
 pub fn load_onto<A: Allocator + Copy, M: GuestTarget + Drop>(
     alloc: A,
     memory: M,

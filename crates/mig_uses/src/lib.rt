@@ -1,9 +1,9 @@
 //! Uses of the library, as a caller writes them: a module for each, with a contract and a test. They are there to be read and copied.
 //!
-//! Read them in this order. `backup` and `live_guest` are the single stream, of a guest that is paused and of one that runs on;
-//! `incoming` and `in_place` load such a stream as it comes, and where the guest is to run. `migration` moves a guest on several channels,
-//! and `two_readers` loads what comes of it from readers. `comparison` and `notice` are what comes after a load: whether two memories are
-//! the same, and what a user is told.
+//! Read them in this order. `backup` and `live_guest` are the single stream, of a guest that is paused and of one that runs on.
+//! `incoming` loads such a stream as it comes, and `in_place` one that is there whole, into the blocks where the guest is to run.
+//! `migration` moves a guest on several channels, and `two_readers` loads a main stream and one channel from readers. `comparison` and
+//! `notice` are what comes after a load: whether two memories are the same, and what a user is told.
 #![tactic(auto)]
 
 mod backup;

@@ -1,6 +1,6 @@
 //! A guest that runs on while it is sent: each round has only the pages that were written since the last one.
 
-ghost use Rattle.std.specs.Prelude.{◌≡◌, ◌∷◌, ◌++◌, [], List, IfOk, OnOk, OnErr};
+ghost use Rattle.std.specs.Prelude.{◌≡◌, ◌∷◌, ◌++◌, [], List, IsTrue, IsFalse, IfOk, OnOk, OnErr};
 ghost use Rattle.mig_mem.specs.Tracking.{Snapshot};
 
 use mig_mem::{Dirty, Memory, NoMemory, Place, Table};
@@ -40,7 +40,9 @@ impl<A: Allocator> LiveGuest<A> {
 
     /// The guest writes a byte, and its page is marked: a page that is left unmarked is lost on the way. False where there is no such byte.
     pub fn write(&mut self, block: usize, offset: u64, byte: u8) -> bool
-        ensures { (sent : List Snapshot) → IsTracked self.old sent → IsTracked self.new sent }
+        ensures tracked { (sent : List Snapshot) → IsTracked self.old sent → IsTracked self.new sent }
+        ensures written { IsTrue result → self.new.memory ≡ with_byte self.old.memory block offset byte }
+        ensures refused { IsFalse result → self.new ≡ self.old }
     {
         let table = self.memory.table();
         if block >= table.len() || offset >= table.pages(block) * table.page_size() {

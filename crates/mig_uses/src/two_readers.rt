@@ -1,4 +1,4 @@
-//! A load on one channel beside its main stream, from two readers: files, or sockets of which each is read to its end.
+//! A load on one channel beside its main stream, from two readers: files, or sockets. Each is read to its end before the next one is begun.
 
 ghost use Rattle.std.specs.Prelude.{◌≡◌, ◌≤◌, ◌^◌, ℕ, List, [], ◌∷◌, Some, IfOk};
 ghost use Rattle.mig_mem.specs.PageSize.{IsPageSize};
@@ -13,8 +13,9 @@ use uuid::Uuid;
 // The most reads of one reader.
 const TURNS: u64 = 1 << 40;
 
-/// Loads what two readers give, the main stream first. The session then tells how it stands (`verdict`), and has the memory. An `Err` says
-/// which read failed, or that memory was refused.
+/// Loads what two readers give: it reads the main stream to its end first, and then the channel, so whoever writes both writes them in that
+/// order, or at the same time. The session then tells how it stands (`verdict`), and has the memory. An `Err` says that a read failed, that
+/// the end wasn't found in 2^40 reads, or that memory was refused; it doesn't say of which reader.
 pub fn load_from<A: Allocator + Copy, M: Read + Drop, C: Read + Drop>(
     alloc: A,
     page_size: u64,

@@ -1,6 +1,6 @@
 //! The printing of faults of a load, which no scenario leads to.
 
-use crate::check::Answer;
+use crate::answer::Answer;
 use crate::print::{print, status};
 use crate::tests::assert_answer;
 use mig_load::{Fault, LoadFault, Origin};

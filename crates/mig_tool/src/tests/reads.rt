@@ -1,10 +1,13 @@
 //! Inputs that come in pieces, that don't end, and that fail.
 
 use crate::run::run;
-use crate::tests::{SCENARIO, SCENARIO_ANSWER, answer_of, assert_answer};
+use crate::tests::{SCENARIO, SCENARIO_ANSWER, answer_of, assert_answer, words_of};
 use std::alloc::AllocGlobal;
+use std::fs::Files;
 use std::io::{self, Read};
 use std::process::Abort;
+use std::sync::Wait;
+use std::thread::Threads;
 
 // Gives one byte a read, and fails where so many reads were made.
 #[derive(Drop)]
@@ -31,10 +34,14 @@ impl Read for Slow<'_> {
 }
 
 // Runs the tool without words on a text that comes byte by byte, with so many reads that don't fail.
-fn slow_answer_of<H: AllocGlobal>(rt: &H, text: &[u8], good: usize) -> (u8, Vec<u8>) {
+fn slow_answer_of<H: AllocGlobal + Files + Threads + Wait + Sync>(
+    rt: &H,
+    text: &[u8],
+    good: usize,
+) -> (u8, Vec<u8>) {
     let mut input = Slow { rest: text, good };
     let mut output = Vec::new(rt.alloc());
-    let status = run(rt, &[], &mut input, &mut output);
+    let status = run(rt, rt.alloc(), &[], &mut input, &mut output);
     (status, output)
 }
 
@@ -43,6 +50,30 @@ fn with_empty_lines(rt: &(impl AllocGlobal + Abort), len: usize) -> Vec<u8> {
     let mut text = Vec::from_slice(rt.alloc(), b"block 1 a").expect(rt, "a text");
     assert!(rt; text.resize(len, b'\n').is_ok());
     text
+}
+
+// Words that ask for no check read nothing of the input.
+#[test]
+fn input_that_is_not_read(rt: HostRuntime) {
+    for texts in [
+        ["frob"].as_slice(),
+        &["compare", "/nonexistent/s", "/nonexistent/i"],
+    ] {
+        let mut input = Slow {
+            rest: SCENARIO,
+            good: 0,
+        };
+        let mut output = Vec::new(rt.alloc());
+        let status = run(
+            &rt,
+            rt.alloc(),
+            &words_of(&rt, texts),
+            &mut input,
+            &mut output,
+        );
+        assert!(rt; status == 2 || output.as_slice() == b"fault 90\n".as_slice());
+        assert_eq!(rt; input.rest, SCENARIO);
+    }
 }
 
 #[test]

@@ -1,11 +1,14 @@
 //! Outputs that fail.
 
 use crate::run::run;
-use crate::tests::words::words;
-use crate::tests::{SCENARIO, SCENARIO_ANSWER};
+use crate::tests::folder::{Folder, set_first};
+use crate::tests::{SCENARIO, SCENARIO_ANSWER, words_of};
 use std::alloc::{AllocGlobal, Global};
+use std::fs::Files;
 use std::io::{self, Write};
 use std::process::Abort;
+use std::sync::Wait;
+use std::thread::Threads;
 
 // Takes at most so many bytes at a write, fails where so many writes were made, and at a flush if it is to.
 #[derive(Drop)]
@@ -59,9 +62,13 @@ struct Expected<'a> {
 }
 
 // Runs the tool, and says whether it answered as it should: 3 where the output failed.
-fn answers<H: AllocGlobal>(rt: &H, expected: Expected, output: &mut Halting) -> bool {
+fn answers<H: AllocGlobal + Files + Threads + Wait + Sync>(
+    rt: &H,
+    expected: Expected,
+    output: &mut Halting,
+) -> bool {
     let mut input = expected.scenario;
-    let status = run(rt, expected.words, &mut input, output);
+    let status = run(rt, rt.alloc(), expected.words, &mut input, output);
     if output.has_failed {
         status == 3
     } else {
@@ -70,7 +77,11 @@ fn answers<H: AllocGlobal>(rt: &H, expected: Expected, output: &mut Halting) -> 
 }
 
 // Runs the tool with each write failing in turn, until a run has no failure.
-fn assert_each_write<H: AllocGlobal + Abort>(rt: &H, expected: Expected, most: usize) {
+fn assert_each_write<H: AllocGlobal + Files + Threads + Wait + Sync + Abort>(
+    rt: &H,
+    expected: Expected,
+    most: usize,
+) {
     for good in 0..100 {
         let mut output = output_of(rt.alloc(), most, good);
         assert!(rt; answers(rt, expected, &mut output), "after {good} writes");
@@ -83,34 +94,75 @@ fn assert_each_write<H: AllocGlobal + Abort>(rt: &H, expected: Expected, most: u
 }
 
 // Runs the tool with a flush that fails.
-fn assert_flush<H: AllocGlobal + Abort>(rt: &H, expected: Expected) {
+fn assert_flush<H: AllocGlobal + Files + Threads + Wait + Sync + Abort>(
+    rt: &H,
+    expected: Expected,
+) {
     let mut output = output_of(rt.alloc(), usize::MAX, usize::MAX);
     output.fails_at_flush = true;
     assert!(rt; answers(rt, expected, &mut output));
     assert!(rt; output.has_failed, "there was no flush");
 }
 
-// Lawful, with a fault of each kind of line, and with a word.
+// Runs the tool with each write failing, of whole lines and of single bytes, and with a flush that fails.
+fn assert_output<H: AllocGlobal + Files + Threads + Wait + Sync + Abort>(
+    rt: &H,
+    texts: &[&str],
+    scenario: &[u8],
+    wanted: (u8, &[u8]),
+) {
+    let words = words_of(rt, texts);
+    let expected = Expected {
+        words: &words,
+        scenario,
+        text: wanted.1,
+        status: wanted.0,
+    };
+    assert_each_write(rt, expected, usize::MAX);
+    assert_each_write(rt, expected, 1);
+    assert_flush(rt, expected);
+}
+
+// Lawful, with a fault of each kind of line, and with words.
 #[test]
 fn each_output(rt: HostRuntime) {
-    let none = words(&rt, &[]);
-    let one = words(&rt, &["frob"]);
-    let cases: [(&[String], &[u8], &[u8], u8); 5] = [
-        (&none, SCENARIO, SCENARIO_ANSWER, 0),
-        (&none, b"block 0 a", b"fault 82 table 5\n", 1),
-        (&none, b"block 1 a\n\r", b"fault 81 line 2\n", 1),
-        (&none, b"block 1 a\ntouch 0 0", b"fault 80 line 2\n", 1),
-        (&one, SCENARIO, b"fault 88\n", 2),
-    ];
-    for (words, scenario, text, status) in cases {
-        let expected = Expected {
-            words,
-            scenario,
-            text,
-            status,
-        };
-        assert_each_write(&rt, expected, usize::MAX);
-        assert_each_write(&rt, expected, 1);
-        assert_flush(&rt, expected);
-    }
+    assert_output(&rt, &[], SCENARIO, (0, SCENARIO_ANSWER));
+    assert_output(&rt, &[], b"block 0 a", (1, b"fault 82 table 5\n"));
+    assert_output(&rt, &[], b"block 1 a\n\r", (1, b"fault 81 line 2\n"));
+    assert_output(&rt, &[], b"block 1 a\ntouch 0 0", (1, b"fault 80 line 2\n"));
+    assert_output(&rt, &["frob"], SCENARIO, (2, b"fault 88\n"));
+    let wanted: &[u8] = b"single 4199 sections 3\nmulti 101 8256 rounds 1\nsame\n";
+    assert_output(&rt, &["check", "--channels", "2"], SCENARIO, (0, wanted));
+}
+
+// The answers of the words that read and write files.
+#[test]
+fn each_output_on_files(rt: HostRuntime) {
+    let folder = Folder::new(&rt, "outputs");
+    folder.put(&rt, "s", SCENARIO);
+    let s = folder.path(&rt, "s");
+    let o = folder.path(&rt, "o");
+    let i = folder.path(&rt, "i");
+    let none = folder.path(&rt, "none/o");
+    assert_output(&rt, &["send", &s, &o], b"", (0, b"sent 4199 0\n"));
+    assert_output(&rt, &["load", &o, &i], b"", (0, b"loaded sections 3\n"));
+    assert_output(&rt, &["compare", &s, &i], b"", (0, b"same\n"));
+    assert_output(
+        &rt,
+        &["load", &s, &i],
+        b"",
+        (1, b"fault 11 round 0 in main\n"),
+    );
+    assert_output(&rt, &["send", &none, &o], b"", (3, b"fault 90\n"));
+    assert_output(&rt, &["send", &s, &none], b"", (3, b"fault 91\n"));
+    let mut page = folder.bytes(&rt, "i");
+    set_first(&rt, &mut page, 8);
+    folder.put(&rt, "i", &page);
+    assert_output(
+        &rt,
+        &["compare", &s, &i],
+        b"",
+        (4, b"differs 1 first 0 0\n"),
+    );
+    folder.remove(&rt);
 }

@@ -1,19 +1,19 @@
-use Rattle.std.proofs.Common.{ℕ, ◌≡◌, ◌<◌, ◌+◌, List, [], ◌∷◌, ◌++◌, length, map, take, get_or, refl, ap, ◌∙◌, arith}
+use Rattle.std.proofs.Common.{ℕ, ◌≡◌, ◌<◌, ◌+◌, List, [], ◌∷◌, ◌++◌, length, map, take, get_or, refl, ap, ◌∙◌, subst, arith}
 use Rattle.std.specs.Prelude.{All, IsTrue}
 use Rattle.std.proofs.lemmas.List.{take_more, take_all, map-append, get_or-map, length-map}
 use Rattle.std.proofs.lemmas.List.Elements.{All-get_or}
 use Rattle.std.proofs.lemmas.List.Sums.{fold_push}
 use Rattle.mig_mem.specs.RamTable.{RamTable}
 use Rattle.mig_mem.specs.Tracking.{rounds_of}
-use Rattle.mig_stream.specs.Written.{single}
 use Rattle.mig_tool.specs.declared.line.Step.{Step}
 use Rattle.mig_tool.specs.declared.line.Line.{Line}
 use Rattle.mig_tool.specs.declared.line.Line.TheVariants as kept
 use Rattle.mig_tool.specs.Line.{ScenarioLine}
 use Rattle.mig_tool.specs.Scenario.{is_within}
 use Rattle.mig_tool.specs.Guest.{ScenarioGuest, new_guest, after_line, played}
-use Rattle.mig_tool.specs.Playing.{Holds}
+use Rattle.mig_tool.specs.Playing.{Holds, AreSendersOf}
 use Rattle.mig_tool.specs.Seen.{seen}
+use Rattle.mig_tool.proofs.Sendings.{like_then, texts_like}
 use Rattle.mig_tool.proofs.guest.play.Goals as goal
 use Rattle.mig_tool.proofs.guest.play.Goals.{in-Step+in_ok-take, in_default}
 
@@ -40,7 +40,7 @@ line_within table ls i l all lt is =
     rw e at at
 
 pub take-requires-clause-within : goal.take-requires-clause-within
-take-requires-clause-within g c =
+take-requires-clause-within g c = λ lifetimes lives.
     rw c.loop-line.invariant.table (line_within c.args.table.now c.args.lines.now c.loop-line.line-index (kept.Step c.in-Step.step) c.requires.within c.loop-line-test.true c.in-Step.is)
 
 pub loop-line-preserved : goal.loop-line-preserved
@@ -53,19 +53,20 @@ loop-line-preserved g c =
           let more = played_more table ls i (kept.Step w.in-Step.step) c.loop-line-test.true w.in-Step.is in
           let h : Holds w.take.new.self (after_line (played table (map seen (take i ls))) (seen (kept.Step w.in-Step.step))) =
           w.in_ok-take.ensures.ok (played table (map seen (take i ls))) c.loop-line.invariant.holds in
-          rw w.guest-is (record { holds = rw more h; table = w.in_ok-take.ensures.table ∙ c.loop-line.invariant.table })
+          rw w.guest-is (record { holds = rw more h; table = w.in_ok-take.ensures.table ∙ c.loop-line.invariant.table; like = like_then _ _ _ c.loop-line.invariant.like w.in_ok-take.ensures.kinds })
       | in_default w ↦
           let more = played_more table ls i (get_or ls i kept.Empty) c.loop-line-test.true refl in
           let same = same_guest (played table (map seen (take i ls))) (get_or ls i kept.Empty) w.in_default.not-Step in
-          rw w.guest-is (record { holds = rw (more, same) c.loop-line.invariant.holds; table = c.loop-line.invariant.table })
+          rw w.guest-is (record { holds = rw (more, same) c.loop-line.invariant.holds; table = c.loop-line.invariant.table; like = c.loop-line.invariant.like })
     ]
 
-pub returns-in-Ok-clause-text : goal.returns-in-Ok-clause-text
-returns-in-Ok-clause-text g c =
+pub returns-clause-texts : goal.returns-clause-texts
+returns-clause-texts g c =
     let table : RamTable = c.args.table.now in
     let ls : List Line = c.args.lines.now in
     let i : ℕ = c.loop-line.line-index in
     let all : take i ls ≡ ls = take_all i ls c.loop-line-test.false in
     let h : Holds c.loop-line.guest (played table (map seen ls)) = rw all at c.loop-line.invariant.holds in
-    let of : c.loop-line.guest.sender.table ≡ table = h.one_table.same_sender ∙ c.loop-line.invariant.table in
-    c.in-Ok.ensures.ok [] (rounds_of (played table (map seen ls)).snapshots) h.has_sent ∙ ap (λ (t : RamTable). single t (rounds_of (played table (map seen ls)).snapshots)) of
+    let of : AreSendersOf table c.loop-line.guest.senders = subst (λ (t : RamTable). AreSendersOf t c.loop-line.guest.senders) c.loop-line.invariant.table h.one_table.same_senders in
+    texts_like table c.args.senders c.loop-line.guest.senders (rounds_of (played table (map seen ls)).snapshots) _ c.loop-line.invariant.like
+    (c.in_ok-finish.ensures table (rounds_of (played table (map seen ls)).snapshots) of h.has_sent)

@@ -1,6 +1,6 @@
 use Rattle.std.proofs.Common.{◌≡◌, map, take}
 use Rattle.mig_tool.specs.Guest.{played}
-use Rattle.mig_tool.specs.Playing.{Holds}
+use Rattle.mig_tool.specs.Playing.{Holds, AreLike}
 use Rattle.mig_tool.specs.Seen.{seen}
 use Rattle.mig_tool.proofs.guest.play.Given as goal
 
@@ -8,4 +8,5 @@ abbrev pub invariant-loop-line : goal.invariant-loop-line
 invariant-loop-line g l = record {
   holds : Holds l.guest (played l.table (map seen (take l.line-index l.lines)));
   table : l.guest.image.table ≡ l.table;
+  like : AreLike l.fn.senders l.guest.senders;
 }

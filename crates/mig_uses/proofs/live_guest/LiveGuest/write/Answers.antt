@@ -5,8 +5,8 @@ use Rattle.mig_mem.specs.PlaceSet.{with_place}
 use Rattle.mig_uses.proofs.Tracking.{write_tracked}
 use Rattle.mig_uses.proofs.live_guest.LiveGuest.write.Goals as goal
 
-pub returns : goal.returns
-returns g c =
+pub returns-clause-tracked : goal.returns-clause-tracked
+returns-clause-tracked g c =
     let old = c.args.self.now in
     let size : c.page_size-2.result ≡ old.memory.table.page_size = c.page_size-2.ensures ∙ ap (λ (t : RamTable). t.page_size) c.table-table.ensures.value in
     let here : IsPlace old.dirty.table (place_at c.args.block (c.args.offset / c.page_size-2.result)) =

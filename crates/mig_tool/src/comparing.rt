@@ -1,0 +1,47 @@
+//! The comparison of a scenario's file with the file of a memory.
+
+ghost use Rattle.std.specs.Prelude.{◌≡◌, IfOk};
+ghost use Rattle.mig_tool.specs.Answer.{IsComparison};
+
+use crate::answer::Answer;
+use crate::comparison::compared;
+use crate::fault::ToolFault;
+use crate::files::read_file;
+use crate::guest::play;
+use crate::image::memory_of;
+use crate::judge::judge;
+use crate::request::CompareRequest;
+use crate::senders::Senders;
+use mig_mem::{Memory, NoMemory};
+use std::alloc::Allocator;
+use std::fs::Files;
+use std::thread::Threads;
+
+// The answer on two memories of one table.
+fn answer_on<H: Threads, A: Allocator, B: Allocator>(
+    rt: &H,
+    a: &Memory<A>,
+    b: &Memory<B>,
+) -> Result<Answer, NoMemory>
+    requires { a.now.table ≡ b.now.table }
+    ensures { IfOk result (IsComparison a.now b.now) }
+{
+    Ok(Answer::Compared(compared(rt, a, b)?))
+}
+
+/// Compares the memory that a scenario makes with that of a file, and gives the answer. An `Err` is one too: that of the first
+/// fault.
+pub(crate) fn compare<H: Files + Threads + Sync, A: Allocator + Copy + Send + Sync>(
+    rt: &H,
+    alloc: A,
+    request: &CompareRequest,
+) -> Result<Answer, Answer> {
+    let text = read_file(rt, alloc, request.scenario)?;
+    let bytes = read_file(rt, alloc, request.image)?;
+    let scenario = judge(alloc, request.page_size.bytes(), &text)?;
+    let played = play(rt, alloc, &scenario.table, &scenario.lines, Senders::none())?;
+    let Some(memory) = memory_of(alloc, &scenario.table, &bytes)? else {
+        return Err(Answer::Failed(ToolFault::ImageLen));
+    };
+    Ok(answer_on(rt, &played.image, &memory)?)
+}
