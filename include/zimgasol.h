@@ -15,7 +15,8 @@
  *    null, also where the length is 0.
  *  - `malloc`, `realloc` and `free` are one allocator.
  *
- * No call keeps a pointer to a caller's buffer, and no buffer of the library is handed out: what was loaded is copied out page by page.
+ * No call keeps a pointer to a caller's buffer, and no buffer of the library is handed out: what was loaded is copied out page by page, or put
+ * into blocks that the caller hands to each call.
  *
  * A call that may be refused answers a status: ZIMGASOL_DONE, the number of a fault (docs/FAULTS.md: 1 to 63), or one of the numbers from 100
  * on below. Where it answers anything but ZIMGASOL_DONE it has changed nothing, where nothing else is said.
@@ -41,7 +42,9 @@ enum {
     ZIMGASOL_NO_PAGES = 5,
     ZIMGASOL_TOO_LARGE = 6,
     /* 11 to 34: the stream's faults, 35 to 45: a channel's, 51 to 59: those of channels and rounds beside one another */
-    /* a growth was refused: there is no memory */
+    /* a load into blocks: the stream's table isn't that of the blocks */
+    ZIMGASOL_OTHER_TABLE = 63,
+    /* an allocation was refused: there is no memory */
     ZIMGASOL_NO_MEMORY = 60,
     /* the load goes on: more of a text is needed. No fault */
     ZIMGASOL_RUNNING = 100,
@@ -61,12 +64,14 @@ enum {
     ZIMGASOL_NO_PAGE = 107,
     /* a buffer of another length than is needed */
     ZIMGASOL_BAD_LENGTH = 108,
-    /* a call out of turn: a round is open, or none is, or the stream is ended */
+    /* a call out of turn: a round is open, or none is, or the stream is ended; or no page of the block is due */
     ZIMGASOL_OUT_OF_TURN = 109,
     /* more pages than a packet has: 128 of 4096 bytes, 64 of 8192 */
     ZIMGASOL_TOO_MANY_PAGES = 110,
     /* the piece was taken, and no memory was found for the guest: zimgasol_loader_settle tries again, and so does the next piece */
-    ZIMGASOL_WAITS = 111
+    ZIMGASOL_WAITS = 111,
+    /* pages that came are due: they are to be put into a block (zimgasol_in_place_put). No fault */
+    ZIMGASOL_IS_DUE = 112
 };
 
 /* Where a fault or a piece is: the main stream (or the only one), channel j from 0 on, or, of a fault alone, no one text. */
@@ -93,6 +98,7 @@ typedef struct zimgasol_fault {
 /* The handles. */
 typedef struct zimgasol_table { void *at; } zimgasol_table;
 typedef struct zimgasol_loader { void *at; } zimgasol_loader;
+typedef struct zimgasol_in_place { void *at; } zimgasol_in_place;
 typedef struct zimgasol_session { void *at; } zimgasol_session;
 typedef struct zimgasol_sender { void *at; } zimgasol_sender;
 
@@ -102,7 +108,7 @@ typedef struct zimgasol_sender { void *at; } zimgasol_sender;
  * and 5 *entry is the number of the block, from 0. The blocks stay the caller's. */
 uint32_t zimgasol_table_new(zimgasol_table *table, uint64_t page_size, const zimgasol_block *blocks, size_t count, size_t *entry);
 
-/* Frees it. Senders that were made of it keep their own copy. */
+/* Frees it. Senders and loads that were made of it keep their own copy. */
 void zimgasol_table_free(zimgasol_table *table);
 
 /* ---- a loader of one stream, which is fed in pieces and loads into memory of its own */
@@ -116,7 +122,7 @@ uint32_t zimgasol_loader_new(zimgasol_loader *loader, uint64_t page_size, uint64
  * fed again; WAITS, where it was taken and zimgasol_loader_settle tries again; IS_OVER after zimgasol_loader_end; TOO_LONG. */
 uint32_t zimgasol_loader_feed(zimgasol_loader *loader, const uint8_t *piece, size_t len);
 
-/* Puts the sections that wait for want of memory into the memory. Answers DONE, also where none waits, or NO_MEMORY. */
+/* Puts the sections that wait for a refused allocation into the memory. Answers DONE, also where none waits, or NO_MEMORY. */
 uint32_t zimgasol_loader_settle(zimgasol_loader *loader);
 
 /* The stream is over: no piece is fed from now on. */
@@ -140,6 +146,54 @@ uint32_t zimgasol_loader_page(zimgasol_loader *loader, size_t block, uint64_t nu
 
 /* Frees it, with the memory that it loaded. */
 void zimgasol_loader_free(zimgasol_loader *loader);
+
+/* ---- a load of one stream into the caller's own blocks, as the memory of a machine that is to run the guest
+ *
+ * The caller has a buffer for each block of a table, with the block's pages one after another. The load is fed in pieces, and keeps the pages of
+ * the sections that are whole: they are due until they are put, in the order of the stream, section by section. So each piece is followed by
+ *
+ *     while (zimgasol_in_place_next(&load, &block) == ZIMGASOL_IS_DUE)
+ *         if (zimgasol_in_place_put(&load, block, buffers[block], lengths[block]) != ZIMGASOL_DONE) return 1;
+ *
+ * and where no page is due the blocks have all whole sections, on top of what they held at first, and nothing else of the stream. That holds where
+ * each block's bytes are handed in as the call before left them. Blocks share no byte with each other, and nobody reads or writes one while a call
+ * has it: the guest doesn't run yet. A page is copied once, from what was kept into its block. A page of zeros is compared, and isn't written where
+ * the block has zeros already, so that fresh pages of private anonymous memory take none of the system's.
+ *
+ * The stream is to have the table's blocks, the same in the same order: of another one no page is due, and the verdict is OTHER_TABLE. */
+
+/* Makes a load into blocks of a table, of which it keeps a copy. A stream whose blocks have more than `limit` bytes together is refused (fault 20),
+ * so it is to be at least what the table's have, which nothing checks. Answers DONE, BAD_LIMIT or NO_MEMORY. */
+uint32_t zimgasol_in_place_new(zimgasol_in_place *in_place, zimgasol_table *table, uint64_t limit);
+
+/* Takes the next piece of the stream, of any length, also where pages are due: those of the sections that it makes whole are due behind them. Each
+ * piece that is fed meanwhile takes memory until they are put. The piece may go afterwards. Answers DONE, also behind the end byte or a fault of the
+ * stream's own (11 to 34), where bytes are only counted; NO_MEMORY, where nothing has changed and the piece can be fed again; IS_OVER after
+ * zimgasol_in_place_end; TOO_LONG. A stream of another table is read on and kept in part, so there is no use in feeding it any more. */
+uint32_t zimgasol_in_place_feed(zimgasol_in_place *in_place, const uint8_t *piece, size_t len);
+
+/* Answers IS_DUE where pages are due, and then *block is the number of the block that the first ones are of; DONE where none is, and *block stays. */
+uint32_t zimgasol_in_place_next(zimgasol_in_place *in_place, size_t *block);
+
+/* Writes the pages of one section that are due first, as long as they are of this block, into its bytes, whose length `len` is its pages' together;
+ * the other bytes stay. Then they aren't due any more. More may be due then, of this block too, so it is called until zimgasol_in_place_next tells
+ * that none is. Answers DONE; NO_PAGE, where there is no such block; OUT_OF_TURN, where no page is due or the first one is of another block; or
+ * BAD_LENGTH. It takes no memory. */
+uint32_t zimgasol_in_place_put(zimgasol_in_place *in_place, size_t block, uint8_t *bytes, size_t len);
+
+/* The stream is over: no piece is fed from now on. Pages that are due can still be put. Once more changes nothing. */
+void zimgasol_in_place_end(zimgasol_in_place *in_place);
+
+/* The verdict on the stream so far, as if it were over, whether zimgasol_in_place_end was called or not: DONE where its end byte was read, else the
+ * number of its first fault, which is 34 where it is whole so far; IS_DUE while pages are due. *found has the same number, with where it is: all
+ * zeros with DONE, and with IS_DUE the round that zimgasol_in_place_rounds answers. */
+uint32_t zimgasol_in_place_fault(zimgasol_in_place *in_place, zimgasol_fault *found);
+
+/* How many sections are whole in the blocks. START and END count, too. */
+uint64_t zimgasol_in_place_rounds(zimgasol_in_place *in_place);
+
+/* Frees it, with the pages that are due. The blocks stay the caller's. */
+void zimgasol_in_place_free(zimgasol_in_place *in_place);
 
 /* ---- a load of several channels: a main stream and its channels, which are fed in pieces and in any order */
 

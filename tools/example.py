@@ -3,8 +3,8 @@
 
 The worked examples of crates/mig_rows/data (`load.txt` and `several.txt`) are asked of the library through C: each text that the library's own
 program reads there is made here byte by byte or by the sender behind the header, fed in pieces of several lengths, and its answer has to be the
-one that stands beside it, every prefix and every fault of them. Then the two example programs send and load files of memory, and a program has
-each allocation refused in turn. All but the examples as data run under valgrind too, where it is there.
+one that stands beside it, every prefix and every fault of them; and so has that of a load into blocks of our own. Then the example programs send
+and load files of memory, and a program has each allocation refused in turn. All but the examples as data run under valgrind too, where it is there.
 """
 
 import ctypes
@@ -23,7 +23,7 @@ FLAGS = ["-std=c11", "-O1", "-g", "-Wall", "-Wextra", "-Werror", f"-I{TOP}/inclu
 CUTS = (0, 1, 7, 100, 4096)
 DATA = TOP / "crates/mig_rows/data"
 LIMIT = 1 << 40
-RUNNING, WAITS = 100, 111
+IS_DUE = 112
 
 CC = os.environ.get("CC", "cc")
 VALGRIND = ["valgrind", "-q", "--error-exitcode=99", "--leak-check=full", "--errors-for-leak-kinds=all"] if shutil.which("valgrind") else None
@@ -52,9 +52,9 @@ class Library:
         self.calls = ctypes.CDLL(str(shared))
         for name in ("sender_drain", "loader_blocks", "session_blocks"):
             getattr(self.calls, "zimgasol_" + name).restype = ctypes.c_size_t
-        for name in ("loader_rounds", "session_rounds"):
+        for name in ("loader_rounds", "in_place_rounds", "session_rounds"):
             getattr(self.calls, "zimgasol_" + name).restype = ctypes.c_uint64
-        for name in ("table_new", "sender_new", "hello", "put_packet"):
+        for name in ("table_new", "sender_new", "in_place_new", "in_place_next", "in_place_put", "hello", "put_packet"):
             getattr(self.calls, "zimgasol_" + name).restype = ctypes.c_uint32
 
     def call(self, name, *arguments):
@@ -64,6 +64,17 @@ class Library:
         status = self.call(name, *arguments)
         if status != 0:
             raise RuntimeError(f"{name}: {status}")
+
+    def table(self, page_size, named):
+        """The table of some blocks, each a number of pages and an id."""
+        blocks = (Block * (len(named) + 1))()
+        for block, (pages, name) in zip(blocks, named):
+            block.pages = pages
+            for i, byte in enumerate(name):
+                block.id[i] = byte
+        table, entry = ctypes.c_void_p(), size(0)
+        self.done("table_new", ctypes.byref(table), u64(page_size), blocks, size(len(named)), ctypes.byref(entry))
+        return table
 
 
 def u64(number):
@@ -123,13 +134,7 @@ class Texts:
     def sent(self, guest):
         """A single stream of the guest's rounds, by the sender."""
         library = self.library
-        blocks = (Block * (len(guest.blocks) + 1))()
-        for block, (pages, name) in zip(blocks, guest.blocks):
-            block.pages = pages
-            for i, byte in enumerate(name):
-                block.id[i] = byte
-        table, sender, entry, text = ctypes.c_void_p(), ctypes.c_void_p(), size(0), b""
-        library.done("table_new", ctypes.byref(table), u64(guest.page), blocks, size(len(guest.blocks)), ctypes.byref(entry))
+        table, sender, text = library.table(guest.page, guest.blocks), ctypes.c_void_p(), b""
         library.done("sender_new", ctypes.byref(sender), ctypes.byref(table))
         buffer = ctypes.create_string_buffer(1000)
 
@@ -252,33 +257,40 @@ class Asked:
     def done(self, name, *arguments):
         self.library.done(f"{self.kind}_{name}", ctypes.byref(self.handle), *arguments)
 
-    def memory(self, page_size):
-        count = self.call("blocks")
-        if count == 0:
-            return "none"
-        told, buffer, block = [], ctypes.create_string_buffer(page_size), Block()
-        for i in range(count):
+    def table(self):
+        """The blocks that the stream brought: of each how many pages, and its id."""
+        named, block = [], Block()
+        for i in range(self.call("blocks")):
             self.done("block", size(i), ctypes.byref(block))
-            for number in range(block.pages):
+            named.append((block.pages, bytes(block.id).partition(b"\0")[0]))
+        return named
+
+    def pages(self, page_size):
+        buffer = ctypes.create_string_buffer(page_size)
+        for i, (pages, _) in enumerate(self.table()):
+            for number in range(pages):
                 self.done("page", size(i), u64(number), buffer, size(page_size))
-                if any(buffer.raw):
-                    told.append((i, number, runs_of(buffer.raw)))
-        lines = []
-        while told:
-            block_number, first, content = told.pop(0)
-            last = first
-            while told and told[0] == (block_number, last + 1, content):
-                last = told.pop(0)[1]
-            place = f"{block_number}.{first}" + (f"-{last}" if last > first else "")
-            lines.append(f"{place}={content}")
-        return "; ".join(lines) or "zeros"
+                yield i, number, buffer.raw
 
     def answer(self, page_size):
-        fault = Fault()
+        """What is told, and the blocks."""
+        fault, table = Fault(), self.table()
         self.call("fault" if self.kind == "loader" else "verdict", ctypes.byref(fault))
-        told = f"{verdict_name(fault)}; rounds {self.call('rounds')}; {self.memory(page_size)}"
+        told = f"{verdict_name(fault)}; rounds {self.call('rounds')}; {memory_name(self.pages(page_size)) if table else 'none'}"
         self.call("free")
-        return told
+        return told, table
+
+
+def memory_name(pages):
+    """What pages hold that aren't zeros: each is a block, a number and a content."""
+    told, lines = [(block, number, runs_of(content)) for block, number, content in pages if any(content)], []
+    while told:
+        block, first, content = told.pop(0)
+        last = first
+        while told and told[0] == (block, last + 1, content):
+            last = told.pop(0)[1]
+        lines.append(f"{block}.{first}" + (f"-{last}" if last > first else "") + f"={content}")
+    return "; ".join(lines) or "zeros"
 
 
 def pieces(text, cut):
@@ -292,6 +304,26 @@ def load_single(library, page_size, limit, text, cut):
         asked.done("feed", piece, size(len(piece)))
     asked.call("end")
     return asked.answer(page_size)
+
+
+def load_in_place(library, page_size, limit, named, text, cut):
+    """A load into blocks of our own, which are zeros at first: what is told of it."""
+    table, load, block, fault = library.table(page_size, named), ctypes.c_void_p(), size(0), Fault()
+    library.done("in_place_new", ctypes.byref(load), ctypes.byref(table), u64(limit))
+    library.call("table_free", ctypes.byref(table))
+    buffers = [ctypes.create_string_buffer(pages * page_size) for pages, _ in named]
+    for piece in pieces(text, cut):
+        library.done("in_place_feed", ctypes.byref(load), piece, size(len(piece)))
+        while library.call("in_place_next", ctypes.byref(load), ctypes.byref(block)) == IS_DUE:
+            buffer = buffers[block.value]
+            library.done("in_place_put", ctypes.byref(load), block, buffer, size(len(buffer)))
+    library.call("in_place_end", ctypes.byref(load))
+    library.call("in_place_fault", ctypes.byref(load), ctypes.byref(fault))
+    rounds = library.call("in_place_rounds", ctypes.byref(load))
+    library.call("in_place_free", ctypes.byref(load))
+    page = slice(page_size)
+    pages = ((i, n, buffer.raw[n * page_size:][page]) for i, buffer in enumerate(buffers) for n in range(len(buffer) // page_size))
+    return f"{verdict_name(fault)}; rounds {rounds}; {memory_name(pages)}"
 
 
 def load_multi(library, page_size, limit, texts, cut):
@@ -380,6 +412,17 @@ class Rows:
             self.wrong += 1
             print(f"{name}: {question}: {got}, not {wanted}")
 
+    def single(self, name, question, case, text, cut, wanted):
+        """A load of one stream, by a loader, into blocks like those that it brings, and into others."""
+        page_size = case.guest.page
+        told, table = load_single(self.library, page_size, case.limit, text, cut)
+        self.want(name, question, told, wanted)
+        into = load_in_place(self.library, page_size, case.limit, table or [(1, b"other")], text, cut)
+        self.want(name, f"{question}, in place", into, wanted if table else re.sub("none$", "zeros", wanted))
+        if table:
+            into = load_in_place(self.library, page_size, case.limit, table + [(1, b"other")], text, cut)
+            self.want(name, f"{question}, in place of others", into, "fault 63 round 0 in main; rounds 0; zeros")
+
     def ask(self, name, case, question, wanted):
         text = case.texts[-1] if case.texts else b""
         if question == "length":
@@ -388,14 +431,14 @@ class Rows:
             self.want(name, question, text.hex(), hexadecimal(wanted.split()).hex())
         elif question == "load_single":
             for cut in CUTS:
-                self.want(name, f"{question} in pieces of {cut}", load_single(self.library, case.guest.page, case.limit, text, cut), wanted)
+                self.single(name, f"{question} in pieces of {cut}", case, text, cut, wanted)
         elif question == "load_multi":
             for cut in CUTS[:1] + CUTS[2:]:
-                self.want(name, f"{question} in pieces of {cut}", load_multi(self.library, case.guest.page, case.limit, case.texts, cut), wanted)
+                self.want(name, f"{question} in pieces of {cut}", load_multi(self.library, case.guest.page, case.limit, case.texts, cut)[0], wanted)
         elif question.startswith("each ") and question.endswith("load_single"):
             _, first, last, _ = question.split()
             for length in range(int(first), int(last) + 1):
-                self.want(name, f"{length} bytes", load_single(self.library, case.guest.page, case.limit, text[:length], length // 2), wanted)
+                self.single(name, f"{length} bytes", case, text[:length], length // 2, wanted)
         else:
             self.skipped += 1
 
@@ -448,7 +491,7 @@ def memory_file(name, page_size, pages):
 
 
 def send_and_load(before):
-    """The two example programs, one behind the other."""
+    """The example programs: a file of memory is sent, and loaded both ways."""
     cases = 0
     for page_size, pages, most in ((4096, 1, 256), (4096, 300, 256), (4096, 30, 1), (8192, 40, 7)):
         content = memory_file("memory", page_size, pages)
@@ -461,6 +504,11 @@ def send_and_load(before):
                     wanted=f"single {stream.stat().st_size} sections {sections}")
             if (OUT / "loaded").read_bytes().rstrip(b"\0") != content.rstrip(b"\0") or (OUT / "loaded").stat().st_size != pages * page_size:
                 sys.exit("the memory that was loaded isn't the one that was sent")
+            with stream.open("rb") as file:
+                run(*before, OUT / "in_place", "-p", page_size, "-c", cut, "-o", OUT / "placed", f"pc.ram={pages}", stdin=file,
+                    wanted=f"single {stream.stat().st_size} sections {sections}")
+            if (OUT / "placed").read_bytes() != (OUT / "loaded").read_bytes():
+                sys.exit("the blocks aren't the memory that was sent")
             cases += 1
     return cases
 
@@ -474,19 +522,27 @@ def stored_scenario(before, rows):
         case.build(word, words)
     stream.write_bytes(rows.made.sent(case.guest))
     wanted = (TOP / "crates/mig_tool/stdout").read_text().splitlines()[0]
+    blocks = [f"{name.decode()}={pages}" for pages, name in case.guest.blocks]
     for cut in (1, 7, 100, 4096, 9000):
         with stream.open("rb") as file:
             run(*before, OUT / "load", "-c", cut, stdin=file, wanted=wanted)
+        with stream.open("rb") as file:
+            run(*before, OUT / "in_place", "-c", cut, *blocks, stdin=file, wanted=wanted)
     for change, told in ((b"\0" + stream.read_bytes()[1:], "fault 11 round 0"), (stream.read_bytes()[:-1], "fault 34 round 3"), (b"", "fault 34 round 0")):
         (OUT / "hostile").write_bytes(change)
         with (OUT / "hostile").open("rb") as file:
             run(*before, OUT / "load", stdin=file, wanted=told, status=1)
+        with (OUT / "hostile").open("rb") as file:
+            run(*before, OUT / "in_place", *blocks, stdin=file, wanted=told, status=1)
+    with stream.open("rb") as file:
+        run(*before, OUT / "in_place", "other=1", stdin=file, wanted="fault 63 round 0", status=1)
 
 
 def main():
     if not LIBRARY.exists():
         sys.exit("out/libzimgasol.a isn't there: make lib")
     build("load", "examples/c/load.c")
+    build("in_place", "examples/c/in_place.c")
     build("send", "examples/c/send.c")
     build("refused", "examples/c/tests/refused.c", "-Wl,--wrap=malloc,--wrap=realloc,--wrap=free")
     rows = Rows(Library())
@@ -498,7 +554,7 @@ def main():
         stored_scenario(before, rows)
         print(f"the stored scenario's stream, and three hostile ones: as the tool{under}")
         print(f"files of memory sent and loaded: {send_and_load(before)} as they were{under}")
-        print(run(*before, OUT / "refused", *([0, 12] if before else [])).decode().strip() + under)
+        print(run(*before, OUT / "refused").decode().strip() + under)
     sys.exit(1 if rows.wrong else 0)
 
 

@@ -3,7 +3,7 @@
 
     tools/gate.py edits [CRATE..]  tries the edits that the record doesn't vouch for, and records those that are refused
     tools/gate.py test             `rt ci` in a copy of the tree, without the edits that the record vouches for
-    tools/gate.py gate             `rt ci` with all edits; where it passes, the record vouches for all
+    tools/gate.py gate             `rt ci --anew`, with all edits; where it passes, the record vouches for all
     tools/gate.py stale            counts the edits that `test` would try, by crates
 
 An edit plants a bug in a crate, and the prover has to refuse it. What it says depends on the edit, on the crate's own text, on what the
@@ -196,7 +196,7 @@ def test():
 
 def gate():
     now = keys()
-    status = subprocess.run(["rt", "ci"], cwd=TOP).returncode
+    status = subprocess.run(["rt", "ci", "--anew"], cwd=TOP).returncode
     if not status:
         # (a text that changed meanwhile isn't the one that was tried)
         then = keys()

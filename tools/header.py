@@ -14,6 +14,7 @@ PLAIN = {"u8": "uint8_t", "u32": "uint32_t", "u64": "uint64_t", "usize": "size_t
 STRUCTS = {
     "TableHandle": "zimgasol_table",
     "LoaderHandle": "zimgasol_loader",
+    "InPlaceHandle": "zimgasol_in_place",
     "SessionHandle": "zimgasol_session",
     "SenderHandle": "zimgasol_sender",
     "NamedBlock": "zimgasol_block",

@@ -1,4 +1,4 @@
-//! Looking for places that a round brings twice, by marking each that it brings. The marks are taken away one by one, so that a small
+//! Looking for places that a round brings twice, for `judge`, by marking each that it brings. The marks are taken away one by one, so a small
 //! round costs little, however large the table is.
 
 ghost use Rattle.std.specs.Prelude.{◌≡◌, ◌<◌, ◌∷◌, [], map, length, All, None, false};

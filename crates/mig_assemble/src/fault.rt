@@ -1,4 +1,4 @@
-//! Why a round was refused: names and numbers.
+//! Why `Target::round` refuses a round, by name and number.
 
 ghost use Rattle.std.specs.Prelude.{◌≡◌};
 ghost use Rattle.mig_assemble.specs.RoundFaultNumber.{fault_number};
@@ -23,7 +23,7 @@ pub enum RoundFault {
     Offset(u64, usize),
     /// The least place that comes twice, among the page records and the packets' pages together.
     DoublePage(Place),
-    /// A growth was refused.
+    /// An allocation was refused.
     NoMemory,
 }
 

@@ -1,4 +1,4 @@
-//! The packets of one round, gathered from the channels.
+//! The packets of one round, gathered from the channels in any order by the loads of `mig_load`, for `Target::round`.
 
 ghost use Rattle.std.specs.Prelude.{◌≡◌, ◌++◌, [], ◌∷◌, length, OnOk, OnErr};
 

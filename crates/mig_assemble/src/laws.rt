@@ -4,7 +4,7 @@
 
 ghost use Rattle.mig_assemble.specs.Law.{RoundIsLawful, PacketsComeInAnyOrder, LawfulRoundsLieInTheTable};
 
-/// A round is refused for no reason exactly where it is lawful. So `Target::round` refuses a lawful one for want of memory alone.
+/// A round is refused for no reason exactly where it is lawful. So `Target::round` refuses a lawful one with `NoMemory` alone.
 pub fn round_is_lawful()
     ensures { RoundIsLawful }
 {}

@@ -22,4 +22,5 @@ mod target;
 pub use fault::RoundFault;
 pub use gathered::Gathered;
 pub use laws::{lawful_rounds_lie_in_the_table, packets_come_in_any_order, round_is_lawful};
+pub use put::put_records;
 pub use target::Target;

@@ -1,4 +1,4 @@
-//! Judging the numbers of a round's packets.
+//! Judging the numbers of a round's packets, for `judge`.
 
 ghost use Rattle.std.specs.Prelude.{◌≡◌, ◌+◌, ◌≤◌, ◌^◌, map, length, IfOk, IsPermutation};
 ghost use Rattle.mig_packet.specs.Lent.{fields};

@@ -1,4 +1,4 @@
-//! Judging where the pages of a round's packets lie.
+//! Judging where the pages of a round's packets lie, for `judge`; `doubles` takes from it where a page lies.
 
 ghost use Rattle.std.specs.Prelude.{◌≡◌, ◌<◌, ◌++◌, ◌∷◌, [], List, map, length, slice_index, position, All, IfSome};
 ghost use Rattle.std.specs.Option.{option_map};

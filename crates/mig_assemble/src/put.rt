@@ -1,4 +1,4 @@
-//! Writing pages into a memory, each over what was there. It takes no memory and can't fail: whoever calls has judged.
+//! Writing pages into a memory, each over what was there, for `Target`. It allocates nothing and can't fail: whoever calls has judged.
 
 ghost use Rattle.std.specs.Prelude.{◌≡◌, None, All, map, length, IfSome};
 ghost use Rattle.std.specs.Option.{option_copied, unwrap_or};
@@ -16,8 +16,9 @@ use mig_packet::Packet;
 use mig_stream::StreamRound;
 use std::alloc::Allocator;
 
-/// Writes the pages of a round's records, in their order.
-pub(crate) fn put_records<M: GuestTarget, B: Allocator>(memory: &mut M, round: &StreamRound<B>)
+/// Puts a round of page records into a memory, in the order of the text, as `Target::section` does. It counts nothing: it is for a load
+/// whose memory is handed to each call. The round is of that memory, as `Target::fits` tests it.
+pub fn put_records<M: GuestTarget, B: Allocator>(memory: &mut M, round: &StreamRound<B>)
     requires { Fits (M.image memory.old).table round.now }
     ensures { M.image memory.new ≡ with_round (M.image memory.old) (pages_of_round round.now) }
 {
@@ -25,7 +26,8 @@ pub(crate) fn put_records<M: GuestTarget, B: Allocator>(memory: &mut M, round: &
     let _table = memory.table();
     let count = round.len();
     for i in 0..count {
-        put_record(memory, round.place(i), round.content(i));
+        let (place, content) = round.record(i);
+        put_record(memory, place, content);
     }
 }
 

@@ -1,4 +1,4 @@
-//! The memory of a guest that is being loaded.
+//! The memory of a guest that is being loaded. Every loader of `mig_load` puts its rounds into one.
 
 ghost use Rattle.std.specs.Prelude.{◌≡◌, ◌+◌, ◌<◌, ◌≤◌, ◌^◌, ◌↔◌, ◌⊎◌, IsTrue, IfOk, IfErr, OnOk, OnErr, None, Some, All, length, map};
 ghost use Rattle.mig_mem.specs.Round.{with_round};
@@ -53,7 +53,7 @@ impl<A: Allocator + Copy> Target<A> {
 
 impl<A: Allocator + Copy, M: GuestTarget> Target<A, M> {
     /// A memory that is there already, with what it holds, without a round. It takes a bit for each page. An `Err` gives the memory
-    /// back: a growth was refused.
+    /// back: an allocation was refused.
     pub fn over(alloc: A, memory: M) -> Result<Target<A, M>, M>
         ensures ok { IfOk result (λ t. t ≡ target_over (M.image memory)) }
         ensures err { IfErr result (λ m. M.image m ≡ M.image memory) }

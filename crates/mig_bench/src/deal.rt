@@ -31,7 +31,7 @@ fn added(word: &AtomicU64, batches: u64) -> usize {
     last as usize
 }
 
-// The number after all draws of a deal; 0 where memory is refused.
+// The number after all draws of a deal; 0 where an allocation is refused.
 fn next_after(alloc: Global, batches: u64) -> usize
     requires { batches ≤ 2 ^ 28 }
 {

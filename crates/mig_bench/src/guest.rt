@@ -1,4 +1,4 @@
-//! The guest that the works send and load.
+//! The guest that the works of all words send and load.
 
 use crate::yardstick::PAGE_SIZE;
 use mig_mem::{Dirty, Memory, PAGE_SIZE_4K, Place, Table};
@@ -12,7 +12,7 @@ pub struct Guest {
 }
 
 impl Guest {
-    /// None where memory is refused, or the guest has no page.
+    /// None where an allocation is refused, or the guest has no page.
     pub fn new(alloc: Global, pages: u64) -> Option<Guest> {
         let table = table(alloc, pages)?;
         let image = Memory::zeroed(alloc, &table).ok()?;

@@ -45,13 +45,13 @@ const CLOSING_LEN: usize = 19;
 /// A FLUSH.
 const FLUSH: [u8; 8] = [0, 0, 0, 0, 0, 0, 0x02, 0];
 
-/// A mark of zeros for the first page of the block named last.
+/// A zero record for the first page of the block named last.
 const CONTINUED_ZEROS: [u8; 9] = [0, 0, 0, 0, 0, 0, 0, 0x22, 0];
 
 /// The last letters of a block's id.
 const DIGITS: [u8; 16] = *b"0123456789abcdef";
 
-/// Where the works take memory, and how many bytes were resident before the first text; None where the system doesn't tell.
+/// Where the works allocate, and how many bytes were resident before the first text; None where the system doesn't tell.
 #[derive(Clone, Copy)]
 struct Meter {
     alloc: Global,
@@ -288,7 +288,7 @@ fn claims_text(alloc: Global) -> Option<Vec<u8>> {
     without_rounds(alloc, &table_of_blocks(alloc, 1 << 20)?)
 }
 
-// A PART of marks of zeros, each of another block than the one before.
+// A PART of zero records, each of another block than the one before.
 fn naming_text(alloc: Global) -> Option<Vec<u8>> {
     let table = table_of_blocks(alloc, 1)?;
     let records = naming_records(alloc)?;
@@ -302,7 +302,7 @@ fn flushes_text(alloc: Global) -> Option<Vec<u8>> {
     with_part(alloc, &table, &records)
 }
 
-// A PART of rounds that have a mark of zeros each.
+// A PART of rounds that have a zero record each.
 fn small_rounds_text(alloc: Global) -> Option<Vec<u8>> {
     let table = table_of_blocks(alloc, 1)?;
     let records = small_rounds(alloc)?;
@@ -341,7 +341,7 @@ fn naming_records(alloc: Global) -> Option<Vec<u8>> {
     Some(records)
 }
 
-// The mark of zeros of the first page of a block of that table, by its id.
+// The zero record of the first page of a block of that table, by its id.
 fn naming_record(block: usize) -> [u8; 13] {
     let [first, second, third] = id_of(block);
     [0, 0, 0, 0, 0, 0, 0, 0x02, 3, first, second, third, 0]
@@ -355,7 +355,7 @@ fn flush_records(alloc: Global) -> Option<Vec<u8>> {
     Some(records)
 }
 
-// Marks of zeros, and after each of them a FLUSH.
+// Zero records, and after each of them a FLUSH.
 fn small_rounds(alloc: Global) -> Option<Vec<u8>> {
     let mut records = Vec::from_slice(alloc, &naming_record(0)).ok()?;
     for _ in 0..SMALL_ROUNDS {

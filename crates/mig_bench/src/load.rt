@@ -49,7 +49,7 @@ fn report_sending(
     report(rt, name, "bytes sent", copies, || sent_len(alloc, guest))
 }
 
-// The length of the stream of one round; 0 where memory is refused.
+// The length of the stream of one round; 0 where an allocation is refused.
 fn sent_len(alloc: Global, guest: &Guest) -> usize {
     match sent(alloc, guest) {
         Some(text) => text.len(),
@@ -81,7 +81,7 @@ fn report_loading(
     )
 }
 
-// The stream of one round; None where memory is refused.
+// The stream of one round; None where an allocation is refused.
 fn sent(alloc: Global, guest: &Guest) -> Option<Vec<u8>> {
     let mut sender = SingleSender::new(alloc, guest.image.table()).ok()?;
     sender.round(&guest.image, &guest.dirty).ok()?;

@@ -110,7 +110,7 @@ impl<R: Clock> Gate for Watch<'_, R> {
     }
 }
 
-// Sends a round of all pages. Gives after how many nanoseconds all packets were made; None where memory is refused.
+// Sends a round of all pages. Gives after how many nanoseconds all packets were made; None where an allocation is refused.
 fn packing<R: Clock + Threads + Sync>(
     rt: &R,
     sender: &mut MultiSender,
@@ -125,7 +125,7 @@ fn packing<R: Clock + Threads + Sync>(
     Some(watch.nanos.load(Ordering::SeqCst))
 }
 
-// The length of the channels' texts of one round; 0 where memory is refused. Lowers the time of its packets to this one's.
+// The length of the channels' texts of one round; 0 where an allocation is refused. Lowers the time of its packets to this one's.
 fn sent_len<R: Clock + Threads + Sync>(
     rt: &R,
     alloc: Global,
@@ -164,7 +164,7 @@ struct Kept {
 }
 
 impl Kept {
-    // None where memory is refused.
+    // None where an allocation is refused.
     fn new(alloc: Global, guest: &Guest, channels: usize) -> Option<Kept> {
         let mut texts = Vec::new(alloc);
         for _ in 0..channels {
@@ -178,7 +178,7 @@ impl Kept {
         })
     }
 
-    // Sends a round, and drains all of it. Gives the length of the channels' texts; 0 where memory is refused.
+    // Sends a round, and drains all of it. Gives the length of the channels' texts; 0 where an allocation is refused.
     fn drained_len<R: Clock + Threads + Sync>(&mut self, rt: &R, guest: &Guest) -> usize {
         let Some(nanos) = packing(rt, &mut self.sender, guest) else {
             return 0;

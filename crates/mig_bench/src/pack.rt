@@ -55,7 +55,7 @@ fn report_guest(
     Ok(())
 }
 
-// The number of batches; 0 where memory is refused.
+// The number of batches; 0 where an allocation is refused.
 fn batches_in(alloc: Global, guest: &Guest) -> usize {
     match batches(alloc, guest) {
         Some(batches) => batches.len(),
@@ -63,7 +63,7 @@ fn batches_in(alloc: Global, guest: &Guest) -> usize {
     }
 }
 
-// The length of all packets of the round; 0 where memory is refused.
+// The length of all packets of the round; 0 where an allocation is refused.
 fn packed_len(alloc: Global, guest: &Guest) -> usize {
     match batches(alloc, guest) {
         Some(batches) => packets_len(alloc, &guest.image, &batches),
@@ -71,7 +71,7 @@ fn packed_len(alloc: Global, guest: &Guest) -> usize {
     }
 }
 
-// The batches of the round; None where memory is refused.
+// The batches of the round; None where an allocation is refused.
 fn batches(alloc: Global, guest: &Guest) -> Option<Vec<Batch>>
     ensures { IfSome result (λ v. All (IsBatch guest.now.image.table) v.items) }
 {
@@ -82,7 +82,7 @@ fn batches(alloc: Global, guest: &Guest) -> Option<Vec<Batch>>
     cut(alloc, table, &guest.dirty, LIMIT).ok()
 }
 
-// The length of the packets of these batches; 0 where memory is refused.
+// The length of the packets of these batches; 0 where an allocation is refused.
 fn packets_len(alloc: Global, image: &Memory, batches: &[Batch]) -> usize
     requires { All (IsBatch image.now.table) batches.now }
 {

@@ -41,7 +41,7 @@ fn report_writing(
     )
 }
 
-// The length of the text of these pages; 0 where memory is refused.
+// The length of the text of these pages; 0 where an allocation is refused.
 fn written_len(text: &mut Vec<u8>, contents: &[u8]) -> usize {
     let mut offsets = [0u64; PAGES];
     for (i, offset) in offsets.iter_mut().enumerate() {

@@ -27,7 +27,7 @@ const LAST_OFFSET: usize = 320 + 8 * (PAGES - 1);
 pub enum Carried {
     /// With their contents.
     Normal,
-    /// As marks of zeros.
+    /// As zero pages.
     Zero,
 }
 
@@ -138,7 +138,7 @@ fn first_round(alloc: Global, text: &[u8]) -> Option<StreamRound<'static>> {
     reader.take_round().ok()?
 }
 
-// The text of packets of all pages of the block, each full of ones or a mark of zeros, 128 in each packet.
+// The text of packets of all pages of the block, each full of ones or a zero page, 128 in each packet.
 fn packets(alloc: Global, pages: u64, carried: Carried) -> Option<Vec<u8>> {
     let ones = vec![in alloc; 1u8; PAGES * PAGE_SIZE].ok()?;
     let mut text = Vec::new(alloc);

@@ -8,12 +8,12 @@ use std::alloc::Global;
 use std::thread::Threads;
 use uuid::Uuid;
 
-/// A sender of no round yet; None where memory is refused.
+/// A sender of no round yet; None where an allocation is refused.
 pub fn sender(alloc: Global, guest: &Guest, channels: usize) -> Option<MultiSender> {
     MultiSender::new(alloc, guest.image.table(), Uuid::nil(), channels, LIMIT).ok()
 }
 
-/// Sends a round of all pages; None where memory is refused.
+/// Sends a round of all pages; None where an allocation is refused.
 pub fn send<R: Threads + Sync, G: Gate + Sync>(
     rt: &R,
     sender: &mut MultiSender,
@@ -23,7 +23,7 @@ pub fn send<R: Threads + Sync, G: Gate + Sync>(
     sender.round(rt, &guest.image, &guest.dirty, gate).ok()
 }
 
-/// The texts of one round of all pages; None where memory is refused.
+/// The texts of one round of all pages; None where an allocation is refused.
 pub fn sent<R: Threads + Sync>(
     rt: &R,
     alloc: Global,

@@ -41,7 +41,7 @@ fn has_source(channels: usize, source: Source) -> bool
 }
 
 impl Feeding {
-    // None where memory is refused, or no session has so many channels.
+    // None where an allocation is refused, or no session has so many channels.
     fn new(alloc: Global, channels: usize) -> Option<Feeding> {
         if channels == 0 || channels > 255 {
             return None;
@@ -50,7 +50,7 @@ impl Feeding {
         Some(Feeding { session, channels })
     }
 
-    // Feeds a piece; None where memory is refused, or the source is over.
+    // Feeds a piece; None where an allocation is refused, or the source is over.
     fn feed(&mut self, source: Source, piece: &[u8]) -> Option<()> {
         if !has_source(self.channels, source)
             || self.session.ended(source)
@@ -69,7 +69,7 @@ impl Feeding {
     }
 }
 
-/// A session that was fed the main stream and then pieces of the channels in turn, all of which are over; None where memory is refused.
+/// A session that was fed the main stream and then pieces of the channels in turn, all of which are over; None where an allocation is refused.
 pub fn fed(alloc: Global, texts: &Sent) -> Option<Session> {
     let mut feeding = Feeding::new(alloc, texts.channels.len())?;
     feeding.feed(Source::Main, &texts.main)?;

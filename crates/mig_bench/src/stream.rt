@@ -79,7 +79,7 @@ fn report_pieces(
     )
 }
 
-// The number of records in the rounds of a stream that is fed in pieces; 0 where memory is refused.
+// The number of records in the rounds of a stream that is fed in pieces; 0 where an allocation is refused.
 fn records_in(alloc: Global, text: &[u8], len: usize) -> usize
     requires { 0 < len }
 {
@@ -115,7 +115,7 @@ fn take_records(reader: &mut StreamReader) -> usize {
     records
 }
 
-// The stream of one round; None where memory is refused.
+// The stream of one round; None where an allocation is refused.
 fn written(alloc: Global, guest: &Guest) -> Option<Vec<u8>> {
     let mut writer = StreamWriter::new(alloc, guest.image.table()).ok()?;
     if !guest.dirty.table().same(writer.table()) {

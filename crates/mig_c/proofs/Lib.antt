@@ -1,4 +1,4 @@
 pub mod Values
 pub mod Handles
 pub mod Sends
-pub mod Feeds
+pub mod HeldBlocks

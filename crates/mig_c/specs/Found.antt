@@ -14,7 +14,7 @@ use Rattle.mig_load.specs.declared.fault.Origin.TheVariants as origin
 use Rattle.mig_load.specs.declared.verdict.Verdict.{Verdict}
 use Rattle.mig_load.specs.declared.verdict.Verdict.TheVariants as verdict
 use Rattle.mig_c.specs.declared.fault.FoundFault.{FoundFault}
-use Rattle.mig_c.specs.Status.{done, running}
+use Rattle.mig_c.specs.Status.{done, running, is_due}
 
 -- where it was found: 0 is the main stream, 1 + j channel j, and the largest number the round, which is in no one text
 abbrev pub source_number : Origin → ℕ
@@ -57,9 +57,13 @@ found_of f = record {
 abbrev pub no_fault : FoundFault
 no_fault = record { round = 0; source = 0; number = done; first = 0; second = 0 }
 
--- and this where the load goes on, behind so many rounds.
+-- this where the load goes on, behind so many rounds,
 abbrev pub goes_on : ℕ → FoundFault
 goes_on rounds = record { round = rounds; source = 0; number = running; first = 0; second = 0 }
+
+-- and this where pages of the next round are due.
+abbrev pub has_due : ℕ → FoundFault
+has_due rounds = record { round = rounds; source = 0; number = is_due; first = 0; second = 0 }
 
 -- what C sees of the verdict on one stream, and of that on several channels
 abbrev pub seen_of : Result ⊤ LoadFault → FoundFault

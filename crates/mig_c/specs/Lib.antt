@@ -1,4 +1,4 @@
--- To read first: the statuses; what stands behind a handle, and what a call makes of it; then table, loader, session and sender
+-- To read first: the statuses; what stands behind a handle, and what a call makes of it; then table, loader, load in place, session and sender
 pub mod Status
 pub mod Kinds
 pub mod Blocks
@@ -6,6 +6,7 @@ pub mod Tables
 pub mod Found
 pub mod Reading
 pub mod Loading
+pub mod InPlace
 pub mod Sessions
 pub mod Sending
 pub mod Packets

@@ -4,8 +4,8 @@ use Rattle.mig_load.specs.declared.source.Source.{Source}
 use Rattle.mig_load.specs.declared.source.Source.TheVariants as source
 use Rattle.mig_load.specs.declared.verdict.Verdict.TheVariants.{Running}
 use Rattle.mig_load.specs.Texts.{no_texts}
-use Rattle.mig_load.specs.Session.{LoadSession, StandsFor, HasSource, count_of, fed, ended, answer_in, StepsOn, RunsOut, StillLacks}
-use Rattle.mig_load.specs.Advancing.{wants_memory}
+use Rattle.mig_load.specs.Session.{LoadSession, StandsFor, HasSource, count_of, feed_step, end_step, answer_in, StepsOn, RunsOut, StillLacks}
+use Rattle.mig_load.specs.Advancing.{failed_without_memory}
 use Rattle.mig_mem.specs.PageSize.{IsPageSize}
 use Rattle.mig_c.specs.Status.{IsOneOf, done, no_memory, bad_page_size, bad_limit, bad_channels, bad_source, is_over, too_long, bad_length}
 
@@ -29,9 +29,9 @@ pub record OpensSession (page_size : ℕ) (uuid : List ℕ) (channels limit : �
 -- What `feed` does to a source.
 pub record FeedsSource (from : Source) (piece : List ℕ) (status : ℕ) (old new : LoadSession) : Type 0 where
   pub is_named : IsOneOf (done ∷ no_memory ∷ bad_source ∷ is_over ∷ too_long ∷ []) status
-  pub steps : status ≡ done → StepsOn (fed from piece) old new
-  pub runs_out : status ≡ no_memory → RunsOut (fed from piece) old new × (new.verdict ≡ wants_memory (answer_in new).rounds)
-  pub lacks : (status ≡ done) → StillLacks (fed from piece) old new
+  pub steps : status ≡ done → StepsOn (feed_step from piece) old new
+  pub runs_out : status ≡ no_memory → RunsOut (feed_step from piece) old new × (new.verdict ≡ failed_without_memory (answer_in new).rounds)
+  pub lacks : (status ≡ done) → StillLacks (feed_step from piece) old new
   pub settled : old.verdict ≢ Running → status ≢ no_memory
   pub same : status ≢ done → status ≢ no_memory → new ≡ old
   pub foreign : status ≡ bad_source → HasSource old.counts from → ⊥
@@ -43,8 +43,8 @@ pub record FeedsSource (from : Source) (piece : List ℕ) (status : ℕ) (old ne
 -- What `end` does to a source.
 pub record EndsSource (from : Source) (status : ℕ) (old new : LoadSession) : Type 0 where
   pub is_named : IsOneOf (done ∷ bad_source ∷ []) status
-  pub steps : status ≡ done → StepsOn (ended from) old new
-  pub lacks : status ≡ done → StillLacks (ended from) old new
+  pub steps : status ≡ done → StepsOn (end_step from) old new
+  pub lacks : status ≡ done → StillLacks (end_step from) old new
   pub same : status ≢ done → new ≡ old
   pub foreign : status ≡ bad_source → HasSource old.counts from → ⊥
   pub has_source : status ≢ bad_source → HasSource old.counts from

@@ -6,7 +6,7 @@ use Rattle.std.specs.List.{list_any}
 abbrev pub done : ℕ
 done = 0
 
--- a growth was refused, and nothing has changed where nothing else is said
+-- an allocation was refused, and nothing has changed where nothing else is said
 abbrev pub no_memory : ℕ
 no_memory = 60
 
@@ -48,7 +48,7 @@ no_page = 107
 abbrev pub bad_length : ℕ
 bad_length = 108
 
--- a call out of turn: a round is open, or none is, or the stream is ended
+-- a call out of turn: a round is open, or none is, or the stream is ended; or no page of the block is due
 abbrev pub out_of_turn : ℕ
 out_of_turn = 109
 
@@ -59,6 +59,10 @@ too_many_pages = 110
 -- the piece was taken, and no memory was found for the guest
 abbrev pub waits : ℕ
 waits = 111
+
+-- pages that came are to be put: no fault
+abbrev pub is_due : ℕ
+is_due = 112
 
 -- ----
 

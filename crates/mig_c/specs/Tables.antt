@@ -16,7 +16,7 @@ IsAt (fault.IdTwice i) entry = entry ≡ i
 IsAt (fault.NoPages i) entry = entry ≡ i
 IsAt _ entry = ⊤
 
--- It is made where nothing is wrong with its blocks, and else the first thing that is wrong is told, or want of memory.
+-- It is made where nothing is wrong with its blocks, and else the first thing that is wrong is told, or `NoMemory`.
 pub record Makes (page_size : ℕ) (blocks : List NamedBlock) (status entry : ℕ) (made : Option RamTable) : Type 0 where
   pub makes : status ≡ done → made ≡ Some (table_of page_size blocks)
   pub is_lawful : status ≡ done → refusal (table_of page_size blocks) ≡ None

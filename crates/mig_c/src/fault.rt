@@ -1,9 +1,9 @@
 //! A load's fault as C sees it.
 
 ghost use Rattle.std.specs.Prelude.{◌≡◌};
-ghost use Rattle.mig_c.specs.Found.{source_number, carried_of_stream, carried_of_round, carried, found_of, no_fault, goes_on};
+ghost use Rattle.mig_c.specs.Found.{source_number, carried_of_stream, carried_of_round, carried, found_of, no_fault, seen_of, goes_on, has_due};
 
-use crate::status::RUNNING;
+use crate::status::{IS_DUE, RUNNING};
 use mig_assemble::RoundFault;
 use mig_load::{Fault, LoadFault, Origin};
 use mig_packet::ChannelFault;
@@ -103,6 +103,16 @@ pub(crate) fn none() -> FoundFault
     NONE
 }
 
+/// The verdict on one stream as C sees it.
+pub(crate) fn of_verdict(verdict: Result<(), LoadFault>) -> FoundFault
+    ensures { result ≡ seen_of verdict }
+{
+    match verdict {
+        Ok(()) => none(),
+        Err(fault) => found(fault),
+    }
+}
+
 /// No fault: the load goes on behind so many rounds.
 pub(crate) fn running(rounds: u64) -> FoundFault
     ensures { result ≡ goes_on rounds }
@@ -110,6 +120,17 @@ pub(crate) fn running(rounds: u64) -> FoundFault
     FoundFault {
         round: rounds,
         number: RUNNING,
+        ..NONE
+    }
+}
+
+/// No fault: pages are due of the round behind so many.
+pub(crate) fn due(rounds: u64) -> FoundFault
+    ensures { result ≡ has_due rounds }
+{
+    FoundFault {
+        round: rounds,
+        number: IS_DUE,
         ..NONE
     }
 }

@@ -102,6 +102,14 @@ pub struct LoaderHandle {
     pub handle: Handle,
 }
 
+/// A load of one stream into blocks of C, or none.
+#[repr(C)]
+#[derive(Drop)]
+pub struct InPlaceHandle {
+    /// What is behind it.
+    pub handle: Handle,
+}
+
 /// A load of several channels, or none.
 #[repr(C)]
 #[derive(Drop)]

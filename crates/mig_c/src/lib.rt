@@ -1,4 +1,5 @@
-//! The library for callers in C: senders and loaders of one stream, sessions of several channels that are fed in pieces, hellos and packets.
+//! The library for callers in C: senders and loaders of one stream, also into blocks of C, sessions of several channels that are fed in pieces,
+//! hellos and packets.
 //! Its header is `include/zimgasol.h`, which tells the calls one by one.
 //!
 //! C holds what it works on by a handle (`handle`), which owns an object in a box (`object`), and hands it to each call. A call asks of
@@ -10,13 +11,16 @@
 mod block;
 mod fault;
 mod handle;
+mod held;
+mod in_place;
 mod loader;
 mod loose;
 mod object;
 mod packet;
+mod putting;
 mod reading;
 mod sender;
 mod session;
-mod sized;
+mod sources;
 mod status;
 mod table;

@@ -2,7 +2,7 @@
 
 ghost use Rattle.std.specs.Prelude.{◌≡◌, ◌≢◌, ◌≤◌, ◌^◌, IsSome, IfOk, None, Some, IsTrue, length};
 ghost use Rattle.mig_mem.specs.PageSize.{IsPageSize};
-ghost use Rattle.mig_load.specs.Loader.{memory_of, rounds_of};
+ghost use Rattle.mig_load.specs.Loader.{memory_of, sections_loaded};
 ghost use Rattle.mig_c.specs.Status.{done};
 ghost use Rattle.mig_c.specs.Kinds.{loader_in, Turns, Tells};
 ghost use Rattle.mig_c.specs.Reading.{GivesPage, GivesBlock, place_at, block_count};
@@ -14,14 +14,11 @@ use crate::handle::{Handle, LoaderHandle};
 use crate::object::Object;
 use crate::reading;
 use crate::status::{
-    BAD_LIMIT, BAD_PAGE_SIZE, DONE, IS_OVER, MAX_LIMIT, NO_MEMORY, TOO_LONG, WAITS,
+    BAD_LIMIT, BAD_PAGE_SIZE, DONE, IS_OVER, MAX_LIMIT, NO_MEMORY, ROOM, TOO_LONG, WAITS,
 };
 use mig_load::{FeedFault, SingleLoader};
 use mig_mem::{NoMemory, is_page_size};
 use std::alloc::Global;
-
-// The least length of a text that isn't counted any more.
-const ROOM: u64 = 1 << 63;
 
 // A loader in a box.
 fn made(alloc: Global, page_size: u64, limit: u64) -> Result<Box<Object>, NoMemory>
@@ -194,7 +191,7 @@ pub extern "C" fn zimgasol_loader_fault(
 
 fn rounds(object: &Object) -> u64
     requires { IsSome (loader_in (Some object.now)) }
-    ensures { Tells (λ l. result ≡ rounds_of l) (loader_in (Some object.now)) }
+    ensures { Tells (λ l. result ≡ sections_loaded l) (loader_in (Some object.now)) }
 {
     match object {
         Object::Loader(loader) => loader.rounds(),
@@ -207,7 +204,7 @@ fn rounds(object: &Object) -> u64
 pub extern "C" fn zimgasol_loader_rounds(alloc: Global, loader: &mut LoaderHandle) -> u64
     requires loader { IsSome (loader_in loader.old.handle.value) }
     ensures same { loader.new.handle.value ≡ loader.old.handle.value }
-    ensures rounds { Tells (λ l. result ≡ rounds_of l) (loader_in loader.old.handle.value) }
+    ensures rounds { Tells (λ l. result ≡ sections_loaded l) (loader_in loader.old.handle.value) }
 {
     let object = loader.handle.take().into_box(alloc);
     let number = rounds(&object);

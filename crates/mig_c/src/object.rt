@@ -1,8 +1,8 @@
 //! What stands behind a handle.
 
+use crate::held::HeldLoad;
 use crate::sender::Sender;
-use crate::sized::SizedSession;
-use mig_load::SingleLoader;
+use mig_load::{Session, SingleLoader};
 use mig_mem::Table;
 use std::alloc::Global;
 
@@ -13,8 +13,10 @@ pub enum Object {
     Table(Table<Global>),
     /// A loader of one stream.
     Loader(SingleLoader<Global>),
+    /// A load of one stream into blocks of C.
+    InPlace(HeldLoad),
     /// A load of several channels.
-    Session(SizedSession),
+    Session(Session<Global>),
     /// A sender of one stream.
     Sender(Sender),
 }

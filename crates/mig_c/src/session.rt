@@ -14,24 +14,14 @@ use crate::fault::{FoundFault, found, none, running};
 use crate::handle::{Handle, SessionHandle};
 use crate::object::Object;
 use crate::reading;
-use crate::sized::SizedSession;
+use crate::sources::{end_source, feed_source, source_of};
 use crate::status::{
     BAD_CHANNELS, BAD_LENGTH, BAD_LIMIT, BAD_PAGE_SIZE, DONE, MAX_LIMIT, NO_MEMORY,
 };
-use mig_load::{Source, Verdict};
+use mig_load::{Session, Source, Verdict};
 use mig_mem::{NoMemory, is_page_size};
 use std::alloc::Global;
 use uuid::Uuid;
-
-// The source of a number.
-fn source_of(number: usize) -> Source
-    ensures { result ≡ source_of number }
-{
-    if number == 0 {
-        return Source::Main;
-    }
-    Source::Channel(number - 1)
-}
 
 // A session in a box.
 fn made(
@@ -46,7 +36,7 @@ fn made(
     requires limit { limit ≤ 2 ^ 40 }
     ensures { IfOk result (λ object. Opens page_size uuid.now channels limit (session_in (Some object.value))) }
 {
-    let session = SizedSession::new(alloc, page_size, uuid, channels, limit)?;
+    let session = Session::new(alloc, page_size, uuid, channels, limit)?;
     Ok(Box::new(alloc, Object::Session(session))?)
 }
 
@@ -90,7 +80,7 @@ fn feed(object: &mut Object, source: Source, piece: &[u8]) -> u32
     ensures { Turns (FeedsSource source piece.now result) (session_in (Some object.old)) (session_in (Some object.new)) }
 {
     match object {
-        Object::Session(session) => session.feed(source, piece),
+        Object::Session(session) => feed_source(session, source, piece),
         _ => unreachable!(),
     }
 }
@@ -117,7 +107,7 @@ fn end(object: &mut Object, source: Source) -> u32
     ensures { Turns (EndsSource source result) (session_in (Some object.old)) (session_in (Some object.new)) }
 {
     match object {
-        Object::Session(session) => session.end(source),
+        Object::Session(session) => end_source(session, source),
         _ => unreachable!(),
     }
 }
@@ -138,7 +128,7 @@ pub extern "C" fn zimgasol_session_end(
     status
 }
 
-fn verdict_of(session: &SizedSession) -> FoundFault
+fn verdict_of(session: &Session<Global>) -> FoundFault
     ensures { result ≡ seen_of_verdict (answer_in session.now).rounds session.now.verdict }
 {
     match session.verdict() {

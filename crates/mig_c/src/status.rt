@@ -3,7 +3,7 @@
 /// It was done.
 pub(crate) const DONE: u32 = 0;
 
-/// A growth was refused.
+/// An allocation was refused.
 pub(crate) const NO_MEMORY: u32 = 60;
 
 /// The load goes on: more of a text is needed.
@@ -33,7 +33,7 @@ pub(crate) const NO_PAGE: u32 = 107;
 /// A buffer of another length than is needed.
 pub(crate) const BAD_LENGTH: u32 = 108;
 
-/// A call out of turn: a round is open, or none is, or the stream is ended.
+/// A call out of turn: a round is open, or none is, or the stream is ended; or no page of the block is due.
 pub(crate) const OUT_OF_TURN: u32 = 109;
 
 /// More pages than a packet has.
@@ -42,5 +42,11 @@ pub(crate) const TOO_MANY_PAGES: u32 = 110;
 /// The piece was taken, and no memory was found for the guest.
 pub(crate) const WAITS: u32 = 111;
 
+/// Pages that came are to be put.
+pub(crate) const IS_DUE: u32 = 112;
+
 /// The most bytes that a guest's blocks may have together.
 pub(crate) const MAX_LIMIT: u64 = 1 << 40;
+
+/// The least length of a stream that isn't counted any more.
+pub(crate) const ROOM: u64 = 1 << 63;

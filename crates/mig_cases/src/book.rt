@@ -1,4 +1,4 @@
-//! A file of cases, and the named lines that several of them share.
+//! A file of cases, as `mig_rows` reads it, and the named lines that several of them share.
 //!
 //! `text NAME` begins lines with a name, `case NAME` a case, and `from NAME` stands for the lines of an earlier name. Empty
 //! lines, and those that begin with `#`, say nothing.

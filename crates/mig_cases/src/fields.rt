@@ -1,4 +1,4 @@
-//! What a packet of a case is to say.
+//! What a packet of a case is to say, for the lines of `texts` that write one.
 
 use crate::trouble::{Done, Trouble};
 use crate::words::{Words, id_of, offsets_of};

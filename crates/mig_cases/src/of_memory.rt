@@ -1,4 +1,4 @@
-//! Questions about the blocks, and about the guest's memory and its marks.
+//! Questions about the blocks, and about the guest's memory and its marks, as `mig_rows` asks them.
 
 use crate::case::Case;
 use crate::show::{put_bytes, put_memory, put_number, put_place, put_table, put_table_fault};

@@ -20,7 +20,7 @@ fn put_hex(out: &mut String, byte: u8) -> Done {
     Ok(())
 }
 
-/// Bytes as runs of one byte, `09,00*4095`, or as the front of their SHA-1 sum in hexadecimal digits.
+/// Bytes as runs of one byte, `09,00*4095`, or as the beginning of their SHA-1 sum in hexadecimal digits.
 pub(crate) fn put_bytes(out: &mut String, bytes: &[u8]) -> Done {
     let mut runs = String::new(*out.allocator());
     let mut rest = bytes;
@@ -95,7 +95,7 @@ impl Pages {
         }
     }
 
-    /// Adds a page, whose number is written behind some text. No content is a mark of zeros.
+    /// Adds a page, whose number is written behind some text. No content is a zero record.
     pub fn add(&mut self, out: &mut String, before: &str, page: u64, bytes: Option<&[u8]>) -> Done {
         let mut content = String::new(*out.allocator());
         match bytes {

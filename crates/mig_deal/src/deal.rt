@@ -1,4 +1,4 @@
-//! The word that workers draw numbers from.
+//! The word that workers draw numbers from. `MultiSender::round` makes one for each round, and `work` draws.
 
 ghost use Rattle.std.specs.Prelude.{◌≡◌, ◌<◌, ◌≤◌, [], ◌∷◌, ◌++◌, All, IfOk, vec_len, replicate, vec_capacity};
 ghost use Rattle.mig_deal.specs.Deal.{new_seat, all_drawn, IsWithinLimits, HasEachOnce, end_of_deal};
@@ -33,7 +33,7 @@ impl<A: Allocator> Model for Deal<A> {
         × IsWithinLimits d.terms.base d.terms.batches d.terms.seats };
 }
 
-// Adds a seat to a list that has room for it, so it takes no memory.
+// Adds a seat to a list that has room for it, so it allocates nothing.
 fn put<A: Allocator>(list: &mut Vec<Seat, A>, seat: Seat)
     requires { vec_len list.old < vec_capacity list.old }
     ensures items { list.new.items ≡ list.old.items ++ seat ∷ [] }
@@ -101,7 +101,7 @@ impl<A: Allocator> Deal<A> {
         self.terms.base
     }
 
-    /// Draws the next number for a seat of this deal. It waits for nobody, takes no memory, and always succeeds. Which of the
+    /// Draws the next number for a seat of this deal. It waits for nobody, allocates nothing, and always succeeds. Which of the
     /// numbers that are left a seat draws is up to the schedule.
     pub fn draw(&self, seat: Seat) -> Drawn
         requires { seat.deal ≡ self.now }
@@ -117,7 +117,7 @@ impl<A: Allocator> Deal<A> {
     }
 
     /// Ends the deal, and answers the number after all that were drawn. It is handed as many spent seats of this deal as it has
-    /// seats, which are all of them, since none can be copied. It takes no memory.
+    /// seats, which are all of them, since none can be copied. It allocates nothing.
     pub fn close<B: Allocator>(self, mut spents: Vec<Spent, B>) -> u64
         requires all { vec_len spents ≡ self.seats }
         requires own { All (λ spent. spent.deal ≡ self) spents.items }

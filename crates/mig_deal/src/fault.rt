@@ -1,4 +1,4 @@
-//! Why a deal was refused.
+//! Why `Deal::new` was refused: an allocation was.
 
 ghost use Rattle.std.specs.Prelude.{◌≡◌};
 
@@ -6,7 +6,7 @@ use std::alloc::{AllocError, AllocFailed};
 use std::error::Error;
 use std::fmt::{self, Display, Formatter};
 
-/// A growth was refused.
+/// An allocation was refused.
 #[derive(Debug, Clone, Copy, PartialEq, Eq)]
 pub struct NoMemory;
 
@@ -22,7 +22,7 @@ impl NoMemory {
 /// The fault's number, and what it says.
 impl Display for NoMemory {
     fn fmt<W: fmt::Write>(&self, f: &mut Formatter<W>) -> fmt::Result {
-        write!(f, "{}: a growth was refused", self.number())
+        write!(f, "{}: an allocation was refused", self.number())
     }
 }
 

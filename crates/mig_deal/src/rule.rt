@@ -1,4 +1,4 @@
-//! The rule of a deal's word, and the kinds of steps that are made under it.
+//! The rule of a deal's word, and the kinds of steps that are made under it, for `deal` and `seat`.
 //!
 //! Nothing here runs. `atomic_table` asks at each step that it keeps the rule, whatever the word and all seats are by then, and
 //! answers what the step tells. The steps are: the making of the word with one seat, that one seat is split in two, a draw,

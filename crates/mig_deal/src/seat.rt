@@ -1,4 +1,4 @@
-//! The seats of a deal, and what a draw answers.
+//! The seats of a deal, and what a draw answers. Each worker of `mig_send` owns one.
 
 ghost use Rattle.std.specs.Prelude.{◌≡◌, []};
 ghost use Rattle.mig_deal.specs.Rule.{holding, terms_of, last_count};

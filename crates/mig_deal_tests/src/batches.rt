@@ -1,4 +1,4 @@
-//! Batches and their packets with each growth refused.
+//! Batches and their packets with each allocation refused.
 ghost use Rattle.std.specs.Prelude.{◌≡◌, All, IfOk};
 ghost use Rattle.mig_send.specs.Batches.{IsBatch};
 
@@ -66,7 +66,7 @@ fn are<A: Allocator>(batches: &[Batch<A>], wanted: &[(usize, &[u64])]) -> bool {
     true
 }
 
-// Cuts the set of some places, a page to a batch, with growth `nth` refused, which comes.
+// Cuts the set of some places, a page to a batch, with allocation `nth` refused, which comes.
 fn assert_cut_refused(
     rt: &(impl AllocGlobal + Abort),
     heap: &Refusing,
@@ -81,7 +81,7 @@ fn assert_cut_refused(
     assert!(rt; !heap.is_waiting());
 }
 
-// The same where growth `nth` doesn't come: asserts the batches.
+// The same where allocation `nth` doesn't come: asserts the batches.
 fn assert_cut(
     rt: &(impl AllocGlobal + Abort),
     heap: &Refusing,
@@ -97,9 +97,9 @@ fn assert_cut(
     assert!(rt; are(&batches, wanted));
 }
 
-// The list of batches takes one growth, and each batch one; an empty set takes none.
+// The list of batches takes one allocation, and each batch one; an empty set takes none.
 #[test]
-fn cut_with_each_growth_refused(rt: HostRuntime) {
+fn cut_with_each_allocation_refused(rt: HostRuntime) {
     let heap = Refusing::new(rt.alloc(), 0);
     let table = table(rt.alloc(), &[("a", 3), ("b", 2)]).expect(&rt, "a table");
     let places = [at(0, 0), at(0, 2), at(1, 1)];
@@ -123,10 +123,10 @@ fn pack_first<A: Allocator + Copy>(
     pack(alloc, memory, batch, 0)
 }
 
-// Of block `a` of two pages, page 0 of zeros and page 1 with the first byte 9. Each of the two lists of offsets takes one growth,
+// Of block `a` of two pages, page 0 of zeros and page 1 with the first byte 9. Each of the two lists of offsets takes one allocation,
 // and the packet's text one.
 #[test]
-fn pack_with_each_growth_refused(rt: HostRuntime) {
+fn pack_with_each_allocation_refused(rt: HostRuntime) {
     let heap = Refusing::new(rt.alloc(), 0);
     let memory = memory_of(&rt, &[("a", 2)]);
     for nth in 1..=3u64 {

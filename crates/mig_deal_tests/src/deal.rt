@@ -1,4 +1,4 @@
-//! The deal: numbers drawn in turn by one thread, by 255 threads at once, and its growths refused.
+//! The deal: numbers drawn in turn by one thread, by 255 threads at once, and its allocations refused.
 
 ghost use Rattle.std.specs.Prelude.{◌≡◌, ◌≤◌, [], All, vec_len, vec_capacity};
 
@@ -140,10 +140,10 @@ fn many_seats_on_threads(rt: HostRuntime) -> Result<(), Fail> {
     Ok(())
 }
 
-// A deal's first growth refused, then its second, until a run has no refusal. There are three: the list of the seats, the block of
-// the word, and the block of the table's slots, which is empty. Drawing and closing take no memory.
+// A deal's first allocation refused, then its second, until a run has no refusal. There are three: the list of the seats, the block of
+// the word, and the block of the table's slots, which is empty. Drawing and closing allocate nothing.
 #[test]
-fn growths_refused(rt: HostRuntime) {
+fn allocations_refused(rt: HostRuntime) {
     let heap = Refusing::new(rt.alloc(), 0);
     for nth in 1..1000u64 {
         heap.refuse(nth);

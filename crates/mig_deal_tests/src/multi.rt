@@ -1,5 +1,5 @@
 //! The sender on several channels, each channel's worker on a thread of its own: two rounds of one guest, whose texts are also
-//! made by hand, of the same batches and their packets; what refuses a sender or a round; each growth refused; and texts that
+//! made by hand, of the same batches and their packets; what refuses a sender or a round; each allocation refused; and texts that
 //! are drained between the rounds.
 
 use crate::batches::{cut_at, memory_of};
@@ -302,9 +302,9 @@ fn refused_rounds(rt: HostRuntime) {
     assert!(rt; SendFault::OtherTable.number() == 63);
 }
 
-// ---- growths refused
+// ---- allocations refused
 
-// A sender on so many channels, whose growths were each refused before.
+// A sender on so many channels, whose allocations were each refused before.
 fn sender_in<'a>(
     rt: &(impl AllocGlobal + Abort),
     heap: &'a Refusing,
@@ -324,7 +324,7 @@ fn sender_in<'a>(
     panic!(rt; "each run had a refusal");
 }
 
-// Sends a round, each of whose growths was refused before. A refused run counts neither a packet nor a round, and the sender has
+// Sends a round, each of whose allocations was refused before. A refused run counts neither a packet nor a round, and the sender has
 // its channels and its table as before.
 fn send_in<R: AllocGlobal + Abort + Threads + Sync>(
     rt: &R,
@@ -348,7 +348,7 @@ fn send_in<R: AllocGlobal + Abort + Threads + Sync>(
     panic!(rt; "each run had a refusal");
 }
 
-// Finishes a sender, whose main stream is drained first, so that its end takes a growth, which is refused once. The refused run
+// Finishes a sender, whose main stream is drained first, so that its end takes an allocation, which is refused once. The refused run
 // gives the sender back.
 fn finish_in<'a>(
     rt: &impl Abort,
@@ -360,7 +360,7 @@ fn finish_in<'a>(
     sender.drain_main(&mut main);
     heap.refuse(1);
     let Err(sender) = sender.finish() else {
-        panic!(rt; "no growth")
+        panic!(rt; "no allocation")
     };
     assert!(rt; !heap.is_waiting());
     assert!(rt; counts(&sender) == before);
@@ -372,7 +372,7 @@ fn finish_in<'a>(
     Sent { main, channels }
 }
 
-// The texts of both rounds, each of whose growths was refused before.
+// The texts of both rounds, each of whose allocations was refused before.
 fn sent_in<'a, R: AllocGlobal + Abort + Threads + Sync>(
     rt: &R,
     heap: &'a Refusing,
@@ -386,15 +386,15 @@ fn sent_in<'a, R: AllocGlobal + Abort + Threads + Sync>(
 
 // What was refused leaves no trace in the texts.
 #[test]
-fn growths_refused(rt: HostRuntime) {
+fn allocations_refused(rt: HostRuntime) {
     let heap = Refusing::new(rt.alloc(), 0);
     let sent = sent_in(&rt, &heap, 1);
     assert_sent(&rt, &sent);
 }
 
-// With two workers the schedule decides whose growth is refused.
+// With two workers the schedule decides whose allocation is refused.
 #[test]
-fn growths_of_two_workers_refused(rt: HostRuntime) {
+fn allocations_of_two_workers_refused(rt: HostRuntime) {
     let heap = Refusing::new(rt.alloc(), 0);
     let sent = sent_in(&rt, &heap, 2);
     assert_two_channels(&rt, &sent);

@@ -1,4 +1,4 @@
-//! Workers: the packets of one that has a deal for itself, what it tells its gate, and what it does where memory is refused.
+//! Workers: the packets of one that has a deal for itself, what it tells its gate, and what it does where an allocation is refused.
 
 use crate::alone::{Alone, work_alone};
 use crate::batches::{assert_page_and_zeros, batches_of, memory_of};
@@ -196,9 +196,9 @@ fn two_packets<'a>(
     packets_of(rt, heap, memory, &run)
 }
 
-// A worker takes three growths for each packet and one for the list of two. After a refused one it draws on and packs no more.
+// A worker takes three allocations for each packet and one for the list of two. After a refused one it draws on and packs no more.
 #[test]
-fn work_with_each_growth_refused(rt: HostRuntime) {
+fn work_with_each_allocation_refused(rt: HostRuntime) {
     let heap = Refusing::new(rt.alloc(), 0);
     let memory = memory_of(&rt, &[("a", 2)]);
     for nth in 1..=7u64 {

@@ -1,4 +1,4 @@
-//! One packet.
+//! One packet, with a page and a zero page, which several tests read.
 
 use mig_packet::{NoMemory, PacketFields};
 use std::alloc::Allocator;

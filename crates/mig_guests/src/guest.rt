@@ -15,7 +15,7 @@ pub(crate) fn below(random: &mut Pcg32, n: u64) -> u64
     random.next_u64().checked_rem(n).unwrap_or(0)
 }
 
-/// A table of one to three blocks with 1 to 40 pages each, of either size. None where memory was refused.
+/// A table of one to three blocks with 1 to 40 pages each, of either size. None where an allocation was refused.
 pub(crate) fn random_table<A: Allocator + Copy>(alloc: A, random: &mut Pcg32) -> Option<Table<A>> {
     let page_size = if below(random, 2) == 0 {
         PAGE_SIZE_4K
@@ -34,7 +34,7 @@ pub(crate) fn random_table<A: Allocator + Copy>(alloc: A, random: &mut Pcg32) ->
     Table::new(alloc, page_size, blocks).ok()
 }
 
-/// The guest writes to some pages, or makes them zeros, and they are marked. None where memory was refused.
+/// The guest writes to some pages, or makes them zeros, and they are marked. None where an allocation was refused.
 pub(crate) fn write_some<A: Allocator>(
     memory: &mut Memory<A>,
     dirty: &mut Dirty<A>,

@@ -24,7 +24,7 @@ struct Sendings {
     several: Sent,
 }
 
-/// Whether a guest's rounds are loaded to its memory both ways. None where memory was refused.
+/// Whether a guest's rounds are loaded to its memory both ways. None where an allocation was refused.
 pub(crate) fn is_loaded_alike<R: AllocGlobal + Threads + Wait + Sync>(
     rt: &R,
     seed: u64,

@@ -26,15 +26,15 @@ use Rattle.mig_load.specs.declared.fault.Fault.TheVariants as fault
 use Rattle.mig_load.specs.declared.fault.LoadFault.{LoadFault}
 use Rattle.mig_load.specs.declared.verdict.Verdict.{Verdict}
 use Rattle.mig_load.specs.declared.verdict.Verdict.TheVariants.{Running, Failed}
-use Rattle.mig_load.specs.SingleLoad.{want_of_memory}
+use Rattle.mig_load.specs.SingleLoad.{no_memory_at}
 use Rattle.mig_load.specs.Status.{main_status, stream_end, is_whole}
 use Rattle.mig_load.specs.Texts.{Readings}
 use Rattle.mig_load.specs.Rounds.{packets_at, refusal_at, memory_at, pages_at}
 use Rattle.mig_load.specs.MultiLoad.{main_at, channels_at, passes, failed, verdict_at}
 use Rattle.mig_load.specs.Relayed.{HasLoaded, IsRefused}
 use Rattle.mig_load.specs.Sources.{FedSources, IsMainRound, Holds, HaveRound, TellsAll, packets_of_all, IsOfSize}
-use Rattle.mig_load.specs.Session.{rounds_in}
-use Rattle.mig_load.specs.Advancing.{Feeding, HasPutRounds, HasRounds, Advances, IsTold, HasAdvanced, IsDue, Comes, HasPut}
+use Rattle.mig_load.specs.Session.{rounds_loaded}
+use Rattle.mig_load.specs.Advancing.{Feeding, HasPutRounds, HasRounds, Advances, TellsVerdict, HasAdvanced, IsDue, RoundIsDue, PutsOrRefuses}
 use Rattle.mig_load.proofs.Statuses.{status_end, stream_ends}
 use Rattle.mig_load.proofs.Judged.{IsWhole}
 use Rattle.mig_load.proofs.Putting.{table_is, size_of_table, refusal_of_round, round_is_put, IsNext, after_nothing}
@@ -45,7 +45,7 @@ use Rattle.mig_load.proofs.Telling.{due_sources, due_passes, due_refused, told_h
 -- ---- what is told
 
 -- nothing: the round is judged
-pub comes_of : (f : Feeding) (s : FedSources) (t : LoadTarget) → Advances f s (Some t) → TellsAll t.rounds s None → Comes f s t
+pub comes_of : (f : Feeding) (s : FedSources) (t : LoadTarget) → Advances f s (Some t) → TellsAll t.rounds s None → RoundIsDue f s t
 comes_of f s t advances told = record {
   advances = advances;
   is_due = sym (told f.page_size f.uuid f.limit f.texts f.readings advances.is_page_size advances.holds advances.are_readings);
@@ -55,7 +55,7 @@ memory_of : (readings : Readings) (t : LoadTarget) → HasPutRounds readings t �
 memory_of readings t has = sym has.has_loaded.has_memory
 
 -- a verdict: it is that of the texts
-pub told_of : (f : Feeding) (s : FedSources) (t : LoadTarget) (v : Verdict) → Advances f s (Some t) → TellsAll t.rounds s (Some v) → IsTold f.readings (Some t) v
+pub told_of : (f : Feeding) (s : FedSources) (t : LoadTarget) (v : Verdict) → Advances f s (Some t) → TellsAll t.rounds s (Some v) → TellsVerdict f.readings (Some t) v
 told_of f s t v advances told =
     let here = told_here t.rounds f.readings v (told f.page_size f.uuid f.limit f.texts f.readings advances.is_page_size advances.holds advances.are_readings) in
     record {
@@ -66,16 +66,16 @@ told_of f s t v advances told =
 
 -- ---- the round that is judged
 
-pub round_comes : (f : Feeding) (s : FedSources) (t : LoadTarget) → Comes f s t → HaveRound s
+pub round_comes : (f : Feeding) (s : FedSources) (t : LoadTarget) → RoundIsDue f s t → HaveRound s
 round_comes f s t comes =
     have_round f.page_size f.uuid f.limit t.rounds f.texts f.readings s comes.advances.is_page_size comes.advances.holds comes.advances.are_readings comes.is_due
 
-table_size : (f : Feeding) (s : FedSources) (t : LoadTarget) → Comes f s t → t.memory.table.page_size ≡ f.page_size
+table_size : (f : Feeding) (s : FedSources) (t : LoadTarget) → RoundIsDue f s t → t.memory.table.page_size ≡ f.page_size
 table_size f s t comes =
     size_of_table f.page_size f.limit t.rounds f.texts.main f.readings t comes.advances.is_page_size comes.advances.are_readings.has_main comes.advances.has_rounds.has_put.has_loaded
 
 -- the records that wait are of pages of the table, and the reading's
-pub fits_here : (f : Feeding) (s : FedSources) (t : LoadTarget) (round : RoundOfRecords) → Comes f s t → Some round ≡ s.main.round
+pub fits_here : (f : Feeding) (s : FedSources) (t : LoadTarget) (round : RoundOfRecords) → RoundIsDue f s t → Some round ≡ s.main.round
     → Fits t.memory.table round × IsNext f.readings t round
 fits_here f s t round comes is =
     let p : ℕ = f.page_size in
@@ -94,21 +94,21 @@ fits_here f s t round comes is =
     )
 
 -- the packets that were gathered are of its page size
-pub sizes_fit : (f : Feeding) (s : FedSources) (t : LoadTarget) (packets : List Packet) → Comes f s t
+pub sizes_fit : (f : Feeding) (s : FedSources) (t : LoadTarget) (packets : List Packet) → RoundIsDue f s t
     → ((page_size : ℕ) → All (IsOfSize page_size) s.channels → All (λ packet. packet.page_size ≡ page_size) packets)
     → All (λ packet. packet.page_size ≡ t.memory.table.page_size) packets
 sizes_fit f s t packets comes sizes =
     subst (λ (n : ℕ). All (λ (packet : Packet). packet.page_size ≡ n) packets) (sym (table_size f s t comes))
     (sizes f.page_size (sizes_here f.page_size f.uuid f.limit t.rounds f.texts s comes.advances.holds))
 
-gathered_are : (f : Feeding) (s : FedSources) (t : LoadTarget) (packets : List Fields) → Comes f s t → packets ≡ packets_of_all s.channels → packets ≡ packets_at f.page_size t.rounds f.readings
+gathered_are : (f : Feeding) (s : FedSources) (t : LoadTarget) (packets : List Fields) → RoundIsDue f s t → packets ≡ packets_of_all s.channels → packets ≡ packets_at f.page_size t.rounds f.readings
 gathered_are f s t packets comes are =
     are ∙ packets_here f.page_size f.uuid f.limit t.rounds f.texts f.readings s comes.advances.is_page_size comes.advances.holds comes.advances.are_readings
 
 -- a lawful round passes, and is in the memory
-pub goes_in : (f : Feeding) (s : FedSources) (t new : LoadTarget) (round : RoundOfRecords) (packets : List Fields) (x : ⊤) → Comes f s t → Some round ≡ s.main.round
+pub goes_in : (f : Feeding) (s : FedSources) (t new : LoadTarget) (round : RoundOfRecords) (packets : List Fields) (x : ⊤) → RoundIsDue f s t → Some round ≡ s.main.round
     → packets ≡ packets_of_all s.channels → refusal t.memory.table t.base (pages_of_round round) packets ≡ None → new ≡ after_round t round packets → new.base ≤ 2 ^ 63
-    → HasPut f t (Ok x) new
+    → PutsOrRefuses f t (Ok x) new
 goes_in f s t new round packets x comes is are lawful after few =
     let p : ℕ = f.page_size in
     let fits = fits_here f s t round comes is in
@@ -132,9 +132,9 @@ goes_in f s t new round packets x comes is are lawful after few =
       count,
     )
 
--- one that isn't ends the load, and so does want of memory
-pub stays_out : (f : Feeding) (s : FedSources) (t new : LoadTarget) (round : RoundOfRecords) (packets : List Fields) (found : LoadFault) → Comes f s t → Some round ≡ s.main.round
-    → packets ≡ packets_of_all s.channels → IsRefused t.rounds (refusal t.memory.table t.base (pages_of_round round) packets) (Err found) → new ≡ t → HasPut f t (Err found) new
+-- one that isn't ends the load, and so does a refused allocation
+pub stays_out : (f : Feeding) (s : FedSources) (t new : LoadTarget) (round : RoundOfRecords) (packets : List Fields) (found : LoadFault) → RoundIsDue f s t → Some round ≡ s.main.round
+    → packets ≡ packets_of_all s.channels → IsRefused t.rounds (refusal t.memory.table t.base (pages_of_round round) packets) (Err found) → new ≡ t → PutsOrRefuses f t (Err found) new
 stays_out f s t new round packets found comes is are refused same = elim refused [
   | inl without ↦ (same, inr (let e : found ≡ record { round = t.rounds; source = origin.Round; fault = fault.NoMemory } = cc in ap (λ (x : LoadFault). x.fault) e))
   | inr w ↦
@@ -157,8 +157,8 @@ stays_out f s t new round packets found comes is are refused same = elim refused
 ]
 
 -- its packets couldn't be gathered
-pub stays_without : (f : Feeding) (t new : LoadTarget) (n : ℕ) (result : Result ⊤ LoadFault) → result ≡ want_of_memory n → new ≡ t → HasPut f t result new
-stays_without f t new n result is same = subst (λ (r : Result ⊤ LoadFault). HasPut f t r new) (sym is) (same, inr refl)
+pub stays_without : (f : Feeding) (t new : LoadTarget) (n : ℕ) (result : Result ⊤ LoadFault) → result ≡ no_memory_at n → new ≡ t → PutsOrRefuses f t result new
+stays_without f t new n result is same = subst (λ (r : Result ⊤ LoadFault). PutsOrRefuses f t r new) (sym is) (same, inr refl)
 
 -- behind it the next one is due
 pub next_advances : (f : Feeding) (s next : FedSources) (t new : LoadTarget) → Advances f s (Some t) → HasRounds f.readings (Some new) → new.rounds ≡ t.rounds + 1
@@ -173,7 +173,7 @@ next_advances f s next t new advances has count holds = record {
 -- ---- before the table
 
 -- there is no round, and something is told
-pub told_without : (f : Feeding) (s : FedSources) (v : Verdict) → Advances f s None → f.readings.main.table ≡ None → TellsAll 0 s (Some v) → IsTold f.readings None v
+pub told_without : (f : Feeding) (s : FedSources) (v : Verdict) → Advances f s None → f.readings.main.table ≡ None → TellsAll 0 s (Some v) → TellsVerdict f.readings None v
 told_without f s v advances none told =
     let here = told_here 0 f.readings v (told f.page_size f.uuid f.limit f.texts f.readings advances.is_page_size advances.holds advances.are_readings) in
     record {
@@ -217,9 +217,9 @@ zeros_advance f s table t advances is_table is = rw is (record {
 })
 
 -- what the judging leaves, whichever it is
-pub judged : (f : Feeding) (s : FedSources) (t new : LoadTarget) (round : RoundOfRecords) (packets : List Fields) (result : Result ⊤ LoadFault) → Comes f s t → Some round ≡ s.main.round
+pub judged : (f : Feeding) (s : FedSources) (t new : LoadTarget) (round : RoundOfRecords) (packets : List Fields) (result : Result ⊤ LoadFault) → RoundIsDue f s t → Some round ≡ s.main.round
     → packets ≡ packets_of_all s.channels → OnOk result (refusal t.memory.table t.base (pages_of_round round) packets ≡ None) → OnOk result (new ≡ after_round t round packets)
-    → OnOk result (new.base ≤ 2 ^ 63) → IsRefused t.rounds (refusal t.memory.table t.base (pages_of_round round) packets) result → OnErr result (new ≡ t) → HasPut f t result new
+    → OnOk result (new.base ≤ 2 ^ 63) → IsRefused t.rounds (refusal t.memory.table t.base (pages_of_round round) packets) result → OnErr result (new ≡ t) → PutsOrRefuses f t result new
 judged f s t new round packets (Ok x) comes is are lawful after few refused same = goes_in f s t new round packets x comes is are lawful after few
 judged f s t new round packets (Err found) comes is are lawful after few refused same = stays_out f s t new round packets found comes is are refused same
 
@@ -234,12 +234,12 @@ none_told_of None e t = refl
 none_told_of (Some v) e t = let bad : true ≡ false = e ∙ ap not t in absurd cc
 
 -- a round that isn't put ends the judging
-pub fails : {E : Type 0} (f : Feeding) (s : FedSources) (t new : LoadTarget) (found : LoadFault) (result : Result Verdict E) → Advances f s (Some t) → HasPut f t (Err found) new
+pub fails : {E : Type 0} (f : Feeding) (s : FedSources) (t new : LoadTarget) (found : LoadFault) (result : Result Verdict E) → Advances f s (Some t) → PutsOrRefuses f t (Err found) new
     → IfOk result (λ verdict. (verdict ≡ Failed found) × (found.fault ≢ fault.NoMemory)) → OnErr result (found.fault ≡ fault.NoMemory) → HasAdvanced f s (Some new) result
 fails f s t new found (Ok v) advances put ok err = record {
   advances = subst (λ (x : LoadTarget). Advances f s (Some x)) (sym put.0) advances;
   is_told = elim put.1 [
-    | inl told ↦ subst (λ (x : LoadTarget). IsTold f.readings (Some x) v) (sym put.0) (subst (λ (w : Verdict). IsTold f.readings (Some t) w) (sym ok.0) told.1)
+    | inl told ↦ subst (λ (x : LoadTarget). TellsVerdict f.readings (Some x) v) (sym put.0) (subst (λ (w : Verdict). TellsVerdict f.readings (Some t) w) (sym ok.0) told.1)
     | inr wants ↦ absurd (ok.1 wants)
   ];
 }

@@ -11,12 +11,12 @@ use Rattle.std.proofs.lemmas.List.{append-nil}
 use Rattle.mig_packet.specs.declared.packet.Packet.{Packet}
 use Rattle.mig_packet.specs.Lent.{fields}
 use Rattle.mig_packet.specs.Packet.{Fields}
-use Rattle.mig_packet.specs.Pieces.{Piece}
+use Rattle.mig_packet.specs.ChannelItems.{ChannelItem}
 use Rattle.mig_load.specs.declared.status.Status.{Status}
 use Rattle.mig_load.specs.declared.status.Status.TheVariants.{Whole}
 use Rattle.mig_load.specs.Received.{status_in, channel_packets_in, packets_in}
-use Rattle.mig_load.specs.Pieces.{QueueEnd}
-use Rattle.mig_load.specs.Relayed.{received_of, Continues, IsTold, IsAtRound, HasGone, GoesThrough, AreAtRound, HaveGone}
+use Rattle.mig_load.specs.RelayItems.{QueueEnd}
+use Rattle.mig_load.specs.Relayed.{received_of, Continues, HasEnough, IsAtRound, HasGone, GoesThrough, AreAtRound, HaveGone}
 use Rattle.mig_load.proofs.GoingThrough.{is_there, one_goes_on, all_go_further}
 
 -- ---- lists
@@ -62,7 +62,7 @@ IsWhole status = status ≡ Whole
 
 -- round k of the first j channels was gone through
 pub record Gone (k j : ℕ) (places : List ℕ) (now : List QueueEnd) (statuses : List Status) (packets : List Packet) : Type 0 where
-  pub are_told : All (IsTold k) (take j now)
+  pub are_told : All (HasEnough k) (take j now)
   pub has_statuses : statuses ≡ map (status_in k) (received_of (take j now))
   pub has_packets : All IsWhole statuses → map fields packets ≡ packets_in k (received_of (take j now))
   pub goes_on : All IsWhole statuses → AreAtRound (k + 1) (take j places) (take j now)
@@ -71,7 +71,7 @@ pub rest_starts : (places : List ℕ) (old : List QueueEnd) → Rest 0 places pl
 rest_starts places old = record { same_ends = refl; same_places = refl; rest_ends = λ i h. refl; rest_places = λ i h. refl }
 
 pub gone_starts : (k : ℕ) (places : List ℕ) (old : List QueueEnd) → Gone k 0 places old [] []
-gone_starts k places old = record { are_told = All-nil (IsTold k); has_statuses = refl; has_packets = λ all. refl; goes_on = λ all. tt }
+gone_starts k places old = record { are_told = All-nil (HasEnough k); has_statuses = refl; has_packets = λ all. refl; goes_on = λ all. tt }
 
 pub rest_more : (j at to : ℕ) (places_before places : List ℕ) (old now new : List QueueEnd) (status : Status) (packets : List Packet) → Rest j places_before places old now
     → GoesThrough j at now new to status packets → Rest (j + 1) places_before (set places j to) old new
@@ -101,9 +101,9 @@ gone_more k j at to places_before places old now new statuses status packets mor
     ap (λ (l : List QueueEnd). received_of l) front ∙ map-append (λ (p : QueueEnd). p.passed) (take j now) (q ∷ []) in
     let front_places : take (j + 1) (set places j to) ≡ take j places ++ to ∷ [] = take_more_set places j to (slice_get_within places j at is_at) in
     record {
-      are_told = subst (All (IsTold k)) (sym front) (All-append (IsTold k) (take j now) (q ∷ []) gone.are_told (All-cons (IsTold k) q [] here.is_told (All-nil (IsTold k))));
+      are_told = subst (All (HasEnough k)) (sym front) (All-append (HasEnough k) (take j now) (q ∷ []) gone.are_told (All-cons (HasEnough k) q [] here.is_told (All-nil (HasEnough k))));
       has_statuses = ap (λ (l : List Status). l ++ status ∷ []) gone.has_statuses ∙ ap (λ (s : Status). map (status_in k) (received_of (take j now)) ++ s ∷ []) here.has_status
-          ∙ sym (map-append (status_in k) (received_of (take j now)) (q.passed ∷ [])) ∙ ap (λ (l : List (List Piece)). map (status_in k) l) (sym passed);
+          ∙ sym (map-append (status_in k) (received_of (take j now)) (q.passed ∷ [])) ∙ ap (λ (l : List (List ChannelItem)). map (status_in k) l) (sym passed);
       has_packets = λ all.
           let parts = all_but_last IsWhole statuses status all in
           map-append fields packets more ∙ ap (λ (l : List Fields). l ++ map fields more) (gone.has_packets parts.0)
@@ -137,7 +137,7 @@ gone_all k j places_before places old now statuses packets rest are gone all =
     let there : take j places ≡ places = take_all j places (let e = rest.same_places in
     omega (arith, e, all, AllZip-long (λ (at : ℕ) (p : QueueEnd). IsAtRound k at p.passed) places_before old are)) in
     record {
-      are_told = subst (All (IsTold k)) ends gone.are_told;
+      are_told = subst (All (HasEnough k)) ends gone.are_told;
       has_statuses = gone.has_statuses ∙ ap (λ (l : List QueueEnd). map (status_in k) (received_of l)) ends;
       has_packets = λ whole. gone.has_packets whole ∙ ap (λ (l : List QueueEnd). packets_in k (received_of l)) ends;
       goes_on = λ whole. subst (λ (l : List ℕ). AreAtRound (k + 1) l now) there (subst (AreAtRound (k + 1) (take j places)) ends (gone.goes_on whole));

@@ -16,7 +16,7 @@ use Rattle.mig_stream.proofs.Longer.{longer_law}
 use Rattle.mig_mem.specs.Image.{Image, zero_image}
 use Rattle.mig_mem.specs.Round.{with_rounds}
 use Rattle.mig_assemble.specs.Target.{LoadTarget}
-use Rattle.mig_load.specs.Loader.{loader, rounds_of, put_so_far, HasAllSections, Waits, Loads, HasFirst, HasFed, LoadsSome, HasFedSome}
+use Rattle.mig_load.specs.Loader.{loader, sections_loaded, put_so_far, HasAllSections, Waits, Loads, HasFirst, WasFed, LoadsSome, WasFedSome}
 use Rattle.mig_load.proofs.Sections.{pages_in, same_reading, are_given, none_there, fed_of}
 
 -- what is in the memory stays the front of the text, where more bytes follow
@@ -41,7 +41,7 @@ first_stays p limit first text piece ended r t size stands has =
 
 -- a piece more
 pub fed_longer : (p limit : ℕ) (r s : Reader) (o : Option LoadTarget) (text piece : List ℕ) (ended : Bool) → StepsOn (with_piece piece) r s
-    → HasFed p limit (loader r o) text ended → HasFed p limit (loader s o) (text ++ piece) ended
+    → WasFed p limit (loader r o) text ended → WasFed p limit (loader s o) (text ++ piece) ended
 fed_longer p limit r s None text piece ended step fed = record {
   is_page_size = fed.is_page_size;
   stands = step (settings Single p limit) (put_so_far text ended 0) fed.stands;
@@ -54,7 +54,7 @@ fed_longer p limit r s (Some t) text piece ended step fed = record {
 }
 
 -- some text that it was fed
-pub fed_some : (r : Reader) (o : Option LoadTarget) → LoadsSome (loader r o) → HasFedSome (loader r o)
+pub fed_some : (r : Reader) (o : Option LoadTarget) → LoadsSome (loader r o) → WasFedSome (loader r o)
 fed_some r o some = record {
   page_size = some.page_size;
   limit = some.limit;
@@ -65,7 +65,7 @@ fed_some r o some = record {
 }
 
 -- and with a piece more
-pub fed_piece : (r s : Reader) (o : Option LoadTarget) (piece : List ℕ) → StepsOn (with_piece piece) r s → LoadsSome (loader r o) → r.fed + length piece < 2 ^ 63 → HasFedSome (loader s o)
+pub fed_piece : (r s : Reader) (o : Option LoadTarget) (piece : List ℕ) → StepsOn (with_piece piece) r s → LoadsSome (loader r o) → r.fed + length piece < 2 ^ 63 → WasFedSome (loader s o)
 fed_piece r s o piece step some room =
     let before = fed_of some.page_size some.limit r o some.text some.ended some.loads in
     let fed = before.stands.has_fed in
@@ -89,7 +89,7 @@ waits_stays p limit r s o text waits = record { table = waits.table; has_table =
 pub loads_over : (p limit : ℕ) (r s : Reader) (o : Option LoadTarget) (text : List ℕ) (ended : Bool) → StepsOn over r s → Loads p limit (loader r o) text ended → Loads p limit (loader s o) text true
 loads_over p limit r s o text ended step loads = record {
   is_page_size = loads.is_page_size;
-  stands = step (settings Single p limit) (put_so_far text ended (rounds_of (loader r o))) loads.stands;
+  stands = step (settings Single p limit) (put_so_far text ended (sections_loaded (loader r o))) loads.stands;
   has_sections = elim loads.has_sections [
     | inl all ↦ inl (all_stays p limit r s o text all)
     | inr waits ↦ inr (waits_stays p limit r s o text waits)
@@ -117,7 +117,7 @@ nothing_some p limit r size stands = record {
 }
 
 -- its sections wait, and nothing has changed
-pub waits_now : (p limit : ℕ) (r s : Reader) (o u : Option LoadTarget) (text : List ℕ) (ended : Bool) → HasFed p limit (loader r o) text ended → Waits p limit (loader r o) text
+pub waits_now : (p limit : ℕ) (r s : Reader) (o u : Option LoadTarget) (text : List ℕ) (ended : Bool) → WasFed p limit (loader r o) text ended → Waits p limit (loader r o) text
     → (s ≡ r) × (u ≡ o) → Loads p limit (loader s u) text ended × Waits p limit (loader s u) text
 waits_now p limit r s o u text ended fed wait same =
     subst (λ (x : Reader). Loads p limit (loader x u) text ended × Waits p limit (loader x u) text) (sym same.0)
@@ -125,9 +125,9 @@ waits_now p limit r s o u text ended fed wait same =
     (record { is_page_size = fed.is_page_size; stands = fed.stands; has_sections = inr wait }, wait))
 
 -- some text that it stands for, after its sections were put or couldn't be
-pub settled_some : {E : Type 0} (result : Result ⊤ E) (r s : Reader) (o u : Option LoadTarget) → HasFedSome (loader r o)
-    → OnOk result ((p limit : ℕ) (text : List ℕ) (ended : Bool) → HasFed p limit (loader r o) text ended → Loads p limit (loader s u) text ended × HasAllSections p limit (loader s u) text)
-    → OnErr result ((p limit : ℕ) (text : List ℕ) (ended : Bool) → HasFed p limit (loader r o) text ended → Waits p limit (loader r o) text)
+pub settled_some : {E : Type 0} (result : Result ⊤ E) (r s : Reader) (o u : Option LoadTarget) → WasFedSome (loader r o)
+    → OnOk result ((p limit : ℕ) (text : List ℕ) (ended : Bool) → WasFed p limit (loader r o) text ended → Loads p limit (loader s u) text ended × HasAllSections p limit (loader s u) text)
+    → OnErr result ((p limit : ℕ) (text : List ℕ) (ended : Bool) → WasFed p limit (loader r o) text ended → Waits p limit (loader r o) text)
     → OnErr result ((s ≡ r) × (u ≡ o)) → LoadsSome (loader s u)
 settled_some (Ok x) r s o u some ok waits same = record {
   page_size = some.page_size;

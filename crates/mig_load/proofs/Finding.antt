@@ -13,7 +13,7 @@ use Rattle.mig_packet.specs.Hello.{IsHello, hello_len, hello_faults, due_hello_f
 use Rattle.mig_packet.specs.Packet.{IsPacketText, is_sync, due_packet_fault}
 use Rattle.mig_packet.specs.Progress.{ChannelProgress, start, judged_len, item_len, faults, first_fault, due_fault, after_packet, after_item, after}
 use Rattle.mig_packet.specs.Reading.{IsItem, AreFaultless, after_all, Ends, Reads, state_at, state_at_end}
-use Rattle.mig_packet.specs.Pieces.{all_packets}
+use Rattle.mig_packet.specs.ChannelItems.{all_packets}
 use Rattle.mig_packet.proofs.Fronts.{len-append, faults_stay, judged_le, cond_none, due_is, faultless_front, item_text, no_head, Front-none}
 use Rattle.mig_packet.proofs.Judging.{hello_free, text_free}
 use Rattle.mig_packet.proofs.Unique.{one_reading}

@@ -1,15 +1,15 @@
--- What a load takes of a channel, piece by piece.
+-- What a load takes of a channel, item by item.
 use Rattle.std.proofs.Common.{ℕ, zero, suc, ◌≡◌, ◌≢◌, ◌<◌, Bool, true, false, List, [], ◌∷◌, ◌++◌, length, map, take, refl, sym, ap, ◌∙◌, Option, Some, arith, subst, append_assoc, get_or}
 use Rattle.std.specs.Prelude.{IfSome, slice_get, slice_set}
 use Rattle.std.specs.List.{All, AllZip}
 use Rattle.std.proofs.lemmas.List.{append-nil, length-append, length-map, take-append-le, take_more, take_all, get_or-map}
 use Rattle.mig_mem.specs.PageSize.{IsPageSize}
-use Rattle.mig_packet.specs.Pieces.{Piece}
+use Rattle.mig_packet.specs.ChannelItems.{ChannelItem}
 use Rattle.mig_load.specs.declared.item.Item.{Item}
 use Rattle.mig_load.specs.declared.log.ChannelText.{ChannelText}
 use Rattle.mig_load.specs.declared.status.Status.TheVariants.{Pending}
 use Rattle.mig_load.specs.Received.{end_in}
-use Rattle.mig_load.specs.Pieces.{given, as_piece, IsOfPageSize, QueueEnd, BeginsPieces, IsThrough}
+use Rattle.mig_load.specs.RelayItems.{given, as_channel_item, IsOfPageSize, QueueEnd, BeginsItems, IsThrough}
 use Rattle.mig_load.specs.Relay.{Takes, TakesAt}
 use Rattle.mig_load.specs.Relayed.{Continues, IsOpenAt, GivesItem}
 use Rattle.mig_load.proofs.Received.{stop_law}
@@ -50,7 +50,7 @@ goes_further p q r a b = record {
   same_source = b.same_source ∙ a.same_source;
   begins = record {
     rest = a.begins.rest ++ b.begins.rest;
-    has_rest = b.begins.has_rest ∙ ap (λ (l : List Piece). l ++ b.begins.rest) a.begins.has_rest ∙ append_assoc p.passed a.begins.rest b.begins.rest;
+    has_rest = b.begins.has_rest ∙ ap (λ (l : List ChannelItem). l ++ b.begins.rest) a.begins.has_rest ∙ append_assoc p.passed a.begins.rest b.begins.rest;
   };
 }
 
@@ -82,9 +82,9 @@ one_taken p q false t = subst (Continues p) (sym t.0) (goes_on p)
 pub taken_goes_on : (ps qs : List QueueEnd) (j : ℕ) (more : Bool) → TakesAt j ps qs more → AllZip Continues ps qs
 taken_goes_on ps qs j more t = subst (AllZip Continues ps) (sym t.3) (one_goes_on ps j t.0 t.1 t.2 (one_taken t.0 t.1 more t.4))
 
--- ---- a piece
+-- ---- an item
 
--- a channel has its piece `at`, and those before it are the same
+-- a channel has its item `at`, and those before it are the same
 pub record Has (j at : ℕ) (old new : List QueueEnd) : Type 0 where
   pub before : QueueEnd
   pub behind : QueueEnd
@@ -95,12 +95,12 @@ pub record Has (j at : ℕ) (old new : List QueueEnd) : Type 0 where
   pub there : at < length behind.passed
 
 pub has_already : (j at : ℕ) (old : List QueueEnd) (items : List Item) → j < length old → IfSome (slice_get old j) (IsOpenAt at)
-    → IfSome (slice_get old j) (λ p. map as_piece items ≡ p.passed) → at ≢ length items → Has j at old old
+    → IfSome (slice_get old j) (λ p. map as_channel_item items ≡ p.passed) → at ≢ length items → Has j at old old
 has_already j at old items within is_open is_items differ =
     let found = is_there old j within in
     let p : QueueEnd = found.0 in
     let here : IsOpenAt at p = is_some_of (IsOpenAt at) (slice_get old j) p found.1 is_open in
-    let passed : map as_piece items ≡ p.passed = is_some_of (λ (p : QueueEnd). map as_piece items ≡ p.passed) (slice_get old j) p found.1 is_items in
+    let passed : map as_channel_item items ≡ p.passed = is_some_of (λ (p : QueueEnd). map as_channel_item items ≡ p.passed) (slice_get old j) p found.1 is_items in
     record {
       before = p;
       behind = p;
@@ -108,15 +108,15 @@ has_already j at old items within is_open is_items differ =
       has_new = sym (set_same old j p found.1);
       continues = goes_on p;
       same_front = refl;
-      there = omega (arith, here.0, differ, ap length passed, length-map items as_piece);
+      there = omega (arith, here.0, differ, ap length passed, length-map items as_channel_item);
     }
 
--- all pieces have the stop among them
+-- all items have the stop among them
 stop_among : (p : QueueEnd) → IsPageSize p.source.page_size → IsThrough p → end_in p.passed ≢ Pending
 stop_among p size through = (stop_law (given p.source) p.source.text p.passed p.passed size through record { rest = []; has_rest = sym (append-nil p.passed) }).1 refl
 
 pub has_now : (j at : ℕ) (old new : List QueueEnd) (items : List Item) (more : Bool) → TakesAt j old new more → IfSome (slice_get old j) (IsOpenAt at)
-    → IfSome (slice_get old j) (λ p. map as_piece items ≡ p.passed) → IfSome (slice_get old j) (λ p. IsPageSize p.source.page_size) → at ≡ length items → Has j at old new
+    → IfSome (slice_get old j) (λ p. map as_channel_item items ≡ p.passed) → IfSome (slice_get old j) (λ p. IsPageSize p.source.page_size) → at ≡ length items → Has j at old new
 has_now j at old new items true t is_open is_items size same =
     let p : QueueEnd = t.0 in
     let here : IsOpenAt at p = is_some_of (IsOpenAt at) (slice_get old j) p t.2 is_open in
@@ -133,41 +133,41 @@ has_now j at old new items true t is_open is_items size same =
 has_now j at old new items false t is_open is_items size same =
     let p : QueueEnd = t.0 in
     let here : IsOpenAt at p = is_some_of (IsOpenAt at) (slice_get old j) p t.2 is_open in
-    let passed : map as_piece items ≡ p.passed = is_some_of (λ (p : QueueEnd). map as_piece items ≡ p.passed) (slice_get old j) p t.2 is_items in
-    let all : take at p.passed ≡ p.passed = take_all at p.passed (omega (arith, same, ap length passed, length-map items as_piece)) in
+    let passed : map as_channel_item items ≡ p.passed = is_some_of (λ (p : QueueEnd). map as_channel_item items ≡ p.passed) (slice_get old j) p t.2 is_items in
+    let all : take at p.passed ≡ p.passed = take_all at p.passed (omega (arith, same, ap length passed, length-map items as_channel_item)) in
     absurd (stop_among p (is_some_of (λ (p : QueueEnd). IsPageSize p.source.page_size) (slice_get old j) p t.2 size) t.4.1 (ap end_in (sym all) ∙ here.1))
 
 pub is_in : (j at : ℕ) (old new : List QueueEnd) (has : Has j at old new) → slice_get new j ≡ Some has.behind
 is_in j at old new has = ap (λ (l : List QueueEnd). slice_get l j) has.has_new ∙ set_there old j has.before has.behind has.has_before
 
-pub is_below : (j at : ℕ) (old new : List QueueEnd) (items : List Item) → Has j at old new → IfSome (slice_get new j) (λ p. map as_piece items ≡ p.passed) → at < length items
+pub is_below : (j at : ℕ) (old new : List QueueEnd) (items : List Item) → Has j at old new → IfSome (slice_get new j) (λ p. map as_channel_item items ≡ p.passed) → at < length items
 is_below j at old new items has is_items =
-    let passed = is_some_of (λ (p : QueueEnd). map as_piece items ≡ p.passed) (slice_get new j) has.behind (is_in j at old new has) is_items in
-    omega (arith, has.there, ap length passed, length-map items as_piece)
+    let passed = is_some_of (λ (p : QueueEnd). map as_channel_item items ≡ p.passed) (slice_get new j) has.behind (is_in j at old new has) is_items in
+    omega (arith, has.there, ap length passed, length-map items as_channel_item)
 
-pub has_item : (j at : ℕ) (old new : List QueueEnd) (items : List Item) (item : Item) → Has j at old new → IfSome (slice_get new j) (λ p. map as_piece items ≡ p.passed)
-    → IfSome (slice_get new j) (λ p. BeginsPieces p.source p.passed) → IfSome (slice_get new j) (λ p. IsPageSize p.source.page_size)
+pub has_item : (j at : ℕ) (old new : List QueueEnd) (items : List Item) (item : Item) → Has j at old new → IfSome (slice_get new j) (λ p. map as_channel_item items ≡ p.passed)
+    → IfSome (slice_get new j) (λ p. BeginsItems p.source p.passed) → IfSome (slice_get new j) (λ p. IsPageSize p.source.page_size)
     → IfSome (slice_get new j) (λ p. All (IsOfPageSize p.source.page_size) items) → get_or items at item ≡ item → GivesItem j at old new item
 has_item j at old new items item has is_items begins size sizes is =
     let p : QueueEnd = has.before in
     let q : QueueEnd = has.behind in
     let now : slice_get new j ≡ Some q = is_in j at old new has in
     let below : at < length items = is_below j at old new items has is_items in
-    let passed : map as_piece items ≡ q.passed = is_some_of (λ (p : QueueEnd). map as_piece items ≡ p.passed) (slice_get new j) q now is_items in
+    let passed : map as_channel_item items ≡ q.passed = is_some_of (λ (p : QueueEnd). map as_channel_item items ≡ p.passed) (slice_get new j) q now is_items in
     let of_size : All (IsOfPageSize q.source.page_size) items = is_some_of (λ (p : QueueEnd). All (IsOfPageSize p.source.page_size) items) (slice_get new j) q now sizes in
-    let one : get_or q.passed at (as_piece item) ≡ as_piece item =
-    ap (λ (l : List Piece). get_or l at (as_piece item)) (sym passed) ∙ get_or-map as_piece items at item (as_piece item) below ∙ ap as_piece is in
+    let one : get_or q.passed at (as_channel_item item) ≡ as_channel_item item =
+    ap (λ (l : List ChannelItem). get_or l at (as_channel_item item)) (sym passed) ∙ get_or-map as_channel_item items at item (as_channel_item item) below ∙ ap as_channel_item is in
     record {
       before = p;
       behind = q;
       has_before = has.has_before;
       has_new = has.has_new;
       continues = has.continues;
-      begun = is_some_of (λ (p : QueueEnd). BeginsPieces p.source p.passed) (slice_get new j) q now begins;
+      begun = is_some_of (λ (p : QueueEnd). BeginsItems p.source p.passed) (slice_get new j) q now begins;
       is_there = has.there;
-      has_piece = take_more q.passed at (as_piece item) has.there
-          ∙ ap (λ (x : Piece). take at q.passed ++ x ∷ []) one
-          ∙ ap (λ (l : List Piece). l ++ as_piece item ∷ []) has.same_front;
+      has_passed = take_more q.passed at (as_channel_item item) has.there
+          ∙ ap (λ (x : ChannelItem). take at q.passed ++ x ∷ []) one
+          ∙ ap (λ (l : List ChannelItem). l ++ as_channel_item item ∷ []) has.same_front;
       is_page_size = subst (λ (t : ChannelText). IsPageSize t.page_size) has.continues.same_source
           (is_some_of (λ (p : QueueEnd). IsPageSize p.source.page_size) (slice_get new j) q now size);
       has_page_size = subst (λ (t : ChannelText). IsOfPageSize t.page_size item) has.continues.same_source

@@ -1,4 +1,4 @@
--- A channel gone through, piece by piece, up to the end of a round or the stop.
+-- A channel gone through, item by item, up to the end of a round or the stop.
 use Rattle.std.proofs.Common.{ℕ, ◌≡◌, ◌≢◌, ◌+◌, ◌<◌, ◌≤◌, true, false, List, [], ◌∷◌, ◌++◌, length, map, take, drop, refl, sym, ap, ◌∙◌, inl, inr, Option, Some, arith, subst, append_assoc, get_or}
 use Rattle.std.specs.Prelude.{IfSome, slice_get, slice_set}
 use Rattle.std.specs.List.{All, AllZip}
@@ -8,7 +8,7 @@ use Rattle.mig_mem.specs.PageSize.{IsPageSize}
 use Rattle.mig_packet.specs.declared.packet.Packet.{Packet}
 use Rattle.mig_packet.specs.Lent.{fields}
 use Rattle.mig_packet.specs.Packet.{Fields}
-use Rattle.mig_packet.specs.Pieces.{Piece, Hello, Page, Stop, ArePieces}
+use Rattle.mig_packet.specs.ChannelItems.{ChannelItem, Hello, Page, Stop, AreItems}
 use Rattle.mig_load.specs.declared.item.ChannelEnd.{ChannelEnd}
 use Rattle.mig_load.specs.declared.item.ChannelEnd.TheVariants as channel_end
 use Rattle.mig_load.specs.declared.item.Item.{Item}
@@ -16,7 +16,7 @@ use Rattle.mig_load.specs.declared.item.Item.TheVariants as item
 use Rattle.mig_load.specs.declared.log.ChannelText.{ChannelText}
 use Rattle.mig_load.specs.declared.status.Status.TheVariants.{Whole, Pending}
 use Rattle.mig_load.specs.Received.{rounds_in, end_in, round_count, IsFront}
-use Rattle.mig_load.specs.Pieces.{given, fault_of, as_piece, IsOfPageSize, QueueEnd, BeginsPieces, IsThrough}
+use Rattle.mig_load.specs.RelayItems.{given, end_fault, as_channel_item, IsOfPageSize, QueueEnd, BeginsItems, IsThrough}
 use Rattle.mig_load.specs.Relayed.{stop_status, Continues, IsOpenAt, IsAt, IsAtRound, HasGone, GivesItem, GoesThrough}
 use Rattle.mig_load.proofs.Statuses.{status_whole, status_end}
 use Rattle.mig_load.proofs.Received.{stop_law, counted_law}
@@ -60,13 +60,13 @@ going_opens j at to old new packets going =
 pub going_within : (j at to : ℕ) (old new : List QueueEnd) (packets : List Packet) → Going j at old new to packets → AllZip Continues old new
 going_within j at to old new packets going = subst (AllZip Continues old) (sym going.has_new) (one_goes_on old j going.before going.behind going.has_before going.continues)
 
--- the channel with its next piece
+-- the channel with its next item
 record Stepped (j to : ℕ) (old new : List QueueEnd) (before behind now : QueueEnd) (x : Item) : Type 0 where
   has_new : new ≡ slice_set old j now
   continues : Continues before now
-  begun : BeginsPieces now.source now.passed
+  begun : BeginsItems now.source now.passed
   within : to + 1 ≤ length now.passed
-  has_front : take (to + 1) now.passed ≡ take to behind.passed ++ as_piece x ∷ []
+  has_front : take (to + 1) now.passed ≡ take to behind.passed ++ as_channel_item x ∷ []
   is_page_size : IsPageSize now.source.page_size
   of_size : IsOfPageSize before.source.page_size x
 
@@ -82,7 +82,7 @@ steps j at to old mid new packets x going gives =
       continues = goes_further going.before going.behind gives.behind going.continues continues;
       begun = gives.begun;
       within = omega (arith, there);
-      has_front = gives.has_piece ∙ ap (λ (p : QueueEnd). take to p.passed ++ as_piece x ∷ []) same;
+      has_front = gives.has_passed ∙ ap (λ (p : QueueEnd). take to p.passed ++ as_channel_item x ∷ []) same;
       is_page_size = subst (λ (t : ChannelText). IsPageSize t.page_size) (sym gives.continues.same_source) gives.is_page_size;
       of_size = subst (λ (t : ChannelText). IsOfPageSize t.page_size x) (ap (λ (p : QueueEnd). p.source) same ∙ going.continues.same_source) gives.has_page_size;
     }
@@ -98,7 +98,7 @@ going_hello j at to id old mid new packets going gives =
       continues = s.continues;
       is_open = (s.within, ap end_in s.has_front ∙ end_comes (take to going.behind.passed) (Hello id ∷ []) going.is_open.1);
       of_size = going.of_size;
-      holds = λ rounds is. subst (λ (l : List Piece). HoldsRounds l rounds (map fields packets)) (sym s.has_front)
+      holds = λ rounds is. subst (λ (l : List ChannelItem). HoldsRounds l rounds (map fields packets)) (sym s.has_front)
           (holds_hello (take to going.behind.passed) rounds (map fields packets) id (going.holds rounds is));
     }
 
@@ -118,7 +118,7 @@ going_packet j at to packet old mid new packets going gives f =
       continues = s.continues;
       is_open = (s.within, ap end_in s.has_front ∙ end_comes (take to going.behind.passed) (Page (fields packet) ∷ []) going.is_open.1);
       of_size = All-append OfSize packets (packet ∷ []) going.of_size (All-cons OfSize packet [] s.of_size (All-nil OfSize));
-      holds = λ rounds is. subst (λ (l : List Piece). HoldsRounds l rounds (map fields (packets ++ packet ∷ []))) (sym s.has_front)
+      holds = λ rounds is. subst (λ (l : List ChannelItem). HoldsRounds l rounds (map fields (packets ++ packet ∷ []))) (sym s.has_front)
           (subst (HoldsRounds (take to going.behind.passed ++ Page (fields packet) ∷ []) rounds) (sym (one_more_packet packets packet))
           (holds_packet (take to going.behind.passed) rounds (map fields packets) (fields packet) f (going.holds rounds is)));
     }
@@ -126,10 +126,10 @@ going_packet j at to packet old mid new packets going gives f =
 -- ---- the end of a round
 
 -- the rounds of all that was taken are those that were gone through, and others
-rounds_are : (to : ℕ) (passed : List Piece) (rounds : List (List Fields)) → HoldsRounds (take to passed) rounds [] → rounds_in passed ≡ rounds ++ rounds_in (drop to passed)
+rounds_are : (to : ℕ) (passed : List ChannelItem) (rounds : List (List Fields)) → HoldsRounds (take to passed) rounds [] → rounds_in passed ≡ rounds ++ rounds_in (drop to passed)
 rounds_are to passed rounds holds = ap rounds_in (sym (take-append-drop to passed)) ∙ holds (drop to passed)
 
-gone_whole_at : (k to : ℕ) (q : QueueEnd) (rounds : List (List Fields)) (packets : List Fields) → length rounds ≡ k → BeginsPieces q.source q.passed → to ≤ length q.passed
+gone_whole_at : (k to : ℕ) (q : QueueEnd) (rounds : List (List Fields)) (packets : List Fields) → length rounds ≡ k → BeginsItems q.source q.passed → to ≤ length q.passed
     → end_in (take to q.passed) ≡ Pending → HoldsRounds (take to q.passed) (rounds ++ packets ∷ []) [] → HasGone k to q Whole packets
 gone_whole_at k to q rounds packets count begun within is_open holds =
     let all : rounds_in q.passed ≡ (rounds ++ packets ∷ []) ++ rounds_in (drop to q.passed) = rounds_are to q.passed (rounds ++ packets ∷ []) holds in
@@ -168,7 +168,7 @@ gone_whole j at to packet old mid new packets going gives t =
       has_page_size = All-append OfSize packets (packet ∷ []) going.of_size (All-cons OfSize packet [] s.of_size (All-nil OfSize));
       has_gone = λ k is.
           let holds : HoldsRounds (take (to + 1) q.passed) (is.rounds ++ (map fields packets ++ fields packet ∷ []) ∷ []) [] =
-          subst (λ (l : List Piece). HoldsRounds l (is.rounds ++ (map fields packets ++ fields packet ∷ []) ∷ []) []) (sym s.has_front)
+          subst (λ (l : List ChannelItem). HoldsRounds l (is.rounds ++ (map fields packets ++ fields packet ∷ []) ∷ []) []) (sym s.has_front)
           (holds_sync (take to going.behind.passed) is.rounds (map fields packets) (fields packet) t (going.holds is.rounds is.is_at)) in
           subst (HasGone k (to + 1) q Whole) (sym (one_more_packet packets packet))
           (gone_whole_at k (to + 1) q is.rounds (map fields packets ++ fields packet ∷ []) is.has_count s.begun s.within is_open holds);
@@ -177,12 +177,12 @@ gone_whole j at to packet old mid new packets going gives t =
 -- ---- the stop
 
 -- a list that is the front of itself with more is all of it
-front_is_all : (to : ℕ) (xs more : List Piece) → take to xs ≡ xs ++ more → (take to xs ≡ xs) × (more ≡ [])
+front_is_all : (to : ℕ) (xs more : List ChannelItem) → take to xs ≡ xs ++ more → (take to xs ≡ xs) × (more ≡ [])
 front_is_all to xs [] e = (e ∙ append-nil xs, refl)
 front_is_all to xs (x ∷ more) e =
-    absurd (omega (arith, ap (λ (l : List Piece). length l) e, length-append xs (x ∷ more), ap (λ (l : List Piece). length l) (take-append-drop to xs), length-append (take to xs) (drop to xs)))
+    absurd (omega (arith, ap (λ (l : List ChannelItem). length l) e, length-append xs (x ∷ more), ap (λ (l : List ChannelItem). length l) (take-append-drop to xs), length-append (take to xs) (drop to xs)))
 
-stop_tells : (end : ChannelEnd) → end_in (Stop (fault_of end) ∷ []) ≡ stop_status end
+stop_tells : (end : ChannelEnd) → end_in (Stop (end_fault end) ∷ []) ≡ stop_status end
 stop_tells channel_end.Clean = refl
 stop_tells (channel_end.Bad f) = refl
 
@@ -200,16 +200,16 @@ gone_stop j at to end old mid new packets going gives =
     let s = steps j at to old mid new packets (item.Stop end) going gives in
     let q : QueueEnd = gives.behind in
     let ends : end_in (take (to + 1) q.passed) ≡ stop_status end =
-    ap end_in s.has_front ∙ end_comes (take to going.behind.passed) (Stop (fault_of end) ∷ []) going.is_open.1 ∙ stop_tells end in
-    let more : List Piece = s.begun.0 in
+    ap end_in s.has_front ∙ end_comes (take to going.behind.passed) (Stop (end_fault end) ∷ []) going.is_open.1 ∙ stop_tells end in
+    let more : List ChannelItem = s.begun.0 in
     let front : IsFront (take (to + 1) q.passed) (q.passed ++ more) = record {
       rest = drop (to + 1) q.passed ++ more;
-      has_rest = ap (λ (l : List Piece). l ++ more) (sym (take-append-drop (to + 1) q.passed)) ∙ append_assoc (take (to + 1) q.passed) (drop (to + 1) q.passed) more;
+      has_rest = ap (λ (l : List ChannelItem). l ++ more) (sym (take-append-drop (to + 1) q.passed)) ∙ append_assoc (take (to + 1) q.passed) (drop (to + 1) q.passed) more;
     } in
     let whole : take (to + 1) q.passed ≡ q.passed ++ more =
     (stop_law (given q.source) q.source.text (q.passed ++ more) (take (to + 1) q.passed) s.is_page_size s.begun.1 front).0 (λ e. stop_ends end (sym ends ∙ e)) in
     let all = front_is_all (to + 1) q.passed more whole in
-    let through : IsThrough q = subst (λ (l : List Piece). ArePieces (given q.source) q.source.text l) (ap (λ (l : List Piece). q.passed ++ l) all.1 ∙ append-nil q.passed) s.begun.1 in
+    let through : IsThrough q = subst (λ (l : List ChannelItem). AreItems (given q.source) q.source.text l) (ap (λ (l : List ChannelItem). q.passed ++ l) all.1 ∙ append-nil q.passed) s.begun.1 in
     record {
       before = going.before;
       behind = q;
@@ -219,8 +219,8 @@ gone_stop j at to end old mid new packets going gives =
       has_page_size = going.of_size;
       has_gone = λ k is.
           let holds : HoldsRounds q.passed is.rounds (map fields packets) =
-          subst (λ (l : List Piece). HoldsRounds l is.rounds (map fields packets)) (sym s.has_front ∙ all.0)
-          (holds_stop (take to going.behind.passed) is.rounds (map fields packets) (fault_of end) (going.holds is.rounds is.is_at)) in
+          subst (λ (l : List ChannelItem). HoldsRounds l is.rounds (map fields packets)) (sym s.has_front ∙ all.0)
+          (holds_stop (take to going.behind.passed) is.rounds (map fields packets) (end_fault end) (going.holds is.rounds is.is_at)) in
           let count : round_count q.passed ≡ k = holds_count q.passed is.rounds (map fields packets) holds ∙ is.has_count in
           record {
             is_told = (s.begun, inr through);

@@ -32,7 +32,7 @@ use Rattle.mig_load.specs.Status.{status_at, main_status, channel_status, stream
 use Rattle.mig_load.specs.Texts.{Text, Texts, Readings, AreReadings}
 use Rattle.mig_load.specs.Rounds.{record_pages_at, channel_packets_at, packets_at, packet_count_at, base_at, refusal_of, refusal_at, pages_at, memory_at}
 use Rattle.mig_load.specs.MultiLoad.{Standing, main_standing, main_at, channels_at, sources_at, hello_ids, repeated_hello, passes, failed, verdicts_told, verdict_at}
-use Rattle.mig_load.specs.Growing.{GoesOn, GoOn, AnswersStay, WantsStay, RoundsStay}
+use Rattle.mig_load.specs.Growing.{GoesOn, GoOn, AnswersStay, WithoutMemoryStays, RoundsStay}
 use Rattle.mig_load.proofs.Statuses.{status_whole, status_end, stream_ends}
 use Rattle.mig_load.proofs.Judged.{IsWhole, IsSettled, has_round, whole_at}
 use Rattle.mig_load.proofs.OneAnswer.{some_readings}
@@ -411,7 +411,7 @@ wants_memory before now k memory stay passed (inl e) = elim (some_or_none before
   | inr some ↦ inl (e ∙ sym (same_memory before now k stay passed (kept before.main.table now.main.table some stay.main.same_table)))
 ]
 
-pub wants_law : WantsStay
+pub wants_law : WithoutMemoryStays
 wants_law = λ p uuid limit old new answer size go is.
     let next = some_readings p uuid limit new size in
     let stay : ReadingsStay is.readings next.0 = readings_stay p uuid limit old new is.readings next.0 size go is.are_readings next.1 in

@@ -8,7 +8,7 @@ use Rattle.std.proofs.lemmas.List.Folds.{list_any-append}
 use Rattle.mig_load.specs.declared.item.Item.{Item}
 use Rattle.mig_load.specs.MultiLoad.{is_same_id, comes_again, repeated_hello}
 use Rattle.mig_load.specs.Received.{hello_in}
-use Rattle.mig_load.specs.Pieces.{as_piece, QueueEnd}
+use Rattle.mig_load.specs.RelayItems.{as_channel_item, QueueEnd}
 use Rattle.mig_load.specs.Relayed.{received_of}
 
 -- ---- the first number that passes
@@ -105,7 +105,7 @@ seen_nothing ids seen all none = record { has_all = all; are_seen = none; none_a
 
 -- ---- the hello of a channel
 
-pub hello_at : (ends : List QueueEnd) (j : ℕ) (o : Option ℕ) (items : List Item) → j < length ends → IfSome (slice_get ends j) (λ p. map as_piece items ≡ p.passed) → o ≡ hello_in (map as_piece items)
+pub hello_at : (ends : List QueueEnd) (j : ℕ) (o : Option ℕ) (items : List Item) → j < length ends → IfSome (slice_get ends j) (λ p. map as_channel_item items ≡ p.passed) → o ≡ hello_in (map as_channel_item items)
     → get_or (map hello_in (received_of ends)) j None ≡ o
 hello_at [] j o items below h is = absurd (omega (arith, below))
 hello_at (p ∷ ends) zero o items below h is = ap hello_in (sym h) ∙ sym is

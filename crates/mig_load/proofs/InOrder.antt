@@ -9,7 +9,7 @@ use Rattle.mig_load.specs.declared.log.ChannelText.{ChannelText}
 use Rattle.mig_load.specs.declared.log.Log.{Log}
 use Rattle.mig_load.specs.declared.message.Message.{Message}
 use Rattle.mig_load.specs.Messages.{AreMessages, BeginsMessages}
-use Rattle.mig_load.specs.Queue.{no_text, fresh, feeding, collecting, Fits, IsInOrder, TellsPush, TellsPop}
+use Rattle.mig_load.specs.Queue.{no_channel_text, fresh, feeding, collecting, Fits, IsInOrder, TellsPush, TellsPop}
 use Rattle.mig_load.proofs.Places.{some_messages}
 
 at_end : (l : List Log) (a b : Log) (j : ℕ) → get_elem? l j ≢ some b → get_elem? (l ++ a ∷ []) j ≡ some b → j ≡ length l
@@ -32,12 +32,12 @@ pub begins : IsInOrder [] (fresh ∷ [])
 begins = (
   0,
   0,
-  no_text,
+  no_channel_text,
   [],
   [],
   refl,
-  some_messages no_text (inl refl),
-  all_set (Fits 0 0 no_text [] []) (fresh ∷ []) 0 fresh ((λ _. (refl, refl, refl)), λ _. (refl, refl, refl))
+  some_messages no_channel_text (inl refl),
+  all_set (Fits 0 0 no_channel_text [] []) (fresh ∷ []) 0 fresh ((λ _. (refl, refl, refl)), λ _. (refl, refl, refl))
       (λ j u other e. absurd (other (at_end [] fresh u j (λ x. some-ne-none u (sym x)) e))),
 )
 

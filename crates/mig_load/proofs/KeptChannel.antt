@@ -16,7 +16,7 @@ use Rattle.mig_load.specs.declared.status.Status.TheVariants.{Whole}
 use Rattle.mig_load.specs.Status.{channel_status, channel_end, is_whole}
 use Rattle.mig_load.specs.Texts.{Text, with_piece, over}
 use Rattle.mig_load.specs.Rounds.{channel_packets_at}
-use Rattle.mig_load.specs.Sources.{FedChannel, HoldsChannel, IsChannelRound, TakesChannel, TellsChannel, TellsHello, channel_so_far, with_one, packets_of, IsOfSize}
+use Rattle.mig_load.specs.Sources.{FedChannel, HoldsChannel, IsChannelRound, TakesChannel, TellsChannelStatus, TellsHello, channel_so_far, with_one, packets_of, IsOfSize}
 use Rattle.mig_load.proofs.Statuses.{status_whole, status_end, channel_ends}
 use Rattle.mig_load.proofs.GrowingChannels.{same_rounds, round_stays}
 
@@ -116,12 +116,12 @@ pub none_waits : (given : Settings) (k : ℕ) (text : Text) (reader : Reader) (r
 none_waits given k text reader reading size holds is =
     omega (arith, taken_are_there given text k reader reading holds.stands is, none_further given k text reading size holds.has_none is)
 
-pub tells_whole : (reader : Reader) (r : RoundOfPackets) → TellsChannel (kept reader (Some r)) Whole
+pub tells_whole : (reader : Reader) (r : RoundOfPackets) → TellsChannelStatus (kept reader (Some r)) Whole
 tells_whole reader r = λ given k text reading size holds is.
     sym (status_whole k (length reading.rounds) (channel_end reading.state) (waits_here given k text r reading holds.has_round is).0)
 
 pub tells_end : (reader : Reader) (state : ChannelState) (status : Status) → Tells reader (λ given so_far. HasState given so_far.text so_far.ended state) → status ≡ channel_end state
-    → TellsChannel (kept reader None) status
+    → TellsChannelStatus (kept reader None) status
 tells_end reader state status tells e = λ given k text reading size holds is.
     let has = tells given (channel_so_far text k) holds.stands in
     let one = one_reading_law given text.bytes text.ended size in
@@ -176,11 +176,11 @@ stands_next given k text c holds some = go c.round some holds.stands
 
 -- ---- whether a round waits
 
-pub where_some : (reader : Reader) (o : Option RoundOfPackets) (status : Status) → ((r : RoundOfPackets) → TellsChannel (kept reader (Some r)) status) → is_some o ≡ true → TellsChannel (kept reader o) status
+pub where_some : (reader : Reader) (o : Option RoundOfPackets) (status : Status) → ((r : RoundOfPackets) → TellsChannelStatus (kept reader (Some r)) status) → is_some o ≡ true → TellsChannelStatus (kept reader o) status
 where_some reader None status tells e = absurd cc
 where_some reader (Some r) status tells e = tells r
 
-pub where_none : (reader : Reader) (o : Option RoundOfPackets) (status : Status) → TellsChannel (kept reader None) status → is_some o ≡ false → TellsChannel (kept reader o) status
+pub where_none : (reader : Reader) (o : Option RoundOfPackets) (status : Status) → TellsChannelStatus (kept reader None) status → is_some o ≡ false → TellsChannelStatus (kept reader o) status
 where_none reader None status tells e = tells
 where_none reader (Some r) status tells e = absurd cc
 

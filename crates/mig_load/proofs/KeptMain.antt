@@ -21,7 +21,7 @@ use Rattle.mig_load.specs.declared.status.Status.{Status}
 use Rattle.mig_load.specs.declared.status.Status.TheVariants.{Whole}
 use Rattle.mig_load.specs.Status.{main_status, stream_end, is_whole}
 use Rattle.mig_load.specs.Texts.{Text, IsMainReading, with_piece, over}
-use Rattle.mig_load.specs.Sources.{FedMain, HoldsMain, IsMainRound, TakesMain, TellsMain, main_so_far, main_waiting, with_one}
+use Rattle.mig_load.specs.Sources.{FedMain, HoldsMain, IsMainRound, TakesMain, TellsMainStatus, main_so_far, main_waiting, with_one}
 use Rattle.mig_load.proofs.Statuses.{status_whole, status_end, stream_ends}
 use Rattle.mig_load.proofs.GrowingMain.{main_round_stays}
 
@@ -139,12 +139,12 @@ none_waits p limit k text reader reading size holds is =
     ] in
     omega (arith, least, most)
 
-pub tells_whole : (reader : Reader) (r : RoundOfRecords) → TellsMain (kept reader (Some r)) Whole
+pub tells_whole : (reader : Reader) (r : RoundOfRecords) → TellsMainStatus (kept reader (Some r)) Whole
 tells_whole reader r = λ p limit k text reading size holds is.
     sym (status_whole k (length reading.rounds) (stream_end reading.state) (waits_here p limit k text r reading size holds.has_round is).0)
 
 pub tells_end : (reader : Reader) (state : StreamState) (status : Status) → Tells reader (λ given so_far. HasState given so_far.text so_far.ended state) → status ≡ stream_end state
-    → TellsMain (kept reader None) status
+    → TellsMainStatus (kept reader None) status
 tells_end reader state status tells e = λ p limit k text reading size holds is.
     let has = tells (settings Main p limit) (main_so_far text k) holds.stands in
     let same = same_found p limit text has.0 reading size has.1 is in
@@ -174,11 +174,11 @@ stands_next given k text m holds some = go m.round some holds.stands
 
 -- ---- whether a round waits
 
-pub where_some : (reader : Reader) (o : Option RoundOfRecords) (status : Status) → ((r : RoundOfRecords) → TellsMain (kept reader (Some r)) status) → is_some o ≡ true → TellsMain (kept reader o) status
+pub where_some : (reader : Reader) (o : Option RoundOfRecords) (status : Status) → ((r : RoundOfRecords) → TellsMainStatus (kept reader (Some r)) status) → is_some o ≡ true → TellsMainStatus (kept reader o) status
 where_some reader None status tells e = absurd cc
 where_some reader (Some r) status tells e = tells r
 
-pub where_none : (reader : Reader) (o : Option RoundOfRecords) (status : Status) → TellsMain (kept reader None) status → is_some o ≡ false → TellsMain (kept reader o) status
+pub where_none : (reader : Reader) (o : Option RoundOfRecords) (status : Status) → TellsMainStatus (kept reader None) status → is_some o ≡ false → TellsMainStatus (kept reader o) status
 where_none reader None status tells e = tells
 where_none reader (Some r) status tells e = absurd cc
 

@@ -26,7 +26,7 @@ use Rattle.mig_load.specs.Texts.{Text, Texts, Readings, AreReadings, no_text}
 use Rattle.mig_load.specs.Rounds.{channel_packets_at, packets_at}
 use Rattle.mig_load.specs.MultiLoad.{Standing, main_standing, main_at, channels_at, hello_ids, repeated_hello, verdicts_told}
 use Rattle.mig_load.specs.Relayed.{standings}
-use Rattle.mig_load.specs.Sources.{FedMain, FedChannel, FedSources, channel_count, HoldsMain, HoldsChannel, Holds, TellsMain, TellsChannel, TellsHello, TellsAll, HaveRound, TakesMain, TakesChannel, packets_of, packets_of_all, IsOfSize, with_one, main_waiting}
+use Rattle.mig_load.specs.Sources.{FedMain, FedChannel, FedSources, channel_count, HoldsMain, HoldsChannel, Holds, TellsMainStatus, TellsChannelStatus, TellsHello, TellsAll, HaveRound, TakesMain, TakesChannel, packets_of, packets_of_all, IsOfSize, with_one, main_waiting}
 use Rattle.mig_load.specs.Session.{at_source, no_count}
 use Rattle.mig_load.specs.Advancing.{IsDue}
 use Rattle.mig_load.proofs.Judged.{IsWhole}
@@ -54,7 +54,7 @@ zip_at R (a ∷ xs) (b ∷ ys) (suc j) d y zip is = zip_at R xs ys j d y zip.1 i
 
 statuses_are : (given : Settings) (k : ℕ) (texts : List Text) (readings : List ChannelReading) (channels : List FedChannel) (statuses : List Status) → IsPageSize given.page_size
     → AllZip (HoldsChannel given k) texts channels → AllZip (λ (text : Text) (reading : ChannelReading). IsReading given text.bytes text.ended reading) texts readings
-    → AllZip TellsChannel channels statuses → statuses ≡ map (channel_status k) readings
+    → AllZip TellsChannelStatus channels statuses → statuses ≡ map (channel_status k) readings
 statuses_are given k [] [] [] [] size holds are told = refl
 statuses_are given k [] readings (c ∷ channels) statuses size holds are told = absurd holds
 statuses_are given k [] (r ∷ readings) channels statuses size holds are told = absurd are
@@ -91,7 +91,7 @@ standings_are k from (r ∷ readings) =
     ap (λ (l : List Standing). record { source = origin.Channel from; status = channel_status k r } ∷ l) rest
 
 pub tells_all : (k : ℕ) (s : FedSources) (main_told : Status) (statuses : List Status) (hellos : List (Option ℕ)) (repeated : Option ℕ) (told : Option Verdict)
-    → TellsMain s.main main_told → AllZip TellsChannel s.channels statuses → AllZip TellsHello s.channels hellos → repeated ≡ repeated_hello hellos
+    → TellsMainStatus s.main main_told → AllZip TellsChannelStatus s.channels statuses → AllZip TellsHello s.channels hellos → repeated ≡ repeated_hello hellos
     → told ≡ first_some (verdicts_told k (main_standing main_told) (standings statuses) repeated) → TellsAll k s told
 tells_all k s main_told statuses hellos repeated told tells_main tells_channels tells_hellos again e = λ p uuid limit texts readings size holds are.
     let given = settings p uuid (length texts.channels) in

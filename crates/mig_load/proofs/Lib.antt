@@ -1,6 +1,7 @@
 pub mod Sections
 pub mod Feeding
 pub mod Onto
+pub mod InPlaceStates
 pub mod Statuses
 pub mod OneAnswer
 pub mod Examples

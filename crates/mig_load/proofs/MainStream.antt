@@ -18,8 +18,8 @@ use Rattle.mig_stream.proofs.Limits.{limits_law}
 use Rattle.mig_assemble.specs.Target.{LoadTarget}
 use Rattle.mig_load.specs.declared.fault.LoadFault.{LoadFault}
 use Rattle.mig_load.specs.MultiLoad.{passes}
-use Rattle.mig_load.specs.Pieces.{QueueEnd}
-use Rattle.mig_load.specs.Relayed.{Load, Loading, HasLoaded, HasEnded, Comes, Goes, EndsAt}
+use Rattle.mig_load.specs.RelayItems.{QueueEnd}
+use Rattle.mig_load.specs.Relayed.{Load, Loading, HasLoaded, HasEnded, ComesToRound, Goes, EndsAt}
 use Rattle.mig_load.proofs.Putting.{table_is}
 use Rattle.mig_load.proofs.RelayRounds.{size_is}
 
@@ -52,7 +52,7 @@ given_are_there l k n places ends r loading stands =
 pub comes_in : (l : Load) (reader : Reader) (target : LoadTarget) (places : List ℕ) (ends : List QueueEnd) (round : RoundOfRecords) → Goes l reader target places ends
     → round.page_size ≡ l.page_size → HasRound (settings Main l.page_size l.limit) l.main target.rounds round.records
     → ((table : RamTable) → HasTable (settings Main l.page_size l.limit) l.main (Some table) → All (λ x. IsPlace table x.place) round.records)
-    → Comes l target places ends round
+    → ComesToRound l target places ends round
 comes_in l reader target places ends round goes size has places_in =
     let loading = goes.loading in
     let reading : StreamReading = has.0 in

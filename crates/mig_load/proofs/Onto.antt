@@ -26,9 +26,9 @@ use Rattle.mig_assemble.specs.Target.{LoadTarget, target_over}
 use Rattle.mig_load.specs.declared.fault.LoadFault.{LoadFault}
 use Rattle.mig_load.specs.declared.fault.Fault.TheVariants.{OtherTable}
 use Rattle.mig_load.specs.SingleLoad.{at_main, verdict_of}
-use Rattle.mig_load.specs.Loader.{put_so_far, HasPut, HasPutSome, HasPutAll}
-use Rattle.mig_load.specs.InPlace.{in_place, settings_of, IsOfOtherTable, IsOfOwnTable, HasSectionsOnto, LoadsOnto, HasVerdictOnto, SentIsLoadedInPlace, HasFedOnto, HasFedOntoSome, LoadsOntoSome, StandsAtAll}
-use Rattle.mig_load.proofs.Sections.{pages_in, same_reading, are_given, verdict_over, empty_ends, pages_sent, counted}
+use Rattle.mig_load.specs.Loader.{put_so_far, HasPutSections, HasPutAllSections}
+use Rattle.mig_load.specs.InPlace.{in_place, settings_of, IsOfOtherTable, IsOfOwnTable, HasSectionsOnto, LoadsOnto, HasVerdictOnto, SentIsLoadedInPlace, WasFedOnto, WasFedOntoSome, LoadsOntoSome, StandsAtAll}
+use Rattle.mig_load.proofs.Sections.{pages_in, same_reading, put_table, are_given, verdict_over, empty_ends, pages_sent, counted}
 
 -- ---- whose table a text has
 
@@ -48,62 +48,83 @@ no_rounds : (first : Image) (limit : ℕ) (text : List ℕ) (reading : StreamRea
 no_rounds first limit text reading table is none = (limits_law (settings_of first limit) text reading table.has_page_size is).has_table_first none
 
 -- of another table it was none before, or that
-none_before : (first : Image) (before now : StreamReading) (o : Option RamTable) (memory : Image) (n : ℕ) → before.table ≡ o → StaysRead before now → IsImage first → IsOfOtherTable first now
-    → (o ≡ None → before.rounds ≡ [])
-    → (IsOfOwnTable first before → (memory ≡ with_rounds first (pages_in first.table.page_size before.rounds)) × (n ≡ length before.rounds))
+none_before : (first : Image) (before now : StreamReading) (o : Option RamTable) (memory : Image) (n taken : ℕ) → before.table ≡ o → StaysRead before now → IsImage first → IsOfOtherTable first now
+    → taken ≤ length before.rounds → (o ≡ None → before.rounds ≡ [])
+    → (IsOfOwnTable first before → (memory ≡ with_rounds first (pages_in first.table.page_size (take n before.rounds))) × (taken ≡ n))
     → (IsOfOtherTable first before → (memory ≡ first) × (n ≡ 0)) → (memory ≡ first) × (n ≡ 0)
-none_before first before now None memory n is stays image other none own was =
+none_before first before now None memory n taken is stays image other few none own was =
     let both = own (inl is) in
-    let empty : before.rounds ≡ [] = none refl in (
-      both.0 ∙ ap (λ (l : List (List PageRecord)). with_rounds first (pages_in first.table.page_size l)) empty ∙ onto-nil first image,
-      both.1 ∙ ap (λ (l : List (List PageRecord)). length l) empty,
+    let empty : before.rounds ≡ [] = none refl in
+    let least : n ≡ 0 = (let len = ap (λ (l : List (List PageRecord)). length l) empty in let same = both.1 in omega (arith, few, len, same)) in (
+      both.0 ∙ ap (λ (k : ℕ). with_rounds first (pages_in first.table.page_size (take k before.rounds))) least ∙ onto-nil first image,
+      least,
     )
-none_before first before now (Some x) memory n is stays image other none own was =
+none_before first before now (Some x) memory n taken is stays image other few none own was =
     let there : Some other.0 ≡ Some x = sym other.1 ∙ stays.same_table x is in
     was (x, is, λ e. other.2 (let same : other.0 ≡ x = cc in same ∙ e))
 
--- ---- a piece more
+-- ---- what was fed, of which sections may wait
 
-pub onto_longer : (limit : ℕ) (first : Image) (r s : Reader) (t : LoadTarget) (text piece : List ℕ) (ended : Bool) → StepsOn (with_piece piece) r s
-    → LoadsOnto limit first (in_place r t) text ended → HasFedOnto limit first (in_place s t) (text ++ piece) ended
-onto_longer limit first r s t text piece ended step loads =
-    let given : Settings = settings_of first limit in
-    let size : IsPageSize first.table.page_size = loads.is_table.has_page_size in
+-- a loader with all sections
+pub fed_of : (limit : ℕ) (first : Image) (r : Reader) (t : LoadTarget) (text : List ℕ) (ended : Bool) → LoadsOnto limit first (in_place r t) text ended → WasFedOnto limit first (in_place r t) text ended
+fed_of limit first r t text ended loads =
     let has : HasSectionsOnto limit first text t = loads.has_sections in
-    let before : StreamReading = has.reading in
-    let now = one_reading_law given (text ++ piece) size in
-    let stays : StaysRead before now.0 = longer_law given text piece before now.0 size has.is_reading now.1 in
+    let sections : List (List PageRecord) = has.reading.rounds in
     record {
       is_table = loads.is_table;
       is_image = loads.is_image;
-      taken = length before.rounds;
-      stands = step given (put_so_far text ended (length before.rounds)) loads.stands;
-      reading = now.0;
-      is_reading = now.1;
+      taken = length sections;
+      stands = loads.stands;
+      reading = has.reading;
+      is_reading = has.is_reading;
       same_table = has.same_table;
       own = λ mine.
-          let both = has.own (own_before first before now.0 before.table refl stays mine) in
-          let n : t.rounds ≡ length before.rounds = both.1 in
-          let front : take t.rounds now.0.rounds ≡ before.rounds =
-          ap (λ (l : List (List PageRecord)). take t.rounds l) stays.has_rounds ∙ take-append-le t.rounds before.rounds stays.more_rounds (omega (arith, n))
-          ∙ take_all t.rounds before.rounds (omega (arith, n)) in (
-            both.0 ∙ ap (λ (l : List (List PageRecord)). with_rounds first (pages_in first.table.page_size l)) (sym front),
-            sym n,
+          let both = has.own mine in (
+            both.0 ∙ ap (λ (l : List (List PageRecord)). with_rounds first (pages_in first.table.page_size l)) (sym (take_all t.rounds sections (let n = both.1 in omega (arith, n)))),
+            sym both.1,
           );
-      other = λ o. none_before first before now.0 before.table t.memory t.rounds refl stays loads.is_image o
-          (no_rounds first limit text before loads.is_table has.is_reading) has.own has.other;
+      other = has.other;
     }
 
-pub onto_piece : (r s : Reader) (t : LoadTarget) (piece : List ℕ) → StepsOn (with_piece piece) r s → LoadsOntoSome (in_place r t) → r.fed + length piece < 2 ^ 63 → HasFedOntoSome (in_place s t)
+-- a piece more
+pub onto_longer : (limit : ℕ) (first : Image) (r s : Reader) (t : LoadTarget) (text piece : List ℕ) (ended : Bool) → StepsOn (with_piece piece) r s
+    → WasFedOnto limit first (in_place r t) text ended → WasFedOnto limit first (in_place s t) (text ++ piece) ended
+onto_longer limit first r s t text piece ended step fed =
+    let given : Settings = settings_of first limit in
+    let size : IsPageSize first.table.page_size = fed.is_table.has_page_size in
+    let before : StreamReading = fed.reading in
+    let now = one_reading_law given (text ++ piece) size in
+    let stays : StaysRead before now.0 = longer_law given text piece before now.0 size fed.is_reading now.1 in
+    let few : fed.taken ≤ length before.rounds = are_given first.table.page_size limit text ended r fed.taken before size fed.is_reading fed.stands in
+    record {
+      is_table = fed.is_table;
+      is_image = fed.is_image;
+      taken = fed.taken;
+      stands = step given (put_so_far text ended fed.taken) fed.stands;
+      reading = now.0;
+      is_reading = now.1;
+      same_table = fed.same_table;
+      own = λ mine.
+          let both = fed.own (own_before first before now.0 before.table refl stays mine) in
+          let front : take t.rounds now.0.rounds ≡ take t.rounds before.rounds =
+          ap (λ (l : List (List PageRecord)). take t.rounds l) stays.has_rounds ∙ take-append-le t.rounds before.rounds stays.more_rounds (let n = both.1 in omega (arith, few, n)) in (
+            both.0 ∙ ap (λ (l : List (List PageRecord)). with_rounds first (pages_in first.table.page_size l)) (sym front),
+            both.1,
+          );
+      other = λ o. none_before first before now.0 before.table t.memory t.rounds fed.taken refl stays fed.is_image o few
+          (no_rounds first limit text before fed.is_table fed.is_reading) fed.own fed.other;
+    }
+
+pub onto_piece : (r s : Reader) (t : LoadTarget) (piece : List ℕ) → StepsOn (with_piece piece) r s → WasFedOntoSome (in_place r t) → r.fed + length piece < 2 ^ 63 → WasFedOntoSome (in_place s t)
 onto_piece r s t piece step some room =
-    let fed = some.loads.stands.has_fed in
+    let fed = some.has_fed.stands.has_fed in
     record {
       limit = some.limit;
       first = some.first;
       text = some.text ++ piece;
       ended = some.ended;
       is_short = omega (arith, fed, room, length-append some.text piece);
-      has_fed = onto_longer some.limit some.first r s t some.text piece some.ended step some.loads;
+      has_fed = onto_longer some.limit some.first r s t some.text piece some.ended step some.has_fed;
     }
 
 -- the text is over
@@ -124,6 +145,30 @@ onto_over_some r s t step some = record {
   ended = true;
   is_short = some.is_short;
   loads = onto_over some.limit some.first r s t some.text some.ended step some.loads;
+}
+
+pub fed_over : (limit : ℕ) (first : Image) (r s : Reader) (t : LoadTarget) (text : List ℕ) (ended : Bool) → StepsOn over r s → WasFedOnto limit first (in_place r t) text ended
+    → WasFedOnto limit first (in_place s t) text true
+fed_over limit first r s t text ended step fed = record {
+  is_table = fed.is_table;
+  is_image = fed.is_image;
+  taken = fed.taken;
+  stands = step (settings_of first limit) (put_so_far text ended fed.taken) fed.stands;
+  reading = fed.reading;
+  is_reading = fed.is_reading;
+  same_table = fed.same_table;
+  own = fed.own;
+  other = fed.other;
+}
+
+pub fed_over_some : (r s : Reader) (t : LoadTarget) → StepsOn over r s → WasFedOntoSome (in_place r t) → WasFedOntoSome (in_place s t)
+fed_over_some r s t step some = record {
+  limit = some.limit;
+  first = some.first;
+  text = some.text;
+  ended = true;
+  is_short = some.is_short;
+  has_fed = fed_over some.limit some.first r s t some.text some.ended step some.has_fed;
 }
 
 -- before the first piece
@@ -152,7 +197,7 @@ onto_some limit first r t text ended short loads = record { limit = limit; first
 -- ---- its sections are put, or dropped
 
 -- no table, and so no section
-pub put_none : (limit : ℕ) (first : Image) (r : Reader) (t : LoadTarget) (text : List ℕ) (ended : Bool) → HasFedOnto limit first (in_place r t) text ended → HasTable (settings_of first limit) text None
+pub put_none : (limit : ℕ) (first : Image) (r : Reader) (t : LoadTarget) (text : List ℕ) (ended : Bool) → WasFedOnto limit first (in_place r t) text ended → HasTable (settings_of first limit) text None
     → LoadsOnto limit first (in_place r t) text ended
 put_none limit first r t text ended fed has =
     let size : IsPageSize first.table.page_size = fed.is_table.has_page_size in
@@ -180,12 +225,12 @@ put_none limit first r t text ended fed has =
     }
 
 -- the stream's table, by the reader, against the memory's
-mine : (limit : ℕ) (first : Image) (r : Reader) (t : LoadTarget) (text : List ℕ) (ended : Bool) (table : RamTable) → HasFedOnto limit first (in_place r t) text ended
+mine : (limit : ℕ) (first : Image) (r : Reader) (t : LoadTarget) (text : List ℕ) (ended : Bool) (table : RamTable) → WasFedOnto limit first (in_place r t) text ended
     → (has : HasTable (settings_of first limit) text (Some table)) → table ≡ t.memory.table → (Some first.table ≡ has.0.table)
 mine limit first r t text ended table fed has same = ap (λ (x : RamTable). Some x) (sym (same ∙ fed.same_table)) ∙ has.2
 
-pub put_own : (limit : ℕ) (first : Image) (r : Reader) (t : LoadTarget) (text : List ℕ) (ended : Bool) (table : RamTable) → HasFedOnto limit first (in_place r t) text ended
-    → HasTable (settings_of first limit) text (Some table) → table ≡ t.memory.table → HasPut first.table.page_size limit first text ended r t
+pub put_own : (limit : ℕ) (first : Image) (r : Reader) (t : LoadTarget) (text : List ℕ) (ended : Bool) (table : RamTable) → WasFedOnto limit first (in_place r t) text ended
+    → HasTable (settings_of first limit) text (Some table) → table ≡ t.memory.table → HasPutSections first.table.page_size limit first text ended r t
 put_own limit first r t text ended table fed has same =
     let p : ℕ = first.table.page_size in
     let size : IsPageSize p = fed.is_table.has_page_size in
@@ -201,21 +246,26 @@ put_own limit first r t text ended table fed has same =
       };
     }
 
-pub put_own_some : (r : Reader) (t : LoadTarget) (table : RamTable) (some : HasFedOntoSome (in_place r t)) → HasTable (settings_of some.first some.limit) some.text (Some table)
-    → table ≡ t.memory.table → HasPutSome r t
-put_own_some r t table some has same = record {
-  page_size = some.first.table.page_size;
-  limit = some.limit;
-  first = some.first;
-  text = some.text;
-  ended = some.ended;
-  is_short = some.is_short;
-  has_put = put_own some.limit some.first r t some.text some.ended table some.has_fed has same;
-}
+-- some of its sections are in it
+pub fed_own : (limit : ℕ) (first : Image) (s : Reader) (u : LoadTarget) (text : List ℕ) (ended : Bool) → IsTable first.table → IsImage first
+    → HasPutSections first.table.page_size limit first text ended s u → WasFedOnto limit first (in_place s u) text ended
+fed_own limit first s u text ended table image put =
+    let has = put.has_first.has_table in
+    record {
+      is_table = table;
+      is_image = image;
+      taken = u.rounds;
+      stands = put.stands;
+      reading = has.0;
+      is_reading = has.1;
+      same_table = put_table first.table.page_size limit first text u put.has_first;
+      own = λ _. (put.has_first.has_memory has.0 has.1, refl);
+      other = λ o. absurd (apart first has.0 (inr (sym has.2)) o);
+    }
 
 -- all sections of the memory's own table are in it
 pub loads_own : (limit : ℕ) (first : Image) (s : Reader) (u : LoadTarget) (text : List ℕ) (ended : Bool) → IsTable first.table → IsImage first
-    → HasPut first.table.page_size limit first text ended s u → HasPutAll first.table.page_size limit first text u → LoadsOnto limit first (in_place s u) text ended
+    → HasPutSections first.table.page_size limit first text ended s u → HasPutAllSections first.table.page_size limit first text u → LoadsOnto limit first (in_place s u) text ended
 loads_own limit first s u text ended table image put all =
     let p : ℕ = first.table.page_size in
     let has = put.has_first.has_table in
@@ -242,7 +292,7 @@ others limit first t text table reading is same is_reading has differ =
     (table, sym (has.2 ∙ ap (λ (x : StreamReading). x.table) one), λ e. differ (e ∙ sym same))
 
 -- sections of another table are dropped
-pub loads_other : (limit : ℕ) (first : Image) (r s : Reader) (t : LoadTarget) (text : List ℕ) (ended : Bool) (table : RamTable) → HasFedOnto limit first (in_place r t) text ended
+pub loads_other : (limit : ℕ) (first : Image) (r s : Reader) (t : LoadTarget) (text : List ℕ) (ended : Bool) (table : RamTable) → WasFedOnto limit first (in_place r t) text ended
     → HasTable (settings_of first limit) text (Some table) → (table ≡ t.memory.table → ⊥) → StandsAtAll (settings_of first limit) text ended s → LoadsOnto limit first (in_place s t) text ended
 loads_other limit first r s t text ended table fed has differ stands =
     let o : IsOfOtherTable first fed.reading = others limit first t text table fed.reading fed.is_table fed.same_table fed.is_reading has differ in

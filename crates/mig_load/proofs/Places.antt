@@ -1,4 +1,4 @@
--- A text that is over has messages, which say where its pieces lie: all of them lie in it, and the one stop is last.
+-- A text that is over has messages, which say where its items lie: all of them lie in it, and the one stop is last.
 use Rattle.std.proofs.Common.{◌≡◌, ◌≢◌, ℕ, ◌+◌, ◌≤◌, true, false, cond, true≢false, List, [], ◌∷◌, ◌++◌, length, take, drop, map, Option, Some, None, refl, sym, ap, subst, ◌∙◌, append_assoc, arith}
 use Rattle.std.specs.Prelude.{flat_map}
 use Rattle.std.specs.List.{concat, All}
@@ -15,15 +15,15 @@ use Rattle.mig_packet.specs.Hello.{hello_len}
 use Rattle.mig_packet.specs.Packet.{fields_of, is_sync, IsPacketText}
 use Rattle.mig_packet.specs.Progress.{ChannelProgress, start, faults, after_packet, after_item, after}
 use Rattle.mig_packet.specs.Reading.{IsItem, AreFaultless, after_all, Front, state_at, state_at_end}
-use Rattle.mig_packet.specs.Pieces.{Piece, Page, all_packets, hello_piece, stop_piece}
+use Rattle.mig_packet.specs.ChannelItems.{ChannelItem, Page, all_packets, item_of_hello, item_of_stop}
 use Rattle.mig_packet.proofs.Exists.{one_list_law}
 use Rattle.mig_packet.proofs.Judged.{faultless_text}
 use Rattle.mig_load.specs.declared.item.ChannelEnd.{ChannelEnd}
 use Rattle.mig_load.specs.declared.log.ChannelText.{ChannelText}
 use Rattle.mig_load.specs.declared.message.Message.{Message}
 use Rattle.mig_load.specs.declared.message.Message.TheVariants as message
-use Rattle.mig_load.specs.Pieces.{given, HasPieces, BeginsPieces}
-use Rattle.mig_load.specs.Messages.{piece_in, piece_of, hello_message, places, stop_message, front_messages, AreMessages, BeginsMessages, LiesIn, is_last}
+use Rattle.mig_load.specs.RelayItems.{given, HasItems, BeginsItems}
+use Rattle.mig_load.specs.Messages.{item_in, item_of_message, hello_message, places, stop_message, front_messages, AreMessages, BeginsMessages, LiesIn, is_last}
 
 -- some text's messages begin with none
 pub some_messages : (source : ChannelText) → IsPageSize source.page_size → BeginsMessages source []
@@ -137,7 +137,7 @@ next_text : (text front packet more rest : List ℕ) → text ≡ front ++ ((pac
 next_text text front packet more rest is = is ∙ ap (λ (x : List ℕ). front ++ x) (append_assoc packet more rest) ∙ sym (append_assoc front packet (more ++ rest))
 
 read_places : (p at : ℕ) (text front rest : List ℕ) (packets : List (List ℕ)) → at ≡ length front → text ≡ front ++ (concat packets ++ rest)
-    → map (piece_in p text) (places at packets) ≡ map (λ packet. Page (fields_of p packet)) packets
+    → map (item_in p text) (places at packets) ≡ map (λ packet. Page (fields_of p packet)) packets
 read_places p at text front rest [] e is = refl
 read_places p at text front rest (packet ∷ packets) e is =
     let here = one_place at text front packet (concat packets ++ rest) e (is ∙ ap (λ (x : List ℕ). front ++ x) (append_assoc packet (concat packets) rest)) in
@@ -175,14 +175,14 @@ one_stop c rest state.Reading = one_stop_at_end c.hello rest c.packets
 one_stop c rest state.Closed = (_, refl)
 one_stop c rest (state.Bad fault) = (_, refl)
 
-stop_pieces : (p : ℕ) (text : List ℕ) (s : ChannelState) → map (piece_in p text) (stop_message s) ≡ stop_piece s
-stop_pieces p text state.Closed = refl
-stop_pieces p text (state.Bad fault) = refl
-stop_pieces p text state.Reading = refl
+stop_items : (p : ℕ) (text : List ℕ) (s : ChannelState) → map (item_in p text) (stop_message s) ≡ item_of_stop s
+stop_items p text state.Closed = refl
+stop_items p text (state.Bad fault) = refl
+stop_items p text state.Reading = refl
 
-hello_pieces : (p : ℕ) (text : List ℕ) (h : Option ℕ) → map (piece_in p text) (hello_message h) ≡ hello_piece h
-hello_pieces p text None = refl
-hello_pieces p text (Some id) = refl
+hello_items : (p : ℕ) (text : List ℕ) (h : Option ℕ) → map (item_in p text) (hello_message h) ≡ item_of_hello h
+hello_items p text None = refl
+hello_items p text (Some id) = refl
 
 -- ---- the messages of a front
 
@@ -191,10 +191,10 @@ begins_packets : (p : ℕ) (c : ChannelProgress) (text front rest : List ℕ) (l
 begins_packets p c text front rest l e = e ∙ ap (λ (x : List ℕ). x ++ rest) l.has_front ∙ append_assoc l.hello (concat (all_packets c)) rest
 
 read_front : (p : ℕ) (c : ChannelProgress) (text front rest : List ℕ) (h : Option ℕ) → c.hello ≡ h → IsLaid p c front → text ≡ front ++ rest
-    → map (piece_in p text) (places hello_len (all_packets c)) ≡ map (λ packet. Page (fields_of p packet)) (all_packets c)
+    → map (item_in p text) (places hello_len (all_packets c)) ≡ map (λ packet. Page (fields_of p packet)) (all_packets c)
 read_front p c text front rest None e l is =
     let none = (l.before_hello e).1 in
-    ap (λ (ps : List (List ℕ)). map (piece_in p text) (places hello_len ps)) none ∙ ap (map (λ packet. Page (fields_of p packet))) (sym none)
+    ap (λ (ps : List (List ℕ)). map (item_in p text) (places hello_len ps)) none ∙ ap (map (λ packet. Page (fields_of p packet))) (sym none)
 read_front p c text front rest (Some id) e l is =
     let some : c.hello ≢ None = λ no. absurd (let clash : None ≡ Some id = sym no ∙ e in cc) in
     read_places p hello_len text l.hello rest (all_packets c) (sym (l.behind_hello some)) (begins_packets p c text front rest l is)
@@ -218,15 +218,15 @@ well_made source l are =
     (well_fronted p are.to source.text are.reads.front are.rest are.to.hello (stop_message (state_at true are.to are.rest are.found)) refl
     (laid source are.to are.reads.front are.reads.leads) are.reads.has_text last)
 
--- The pieces are the messages, read in the text.
-pub pieces_law : (source : ChannelText) (l : List Message) → AreMessages source l → HasPieces source (map (piece_of source) l)
-pieces_law source l are =
+-- The items are the messages, read in the text.
+pub items_law : (source : ChannelText) (l : List Message) → AreMessages source l → HasItems source (map (item_of_message source) l)
+items_law source l are =
     let p = source.page_size in
     let c = are.to in
-    let read : Message → Piece = piece_of source in
+    let read : Message → ChannelItem = item_of_message source in
     let s = state_at true c are.rest are.found in
     let is = laid source c are.reads.front are.reads.leads in
-    let page : ℕ → List ℕ → Piece = λ n packet. Page (fields_of n packet) in
+    let page : ℕ → List ℕ → ChannelItem = λ n packet. Page (fields_of n packet) in
     let packets : map read (places hello_len (all_packets c)) ≡ map (page c.page_size) (all_packets c) =
     read_front p c source.text are.reads.front are.rest c.hello refl is are.reads.has_text ∙ ap (λ (n : ℕ). map (page n) (all_packets c)) (sym is.has_page_size) in
     record {
@@ -234,15 +234,15 @@ pieces_law source l are =
       rest = are.rest;
       found = are.found;
       reads = are.reads;
-      has_pieces = ap (map read) are.has_messages ∙ map-append read (front_messages c) (stop_message s)
-          ∙ ap (λ (l : List Piece). l ++ map read (stop_message s)) (map-append read (hello_message c.hello) (places hello_len (all_packets c)))
-          ∙ (λ i. (hello_pieces p source.text c.hello i ++ packets i) ++ stop_pieces p source.text s i);
+      has_items = ap (map read) are.has_messages ∙ map-append read (front_messages c) (stop_message s)
+          ∙ ap (λ (l : List ChannelItem). l ++ map read (stop_message s)) (map-append read (hello_message c.hello) (places hello_len (all_packets c)))
+          ∙ (λ i. (hello_items p source.text c.hello i ++ packets i) ++ stop_items p source.text s i);
     }
 
--- and the pieces begin with those of the first messages
-pub pieces_begin : (source : ChannelText) (front : List Message) → BeginsMessages source front → BeginsPieces source (map (piece_of source) front)
-pieces_begin source front b =
-    (map (piece_of source) b.0, subst (HasPieces source) (map-append (piece_of source) front b.0) (pieces_law source (front ++ b.0) b.1))
+-- and the items begin with those of the first messages
+pub items_begin : (source : ChannelText) (front : List Message) → BeginsMessages source front → BeginsItems source (map (item_of_message source) front)
+items_begin source front b =
+    (map (item_of_message source) b.0, subst (HasItems source) (map-append (item_of_message source) front b.0) (items_law source (front ++ b.0) b.1))
 
 -- ---- what is known of a message by its place among the text's
 

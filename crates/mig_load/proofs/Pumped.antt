@@ -19,10 +19,10 @@ use Rattle.mig_load.specs.Texts.{Texts}
 use Rattle.mig_load.specs.Sources.{Counts}
 use Rattle.mig_load.specs.MultiLoad.{Answer}
 use Rattle.mig_assemble.specs.Target.{LoadTarget}
-use Rattle.mig_load.specs.Advancing.{wants_memory}
-use Rattle.mig_load.specs.Session.{LoadSession, HasSource, no_count, count_of, with_fed, with_end, fed, ended, answer_in, rounds_in, StandsFor, LacksMemory, StepsOn, RunsOut, StillLacks, KeepsRounds}
-use Rattle.mig_load.specs.Reads.{Reads, after_pieces, after_end, after_failure, after_read}
-use Rattle.mig_load.specs.Pumping.{piece_limit, IsPiece, Explains, reads_after, HasRead, fed_all, pumped, HasRunOut, HasFed}
+use Rattle.mig_load.specs.Advancing.{failed_without_memory}
+use Rattle.mig_load.specs.Session.{LoadSession, HasSource, no_count, count_of, with_fed, with_end, feed_step, end_step, answer_in, rounds_loaded, StandsFor, LacksMemory, StepsOn, RunsOut, StillLacks, KeepsRounds}
+use Rattle.mig_load.specs.Reads.{ReadsSoFar, after_pieces, after_end, after_failure, after_read}
+use Rattle.mig_load.specs.Pumping.{piece_limit, IsPiece, Explains, reads_after, HasRead, piece_steps, pump_step, HasRunOut, FeedsPieces}
 use Rattle.mig_load.proofs.GoingThrough.{set_twice}
 
 -- ---- counts
@@ -58,9 +58,9 @@ fed_twice counts (source.Channel j) m n has =
 -- ---- pieces
 
 pub fed_all-push : (from : Source) (pieces : List (List ℕ)) (piece : List ℕ) (texts : Texts)
-    → fed_all from (pieces ++ piece ∷ []) texts ≡ fed from piece (fed_all from pieces texts)
+    → piece_steps from (pieces ++ piece ∷ []) texts ≡ feed_step from piece (piece_steps from pieces texts)
 fed_all-push from [] piece texts = refl
-fed_all-push from (x ∷ pieces) piece texts = fed_all-push from pieces piece (fed from x texts)
+fed_all-push from (x ∷ pieces) piece texts = fed_all-push from pieces piece (feed_step from x texts)
 
 pub concat-push : (pieces : List (List ℕ)) (piece : List ℕ) → concat (pieces ++ piece ∷ []) ≡ concat pieces ++ piece
 concat-push pieces piece = concat-append pieces (piece ∷ []) ∙ ap (λ (l : List ℕ). concat pieces ++ l) (append-nil piece)
@@ -93,41 +93,41 @@ front_len n piece le = omega (arith, length-take n piece)
 
 -- ---- reads
 
-pub bytes_read : (reads : Reads) (room n : ℕ) → n ≢ 0 → after_read reads room (Ok n) ≡ after_pieces reads 1
+pub bytes_read : (reads : ReadsSoFar) (room n : ℕ) → n ≢ 0 → after_read reads room (Ok n) ≡ after_pieces reads 1
 bytes_read reads room zero some = absurd (some refl)
 bytes_read reads room (suc n) some =
     ap (λ (b : Bool). if b && nat_lt 0 room then after_end reads else after_pieces reads 1) (eqb-suc-zero n)
 
-pub end_read : (reads : Reads) (room : ℕ) → room ≡ piece_limit → after_read reads room (Ok 0) ≡ after_end reads
+pub end_read : (reads : ReadsSoFar) (room : ℕ) → room ≡ piece_limit → after_read reads room (Ok 0) ≡ after_end reads
 end_read reads room is = ap (λ (k : ℕ). after_read reads k (Ok 0)) is
 
 -- ---- so far
 
 -- The reader gave these pieces, and they were fed.
-pub record HasPumped (from : Source) (pieces : List (List ℕ)) (reads_before reads : Reads) (before left : Option (List ℕ)) (old new : LoadSession) : Type 0 where
+pub record HasPumped (from : Source) (pieces : List (List ℕ)) (reads_before reads : ReadsSoFar) (before left : Option (List ℕ)) (old new : LoadSession) : Type 0 where
   pub are_pieces : All IsPiece pieces
   pub has_reads : reads ≡ after_pieces reads_before (length pieces)
   pub are_given : Consumes before left (concat pieces)
-  pub lacking : StillLacks (fed_all from pieces) old new
+  pub lacking : StillLacks (piece_steps from pieces) old new
   pub has_counts : new.counts ≡ with_fed old.counts from (length (concat pieces))
   pub settled : old.verdict ≢ Running → answer_in new ≡ answer_in old
   pub keeps : KeepsRounds old new
 
--- so it was in so many turns, and no growth was refused
-pub record SoFar (from : Source) (turn total : ℕ) (reads_before reads : Reads) (before left : Option (List ℕ)) (old new : LoadSession) : Type 0 where
+-- so it was in so many turns, and no allocation was refused
+pub record SoFar (from : Source) (turn total : ℕ) (reads_before reads : ReadsSoFar) (before left : Option (List ℕ)) (old new : LoadSession) : Type 0 where
   pub pieces : List (List ℕ)
   pub has_turns : length pieces ≡ turn
   pub has_total : total ≡ length (concat pieces)
   pub has_pumped : HasPumped from pieces reads_before reads before left old new
-  pub steps : StepsOn (fed_all from pieces) old new
+  pub steps : StepsOn (piece_steps from pieces) old new
 
 pub stays : (s : LoadSession) → KeepsRounds s s
 stays s = record { more_rounds = omega arith; has_memory = λ some. some }
 
-pub nothing : (from : Source) (reads : Reads) (before : Option (List ℕ)) (s : LoadSession) → HasPumped from [] reads reads before before s s
+pub nothing : (from : Source) (reads : ReadsSoFar) (before : Option (List ℕ)) (s : LoadSession) → HasPumped from [] reads reads before before s s
 nothing from reads before s = record {
   are_pieces = All-nil IsPiece;
-  has_reads = ap (λ (n : ℕ). let new : Reads = record reads { reads = n } in new) (sym (add-zero reads.reads));
+  has_reads = ap (λ (n : ℕ). let new : ReadsSoFar = record reads { reads = n } in new) (sym (add-zero reads.reads));
   are_given = Consumes-nil before;
   lacking = λ page_size uuid limit texts lacks. lacks;
   has_counts = sym (fed_nothing s.counts from);
@@ -135,7 +135,7 @@ nothing from reads before s = record {
   keeps = stays s;
 }
 
-pub begins : (from : Source) (reads : Reads) (before : Option (List ℕ)) (s : LoadSession) → SoFar from 0 0 reads reads before before s s
+pub begins : (from : Source) (reads : ReadsSoFar) (before : Option (List ℕ)) (s : LoadSession) → SoFar from 0 0 reads reads before before s s
 begins from reads before s = record {
   pieces = [];
   has_turns = refl;
@@ -145,14 +145,14 @@ begins from reads before s = record {
 }
 
 -- a read gave a piece of so many bytes
-pub record ReadsPiece (n : ℕ) (piece : List ℕ) (reads_before reads : Reads) (before left : Option (List ℕ)) : Type 0 where
+pub record ReadsPiece (n : ℕ) (piece : List ℕ) (reads_before reads : ReadsSoFar) (before left : Option (List ℕ)) : Type 0 where
   pub is_piece : IsPiece piece
   pub has_len : length piece ≡ n
   pub has_reads : reads ≡ after_pieces reads_before 1
   pub is_given : Consumes before left piece
 
 -- the piece is the front of the buffer, which was filled as far as the read went
-pub reads_piece : (n len : ℕ) (room items buffer now : List ℕ) (r s : Reads) (x y : Option (List ℕ)) → n ≢ 0 → n ≤ length room → length buffer ≡ length room
+pub reads_piece : (n len : ℕ) (room items buffer now : List ℕ) (r s : ReadsSoFar) (x y : Option (List ℕ)) → n ≢ 0 → n ≤ length room → length buffer ≡ length room
     → room ≡ items → length room ≡ len → len ≡ piece_limit → now ≡ take len (buffer ++ drop (length buffer) items) → s ≡ after_read r (length room) (Ok n)
     → Consumes x y (take n buffer) → ReadsPiece n (take n now) r s x y
 reads_piece n len room items buffer now r s x y some within same is long limit value reads given =
@@ -166,9 +166,9 @@ reads_piece n len room items buffer now r s x y some within same is long limit v
       is_given = subst (Consumes x y) (sym front) given;
     }
 
--- what feeding it leaves, whether or not a growth was refused
+-- what feeding it leaves, whether or not an allocation was refused
 pub record Feeds (from : Source) (piece : List ℕ) (old new : LoadSession) : Type 0 where
-  pub lacking : StillLacks (fed from piece) old new
+  pub lacking : StillLacks (feed_step from piece) old new
   pub settled : old.verdict ≢ Running → answer_in new ≡ answer_in old
   pub has_counts : new.counts ≡ with_fed old.counts from (length piece)
   pub keeps : KeepsRounds old new
@@ -180,18 +180,18 @@ keeps_on a b c p q = record { more_rounds = omega (arith, p.more_rounds, q.more_
 pub stays_over : (a b : LoadSession) → answer_in b ≡ answer_in a → a.verdict ≢ Running → b.verdict ≢ Running
 stays_over a b same over runs = over (sym (ap (λ (x : Answer). x.verdict) same) ∙ runs)
 
-pub one_more : (from : Source) (pieces : List (List ℕ)) (n : ℕ) (piece : List ℕ) (r s t : Reads) (x y z : Option (List ℕ)) (a b c : LoadSession) → HasSource a.counts from
+pub one_more : (from : Source) (pieces : List (List ℕ)) (n : ℕ) (piece : List ℕ) (r s t : ReadsSoFar) (x y z : Option (List ℕ)) (a b c : LoadSession) → HasSource a.counts from
     → HasPumped from pieces r s x y a b → ReadsPiece n piece s t y z → Feeds from piece b c → HasPumped from (pieces ++ piece ∷ []) r t x z a c
 one_more from pieces n piece r s t x y z a b c has p q f = record {
   are_pieces = All-push IsPiece pieces piece p.are_pieces q.is_piece;
   has_reads =
-      q.has_reads ∙ ap (λ (u : Reads). after_pieces u 1) p.has_reads
-      ∙ ap (λ (n : ℕ). let new : Reads = record r { reads = n } in new) (add_assoc r.reads (length pieces) 1)
+      q.has_reads ∙ ap (λ (u : ReadsSoFar). after_pieces u 1) p.has_reads
+      ∙ ap (λ (n : ℕ). let new : ReadsSoFar = record r { reads = n } in new) (add_assoc r.reads (length pieces) 1)
       ∙ ap (after_pieces r) (sym (length-push pieces piece));
   are_given = subst (Consumes x z) (sym (concat-push pieces piece)) (Consumes-trans x y z (concat pieces) piece p.are_given q.is_given);
   lacking = λ page_size uuid limit texts lacks.
       subst (λ (u : Texts). LacksMemory page_size uuid limit u c) (sym (fed_all-push from pieces piece texts))
-      (f.lacking page_size uuid limit (fed_all from pieces texts) (p.lacking page_size uuid limit texts lacks));
+      (f.lacking page_size uuid limit (piece_steps from pieces texts) (p.lacking page_size uuid limit texts lacks));
   has_counts =
       f.has_counts ∙ ap (λ (u : Counts). with_fed u from (length piece)) p.has_counts ∙ fed_twice a.counts from (length (concat pieces)) (length piece) has
       ∙ ap (with_fed a.counts from) (sym (ap (λ (l : List ℕ). length l) (concat-push pieces piece) ∙ length-append (concat pieces) piece));
@@ -199,20 +199,20 @@ one_more from pieces n piece r s t x y z a b c has p q f = record {
   keeps = keeps_on a b c p.keeps f.keeps;
 }
 
-pub steps_more : (from : Source) (pieces : List (List ℕ)) (piece : List ℕ) (a b c : LoadSession) → StepsOn (fed_all from pieces) a b → StepsOn (fed from piece) b c
-    → StepsOn (fed_all from (pieces ++ piece ∷ [])) a c
+pub steps_more : (from : Source) (pieces : List (List ℕ)) (piece : List ℕ) (a b c : LoadSession) → StepsOn (piece_steps from pieces) a b → StepsOn (feed_step from piece) b c
+    → StepsOn (piece_steps from (pieces ++ piece ∷ [])) a c
 steps_more from pieces piece a b c p q = λ page_size uuid limit texts stands.
     subst (λ (u : Texts). StandsFor page_size uuid limit u c) (sym (fed_all-push from pieces piece texts))
-    (q page_size uuid limit (fed_all from pieces texts) (p page_size uuid limit texts stands))
+    (q page_size uuid limit (piece_steps from pieces texts) (p page_size uuid limit texts stands))
 
-pub runs_out_then : (from : Source) (pieces : List (List ℕ)) (piece : List ℕ) (a b c : LoadSession) → StepsOn (fed_all from pieces) a b → RunsOut (fed from piece) b c
-    → RunsOut (fed_all from (pieces ++ piece ∷ [])) a c
+pub runs_out_then : (from : Source) (pieces : List (List ℕ)) (piece : List ℕ) (a b c : LoadSession) → StepsOn (piece_steps from pieces) a b → RunsOut (feed_step from piece) b c
+    → RunsOut (piece_steps from (pieces ++ piece ∷ [])) a c
 runs_out_then from pieces piece a b c p q = λ page_size uuid limit texts stands.
     subst (λ (u : Texts). LacksMemory page_size uuid limit u c) (sym (fed_all-push from pieces piece texts))
-    (q page_size uuid limit (fed_all from pieces texts) (p page_size uuid limit texts stands))
+    (q page_size uuid limit (piece_steps from pieces texts) (p page_size uuid limit texts stands))
 
-pub goes_on : (from : Source) (turn total : ℕ) (n : ℕ) (piece : List ℕ) (r s t : Reads) (x y z : Option (List ℕ)) (a b c : LoadSession) → HasSource a.counts from
-    → SoFar from turn total r s x y a b → ReadsPiece n piece s t y z → Feeds from piece b c → StepsOn (fed from piece) b c
+pub goes_on : (from : Source) (turn total : ℕ) (n : ℕ) (piece : List ℕ) (r s t : ReadsSoFar) (x y z : Option (List ℕ)) (a b c : LoadSession) → HasSource a.counts from
+    → SoFar from turn total r s x y a b → ReadsPiece n piece s t y z → Feeds from piece b c → StepsOn (feed_step from piece) b c
     → SoFar from (turn + 1) (total + n) r t x z a c
 goes_on from turn total n piece r s t x y z a b c has p q f steps = record {
   pieces = p.pieces ++ piece ∷ [];
@@ -224,48 +224,48 @@ goes_on from turn total n piece r s t x y z a b c has p q f steps = record {
 
 -- ---- the room that is left
 
-pub is_small : (from : Source) (turn total : ℕ) (r s : Reads) (x y : Option (List ℕ)) (a b : LoadSession) → SoFar from turn total r s x y a b → total ≤ turn * piece_limit
+pub is_small : (from : Source) (turn total : ℕ) (r s : ReadsSoFar) (x y : Option (List ℕ)) (a b : LoadSession) → SoFar from turn total r s x y a b → total ≤ turn * piece_limit
 is_small from turn total r s x y a b p =
     omega (arith, p.has_total, few_bytes p.pieces p.has_pumped.are_pieces, p.has_turns)
 
-pub has_room : (from : Source) (turns turn total n : ℕ) (r s : Reads) (x y : Option (List ℕ)) (a b : LoadSession) → SoFar from turn total r s x y a b → HasSource a.counts from
+pub has_room : (from : Source) (turns turn total n : ℕ) (r s : ReadsSoFar) (x y : Option (List ℕ)) (a b : LoadSession) → SoFar from turn total r s x y a b → HasSource a.counts from
     → (count_of a.counts from).fed + turns * piece_limit < 2 ^ 64 → turn < turns → n ≤ piece_limit → (count_of b.counts from).fed + n < 2 ^ 64
 has_room from turns turn total n r s x y a b p has room within short =
     let count : (count_of b.counts from).fed ≡ (count_of a.counts from).fed + length (concat p.pieces) =
     ap (λ (u : Counts). (count_of u from).fed) p.has_pumped.has_counts ∙ ap (λ (u : Count). u.fed) (count_of_fed a.counts from (length (concat p.pieces)) has) in
     omega (arith, count, few_bytes p.pieces p.has_pumped.are_pieces, p.has_turns, room, within, short)
 
-pub still_there : (from : Source) (turn total : ℕ) (r s : Reads) (x y : Option (List ℕ)) (a b : LoadSession) → SoFar from turn total r s x y a b → HasSource a.counts from
+pub still_there : (from : Source) (turn total : ℕ) (r s : ReadsSoFar) (x y : Option (List ℕ)) (a b : LoadSession) → SoFar from turn total r s x y a b → HasSource a.counts from
     → HasSource b.counts from
 still_there from turn total r s x y a b p has = subst (λ (u : Counts). HasSource u from) (sym p.has_pumped.has_counts) (source_stays a.counts from (length (concat p.pieces)) has)
 
-pub still_open : (from : Source) (turn total : ℕ) (r s : Reads) (x y : Option (List ℕ)) (a b : LoadSession) → SoFar from turn total r s x y a b → HasSource a.counts from
+pub still_open : (from : Source) (turn total : ℕ) (r s : ReadsSoFar) (x y : Option (List ℕ)) (a b : LoadSession) → SoFar from turn total r s x y a b → HasSource a.counts from
     → (count_of a.counts from).ended ≡ (count_of b.counts from).ended
 still_open from turn total r s x y a b p has =
     sym (ap (λ (u : Counts). (count_of u from).ended) p.has_pumped.has_counts ∙ ap (λ (u : Count). u.ended) (count_of_fed a.counts from (length (concat p.pieces)) has))
 
 -- ---- the end
 
--- the error that a refused growth becomes
+-- the error that a refused allocation becomes
 pub is_no_memory : (result : Result ℕ PumpFault) → IsErr result × IsErrAnd result (λ e. e ≡ pump.NoMemory) → result ≡ Err pump.NoMemory
 is_no_memory (Ok len) p = absurd p.1
 is_no_memory (Err e) p = ap (λ (fault : PumpFault). let failed : Result ℕ PumpFault = Err fault in failed) p.1
 
 -- what a pump ensures
-pub record Pumps (from : Source) (turns : ℕ) (result : Result ℕ PumpFault) (r s : Reads) (x y : Option (List ℕ)) (a b : LoadSession) : Type 0 where
+pub record Pumps (from : Source) (turns : ℕ) (result : Result ℕ PumpFault) (r s : ReadsSoFar) (x y : Option (List ℕ)) (a b : LoadSession) : Type 0 where
   pub is_within : s.reads ≤ r.reads + turns
   pub reads : Explains turns r s result
-  pub pumped : (pieces : List (List ℕ)) × (s ≡ reads_after r (length pieces) result) × HasRead pieces result x y × HasFed from pieces result a b
+  pub pump_step : (pieces : List (List ℕ)) × (s ≡ reads_after r (length pieces) result) × HasRead pieces result x y × FeedsPieces from pieces result a b
   pub settled : a.verdict ≢ Running → (answer_in b ≡ answer_in a) × (result ≡ Err pump.NoMemory → b ≡ a)
   pub keeps : KeepsRounds a b
 
 -- its buffer was refused
-pub no_buffer : (from : Source) (turns : ℕ) (r : Reads) (x : Option (List ℕ)) (a : LoadSession) → Pumps from turns (Err pump.NoMemory) r r x x a a
+pub no_buffer : (from : Source) (turns : ℕ) (r : ReadsSoFar) (x : Option (List ℕ)) (a : LoadSession) → Pumps from turns (Err pump.NoMemory) r r x x a a
 no_buffer from turns r x a =
     let p : HasPumped from [] r r x x a a = nothing from r x a in record {
       is_within = omega arith;
       reads = (refl, refl);
-      pumped = (
+      pump_step = (
         [],
         p.has_reads,
         record { are_pieces = p.are_pieces; are_given = p.are_given; has_len = tt; is_at_end = tt },
@@ -276,16 +276,16 @@ no_buffer from turns r x a =
     }
 
 -- there were all the reads that were allowed
-pub too_many : (from : Source) (turns total : ℕ) (r s : Reads) (x y : Option (List ℕ)) (a b : LoadSession) → SoFar from turns total r s x y a b
+pub too_many : (from : Source) (turns total : ℕ) (r s : ReadsSoFar) (x y : Option (List ℕ)) (a b : LoadSession) → SoFar from turns total r s x y a b
     → Pumps from turns (Err pump.TooManyTurns) r s x y a b
 too_many from turns total r s x y a b p = record {
-  is_within = omega (arith, ap (λ (u : Reads). u.reads) p.has_pumped.has_reads, p.has_turns);
+  is_within = omega (arith, ap (λ (u : ReadsSoFar). u.reads) p.has_pumped.has_reads, p.has_turns);
   reads = (
-    ap (λ (u : Reads). u.reads) p.has_pumped.has_reads ∙ ap (λ (n : ℕ). r.reads + n) p.has_turns,
-    ap (λ (u : Reads). u.ends) p.has_pumped.has_reads,
-    ap (λ (u : Reads). u.failed) p.has_pumped.has_reads,
+    ap (λ (u : ReadsSoFar). u.reads) p.has_pumped.has_reads ∙ ap (λ (n : ℕ). r.reads + n) p.has_turns,
+    ap (λ (u : ReadsSoFar). u.ends) p.has_pumped.has_reads,
+    ap (λ (u : ReadsSoFar). u.failed) p.has_pumped.has_reads,
   );
-  pumped = (
+  pump_step = (
     p.pieces,
     p.has_pumped.has_reads,
     record { are_pieces = p.has_pumped.are_pieces; are_given = p.has_pumped.are_given; has_len = tt; is_at_end = tt },
@@ -296,13 +296,13 @@ too_many from turns total r s x y a b p = record {
 }
 
 -- a read failed
-pub fails : (from : Source) (turns turn total : ℕ) (r s t : Reads) (x y z : Option (List ℕ)) (a b : LoadSession) → turn < turns → SoFar from turn total r s x y a b
+pub fails : (from : Source) (turns turn total : ℕ) (r s t : ReadsSoFar) (x y z : Option (List ℕ)) (a b : LoadSession) → turn < turns → SoFar from turn total r s x y a b
     → t ≡ after_failure s → Keeps y z → Pumps from turns (Err pump.Read) r t x z a b
 fails from turns turn total r s t x y z a b within p is kept =
     let all : t ≡ after_failure (after_pieces r (length p.pieces)) = is ∙ ap after_failure p.has_pumped.has_reads in record {
-      is_within = omega (arith, ap (λ (u : Reads). u.reads) all, p.has_turns, within);
-      reads = (ap (λ (u : Reads). u.ends) all, ap (λ (u : Reads). u.failed) all);
-      pumped = (
+      is_within = omega (arith, ap (λ (u : ReadsSoFar). u.reads) all, p.has_turns, within);
+      reads = (ap (λ (u : ReadsSoFar). u.ends) all, ap (λ (u : ReadsSoFar). u.failed) all);
+      pump_step = (
         p.pieces,
         all,
         record { are_pieces = p.has_pumped.are_pieces; are_given = Consumes-kept x y z (concat p.pieces) p.has_pumped.are_given kept; has_len = tt; is_at_end = tt },
@@ -314,26 +314,26 @@ fails from turns turn total r s t x y z a b within p is kept =
 
 -- what ending a source leaves
 pub record Ends (from : Source) (old new : LoadSession) : Type 0 where
-  pub steps : StepsOn (ended from) old new
-  pub lacking : StillLacks (ended from) old new
+  pub steps : StepsOn (end_step from) old new
+  pub lacking : StillLacks (end_step from) old new
   pub settled : old.verdict ≢ Running → answer_in new ≡ answer_in old
   pub has_counts : new.counts ≡ with_end old.counts from
   pub same_target : new.target ≡ old.target
 
 pub end_keeps : (old new : LoadSession) → new.target ≡ old.target → KeepsRounds old new
 end_keeps old new same = record {
-  more_rounds = subst (λ (target : Option LoadTarget). rounds_in old.target ≤ rounds_in target) (sym same) (omega arith);
+  more_rounds = subst (λ (target : Option LoadTarget). rounds_loaded old.target ≤ rounds_loaded target) (sym same) (omega arith);
   has_memory = λ some none. some (sym same ∙ none);
 }
 
 -- a read found the end
-pub finds_end : (from : Source) (turns turn total : ℕ) (r s t : Reads) (x y z : Option (List ℕ)) (a b c : LoadSession) → turn < turns → SoFar from turn total r s x y a b
+pub finds_end : (from : Source) (turns turn total : ℕ) (r s t : ReadsSoFar) (x y z : Option (List ℕ)) (a b c : LoadSession) → turn < turns → SoFar from turn total r s x y a b
     → t ≡ after_end s → Consumes y z [] → IsAtEnd z → Ends from b c → Pumps from turns (Ok total) r t x z a c
 finds_end from turns turn total r s t x y z a b c within p is given done e =
     let all : t ≡ after_end (after_pieces r (length p.pieces)) = is ∙ ap after_end p.has_pumped.has_reads in record {
-      is_within = omega (arith, ap (λ (u : Reads). u.reads) all, p.has_turns, within);
-      reads = (ap (λ (u : Reads). u.ends) all, ap (λ (u : Reads). u.failed) all);
-      pumped = (
+      is_within = omega (arith, ap (λ (u : ReadsSoFar). u.reads) all, p.has_turns, within);
+      reads = (ap (λ (u : ReadsSoFar). u.ends) all, ap (λ (u : ReadsSoFar). u.failed) all);
+      pump_step = (
         p.pieces,
         all,
         record {
@@ -343,8 +343,8 @@ finds_end from turns turn total r s t x y z a b c within p is given done e =
           is_at_end = done;
         },
         record {
-          stands = λ page_size uuid limit texts stands. e.steps page_size uuid limit (fed_all from p.pieces texts) (p.steps page_size uuid limit texts stands);
-          lacking = λ page_size uuid limit texts lacks. e.lacking page_size uuid limit (fed_all from p.pieces texts) (p.has_pumped.lacking page_size uuid limit texts lacks);
+          stands = λ page_size uuid limit texts stands. e.steps page_size uuid limit (piece_steps from p.pieces texts) (p.steps page_size uuid limit texts stands);
+          lacking = λ page_size uuid limit texts lacks. e.lacking page_size uuid limit (piece_steps from p.pieces texts) (p.has_pumped.lacking page_size uuid limit texts lacks);
           has_counts = e.has_counts ∙ ap (λ (u : Counts). with_end u from) p.has_pumped.has_counts;
         },
       );
@@ -352,15 +352,15 @@ finds_end from turns turn total r s t x y z a b c within p is given done e =
       keeps = keeps_on a b c p.has_pumped.keeps (end_keeps b c e.same_target);
     }
 
--- a growth was refused in the last piece
-pub runs_out : (from : Source) (turns turn total : ℕ) (n : ℕ) (piece : List ℕ) (r s t : Reads) (x y z : Option (List ℕ)) (a b c : LoadSession) → HasSource a.counts from
-    → turn < turns → SoFar from turn total r s x y a b → ReadsPiece n piece s t y z → Feeds from piece b c → RunsOut (fed from piece) b c
-    → c.verdict ≡ wants_memory (answer_in c).rounds → (b.verdict ≢ Running → ⊥) → Pumps from turns (Err pump.NoMemory) r t x z a c
+-- an allocation was refused in the last piece
+pub runs_out : (from : Source) (turns turn total : ℕ) (n : ℕ) (piece : List ℕ) (r s t : ReadsSoFar) (x y z : Option (List ℕ)) (a b c : LoadSession) → HasSource a.counts from
+    → turn < turns → SoFar from turn total r s x y a b → ReadsPiece n piece s t y z → Feeds from piece b c → RunsOut (feed_step from piece) b c
+    → c.verdict ≡ failed_without_memory (answer_in c).rounds → (b.verdict ≢ Running → ⊥) → Pumps from turns (Err pump.NoMemory) r t x z a c
 runs_out from turns turn total n piece r s t x y z a b c has within p q f out verdict ran =
     let last : HasPumped from (p.pieces ++ piece ∷ []) r t x z a c = one_more from p.pieces n piece r s t x y z a b c has p.has_pumped q f in record {
-      is_within = omega (arith, ap (λ (u : Reads). u.reads) last.has_reads, length-push p.pieces piece, p.has_turns, within);
-      reads = (ap (λ (u : Reads). u.ends) last.has_reads, ap (λ (u : Reads). u.failed) last.has_reads);
-      pumped = (
+      is_within = omega (arith, ap (λ (u : ReadsSoFar). u.reads) last.has_reads, length-push p.pieces piece, p.has_turns, within);
+      reads = (ap (λ (u : ReadsSoFar). u.ends) last.has_reads, ap (λ (u : ReadsSoFar). u.failed) last.has_reads);
+      pump_step = (
         p.pieces ++ piece ∷ [],
         last.has_reads,
         record { are_pieces = last.are_pieces; are_given = last.are_given; has_len = tt; is_at_end = tt },

@@ -1,4 +1,4 @@
--- What was received of a channel's pieces tells what its text tells.
+-- What was received of a channel's items tells what its text tells.
 use Rattle.std.proofs.Common.{ℕ, suc, ◌≡◌, ◌≢◌, ◌+◌, ◌<◌, Bool, true, false, cond, List, [], ◌∷◌, ◌++◌, length, map, get_or, refl, sym, ap, ◌∙◌, inl, inr, Option, Some, None, append_assoc, arith, subst}
 use Rattle.std.specs.Prelude.{flat_map, IsFalse, IsTrue}
 use Rattle.std.specs.List.{All}
@@ -12,7 +12,7 @@ use Rattle.mig_mem.specs.PageSize.{IsPageSize}
 use Rattle.mig_packet.specs.declared.state.ChannelState.{ChannelState}
 use Rattle.mig_packet.specs.declared.state.ChannelState.TheVariants.{Reading, Closed, Bad}
 use Rattle.mig_packet.specs.Packet.{Fields, fields_of, is_sync}
-use Rattle.mig_packet.specs.Pieces.{Piece, Hello, Page, Stop, hello_piece, stop_piece, all_packets, pieces_of, ArePieces}
+use Rattle.mig_packet.specs.ChannelItems.{ChannelItem, Hello, Page, Stop, item_of_hello, item_of_stop, all_packets, items_of, AreItems}
 use Rattle.mig_packet.specs.Progress.{ChannelProgress, start, after_item, after}
 use Rattle.mig_packet.specs.Reading.{ChannelReading, Settings, IsReading, after_all, state_at}
 use Rattle.mig_packet.specs.Law.{EndsWithSync}
@@ -29,17 +29,17 @@ length_before : (packet : Fields) (rounds : List (List Fields)) → length (befo
 length_before packet [] = refl
 length_before packet (round ∷ rounds) = refl
 
--- a packet in front of some pieces, with SYNC or without
-pub with_sync : (packet : Fields) (pieces : List Piece) → packet.sync ≡ true → rounds_in (Page packet ∷ pieces) ≡ (packet ∷ []) ∷ rounds_in pieces
+-- a packet in front of some items, with SYNC or without
+pub with_sync : (packet : Fields) (pieces : List ChannelItem) → packet.sync ≡ true → rounds_in (Page packet ∷ pieces) ≡ (packet ∷ []) ∷ rounds_in pieces
 with_sync packet pieces t = cond-true packet.sync ((packet ∷ []) ∷ rounds_in pieces) (before_rounds packet (rounds_in pieces)) t
 
-pub without_sync : (packet : Fields) (pieces : List Piece) → packet.sync ≡ false → rounds_in (Page packet ∷ pieces) ≡ before_rounds packet (rounds_in pieces)
+pub without_sync : (packet : Fields) (pieces : List ChannelItem) → packet.sync ≡ false → rounds_in (Page packet ∷ pieces) ≡ before_rounds packet (rounds_in pieces)
 without_sync packet pieces f = cond-false packet.sync ((packet ∷ []) ∷ rounds_in pieces) (before_rounds packet (rounds_in pieces)) f
 
 pub counted_law : RoundsAreCounted
 counted_law = is_count_by (λ pieces. length (rounds_in pieces)) ends_round refl step
   where
-    step : (piece : Piece) (pieces : List Piece)
+    step : (piece : ChannelItem) (pieces : List ChannelItem)
         → length (rounds_in (piece ∷ pieces)) ≡ cond (ends_round piece) (1 + length (rounds_in pieces)) (length (rounds_in pieces))
     step (Hello id) pieces = refl
     step (Stop end) pieces = refl
@@ -59,7 +59,7 @@ before_more : (packet : Fields) (rounds more : List (List Fields)) → (rest : L
 before_more packet [] more = (before_rounds packet more, refl)
 before_more packet (round ∷ rounds) more = (more, refl)
 
-more_rounds : (front rest : List Piece) → (more : List (List Fields)) × (rounds_in (front ++ rest) ≡ rounds_in front ++ more)
+more_rounds : (front rest : List ChannelItem) → (more : List (List Fields)) × (rounds_in (front ++ rest) ≡ rounds_in front ++ more)
 more_rounds [] rest = (rounds_in rest, refl)
 more_rounds (Hello id ∷ front) rest = more_rounds front rest
 more_rounds (Stop end ∷ front) rest = more_rounds front rest
@@ -78,50 +78,50 @@ more_rounds (Page packet ∷ front) rest =
       )
     ]
 
-hello_first : (front rest : List Piece) → 0 < round_count front → hello_in front ≡ hello_in (front ++ rest)
+hello_first : (front rest : List ChannelItem) → 0 < round_count front → hello_in front ≡ hello_in (front ++ rest)
 hello_first [] rest some = absurd (omega (arith, some))
 hello_first (Hello id ∷ front) rest some = refl
 hello_first (Page packet ∷ front) rest some = refl
 hello_first (Stop end ∷ front) rest some = refl
 
--- ---- all pieces of a text
+-- ---- all items of a text
 
 abbrev IsOpen : List ℕ → Type 0
 IsOpen packet = IsFalse (is_sync packet)
 
-abbrev pages : ℕ → List (List ℕ) → List Piece
+abbrev pages : ℕ → List (List ℕ) → List ChannelItem
 pages page_size packets = map (λ (packet : List ℕ). Page (fields_of page_size packet)) packets
 
-rounds_of_stop : (state : ChannelState) → rounds_in (stop_piece state) ≡ []
+rounds_of_stop : (state : ChannelState) → rounds_in (item_of_stop state) ≡ []
 rounds_of_stop Reading = refl
 rounds_of_stop Closed = refl
 rounds_of_stop (Bad f) = refl
 
-rounds_of_open : (page_size : ℕ) (packets : List (List ℕ)) (more : List Piece) → All IsOpen packets → rounds_in more ≡ [] → rounds_in (pages page_size packets ++ more) ≡ []
+rounds_of_open : (page_size : ℕ) (packets : List (List ℕ)) (more : List ChannelItem) → All IsOpen packets → rounds_in more ≡ [] → rounds_in (pages page_size packets ++ more) ≡ []
 rounds_of_open page_size [] more all none = none
 rounds_of_open page_size (packet ∷ packets) more all none =
     without_sync (fields_of page_size packet) (pages page_size packets ++ more) (All-head IsOpen packet packets all)
     ∙ ap (before_rounds (fields_of page_size packet)) (rounds_of_open page_size packets more (All-tail IsOpen packet packets all) none)
 
-rounds_of_round : (page_size : ℕ) (before : List (List ℕ)) (last : List ℕ) (more : List Piece) → All IsOpen before → IsTrue (is_sync last)
+rounds_of_round : (page_size : ℕ) (before : List (List ℕ)) (last : List ℕ) (more : List ChannelItem) → All IsOpen before → IsTrue (is_sync last)
     → rounds_in (pages page_size (before ++ last ∷ []) ++ more) ≡ map (fields_of page_size) (before ++ last ∷ []) ∷ rounds_in more
 rounds_of_round page_size [] last more all sync = with_sync (fields_of page_size last) more sync
 rounds_of_round page_size (packet ∷ before) last more all sync =
     without_sync (fields_of page_size packet) (pages page_size (before ++ last ∷ []) ++ more) (All-head IsOpen packet before all)
     ∙ ap (before_rounds (fields_of page_size packet)) (rounds_of_round page_size before last more (All-tail IsOpen packet before all) sync)
 
-rounds_of_all : (page_size : ℕ) (rounds : List (List (List ℕ))) (packets : List (List ℕ)) (more : List Piece) → All EndsWithSync rounds → All IsOpen packets → rounds_in more ≡ []
+rounds_of_all : (page_size : ℕ) (rounds : List (List (List ℕ))) (packets : List (List ℕ)) (more : List ChannelItem) → All EndsWithSync rounds → All IsOpen packets → rounds_in more ≡ []
     → rounds_in (pages page_size (flat_map (λ round. round) rounds ++ packets) ++ more) ≡ map (map (fields_of page_size)) rounds
 rounds_of_all page_size [] packets more ends opens none = rounds_of_open page_size packets more opens none
 rounds_of_all page_size (round ∷ rounds) packets more ends opens none =
     let is : EndsWithSync round = All-head EndsWithSync round rounds ends in
     let later : List (List ℕ) = flat_map (λ (r : List (List ℕ)). r) rounds ++ packets in
-    let rest : List Piece = pages page_size later ++ more in
-    let page : List ℕ → Piece = λ (packet : List ℕ). Page (fields_of page_size packet) in
+    let rest : List ChannelItem = pages page_size later ++ more in
+    let page : List ℕ → ChannelItem = λ (packet : List ℕ). Page (fields_of page_size packet) in
     let joined : pages page_size (flat_map (λ (r : List (List ℕ)). r) (round ∷ rounds) ++ packets) ++ more ≡ pages page_size round ++ rest =
     ap (λ (ps : List (List ℕ)). pages page_size (ps ++ packets) ++ more) (flat_map-cons (λ (r : List (List ℕ)). r) round rounds)
     ∙ ap (λ (ps : List (List ℕ)). pages page_size ps ++ more) (append_assoc round (flat_map (λ (r : List (List ℕ)). r) rounds) packets)
-    ∙ ap (λ (ps : List Piece). ps ++ more) (map-append page round later)
+    ∙ ap (λ (ps : List ChannelItem). ps ++ more) (map-append page round later)
     ∙ append_assoc (pages page_size round) (pages page_size later) more in
     let first : rounds_in (pages page_size round ++ rest) ≡ map (fields_of page_size) round ∷ rounds_in rest =
     subst (λ (r : List (List ℕ)). rounds_in (pages page_size r ++ rest) ≡ map (fields_of page_size) r ∷ rounds_in rest) (sym is.has_packets)
@@ -131,35 +131,35 @@ rounds_of_all page_size (round ∷ rounds) packets more ends opens none =
     (rounds_of_all page_size rounds packets more (All-tail EndsWithSync round rounds ends) opens none)
 
 -- the hello, and what is behind it
-behind_hello : (c : ChannelProgress) (state : ChannelState) → pieces_of c state ≡ hello_piece c.hello ++ (pages c.page_size (all_packets c) ++ stop_piece state)
-behind_hello c state = append_assoc (hello_piece c.hello) (pages c.page_size (all_packets c)) (stop_piece state)
+behind_hello : (c : ChannelProgress) (state : ChannelState) → items_of c state ≡ item_of_hello c.hello ++ (pages c.page_size (all_packets c) ++ item_of_stop state)
+behind_hello c state = append_assoc (item_of_hello c.hello) (pages c.page_size (all_packets c)) (item_of_stop state)
 
-rounds_of_hello : (hello : Option ℕ) (more : List Piece) → rounds_in (hello_piece hello ++ more) ≡ rounds_in more
+rounds_of_hello : (hello : Option ℕ) (more : List ChannelItem) → rounds_in (item_of_hello hello ++ more) ≡ rounds_in more
 rounds_of_hello None more = refl
 rounds_of_hello (Some id) more = refl
 
 -- behind the hello there is none
-hello_of_pages : (page_size : ℕ) (packets : List (List ℕ)) (state : ChannelState) → hello_in (pages page_size packets ++ stop_piece state) ≡ None
+hello_of_pages : (page_size : ℕ) (packets : List (List ℕ)) (state : ChannelState) → hello_in (pages page_size packets ++ item_of_stop state) ≡ None
 hello_of_pages page_size (packet ∷ packets) state = refl
 hello_of_pages page_size [] Reading = refl
 hello_of_pages page_size [] Closed = refl
 hello_of_pages page_size [] (Bad f) = refl
 
 hello_of_all : (hello : Option ℕ) (page_size : ℕ) (packets : List (List ℕ)) (state : ChannelState)
-    → hello_in (hello_piece hello ++ (pages page_size packets ++ stop_piece state)) ≡ hello
+    → hello_in (item_of_hello hello ++ (pages page_size packets ++ item_of_stop state)) ≡ hello
 hello_of_all None page_size packets state = hello_of_pages page_size packets state
 hello_of_all (Some id) page_size packets state = refl
 
-end_of_stop : (state : ChannelState) → end_in (stop_piece state) ≡ channel_end state
+end_of_stop : (state : ChannelState) → end_in (item_of_stop state) ≡ channel_end state
 end_of_stop Reading = refl
 end_of_stop Closed = refl
 end_of_stop (Bad f) = refl
 
-end_of_pages : (page_size : ℕ) (packets : List (List ℕ)) (more : List Piece) → end_in (pages page_size packets ++ more) ≡ end_in more
+end_of_pages : (page_size : ℕ) (packets : List (List ℕ)) (more : List ChannelItem) → end_in (pages page_size packets ++ more) ≡ end_in more
 end_of_pages page_size [] more = refl
 end_of_pages page_size (packet ∷ packets) more = end_of_pages page_size packets more
 
-end_of_hello : (hello : Option ℕ) (more : List Piece) → end_in (hello_piece hello ++ more) ≡ end_in more
+end_of_hello : (hello : Option ℕ) (more : List ChannelItem) → end_in (item_of_hello hello ++ more) ≡ end_in more
 end_of_hello None more = refl
 end_of_hello (Some id) more = refl
 
@@ -186,15 +186,15 @@ same_page_size : (c : ChannelProgress) (items : List (List ℕ)) → (after_all 
 same_page_size c [] = refl
 same_page_size c (item ∷ items) = same_page_size (after c item) items ∙ page_size_stays c c.hello item
 
--- ---- all pieces tell what the reading tells
+-- ---- all items tell what the reading tells
 
-record TellAll (page_size : ℕ) (pieces : List Piece) (reading : ChannelReading) : Type 0 where
+record TellAll (page_size : ℕ) (pieces : List ChannelItem) (reading : ChannelReading) : Type 0 where
   has_hello : hello_in pieces ≡ reading.hello
   has_rounds : rounds_in pieces ≡ map (map (fields_of page_size)) reading.rounds
   has_end : end_in pieces ≡ channel_end reading.state
 
-tell_all : (given : Settings) (text : List ℕ) (pieces : List Piece) (reading : ChannelReading) → IsPageSize given.page_size
-    → ArePieces given text pieces → IsReading given text true reading → TellAll given.page_size pieces reading
+tell_all : (given : Settings) (text : List ℕ) (pieces : List ChannelItem) (reading : ChannelReading) → IsPageSize given.page_size
+    → AreItems given text pieces → IsReading given text true reading → TellAll given.page_size pieces reading
 tell_all given text pieces reading size are is =
     let p : ℕ = given.page_size in
     let c : ChannelProgress = are.to in
@@ -208,23 +208,23 @@ tell_all given text pieces reading size are is =
     let ends : All EndsWithSync c.rounds = subst (All EndsWithSync) has_rounds (limits_law given text true reading size is).end_with_sync in
     let opens : All IsOpen c.packets = subst (λ (x : ChannelProgress). All IsOpen x.packets) (sym are.reads.leads.leads_to)
     (open_after from are.reads.leads.items (All-nil IsOpen)) in
-    let packets : List Piece = pages c.page_size (all_packets c) in
-    let has_pieces : pieces ≡ hello_piece c.hello ++ (packets ++ stop_piece state) = are.has_pieces ∙ behind_hello c state in
+    let packets : List ChannelItem = pages c.page_size (all_packets c) in
+    let has_items : pieces ≡ item_of_hello c.hello ++ (packets ++ item_of_stop state) = are.has_items ∙ behind_hello c state in
     let kept : c.page_size ≡ p = ap (λ (x : ChannelProgress). x.page_size) are.reads.leads.leads_to ∙ same_page_size from are.reads.leads.items in
     record {
-      has_hello = ap hello_in has_pieces ∙ hello_of_all c.hello c.page_size (all_packets c) state
+      has_hello = ap hello_in has_items ∙ hello_of_all c.hello c.page_size (all_packets c) state
           ∙ sym (is.has_hello ∙ ap (λ (x : ChannelProgress). x.hello) same.0);
-      has_rounds = ap rounds_in has_pieces ∙ rounds_of_hello c.hello (packets ++ stop_piece state)
-          ∙ rounds_of_all c.page_size c.rounds c.packets (stop_piece state) ends opens (rounds_of_stop state)
+      has_rounds = ap rounds_in has_items ∙ rounds_of_hello c.hello (packets ++ item_of_stop state)
+          ∙ rounds_of_all c.page_size c.rounds c.packets (item_of_stop state) ends opens (rounds_of_stop state)
           ∙ ap (λ (n : ℕ). map (map (fields_of n)) c.rounds) kept ∙ ap (map (map (fields_of p))) (sym has_rounds);
-      has_end = ap end_in has_pieces ∙ end_of_hello c.hello (packets ++ stop_piece state) ∙ end_of_pages c.page_size (all_packets c) (stop_piece state)
+      has_end = ap end_in has_items ∙ end_of_hello c.hello (packets ++ item_of_stop state) ∙ end_of_pages c.page_size (all_packets c) (item_of_stop state)
           ∙ end_of_stop state ∙ ap channel_end (sym has_state);
     }
 
 -- ---- the law
 
 -- where all was received
-tells_all : (page_size k : ℕ) (pieces : List Piece) (reading : ChannelReading) → TellAll page_size pieces reading → TellsChannel page_size k pieces reading
+tells_all : (page_size k : ℕ) (pieces : List ChannelItem) (reading : ChannelReading) → TellAll page_size pieces reading → TellsChannel page_size k pieces reading
 tells_all page_size k pieces reading all =
     let says : List (List ℕ) → List Fields = map (fields_of page_size) in
     let count : round_count pieces ≡ length reading.rounds =
@@ -236,7 +236,7 @@ tells_all page_size k pieces reading all =
     }
 
 -- where the round's SYNC packet was received
-tells_front : (page_size k : ℕ) (front rest : List Piece) (reading : ChannelReading) → k < round_count front → TellAll page_size (front ++ rest) reading
+tells_front : (page_size k : ℕ) (front rest : List ChannelItem) (reading : ChannelReading) → k < round_count front → TellAll page_size (front ++ rest) reading
     → TellsChannel page_size k front reading
 tells_front page_size k front rest reading whole all =
     let says : List (List ℕ) → List Fields = map (fields_of page_size) in
@@ -258,49 +258,49 @@ received_law = λ given k text pieces received reading size are is front settles
     let p : ℕ = given.page_size in
     let all : TellAll p pieces reading = tell_all given text pieces reading size are is in
     elim settles [
-      | inl whole ↦ tells_front p k received front.rest reading whole (subst (λ (x : List Piece). TellAll p x reading) front.has_rest all)
-      | inr same ↦ tells_all p k received reading (subst (λ (x : List Piece). TellAll p x reading) (sym same) all)
+      | inl whole ↦ tells_front p k received front.rest reading whole (subst (λ (x : List ChannelItem). TellAll p x reading) front.has_rest all)
+      | inr same ↦ tells_all p k received reading (subst (λ (x : List ChannelItem). TellAll p x reading) (sym same) all)
     ]
 
 -- ---- nothing follows the stop
 
 -- what follows a front with a stop
-abbrev HasStopLast : List Piece → Type 0
-HasStopLast pieces = (front rest : List Piece) → pieces ≡ front ++ rest → end_in front ≢ Pending → rest ≡ []
+abbrev HasStopLast : List ChannelItem → Type 0
+HasStopLast pieces = (front rest : List ChannelItem) → pieces ≡ front ++ rest → end_in front ≢ Pending → rest ≡ []
 
-nothing_left : (front rest : List Piece) → [] ≡ front ++ rest → rest ≡ []
+nothing_left : (front rest : List ChannelItem) → [] ≡ front ++ rest → rest ≡ []
 nothing_left [] rest e = sym e
 nothing_left (piece ∷ front) rest e = absurd cc
 
-one_left : (last : Piece) → HasStopLast (last ∷ [])
+one_left : (last : ChannelItem) → HasStopLast (last ∷ [])
 one_left last [] rest e stop = absurd (stop refl)
 one_left last (piece ∷ front) rest e stop = nothing_left front rest cc
 
-stop_last : (state : ChannelState) → HasStopLast (stop_piece state)
+stop_last : (state : ChannelState) → HasStopLast (item_of_stop state)
 stop_last Reading = λ front rest e stop. nothing_left front rest e
 stop_last Closed = one_left (Stop None)
 stop_last (Bad f) = one_left (Stop (Some f))
 
--- a piece in front that isn't the stop
-stop_behind : (piece : Piece) (pieces : List Piece) → ((front : List Piece) → end_in (piece ∷ front) ≡ end_in front) → HasStopLast pieces → HasStopLast (piece ∷ pieces)
+-- an item in front that isn't the stop
+stop_behind : (piece : ChannelItem) (pieces : List ChannelItem) → ((front : List ChannelItem) → end_in (piece ∷ front) ≡ end_in front) → HasStopLast pieces → HasStopLast (piece ∷ pieces)
 stop_behind piece pieces passed last [] rest e stop = absurd (stop refl)
 stop_behind piece pieces passed last (first ∷ front) rest e stop =
     let same : first ≡ piece = cc in
     let later : pieces ≡ front ++ rest = cc in
-    let stopped : end_in front ≢ Pending = λ pending. stop (ap (λ (x : Piece). end_in (x ∷ front)) same ∙ passed front ∙ pending) in
+    let stopped : end_in front ≢ Pending = λ pending. stop (ap (λ (x : ChannelItem). end_in (x ∷ front)) same ∙ passed front ∙ pending) in
     last front rest later stopped
 
-stop_behind_pages : (page_size : ℕ) (packets : List (List ℕ)) (more : List Piece) → HasStopLast more → HasStopLast (pages page_size packets ++ more)
+stop_behind_pages : (page_size : ℕ) (packets : List (List ℕ)) (more : List ChannelItem) → HasStopLast more → HasStopLast (pages page_size packets ++ more)
 stop_behind_pages page_size [] more last = last
 stop_behind_pages page_size (packet ∷ packets) more last =
     stop_behind (Page (fields_of page_size packet)) (pages page_size packets ++ more) (λ front. refl) (stop_behind_pages page_size packets more last)
 
-stop_behind_hello : (hello : Option ℕ) (more : List Piece) → HasStopLast more → HasStopLast (hello_piece hello ++ more)
+stop_behind_hello : (hello : Option ℕ) (more : List ChannelItem) → HasStopLast more → HasStopLast (item_of_hello hello ++ more)
 stop_behind_hello None more last = last
 stop_behind_hello (Some id) more last = stop_behind (Hello id) more (λ front. refl) last
 
 -- and it is there
-end_of_all : (given : Settings) (text : List ℕ) (pieces : List Piece) → IsPageSize given.page_size → ArePieces given text pieces → end_in pieces ≢ Pending
+end_of_all : (given : Settings) (text : List ℕ) (pieces : List ChannelItem) → IsPageSize given.page_size → AreItems given text pieces → end_in pieces ≢ Pending
 end_of_all given text pieces size are =
     let reading : ChannelReading = record { hello = are.to.hello; rounds = are.to.rounds; state = state_at true are.to are.rest are.found } in
     let is : IsReading given text true reading =
@@ -317,11 +317,11 @@ pub stop_law : StopIsLast
 stop_law = λ given text pieces received size are front.
     let c : ChannelProgress = are.to in
     let state : ChannelState = state_at true c are.rest are.found in
-    let behind : List Piece = pages c.page_size (all_packets c) ++ stop_piece state in
-    let last : HasStopLast (hello_piece c.hello ++ behind) =
-    stop_behind_hello c.hello behind (stop_behind_pages c.page_size (all_packets c) (stop_piece state) (stop_last state)) in (
+    let behind : List ChannelItem = pages c.page_size (all_packets c) ++ item_of_stop state in
+    let last : HasStopLast (item_of_hello c.hello ++ behind) =
+    stop_behind_hello c.hello behind (stop_behind_pages c.page_size (all_packets c) (item_of_stop state) (stop_last state)) in (
       λ stop.
-          let none : front.rest ≡ [] = last received front.rest (sym (are.has_pieces ∙ behind_hello c state) ∙ front.has_rest) stop in
-          sym (front.has_rest ∙ ap (λ (x : List Piece). received ++ x) none ∙ append-nil received),
+          let none : front.rest ≡ [] = last received front.rest (sym (are.has_items ∙ behind_hello c state) ∙ front.has_rest) stop in
+          sym (front.has_rest ∙ ap (λ (x : List ChannelItem). received ++ x) none ∙ append-nil received),
       λ all pending. end_of_all given text pieces size are (ap end_in (sym all) ∙ pending),
     )

@@ -20,12 +20,12 @@ use Rattle.mig_stream.proofs.Limits.{limits_law}
 use Rattle.mig_assemble.specs.Target.{LoadTarget, new_target}
 use Rattle.mig_load.specs.declared.loaded.Loaded.{Loaded}
 use Rattle.mig_load.specs.declared.log.ChannelText.{ChannelText}
-use Rattle.mig_load.specs.SingleLoad.{want_of_memory, unloaded}
+use Rattle.mig_load.specs.SingleLoad.{no_memory_at, unloaded}
 use Rattle.mig_load.specs.Texts.{AreReadings, ended_texts}
 use Rattle.mig_load.specs.Rounds.{pages_at, memory_at}
 use Rattle.mig_load.specs.MultiLoad.{passes, IsFirstStop, verdict_at, as_verdict}
 use Rattle.mig_load.specs.Received.{round_count}
-use Rattle.mig_load.specs.Pieces.{channel_text, QueueEnd, IsThrough}
+use Rattle.mig_load.specs.RelayItems.{channel_text, QueueEnd, IsThrough}
 use Rattle.mig_load.specs.Relayed.{IsRelayOf, Continues, HasReceived, AreAtRound, Load, HaveRounds, HasEnded, EndsAt, Goes, Begins, IsAnswerOf}
 use Rattle.mig_load.proofs.OneAnswer.{some_readings}
 use Rattle.mig_load.proofs.Relays.{sizes_are}
@@ -69,7 +69,7 @@ answers_with l k a now are passed rounds memory ended = elim ended.is_answered [
     are_readings = are;
     have_passed = subst (λ (n : ℕ). (j : ℕ) → j < n → IsTrue (passes j l.readings)) (sym rounds) passed;
     has_memory = inl (memory ∙ ap (λ (n : ℕ). memory_at n l.readings) (sym rounds));
-    has_verdict = ap as_verdict (without ∙ ap want_of_memory (sym rounds));
+    has_verdict = ap as_verdict (without ∙ ap no_memory_at (sym rounds));
   })
 ]
 

@@ -9,7 +9,7 @@ use Rattle.std.proofs.lemmas.List.{append-nil}
 use Rattle.std.proofs.lemmas.List.Elements.{All-nil, All-cons, All-head, All-tail}
 use Rattle.mig_mem.specs.First.{first_some}
 use Rattle.mig_packet.specs.Packet.{Fields}
-use Rattle.mig_packet.specs.Pieces.{Piece, ArePieces}
+use Rattle.mig_packet.specs.ChannelItems.{ChannelItem, AreItems}
 use Rattle.mig_packet.specs.Reading.{settings}
 use Rattle.mig_load.specs.declared.fault.Origin.TheVariants as origin
 use Rattle.mig_load.specs.declared.fault.Fault.{Fault}
@@ -24,8 +24,8 @@ use Rattle.mig_load.specs.Status.{main_status, is_whole, is_clean, is_pending, f
 use Rattle.mig_load.specs.Rounds.{refusal_at}
 use Rattle.mig_load.specs.MultiLoad.{Standing, main_standing, sources_at, hello_ids, repeated_hello, passes, verdicts_told, failed, failed_at_first, failed_with_own}
 use Rattle.mig_load.specs.Received.{round_count, hello_in, end_in, status_in, IsEnough, TellsAllChannels}
-use Rattle.mig_load.specs.Pieces.{given, channel_text, QueueEnd, IsThrough}
-use Rattle.mig_load.specs.Relayed.{received_of, Continues, IsTold, standings, HaveGone, TellsSources, repeated_at, Load, Loading, ToldAt}
+use Rattle.mig_load.specs.RelayItems.{given, channel_text, QueueEnd, IsThrough}
+use Rattle.mig_load.specs.Relayed.{received_of, Continues, HasEnough, standings, HaveGone, TellsSources, repeated_at, Load, Loading, ToldAt}
 use Rattle.mig_load.proofs.Statuses.{status_whole, first_is}
 use Rattle.mig_load.proofs.ReceivedTogether.{together_law}
 use Rattle.mig_load.proofs.Relays.{source_of, of_relay}
@@ -34,33 +34,33 @@ use Rattle.mig_load.proofs.ToldSources.{told_stops, told_refused, told_passes, t
 -- ---- what was received tells
 
 -- a channel that was gone through a round has enough of its text
-enough : (k : ℕ) (p : QueueEnd) (page_size : ℕ) (uuid : List ℕ) (n : ℕ) (text : List ℕ) → p.source ≡ channel_text page_size uuid n text → IsTold k p
+enough : (k : ℕ) (p : QueueEnd) (page_size : ℕ) (uuid : List ℕ) (n : ℕ) (text : List ℕ) → p.source ≡ channel_text page_size uuid n text → HasEnough k p
     → IsEnough (settings page_size uuid n) k text p.passed
 enough k p page_size uuid n text is told = elim told.1 [
   | inl more ↦ record {
-    pieces = p.passed ++ told.0.0;
-    are_pieces = subst (λ (s : ChannelText). ArePieces (given s) s.text (p.passed ++ told.0.0)) is told.0.1;
+    items = p.passed ++ told.0.0;
+    are_items = subst (λ (s : ChannelText). AreItems (given s) s.text (p.passed ++ told.0.0)) is told.0.1;
     is_front = record { rest = told.0.0; has_rest = refl };
     settles = inl more;
   }
   | inr all ↦ record {
-    pieces = p.passed;
-    are_pieces = subst (λ (s : ChannelText). ArePieces (given s) s.text p.passed) is all;
+    items = p.passed;
+    are_items = subst (λ (s : ChannelText). AreItems (given s) s.text p.passed) is all;
     is_front = record { rest = []; has_rest = sym (append-nil p.passed) };
     settles = inr refl;
   }
 ]
 
 all_enough : (k page_size : ℕ) (uuid : List ℕ) (n : ℕ) (texts : List (List ℕ)) (ends : List QueueEnd) → map source_of ends ≡ map (channel_text page_size uuid n) texts
-    → All (IsTold k) ends → AllZip (IsEnough (settings page_size uuid n) k) texts (received_of ends)
+    → All (HasEnough k) ends → AllZip (IsEnough (settings page_size uuid n) k) texts (received_of ends)
 all_enough k page_size uuid n [] [] e told = tt
 all_enough k page_size uuid n [] (p ∷ ends) e told = absurd cc
 all_enough k page_size uuid n (text ∷ texts) [] e told = absurd cc
 all_enough k page_size uuid n (text ∷ texts) (p ∷ ends) e told =
     let here : p.source ≡ channel_text page_size uuid n text = cc in
     let there : map source_of ends ≡ map (channel_text page_size uuid n) texts = cc in (
-      enough k p page_size uuid n text here (All-head (IsTold k) p ends told),
-      all_enough k page_size uuid n texts ends there (All-tail (IsTold k) p ends told),
+      enough k p page_size uuid n text here (All-head (HasEnough k) p ends told),
+      all_enough k page_size uuid n texts ends there (All-tail (HasEnough k) p ends told),
     )
 
 tells_channels : (l : Load) (k : ℕ) (places places_now : List ℕ) (ends ends_now : List QueueEnd) (statuses : List Status) (packets : List Fields) → Loading l k places ends
@@ -72,14 +72,14 @@ tells_channels l k places places_now ends ends_now statuses packets loading zip 
 abbrev told_standing : ℕ × Status → Standing
 told_standing s = record { source = origin.Channel s.0; status = s.1 }
 
-abbrev received_standing : ℕ → ℕ × List Piece → Standing
+abbrev received_standing : ℕ → ℕ × List ChannelItem → Standing
 received_standing k c = record { source = origin.Channel c.0; status = status_in k c.1 }
 
-same_standings : (k from : ℕ) (received : List (List Piece))
+same_standings : (k from : ℕ) (received : List (List ChannelItem))
     → map told_standing (enumerate_from from (map (status_in k) received)) ≡ map (received_standing k) (enumerate_from from received)
 same_standings k from [] = refl
-same_standings k from (pieces ∷ received) =
-    ap (λ (l : List Standing). told_standing (from, status_in k pieces) ∷ l) (same_standings k (from + 1) received)
+same_standings k from (items ∷ received) =
+    ap (λ (l : List Standing). told_standing (from, status_in k items) ∷ l) (same_standings k (from + 1) received)
 
 -- behind the first round no hello comes again
 no_repeat : (l : Load) (k : ℕ) (places : List ℕ) (ends : List QueueEnd) → Loading l (suc k) places ends → repeated_hello (hello_ids l.readings) ≡ None
@@ -164,20 +164,20 @@ done_is_clean k m cs repeated done = elim (cases_Bool (list_all (λ (s : Standin
 ]
 
 -- where a channel is clean its stop was taken
-clean_is_through : (k : ℕ) (p : QueueEnd) → IsTold k p → is_clean (status_in k p.passed) ≡ true → IsThrough p
+clean_is_through : (k : ℕ) (p : QueueEnd) → HasEnough k p → is_clean (status_in k p.passed) ≡ true → IsThrough p
 clean_is_through k p told clean = elim told.1 [
   | inl more ↦ let whole = ap is_clean (status_whole k (round_count p.passed) (end_in p.passed) more) in absurd cc
   | inr all ↦ all
 ]
 
 -- where all are, all were
-all_through : (k from : ℕ) (ends : List QueueEnd) → All (IsTold k) ends
+all_through : (k from : ℕ) (ends : List QueueEnd) → All (HasEnough k) ends
     → list_all (λ (s : Standing). is_clean s.status) (map told_standing (enumerate_from from (map (status_in k) (received_of ends)))) ≡ true → All IsThrough ends
 all_through k from [] told clean = All-nil IsThrough
 all_through k from (p ∷ ends) told clean =
     let rest : List Standing = map told_standing (enumerate_from (from + 1) (map (status_in k) (received_of ends))) in
     let parts = and_parts (is_clean (status_in k p.passed)) (list_all (λ (s : Standing). is_clean s.status) rest) clean in
-    All-cons IsThrough p ends (clean_is_through k p (All-head (IsTold k) p ends told) parts.0) (all_through k (from + 1) ends (All-tail (IsTold k) p ends told) parts.1)
+    All-cons IsThrough p ends (clean_is_through k p (All-head (HasEnough k) p ends told) parts.0) (all_through k (from + 1) ends (All-tail (HasEnough k) p ends told) parts.1)
 
 pub is_told_at : (l : Load) (k : ℕ) (places places_now : List ℕ) (ends ends_now : List QueueEnd) (main : Status) (statuses : List Status) (packets : List Fields) (told : Option Verdict)
     → Loading l k places ends → AllZip Continues ends ends_now → HaveGone k places_now ends_now statuses packets → main ≡ main_status k l.readings.main

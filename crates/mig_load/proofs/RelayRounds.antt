@@ -21,7 +21,7 @@ use Rattle.mig_stream.specs.declared.item.Mode.TheVariants.{Main}
 use Rattle.mig_stream.proofs.Limits.{limits_law}
 use Rattle.mig_packet.specs.Packet.{Fields, fields_of}
 use Rattle.mig_packet.specs.declared.packet.Packet.{Packet}
-use Rattle.mig_packet.specs.Pieces.{Piece}
+use Rattle.mig_packet.specs.ChannelItems.{ChannelItem}
 use Rattle.mig_packet.specs.Reading.{ChannelReading}
 use Rattle.mig_assemble.specs.Judging.{refusal, all_round_pages}
 use Rattle.mig_assemble.specs.Target.{LoadTarget, pages_of_round, after_round}
@@ -33,14 +33,14 @@ use Rattle.mig_load.specs.declared.status.Status.{Status}
 use Rattle.mig_load.specs.declared.status.Status.TheVariants.{Whole, Bad}
 use Rattle.mig_load.specs.declared.verdict.Verdict.{Verdict}
 use Rattle.mig_load.specs.declared.verdict.Verdict.TheVariants.{Done, Failed}
-use Rattle.mig_load.specs.SingleLoad.{want_of_memory}
+use Rattle.mig_load.specs.SingleLoad.{no_memory_at}
 use Rattle.mig_load.specs.Status.{main_status, stream_end, is_whole}
 use Rattle.mig_load.specs.Texts.{Readings, ended_text}
 use Rattle.mig_load.specs.Rounds.{record_pages_at, channel_packets_at, packets_at, packet_count_at, base_at, refusal_of, refusal_at, pages_at}
 use Rattle.mig_load.specs.MultiLoad.{passes, as_verdict}
 use Rattle.mig_load.specs.Received.{round_count, rounds_in, ends_round}
-use Rattle.mig_load.specs.Pieces.{QueueEnd}
-use Rattle.mig_load.specs.Relayed.{Continues, IsAtRound, AreAtRound, Load, Loading, HasLoaded, ToldAt, IsAnswered, IsRefused, HaveRounds, HasEnded, EndsAt, Comes}
+use Rattle.mig_load.specs.RelayItems.{QueueEnd}
+use Rattle.mig_load.specs.Relayed.{Continues, IsAtRound, AreAtRound, Load, Loading, HasLoaded, ToldAt, IsAnswered, IsRefused, HaveRounds, HasEnded, EndsAt, ComesToRound}
 use Rattle.mig_load.proofs.Statuses.{status_whole, status_end, stream_ends}
 use Rattle.mig_load.proofs.Putting.{table_is, size_of_table, refusal_of_round, round_is_put}
 use Rattle.mig_load.proofs.Received.{counted_law}
@@ -54,7 +54,7 @@ use Rattle.mig_load.proofs.ToldSources.{told_bad_main}
 -- a channel that is at round k has the rounds before it, and goes on to have them
 front_rounds : (k at : ℕ) (p q : QueueEnd) → IsAtRound k at p.passed → Continues p q → k ≤ round_count q.passed
 front_rounds k at p q is continues =
-    let front : List Piece = take at p.passed in
+    let front : List ChannelItem = take at p.passed in
     let split : rounds_in p.passed ≡ is.rounds ++ rounds_in (drop at p.passed) =
     ap rounds_in (sym (take-append-drop at p.passed)) ∙ is.is_at.has_rounds (drop at p.passed) in
     let here : k ≤ round_count p.passed =
@@ -93,7 +93,7 @@ ends_bad l k f places ends now loading zip answered = record {
   through = λ ok. absurd cc;
 }
 
-pub ends_without : (l : Load) (k : ℕ) (result : Result ⊤ LoadFault) (places : List ℕ) (ends now : List QueueEnd) → Loading l k places ends → AllZip Continues ends now → result ≡ want_of_memory k
+pub ends_without : (l : Load) (k : ℕ) (result : Result ⊤ LoadFault) (places : List ℕ) (ends now : List QueueEnd) → Loading l k places ends → AllZip Continues ends now → result ≡ no_memory_at k
     → HasEnded l k result now
 ends_without l k result places ends now loading zip is =
     subst (λ (r : Result ⊤ LoadFault). HasEnded l k r now) (sym is) (ends_bad l k (record { round = k; source = origin.Round; fault = fault.NoMemory }) places ends now loading zip (inr refl))
@@ -113,13 +113,13 @@ sizes_of_packets l k target places ends packets loading has sizes =
     (sizes l.page_size (sizes_are l.page_size l.uuid (length l.texts) l.texts ends loading.is_relay.has_sources))
 
 -- why it is refused
-pub refusal_is : (l : Load) (target : LoadTarget) (places : List ℕ) (ends : List QueueEnd) (round : RoundOfRecords) (packets : List Fields) → Comes l target places ends round
+pub refusal_is : (l : Load) (target : LoadTarget) (places : List ℕ) (ends : List QueueEnd) (round : RoundOfRecords) (packets : List Fields) → ComesToRound l target places ends round
     → packets ≡ packets_at l.page_size target.rounds l.readings
     → refusal_at target.rounds l.readings ≡ refusal target.memory.table target.base (pages_of_round round) packets
 refusal_is l target places ends round packets comes are =
     refusal_of_round l.page_size l.readings target round packets (size_is l target.rounds target places ends comes.loading comes.has_loaded) comes.has_loaded comes.fits comes.is_round are
 
-pub round_goes_in : (l : Load) (target new : LoadTarget) (places : List ℕ) (ends : List QueueEnd) (round : RoundOfRecords) (packets : List Fields) → Comes l target places ends round
+pub round_goes_in : (l : Load) (target new : LoadTarget) (places : List ℕ) (ends : List QueueEnd) (round : RoundOfRecords) (packets : List Fields) → ComesToRound l target places ends round
     → packets ≡ packets_at l.page_size target.rounds l.readings → new ≡ after_round target round packets → HasLoaded (target.rounds + 1) l.readings new
 round_goes_in l target new places ends round packets comes are is =
     round_is_put l.page_size l.readings target new round packets (size_is l target.rounds target places ends comes.loading comes.has_loaded) comes.has_loaded comes.fits comes.is_round are is
@@ -130,7 +130,7 @@ main_whole l k below = sym (status_whole k (length l.readings.main.rounds) (stre
 
 -- a round that isn't lawful ends the load
 pub ends_refused : (l : Load) (target : LoadTarget) (f : LoadFault) (places places_now : List ℕ) (ends now : List QueueEnd) (round : RoundOfRecords) (packets : List Fields)
-    → Comes l target places ends round → AllZip Continues ends now → ToldAt l target.rounds Whole None places_now now packets
+    → ComesToRound l target places ends round → AllZip Continues ends now → ToldAt l target.rounds Whole None places_now now packets
     → IsRefused target.rounds (refusal target.memory.table target.base (pages_of_round round) packets) (Err f) → HasEnded l target.rounds (Err f) now
 ends_refused l target f places places_now ends now round packets comes zip told refused = elim refused [
   | inl without ↦ ends_without l target.rounds (Err f) places ends now comes.loading zip without
@@ -141,7 +141,7 @@ ends_refused l target f places places_now ends now round packets comes zip told 
 
 -- a lawful one is in the memory, and the next one is due
 pub goes_in : (l : Load) (target new : LoadTarget) (places places_now : List ℕ) (ends now : List QueueEnd) (round : RoundOfRecords) (packets : List Fields)
-    → Comes l target places ends round → AllZip Continues ends now → ToldAt l target.rounds Whole None places_now now packets
+    → ComesToRound l target places ends round → AllZip Continues ends now → ToldAt l target.rounds Whole None places_now now packets
     → refusal target.memory.table target.base (pages_of_round round) packets ≡ None → new ≡ after_round target round packets → new.base ≤ 2 ^ 63
     → Loading l (target.rounds + 1) places_now now × HasLoaded (target.rounds + 1) l.readings new × (new.base ≤ 2 ^ 63)
 goes_in l target new places places_now ends now round packets comes zip told lawful is few =
@@ -164,7 +164,7 @@ goes_in l target new places places_now ends now round packets comes zip told law
 
 -- what is told at the round that has come
 pub told_now : (l : Load) (n : ℕ) (target : LoadTarget) (told found : Option Verdict) (places places_now : List ℕ) (ends now : List QueueEnd) (round : RoundOfRecords) (packets : List Fields)
-    → n ≡ target.rounds → told ≡ found → Comes l target places ends round
+    → n ≡ target.rounds → told ≡ found → ComesToRound l target places ends round
     → (Loading l n places ends → Whole ≡ main_status n l.readings.main → ToldAt l n Whole told places_now now packets) → ToldAt l target.rounds Whole found places_now now packets
 told_now l n target told found places places_now ends now round packets e is comes tells =
     subst (λ (o : Option Verdict). ToldAt l target.rounds Whole o places_now now packets) is

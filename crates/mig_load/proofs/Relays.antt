@@ -5,10 +5,9 @@ use Rattle.std.specs.List.{All, AllZip}
 use Rattle.std.proofs.lemmas.List.{length-map}
 use Rattle.std.proofs.lemmas.Simd.{map-map}
 use Rattle.std.proofs.lemmas.List.Elements.{All-nil, All-cons}
-use Rattle.mig_mem.specs.PageSize.{IsPageSize}
-use Rattle.mig_packet.specs.Pieces.{Piece}
+use Rattle.mig_packet.specs.ChannelItems.{ChannelItem}
 use Rattle.mig_load.specs.declared.log.ChannelText.{ChannelText}
-use Rattle.mig_load.specs.Pieces.{channel_text, QueueEnd}
+use Rattle.mig_load.specs.RelayItems.{channel_text, QueueEnd}
 use Rattle.mig_mem.specs.declared.fault.NoMemory.{NoMemory}
 use Rattle.mig_load.specs.Relay.{so_far, at_start, Takes, TakesAt}
 use Rattle.mig_load.specs.MultiLoad.{bytes_of}
@@ -43,24 +42,18 @@ pub of_relay : (page_size : ℕ) (uuid : List ℕ) (texts : List (List ℕ)) (ol
 of_relay page_size uuid texts old new is zip = record { has_some = is.has_some; has_sources = sources_go_on old new zip ∙ is.has_sources }
 
 -- at the start
-pub relay_starts : {A : Type 0} (page_size : ℕ) (uuid : List ℕ) (texts : List (Vec ℕ A)) (ends : List QueueEnd) → IsPageSize page_size → 1 ≤ length texts
-    → map so_far ends ≡ map (at_start page_size uuid (length texts)) texts → IsRelay ends
-relay_starts page_size uuid texts ends size some start =
+pub relay_starts : {A : Type 0} (page_size : ℕ) (uuid : List ℕ) (texts : List (Vec ℕ A)) (ends : List QueueEnd) → 1 ≤ length texts
+    → map so_far ends ≡ map (at_start page_size uuid (length texts)) texts → IsRelayOf page_size uuid (bytes_of texts) ends
+relay_starts page_size uuid texts ends some start =
     let n : ℕ = length texts in
     let items : Vec ℕ _ → List ℕ = λ text. text.items in
-    let front : ChannelText × List Piece → ChannelText = λ s. s.0 in
+    let front : ChannelText × List ChannelItem → ChannelText = λ s. s.0 in
     let sources : map source_of ends ≡ map (λ text. channel_text page_size uuid n (items text)) texts =
     sym (map-map front so_far ends) ∙ ap (map front) start ∙ map-map front (at_start page_size uuid n) texts in
     record {
-      page_size = page_size;
-      uuid = uuid;
-      texts = bytes_of texts;
-      is_page_size = size;
-      is_relay = record {
-        has_some = omega (arith, some, length-map texts items);
-        has_sources = sources ∙ sym (map-map (channel_text page_size uuid n) items texts)
-            ∙ ap (λ (m : ℕ). map (channel_text page_size uuid m) (bytes_of texts)) (sym (length-map texts items));
-      };
+      has_some = omega (arith, some, length-map texts items);
+      has_sources = sources ∙ sym (map-map (channel_text page_size uuid n) items texts)
+          ∙ ap (λ (m : ℕ). map (channel_text page_size uuid m) (bytes_of texts)) (sym (length-map texts items));
     }
 
 -- all packets have its page size

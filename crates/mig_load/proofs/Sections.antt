@@ -32,8 +32,8 @@ use Rattle.mig_stream.proofs.WrittenPages.{written_pages}
 use Rattle.mig_assemble.specs.Target.{LoadTarget, new_target, pages_of_round, Fits}
 use Rattle.mig_load.specs.declared.loaded.Loaded.{Loaded}
 use Rattle.mig_load.specs.declared.fault.LoadFault.{LoadFault}
-use Rattle.mig_load.specs.SingleLoad.{memory_after, verdict_of, IsAnswer, IsWithoutMemory, loaded, unloaded}
-use Rattle.mig_load.specs.Loader.{Loader, loader, memory_of, rounds_of, HasAllSections, Waits, put_so_far, Loads, HasVerdict, Judges, Answers, HasFirst, HasPut, HasPutAll, HasFed}
+use Rattle.mig_load.specs.SingleLoad.{memory_after, verdict_of, IsSingleAnswer, IsSingleWithoutMemory, loaded, unloaded}
+use Rattle.mig_load.specs.Loader.{Loader, loader, memory_of, sections_loaded, HasAllSections, Waits, put_so_far, Loads, HasVerdict, Judges, Answers, HasFirst, HasPutSections, HasPutAllSections, WasFed}
 
 -- the pages of some sections
 abbrev pub pages_in : ℕ → List (List PageRecord) → List (List Page)
@@ -49,8 +49,8 @@ same_reading p limit text a b size is_a is_b =
 -- ---- the loop
 
 -- before the first section
-pub put_new : (p limit : ℕ) (text : List ℕ) (ended : Bool) (r : Reader) (table : RamTable) (t : LoadTarget) → HasFed p limit (loader r None) text ended
-    → HasTable (settings Single p limit) text (Some table) → t ≡ new_target table → HasPut p limit (zero_image table) text ended r t
+pub put_new : (p limit : ℕ) (text : List ℕ) (ended : Bool) (r : Reader) (table : RamTable) (t : LoadTarget) → WasFed p limit (loader r None) text ended
+    → HasTable (settings Single p limit) text (Some table) → t ≡ new_target table → HasPutSections p limit (zero_image table) text ended r t
 put_new p limit text ended r table t fed has is = rw is record {
   is_page_size = fed.is_page_size;
   stands = fed.stands;
@@ -71,7 +71,7 @@ is_few p limit i text records size has =
 pub put_table : (p limit : ℕ) (first : Image) (text : List ℕ) (t : LoadTarget) → HasFirst p limit first text t → t.memory.table ≡ first.table
 put_table p limit first text t has = ap (λ (m : Image). m.table) (has.has_memory has.has_table.0 has.has_table.1)
 
-pub fits_is : (p limit : ℕ) (first : Image) (text : List ℕ) (ended : Bool) (r : Reader) (t : LoadTarget) (round : RoundOfRecords) → HasPut p limit first text ended r t
+pub fits_is : (p limit : ℕ) (first : Image) (text : List ℕ) (ended : Bool) (r : Reader) (t : LoadTarget) (round : RoundOfRecords) → HasPutSections p limit first text ended r t
     → round.page_size ≡ p → All (λ x. IsPlace first.table x.place) round.records → Fits t.memory.table round
 fits_is p limit first text ended r t round put is places =
     rw (put_table p limit first text t put.has_first) (record {
@@ -80,9 +80,9 @@ fits_is p limit first text ended r t round put is places =
     })
 
 -- one section more
-pub put_more : (p limit : ℕ) (first : Image) (text : List ℕ) (ended : Bool) (r s : Reader) (t u : LoadTarget) (round : RoundOfRecords) → HasPut p limit first text ended r t
+pub put_more : (p limit : ℕ) (first : Image) (text : List ℕ) (ended : Bool) (r s : Reader) (t u : LoadTarget) (round : RoundOfRecords) → HasPutSections p limit first text ended r t
     → round.page_size ≡ p → HasRound (settings Single p limit) text t.rounds round.records → Stands (settings Single p limit) (put_so_far text ended (t.rounds + 1)) s
-    → u.memory ≡ with_round t.memory (pages_of_round round) → u.rounds ≡ t.rounds + 1 → HasPut p limit first text ended s u
+    → u.memory ≡ with_round t.memory (pages_of_round round) → u.rounds ≡ t.rounds + 1 → HasPutSections p limit first text ended s u
 put_more p limit first text ended r s t u round put is_size is_round stands memory rounds =
     let has : HasFirst p limit first text t = put.has_first in
     let size : IsPageSize p = put.is_page_size in
@@ -133,8 +133,8 @@ are_given p limit text ended r n reading size is stands =
 -- ---- all sections
 
 -- after the loop
-pub all_put : (p limit : ℕ) (first : Image) (text : List ℕ) (ended : Bool) (r : Reader) (t : LoadTarget) → HasPut p limit first text ended r t
-    → ((i : ℕ) (round : List PageRecord) → HasRound (settings Single p limit) text i round → i < t.rounds) → HasPutAll p limit first text t
+pub all_put : (p limit : ℕ) (first : Image) (text : List ℕ) (ended : Bool) (r : Reader) (t : LoadTarget) → HasPutSections p limit first text ended r t
+    → ((i : ℕ) (round : List PageRecord) → HasRound (settings Single p limit) text i round → i < t.rounds) → HasPutAllSections p limit first text t
 all_put p limit first text ended r t put last =
     let has : HasFirst p limit first text t = put.has_first in
     let reading : StreamReading = has.has_table.0 in
@@ -150,13 +150,13 @@ all_put p limit first text ended r t put last =
     }
 
 -- a loader's memory began with zeros
-pub put_of : (p limit : ℕ) (text : List ℕ) (ended : Bool) (r : Reader) (t : LoadTarget) → HasFed p limit (loader r (Some t)) text ended
-    → HasPut p limit (zero_image t.memory.table) text ended r t
+pub put_of : (p limit : ℕ) (text : List ℕ) (ended : Bool) (r : Reader) (t : LoadTarget) → WasFed p limit (loader r (Some t)) text ended
+    → HasPutSections p limit (zero_image t.memory.table) text ended r t
 put_of p limit text ended r t fed = record { is_page_size = fed.is_page_size; stands = fed.stands; has_first = fed.has_first }
 
 -- all that was put into zeros
-pub loads_put : (p limit : ℕ) (text : List ℕ) (ended : Bool) (r : Reader) (table : RamTable) (t : LoadTarget) → HasPut p limit (zero_image table) text ended r t
-    → HasPutAll p limit (zero_image table) text t → Loads p limit (loader r (Some t)) text ended × HasAllSections p limit (loader r (Some t)) text
+pub loads_put : (p limit : ℕ) (text : List ℕ) (ended : Bool) (r : Reader) (table : RamTable) (t : LoadTarget) → HasPutSections p limit (zero_image table) text ended r t
+    → HasPutAllSections p limit (zero_image table) text t → Loads p limit (loader r (Some t)) text ended × HasAllSections p limit (loader r (Some t)) text
 loads_put p limit text ended r table t put all =
     let reading : StreamReading = all.reading in
     let one : put.has_first.has_table.0 ≡ reading = same_reading p limit text put.has_first.has_table.0 reading put.is_page_size put.has_first.has_table.1 all.is_reading in
@@ -182,7 +182,7 @@ none_there p limit text r size has =
       has_rounds = sym (ap (λ (x : List (List PageRecord)). length x) none);
     }
 
-pub loads_all : (p limit : ℕ) (l : Loader) (text : List ℕ) (ended : Bool) → HasFed p limit l text ended → HasAllSections p limit l text → Loads p limit l text ended × HasAllSections p limit l text
+pub loads_all : (p limit : ℕ) (l : Loader) (text : List ℕ) (ended : Bool) → WasFed p limit l text ended → HasAllSections p limit l text → Loads p limit l text ended × HasAllSections p limit l text
 loads_all p limit l text ended fed all = (record { is_page_size = fed.is_page_size; stands = fed.stands; has_sections = inl all }, all)
 
 -- ---- what a loader stands for
@@ -211,7 +211,7 @@ first_of_all p limit text r t size all =
     }
 
 -- a loader that stands for a text was fed it
-pub fed_of : (p limit : ℕ) (r : Reader) (o : Option LoadTarget) (text : List ℕ) (ended : Bool) → Loads p limit (loader r o) text ended → HasFed p limit (loader r o) text ended
+pub fed_of : (p limit : ℕ) (r : Reader) (o : Option LoadTarget) (text : List ℕ) (ended : Bool) → Loads p limit (loader r o) text ended → WasFed p limit (loader r o) text ended
 fed_of p limit r None text ended loads = record { is_page_size = loads.is_page_size; stands = loads.stands; has_first = tt }
 fed_of p limit r (Some t) text ended loads = record {
   is_page_size = loads.is_page_size;
@@ -241,7 +241,7 @@ verdict_over true n (state.Bad f) = refl
 
 -- of a loader that has all sections
 pub judged : (p limit : ℕ) (l : Loader) (text : List ℕ) (ended : Bool) (state : StreamState) (v : Result ⊤ LoadFault) → IsPageSize p → HasAllSections p limit l text
-    → HasState (settings Single p limit) text ended state → v ≡ verdict_of (rounds_of l) state → Judges p limit l text v
+    → HasState (settings Single p limit) text ended state → v ≡ verdict_of (sections_loaded l) state → Judges p limit l text v
 judged p limit l text ended state v size all told is =
     let one : told.0 ≡ all.reading = same_reading p limit text told.0 all.reading size told.1 all.is_reading in
     let said : state ≡ state_at ended all.reading.state = told.2 ∙ ap (λ (x : StreamReading). state_at ended x.state) one in
@@ -250,7 +250,7 @@ judged p limit l text ended state v size all told is =
       record {
         reading = all.reading;
         is_reading = all.is_reading;
-        is_verdict = is ∙ ap (verdict_of (rounds_of l)) said ∙ verdict_over ended (rounds_of l) all.reading.state ∙ ap (λ (n : ℕ). verdict_of n all.reading.state) all.has_rounds;
+        is_verdict = is ∙ ap (verdict_of (sections_loaded l)) said ∙ verdict_over ended (sections_loaded l) all.reading.state ∙ ap (λ (n : ℕ). verdict_of n all.reading.state) all.has_rounds;
       },
     )
 
@@ -258,7 +258,7 @@ loaded_is : {A : Type 0} (a b : Loaded A) → a.memory ≡ b.memory → a.rounds
 loaded_is a b m n v = grind (rules)
 
 -- an answer is the memory, the count and the verdict
-pub answered : {A : Type 0} (p limit : ℕ) (l : Loader) (text : List ℕ) (a : Loaded A) → IsPageSize p → a.memory ≡ memory_of l → a.rounds ≡ rounds_of l
+pub answered : {A : Type 0} (p limit : ℕ) (l : Loader) (text : List ℕ) (a : Loaded A) → IsPageSize p → a.memory ≡ memory_of l → a.rounds ≡ sections_loaded l
     → Judges p limit l text a.verdict → Answers p limit l text a
 answered p limit l text a size memory rounds (inl both) =
     let all : HasAllSections p limit l text = both.0 in
@@ -280,11 +280,11 @@ answered p limit l text a size memory rounds (inr both) =
     inr (
       w,
       loaded_is a unloaded (memory ∙ ap (λ (o : Option LoadTarget). memory_of (loader l.reader o)) w.has_no_memory)
-          (rounds ∙ ap (λ (o : Option LoadTarget). rounds_of (loader l.reader o)) w.has_no_memory) both.1,
+          (rounds ∙ ap (λ (o : Option LoadTarget). sections_loaded (loader l.reader o)) w.has_no_memory) both.1,
     )
 
--- where memory was refused before any section
-pub none_put : {A : Type 0} (p limit : ℕ) (text : List ℕ) → IsPageSize p → IsWithoutMemory p limit text (unloaded {A = A})
+-- where an allocation was refused before any section
+pub none_put : {A : Type 0} (p limit : ℕ) (text : List ℕ) → IsPageSize p → IsSingleWithoutMemory p limit text (unloaded {A = A})
 none_put p limit text size =
     let one = one_reading_law (settings Single p limit) text size in record {
       reading = one.0;
@@ -296,7 +296,7 @@ none_put p limit text size =
 
 -- what a loader answers is what a load answers
 pub load_answers : {A : Type 0} (p limit : ℕ) (l : Loader) (text : List ℕ) (a : Loaded A) → IsPageSize p → Answers p limit l text a
-    → IsAnswer p limit text a ⊎ IsWithoutMemory p limit text a
+    → IsSingleAnswer p limit text a ⊎ IsSingleWithoutMemory p limit text a
 load_answers p limit l text a size (inl both) = inl both.1
 load_answers p limit l text a size (inr both) = inr (rw both.1 (none_put p limit text size))
 
@@ -332,7 +332,7 @@ counted rounds =
     omega (arith, both, same)
 
 -- THE TEXT OF A SENDER is loaded whole.
-pub sent_answer_is : {A : Type 0} (p limit : ℕ) (text : List ℕ) (a : Loaded A) → IsPageSize p → IsAnswer p limit text a
+pub sent_answer_is : {A : Type 0} (p limit : ℕ) (text : List ℕ) (a : Loaded A) → IsPageSize p → IsSingleAnswer p limit text a
     → (table : RamTable) (rounds : List (List Page)) → IsTable table → table.page_size ≡ p → total_bytes table ≤ limit
     → All (IsRound table) rounds → text ≡ single table rounds → a ≡ loaded table rounds
 sent_answer_is p limit text a size answer table rounds is same room all sent =
@@ -350,9 +350,9 @@ sent_answer_is p limit text a size answer table rounds is same room all sent =
     n
     (answer.has_verdict ∙ ap (λ (x : StreamReading). verdict_of a.rounds x.state) one)
 
-pub sent_is_loaded : {A : Type 0} (p limit : ℕ) (text : List ℕ) (a : Loaded A) → IsPageSize p → IsAnswer p limit text a ⊎ IsWithoutMemory p limit text a
+pub sent_is_loaded : {A : Type 0} (p limit : ℕ) (text : List ℕ) (a : Loaded A) → IsPageSize p → IsSingleAnswer p limit text a ⊎ IsSingleWithoutMemory p limit text a
     → (table : RamTable) (rounds : List (List Page)) → IsTable table → table.page_size ≡ p → total_bytes table ≤ limit
-    → All (IsRound table) rounds → text ≡ single table rounds → (a ≡ loaded table rounds) ⊎ IsWithoutMemory p limit text a
+    → All (IsRound table) rounds → text ≡ single table rounds → (a ≡ loaded table rounds) ⊎ IsSingleWithoutMemory p limit text a
 sent_is_loaded p limit text a size (inr want) table rounds is same room all sent = inr want
 sent_is_loaded p limit text a size (inl answer) table rounds is same room all sent =
     inl (sent_answer_is p limit text a size answer table rounds is same room all sent)

@@ -32,8 +32,8 @@ use Rattle.mig_load.specs.Rounds.{memory_at, base_at, pages_at}
 use Rattle.mig_load.specs.MultiLoad.{Standing, main_at, channels_at, passes, IsFirstStop, verdict_at, Answer, IsAnswer, IsWithoutMemory}
 use Rattle.mig_load.specs.Growing.{GoesOn, GoOn}
 use Rattle.mig_load.specs.Sources.{Counts, FedMain, FedChannel, FedSources, main_count, channel_count, counts_of, HoldsMain, HoldsChannel, Holds, TellsAll}
-use Rattle.mig_load.specs.Session.{LoadSession, rounds_in, answer_in, HasSource, count_of, no_count, with_count, with_fed, with_end, count_in, counts_in, at_source, fed, ended, HasBase, IsRunning, StandsFor, LacksMemory, StandsForSome, IsSession}
-use Rattle.mig_load.specs.Advancing.{Feeding, HasPutRounds, HasRounds, Advances, IsTold, HasAdvanced, HasTaken, wants_memory, IsDue}
+use Rattle.mig_load.specs.Session.{LoadSession, rounds_loaded, answer_in, HasSource, count_of, no_count, with_count, with_fed, with_end, count_in, counts_in, at_source, feed_step, end_step, HasBase, IsRunning, StandsFor, LacksMemory, StandsForSome, IsSession}
+use Rattle.mig_load.specs.Advancing.{Feeding, HasPutRounds, HasRounds, Advances, TellsVerdict, HasAdvanced, HasTaken, failed_without_memory, IsDue}
 use Rattle.mig_load.proofs.Statuses.{status_whole, status_end, stream_ends, channel_ends}
 use Rattle.mig_load.proofs.Judged.{IsWhole, IsSettled, settled_is_told}
 use Rattle.mig_load.proofs.OneAnswer.{same_main, some_readings, same_readings}
@@ -74,12 +74,12 @@ counts_stepped : (from : Source) (step : Text → Text) (by : Count → Count) (
 counts_stepped source.Main step by texts same = ap (λ (c : Count). record { main = c; channels = map count_in texts.channels }) (same texts.main)
 counts_stepped (source.Channel j) step by texts same = ap (λ (l : List Count). record { main = count_in texts.main; channels = l }) (channel_stepped j step by texts.channels same)
 
-pub counts_fed : (from : Source) (piece : List ℕ) (texts : Texts) → counts_in (fed from piece texts) ≡ with_fed (counts_in texts) from (length piece)
+pub counts_fed : (from : Source) (piece : List ℕ) (texts : Texts) → counts_in (feed_step from piece texts) ≡ with_fed (counts_in texts) from (length piece)
 counts_fed from piece texts =
     counts_stepped from (with_piece piece) (λ (c : Count). record c { fed = c.fed + length piece }) texts
     (λ (text : Text). ap (λ (n : ℕ). record { fed = n; ended = text.ended }) (length-append text.bytes piece))
 
-pub counts_ended : (from : Source) (texts : Texts) → counts_in (ended from texts) ≡ with_end (counts_in texts) from
+pub counts_ended : (from : Source) (texts : Texts) → counts_in (end_step from texts) ≡ with_end (counts_in texts) from
 counts_ended from texts = counts_stepped from over (λ (c : Count). record c { ended = true }) texts (λ (text : Text). refl)
 
 -- ---- texts go on
@@ -109,12 +109,12 @@ is_open : (texts : Texts) (from : Source) → HasSource (counts_in texts) from �
 is_open texts source.Main there e = e
 is_open texts (source.Channel j) there e = sym (ap (λ (c : Count). c.ended) (get_or-map count_in texts.channels j no_text no_count (omega (arith, there, length-map texts.channels count_in)))) ∙ e
 
-pub fed_goes_on : (from : Source) (piece : List ℕ) (texts : Texts) → HasSource (counts_in texts) from → IsFalse (count_of (counts_in texts) from).ended → GoOn texts (fed from piece texts)
+pub fed_goes_on : (from : Source) (piece : List ℕ) (texts : Texts) → HasSource (counts_in texts) from → IsFalse (count_of (counts_in texts) from).ended → GoOn texts (feed_step from piece texts)
 fed_goes_on from piece texts there open_ =
     let e = is_open texts from there open_ in
     steps_on from (with_piece piece) texts (record { more = piece; has_bytes = refl; stays_ended = λ over. absurd cc })
 
-pub ended_goes_on : (from : Source) (texts : Texts) → GoOn texts (ended from texts)
+pub ended_goes_on : (from : Source) (texts : Texts) → GoOn texts (end_step from texts)
 ended_goes_on from texts =
     let text : Text = text_of texts from in
     steps_on from over texts (record {
@@ -151,7 +151,7 @@ rounds_further f s target texts readings advances goes are =
     put_still f.readings readings target (readings_stay f.page_size f.uuid f.limit f.texts texts f.readings readings advances.is_page_size goes advances.are_readings are) advances.has_rounds
 
 pub advances_further : (f : Feeding) (s new : FedSources) (target : Option LoadTarget) (texts : Texts) (readings : Readings) → Advances f s target → GoOn f.texts texts
-    → AreReadings f.page_size f.uuid f.limit texts readings → Holds f.page_size f.uuid f.limit (rounds_in target) texts new → Advances (further f texts readings) new target
+    → AreReadings f.page_size f.uuid f.limit texts readings → Holds f.page_size f.uuid f.limit (rounds_loaded target) texts new → Advances (further f texts readings) new target
 advances_further f s new target texts readings advances goes are holds = record {
   is_page_size = advances.is_page_size;
   are_readings = are;
@@ -174,7 +174,7 @@ feeding_of p uuid limit texts s sources some stands =
       has_rounds = record { have_passed = stands.is_answer.has_rounds.before; has_put = put s.target stands.is_answer.has_memory runs.has_base };
     }
   where
-    put : (target : Option LoadTarget) → option_map (λ t. t.memory) target ≡ memory_at (rounds_in target) stands.is_answer.readings → IfSome target (HasBase p uuid limit texts)
+    put : (target : Option LoadTarget) → option_map (λ t. t.memory) target ≡ memory_at (rounds_loaded target) stands.is_answer.readings → IfSome target (HasBase p uuid limit texts)
         → IfSome target (HasPutRounds stands.is_answer.readings)
     put None memory base = tt
     put (Some t) memory base = record {
@@ -193,8 +193,8 @@ bases p uuid limit texts readings (Some t) size are has = record {
 
 -- the verdict is told: the session stands for the texts
 pub stands_told : (p : ℕ) (uuid : List ℕ) (limit : ℕ) (texts : Texts) (readings : Readings) (counts : Counts) (kept : Option FedSources) (sources : FedSources) (target : Option LoadTarget) (verdict : Verdict)
-    → IsPageSize p → AreReadings p uuid limit texts readings → counts ≡ counts_in texts → Holds p uuid limit (rounds_in target) texts sources → HasRounds readings target
-    → IsTold readings target verdict → (kept ≡ Some sources) ⊎ (kept ≡ None)
+    → IsPageSize p → AreReadings p uuid limit texts readings → counts ≡ counts_in texts → Holds p uuid limit (rounds_loaded target) texts sources → HasRounds readings target
+    → TellsVerdict readings target verdict → (kept ≡ Some sources) ⊎ (kept ≡ None)
     → StandsFor p uuid limit texts (record { counts = counts; sources = kept; target = target; verdict = verdict })
 stands_told p uuid limit texts readings counts kept sources target verdict size are counted holds has told which = record {
   is_page_size = size;
@@ -206,10 +206,10 @@ stands_told p uuid limit texts readings counts kept sources target verdict size 
   ];
 }
 
--- a growth was refused
+-- an allocation was refused
 pub lacks_of : (p : ℕ) (uuid : List ℕ) (limit : ℕ) (texts : Texts) (readings : Readings) (counts : Counts) (kept : Option FedSources) (target : Option LoadTarget)
     → IsPageSize p → AreReadings p uuid limit texts readings → counts ≡ counts_in texts → HasRounds readings target
-    → LacksMemory p uuid limit texts (record { counts = counts; sources = kept; target = target; verdict = wants_memory (rounds_in target) })
+    → LacksMemory p uuid limit texts (record { counts = counts; sources = kept; target = target; verdict = failed_without_memory (rounds_loaded target) })
 lacks_of p uuid limit texts readings counts kept None size are counted has = record {
   is_page_size = size;
   has_counts = counted;
@@ -285,7 +285,7 @@ lacking_steps p uuid limit texts now s counts lacks goes counted = record {
 
 -- one that lacks memory is settled
 pub lacks_is_settled : (p : ℕ) (uuid : List ℕ) (limit : ℕ) (texts : Texts) (s : LoadSession) → LacksMemory p uuid limit texts s → s.verdict ≢ Running
-lacks_is_settled p uuid limit texts s lacks running = let bad : wants_memory (rounds_in s.target) ≡ Running = sym lacks.is_without.has_verdict ∙ running in absurd cc
+lacks_is_settled p uuid limit texts s lacks running = let bad : failed_without_memory (rounds_loaded s.target) ≡ Running = sym lacks.is_without.has_verdict ∙ running in absurd cc
 
 -- ---- a text is over
 
@@ -353,31 +353,31 @@ same_at zero (text ∷ texts) = (refl, all_bytes texts)
 same_at (suc j) (text ∷ texts) = (refl, same_at j texts)
 
 -- ending a source changes no bytes
-main_bytes : (from : Source) (texts : Texts) → SameBytes texts.main (ended from texts).main
+main_bytes : (from : Source) (texts : Texts) → SameBytes texts.main (end_step from texts).main
 main_bytes source.Main texts = refl
 main_bytes (source.Channel j) texts = refl
 
-channel_bytes : (from : Source) (texts : Texts) → AllZip SameBytes texts.channels (ended from texts).channels
+channel_bytes : (from : Source) (texts : Texts) → AllZip SameBytes texts.channels (end_step from texts).channels
 channel_bytes source.Main texts = all_bytes texts.channels
 channel_bytes (source.Channel j) texts = same_at j texts.channels
 
-as_many : (from : Source) (texts : Texts) → length (ended from texts).channels ≡ length texts.channels
+as_many : (from : Source) (texts : Texts) → length (end_step from texts).channels ≡ length texts.channels
 as_many source.Main texts = refl
 as_many (source.Channel j) texts = length-set texts.channels j (over (get_or texts.channels j no_text))
 
 -- where a source was pending something is told once a text is over
 pub still_told : (p : ℕ) (uuid : List ℕ) (limit k : ℕ) (from : Source) (texts : Texts) (before now : Readings) → IsPageSize p → AreReadings p uuid limit texts before
-    → AreReadings p uuid limit (ended from texts) now → IsFirstStop before k → Running ≡ verdict_at k before → IsDue k now → ⊥
+    → AreReadings p uuid limit (end_step from texts) now → IsFirstStop before k → Running ≡ verdict_at k before → IsDue k now → ⊥
 still_told p uuid limit k from texts before now size are_before are_now stop running due =
     let whole = (due_sources k now due).0 in
     let given = settings p uuid (length texts.channels) in
     settled_is_told k before stop
     (All-cons IsSettled (main_at k before) (channels_at k before)
     (settled_before k (length before.main.rounds) (length now.main.rounds) (stream_end before.main.state) (stream_end now.main.state)
-    (ap (λ (l : List (List PageRecord)). length l) (main_rounds p limit texts.main (ended from texts).main before.main now.main size (main_bytes from texts) are_before.has_main are_now.has_main))
+    (ap (λ (l : List (List PageRecord)). length l) (main_rounds p limit texts.main (end_step from texts).main before.main now.main size (main_bytes from texts) are_before.has_main are_now.has_main))
     (stream_ends now.main.state) (All-head IsWhole (main_at k now) (channels_at k now) whole))
-    (channels_before given k 0 texts.channels (ended from texts).channels before.channels now.channels (channel_bytes from texts) are_before.has_channels
-    (subst (λ (n : ℕ). Are (settings p uuid n) (ended from texts).channels now.channels) (as_many from texts) are_now.has_channels)
+    (channels_before given k 0 texts.channels (end_step from texts).channels before.channels now.channels (channel_bytes from texts) are_before.has_channels
+    (subst (λ (n : ℕ). Are (settings p uuid n) (end_step from texts).channels now.channels) (as_many from texts) are_now.has_channels)
     (All-tail IsWhole (main_at k now) (channels_at k now) whole)))
     (sym running)
 
@@ -385,20 +385,20 @@ still_told p uuid limit k from texts before now size are_before are_now stop run
 
 -- what advancing leaves, by what the texts tell
 pub taken_of : {E : Type 0} (f : Feeding) (s : FedSources) (target : Option LoadTarget) (result : Result Verdict E) → HasAdvanced f s target result
-    → HasRounds f.readings target × IfOk result (λ verdict. Holds f.page_size f.uuid f.limit (rounds_in target) f.texts s × IsTold f.readings target verdict)
+    → HasRounds f.readings target × IfOk result (λ verdict. Holds f.page_size f.uuid f.limit (rounds_loaded target) f.texts s × TellsVerdict f.readings target verdict)
 taken_of f s target (Ok verdict) has = (has.advances.has_rounds, (has.advances.holds, has.is_told))
 taken_of f s target (Err e) has = (has.advances.has_rounds, tt)
 
 -- a piece of a source that isn't over
 pub goes_fed : (f : Feeding) (s : FedSources) (target : Option LoadTarget) (from : Source) (piece : List ℕ) → Advances f s target → HasSource (counts_of s) from
-    → IsFalse (count_of (counts_of s) from).ended → GoOn f.texts (fed from piece f.texts)
+    → IsFalse (count_of (counts_of s) from).ended → GoOn f.texts (feed_step from piece f.texts)
 goes_fed f s target from piece advances there open_ =
-    let same = held_counts f.page_size f.uuid f.limit (rounds_in target) f.texts s advances.holds in
+    let same = held_counts f.page_size f.uuid f.limit (rounds_loaded target) f.texts s advances.holds in
     fed_goes_on from piece f.texts (subst (λ (c : Counts). HasSource c from) same there) (subst (λ (c : Counts). IsFalse (count_of c from).ended) same open_)
 
 -- some readings of texts that went on, and how far a session has come with them
 pub next_feeding : (f : Feeding) (s new : FedSources) (target : Option LoadTarget) (texts : Texts) → Advances f s target → GoOn f.texts texts
-    → Holds f.page_size f.uuid f.limit (rounds_in target) texts new → (next : Feeding) × Advances next new target
+    → Holds f.page_size f.uuid f.limit (rounds_loaded target) texts new → (next : Feeding) × Advances next new target
 next_feeding f s new target texts advances goes holds =
     let some = some_readings f.page_size f.uuid f.limit texts advances.is_page_size in
     (further f texts some.0, advances_further f s new target texts some.0 advances goes some.1 holds)
@@ -427,52 +427,52 @@ keeps_runs s sources is some = go s.verdict is.is_settled
 pub feed_steps : {E : Type 0} (p : ℕ) (uuid : List ℕ) (limit : ℕ) (texts : Texts) (s : LoadSession) (sources new : FedSources) (from : Source) (piece : List ℕ) (target : Option LoadTarget)
     (taken : Result Verdict E) (verdict : Verdict) (kept : Option FedSources) (counts : Counts) → StandsFor p uuid limit texts s → s.sources ≡ Some sources
     → ((f : Feeding) → Advances f sources s.target → HasTaken f from piece new target taken) → taken ≡ Ok verdict → counts ≡ with_fed s.counts from (length piece) → Keeps verdict kept new
-    → StandsFor p uuid limit (fed from piece texts) (record { counts = counts; sources = kept; target = target; verdict = verdict })
+    → StandsFor p uuid limit (feed_step from piece texts) (record { counts = counts; sources = kept; target = target; verdict = verdict })
 feed_steps p uuid limit texts s sources new from piece target taken verdict kept counts stands some takes ok counted keeps =
     let f : Feeding = record { page_size = p; uuid = uuid; limit = limit; texts = texts; readings = stands.is_answer.readings } in
-    let next = some_readings p uuid limit (fed from piece texts) stands.is_page_size in
+    let next = some_readings p uuid limit (feed_step from piece texts) stands.is_page_size in
     let has = subst (λ (r : Result Verdict _). HasTaken f from piece new target r) ok (takes f (feeding_of p uuid limit texts s sources some stands)) next.0 next.1 in
-    stands_told p uuid limit (fed from piece texts) next.0 counts kept new target verdict stands.is_page_size next.1
+    stands_told p uuid limit (feed_step from piece texts) next.0 counts kept new target verdict stands.is_page_size next.1
     (counted ∙ ap (λ (c : Counts). with_fed c from (length piece)) stands.has_counts ∙ sym (counts_fed from piece texts)) has.1.0 has.0 has.1.1 (kept_or_not verdict kept new keeps)
 
--- it wasn't, for want of memory
+-- it wasn't, since an allocation was refused
 pub feed_runs_out : {E : Type 0} (p : ℕ) (uuid : List ℕ) (limit : ℕ) (texts : Texts) (s : LoadSession) (sources new : FedSources) (from : Source) (piece : List ℕ) (target : Option LoadTarget)
     (taken : Result Verdict E) (kept : Option FedSources) (counts : Counts) → StandsFor p uuid limit texts s → s.sources ≡ Some sources
     → ((f : Feeding) → Advances f sources s.target → HasTaken f from piece new target taken) → counts ≡ with_fed s.counts from (length piece)
-    → LacksMemory p uuid limit (fed from piece texts) (record { counts = counts; sources = kept; target = target; verdict = wants_memory (rounds_in target) })
+    → LacksMemory p uuid limit (feed_step from piece texts) (record { counts = counts; sources = kept; target = target; verdict = failed_without_memory (rounds_loaded target) })
 feed_runs_out p uuid limit texts s sources new from piece target taken kept counts stands some takes counted =
     let f : Feeding = record { page_size = p; uuid = uuid; limit = limit; texts = texts; readings = stands.is_answer.readings } in
-    let next = some_readings p uuid limit (fed from piece texts) stands.is_page_size in
+    let next = some_readings p uuid limit (feed_step from piece texts) stands.is_page_size in
     let has = takes f (feeding_of p uuid limit texts s sources some stands) next.0 next.1 in
-    lacks_of p uuid limit (fed from piece texts) next.0 counts kept target stands.is_page_size next.1
+    lacks_of p uuid limit (feed_step from piece texts) next.0 counts kept target stands.is_page_size next.1
     (counted ∙ ap (λ (c : Counts). with_fed c from (length piece)) stands.has_counts ∙ sym (counts_fed from piece texts)) has.0
 
 -- a settled session counts a piece
 pub feed_counts : (p : ℕ) (uuid : List ℕ) (limit : ℕ) (texts : Texts) (s : LoadSession) (from : Source) (piece : List ℕ) (counts : Counts) → IsSession s → StandsFor p uuid limit texts s → s.sources ≡ None
-    → HasSource s.counts from → IsFalse (count_of s.counts from).ended → counts ≡ with_fed s.counts from (length piece) → StandsFor p uuid limit (fed from piece texts) (record s { counts = counts })
+    → HasSource s.counts from → IsFalse (count_of s.counts from).ended → counts ≡ with_fed s.counts from (length piece) → StandsFor p uuid limit (feed_step from piece texts) (record s { counts = counts })
 feed_counts p uuid limit texts s from piece counts is stands none there open_ counted =
-    settled_steps p uuid limit texts (fed from piece texts) s counts stands none (λ running. is.is_open running none)
+    settled_steps p uuid limit texts (feed_step from piece texts) s counts stands none (λ running. is.is_open running none)
     (fed_goes_on from piece texts (subst (λ (c : Counts). HasSource c from) stands.has_counts there) (subst (λ (c : Counts). IsFalse (count_of c from).ended) stands.has_counts open_))
     (counted ∙ ap (λ (c : Counts). with_fed c from (length piece)) stands.has_counts ∙ sym (counts_fed from piece texts))
 
 pub feed_lacks : (p : ℕ) (uuid : List ℕ) (limit : ℕ) (texts : Texts) (s : LoadSession) (from : Source) (piece : List ℕ) (counts : Counts) → LacksMemory p uuid limit texts s
-    → HasSource s.counts from → IsFalse (count_of s.counts from).ended → counts ≡ with_fed s.counts from (length piece) → LacksMemory p uuid limit (fed from piece texts) (record s { counts = counts })
+    → HasSource s.counts from → IsFalse (count_of s.counts from).ended → counts ≡ with_fed s.counts from (length piece) → LacksMemory p uuid limit (feed_step from piece texts) (record s { counts = counts })
 feed_lacks p uuid limit texts s from piece counts lacks there open_ counted =
-    lacking_steps p uuid limit texts (fed from piece texts) s counts lacks
+    lacking_steps p uuid limit texts (feed_step from piece texts) s counts lacks
     (fed_goes_on from piece texts (subst (λ (c : Counts). HasSource c from) lacks.has_counts there) (subst (λ (c : Counts). IsFalse (count_of c from).ended) lacks.has_counts open_))
     (counted ∙ ap (λ (c : Counts). with_fed c from (length piece)) lacks.has_counts ∙ sym (counts_fed from piece texts))
 
 -- a settled session counts an end
 pub end_counts : (p : ℕ) (uuid : List ℕ) (limit : ℕ) (texts : Texts) (s : LoadSession) (from : Source) (counts : Counts) → IsSession s → StandsFor p uuid limit texts s → s.sources ≡ None
-    → counts ≡ with_end s.counts from → StandsFor p uuid limit (ended from texts) (record s { counts = counts })
+    → counts ≡ with_end s.counts from → StandsFor p uuid limit (end_step from texts) (record s { counts = counts })
 end_counts p uuid limit texts s from counts is stands none counted =
-    settled_steps p uuid limit texts (ended from texts) s counts stands none (λ running. is.is_open running none) (ended_goes_on from texts)
+    settled_steps p uuid limit texts (end_step from texts) s counts stands none (λ running. is.is_open running none) (ended_goes_on from texts)
     (counted ∙ ap (λ (c : Counts). with_end c from) stands.has_counts ∙ sym (counts_ended from texts))
 
 pub end_lacks : (p : ℕ) (uuid : List ℕ) (limit : ℕ) (texts : Texts) (s : LoadSession) (from : Source) (counts : Counts) → LacksMemory p uuid limit texts s
-    → counts ≡ with_end s.counts from → LacksMemory p uuid limit (ended from texts) (record s { counts = counts })
+    → counts ≡ with_end s.counts from → LacksMemory p uuid limit (end_step from texts) (record s { counts = counts })
 end_lacks p uuid limit texts s from counts lacks counted =
-    lacking_steps p uuid limit texts (ended from texts) s counts lacks (ended_goes_on from texts)
+    lacking_steps p uuid limit texts (end_step from texts) s counts lacks (ended_goes_on from texts)
     (counted ∙ ap (λ (c : Counts). with_end c from) lacks.has_counts ∙ sym (counts_ended from texts))
 
 -- a session that runs is told that a source is over
@@ -483,43 +483,43 @@ none_there readings e = go readings.main.table e
     go None e = refl
     go (Some t) e = absurd cc
 
-told_either : (f : Feeding) (s : FedSources) (target : Option LoadTarget) (v : Verdict) → Advances f s target → (target ≡ None → f.readings.main.table ≡ None) → TellsAll (rounds_in target) s (Some v)
-    → IsTold f.readings target v
+told_either : (f : Feeding) (s : FedSources) (target : Option LoadTarget) (v : Verdict) → Advances f s target → (target ≡ None → f.readings.main.table ≡ None) → TellsAll (rounds_loaded target) s (Some v)
+    → TellsVerdict f.readings target v
 told_either f s None v advances none told = told_without f s v advances (none refl) told
 told_either f s (Some t) v advances none told = told_of f s t v advances told
 
 pub end_steps : (p : ℕ) (uuid : List ℕ) (limit : ℕ) (texts : Texts) (s : LoadSession) (sources new : FedSources) (from : Source) (n : ℕ) (told : Option Verdict) (verdict : Verdict)
     (kept : Option FedSources) (counts : Counts) → IsSession s → StandsFor p uuid limit texts s → s.sources ≡ Some sources
-    → ((p : ℕ) (uuid : List ℕ) (limit k : ℕ) (texts : Texts) → Holds p uuid limit k texts sources → Holds p uuid limit k (ended from texts) new)
-    → n ≡ rounds_in s.target → TellsAll n new told → verdict ≡ unwrap_or told Running → counts ≡ with_end s.counts from → Keeps verdict kept new
-    → StandsFor p uuid limit (ended from texts) (record { counts = counts; sources = kept; target = s.target; verdict = verdict })
+    → ((p : ℕ) (uuid : List ℕ) (limit k : ℕ) (texts : Texts) → Holds p uuid limit k texts sources → Holds p uuid limit k (end_step from texts) new)
+    → n ≡ rounds_loaded s.target → TellsAll n new told → verdict ≡ unwrap_or told Running → counts ≡ with_end s.counts from → Keeps verdict kept new
+    → StandsFor p uuid limit (end_step from texts) (record { counts = counts; sources = kept; target = s.target; verdict = verdict })
 end_steps p uuid limit texts s sources new from n told verdict kept counts is stands some holds same tells is_verdict counted keeps =
     let before : Readings = stands.is_answer.readings in
     let f : Feeding = record { page_size = p; uuid = uuid; limit = limit; texts = texts; readings = before } in
     let advances = feeding_of p uuid limit texts s sources some stands in
-    let next = some_readings p uuid limit (ended from texts) stands.is_page_size in
-    let further_on : Advances (further f (ended from texts) next.0) new s.target =
-    advances_further f sources new s.target (ended from texts) next.0 advances (ended_goes_on from texts) next.1 (holds p uuid limit (rounds_in s.target) texts advances.holds) in
-    let tells_here : TellsAll (rounds_in s.target) new told = subst (λ (m : ℕ). TellsAll m new told) same tells in
-    let running : Running ≡ verdict_at (rounds_in s.target) before = sym (keeps_runs s sources is some) ∙ stands.is_answer.has_verdict in
+    let next = some_readings p uuid limit (end_step from texts) stands.is_page_size in
+    let further_on : Advances (further f (end_step from texts) next.0) new s.target =
+    advances_further f sources new s.target (end_step from texts) next.0 advances (ended_goes_on from texts) next.1 (holds p uuid limit (rounds_loaded s.target) texts advances.holds) in
+    let tells_here : TellsAll (rounds_loaded s.target) new told = subst (λ (m : ℕ). TellsAll m new told) same tells in
+    let running : Running ≡ verdict_at (rounds_loaded s.target) before = sym (keeps_runs s sources is some) ∙ stands.is_answer.has_verdict in
     let no_table : s.target ≡ None → next.0.main.table ≡ None = λ none.
-    sym (main_tables p limit texts.main (ended from texts).main before.main next.0.main stands.is_page_size (main_bytes from texts) stands.is_answer.are_readings.has_main next.1.has_main)
-    ∙ none_there before (sym (ap (λ (o : Option LoadTarget). option_map (λ t. t.memory) o) none) ∙ stands.is_answer.has_memory ∙ ap (λ (o : Option LoadTarget). memory_at (rounds_in o) before) none) in
-    let is_told : (o : Option Verdict) → told ≡ o → IsTold next.0 s.target (unwrap_or o Running) = λ o e. go o (subst (λ (x : Option Verdict). TellsAll (rounds_in s.target) new x) e tells_here) further_on no_table running in
-    let here : IsTold next.0 s.target verdict = subst (λ (v : Verdict). IsTold next.0 s.target v) (sym is_verdict) (is_told told refl) in
-    stands_told p uuid limit (ended from texts) next.0 counts kept new s.target verdict stands.is_page_size next.1
+    sym (main_tables p limit texts.main (end_step from texts).main before.main next.0.main stands.is_page_size (main_bytes from texts) stands.is_answer.are_readings.has_main next.1.has_main)
+    ∙ none_there before (sym (ap (λ (o : Option LoadTarget). option_map (λ t. t.memory) o) none) ∙ stands.is_answer.has_memory ∙ ap (λ (o : Option LoadTarget). memory_at (rounds_loaded o) before) none) in
+    let is_told : (o : Option Verdict) → told ≡ o → TellsVerdict next.0 s.target (unwrap_or o Running) = λ o e. go o (subst (λ (x : Option Verdict). TellsAll (rounds_loaded s.target) new x) e tells_here) further_on no_table running in
+    let here : TellsVerdict next.0 s.target verdict = subst (λ (v : Verdict). TellsVerdict next.0 s.target v) (sym is_verdict) (is_told told refl) in
+    stands_told p uuid limit (end_step from texts) next.0 counts kept new s.target verdict stands.is_page_size next.1
     (counted ∙ ap (λ (c : Counts). with_end c from) stands.has_counts ∙ sym (counts_ended from texts)) further_on.holds further_on.has_rounds here (kept_or_not verdict kept new keeps)
   where
-    go : (o : Option Verdict) → TellsAll (rounds_in s.target) new o
-        → Advances (record { page_size = p; uuid = uuid; limit = limit; texts = ended from texts; readings = (some_readings p uuid limit (ended from texts) stands.is_page_size).0 }) new s.target
-        → (s.target ≡ None → (some_readings p uuid limit (ended from texts) stands.is_page_size).0.main.table ≡ None) → Running ≡ verdict_at (rounds_in s.target) stands.is_answer.readings
-        → IsTold (some_readings p uuid limit (ended from texts) stands.is_page_size).0 s.target (unwrap_or o Running)
+    go : (o : Option Verdict) → TellsAll (rounds_loaded s.target) new o
+        → Advances (record { page_size = p; uuid = uuid; limit = limit; texts = end_step from texts; readings = (some_readings p uuid limit (end_step from texts) stands.is_page_size).0 }) new s.target
+        → (s.target ≡ None → (some_readings p uuid limit (end_step from texts) stands.is_page_size).0.main.table ≡ None) → Running ≡ verdict_at (rounds_loaded s.target) stands.is_answer.readings
+        → TellsVerdict (some_readings p uuid limit (end_step from texts) stands.is_page_size).0 s.target (unwrap_or o Running)
     go None tells advances none running =
-        let now = some_readings p uuid limit (ended from texts) stands.is_page_size in
-        let due : IsDue (rounds_in s.target) now.0 = sym (tells p uuid limit (ended from texts) now.0 stands.is_page_size advances.holds now.1) in
-        absurd (still_told p uuid limit (rounds_in s.target) from texts stands.is_answer.readings now.0 stands.is_page_size stands.is_answer.are_readings now.1 stands.is_answer.has_rounds running due)
+        let now = some_readings p uuid limit (end_step from texts) stands.is_page_size in
+        let due : IsDue (rounds_loaded s.target) now.0 = sym (tells p uuid limit (end_step from texts) now.0 stands.is_page_size advances.holds now.1) in
+        absurd (still_told p uuid limit (rounds_loaded s.target) from texts stands.is_answer.readings now.0 stands.is_page_size stands.is_answer.are_readings now.1 stands.is_answer.has_rounds running due)
     go (Some v) tells advances none running =
-        told_either (record { page_size = p; uuid = uuid; limit = limit; texts = ended from texts; readings = (some_readings p uuid limit (ended from texts) stands.is_page_size).0 }) new s.target v advances none tells
+        told_either (record { page_size = p; uuid = uuid; limit = limit; texts = end_step from texts; readings = (some_readings p uuid limit (end_step from texts) stands.is_page_size).0 }) new s.target v advances none tells
 
 -- it is still a session
 pub is_session_still : (counts : Counts) (kept : Option FedSources) (sources : FedSources) (target : Option LoadTarget) (verdict : Verdict) → Keeps verdict kept sources

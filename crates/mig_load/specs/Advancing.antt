@@ -15,7 +15,7 @@ use Rattle.mig_load.specs.Rounds.{memory_at}
 use Rattle.mig_load.specs.MultiLoad.{main_at, channels_at, hello_ids, repeated_hello, verdicts_told, passes, IsFirstStop, failed, verdict_at}
 use Rattle.mig_load.specs.Relayed.{HasLoaded}
 use Rattle.mig_load.specs.Sources.{FedSources, Holds}
-use Rattle.mig_load.specs.Session.{rounds_in, fed}
+use Rattle.mig_load.specs.Session.{rounds_loaded, feed_step}
 
 -- what a session is of, how much of the texts has come, and what they tell
 pub record Feeding : Type 0 where
@@ -32,47 +32,47 @@ pub record HasPutRounds (readings : Readings) (t : LoadTarget) : Type 0 where
 
 -- The rounds that are counted pass, and are in the memory, where there is one.
 pub record HasRounds (readings : Readings) (target : Option LoadTarget) : Type 0 where
-  pub have_passed : (j : ℕ) → j < rounds_in target → IsTrue (passes j readings)
+  pub have_passed : (j : ℕ) → j < rounds_loaded target → IsTrue (passes j readings)
   pub has_put : IfSome target (HasPutRounds readings)
 
 -- so many of the texts' rounds are counted, and what is kept of the sources is behind them
 pub record Advances (f : Feeding) (s : FedSources) (target : Option LoadTarget) : Type 0 where
   pub is_page_size : IsPageSize f.page_size
   pub are_readings : AreReadings f.page_size f.uuid f.limit f.texts f.readings
-  pub holds : Holds f.page_size f.uuid f.limit (rounds_in target) f.texts s
+  pub holds : Holds f.page_size f.uuid f.limit (rounds_loaded target) f.texts s
   pub has_rounds : HasRounds f.readings target
 
 -- the rounds up to the first that doesn't pass are counted, and this is the verdict there
-pub record IsTold (readings : Readings) (target : Option LoadTarget) (verdict : Verdict) : Type 0 where
-  pub is_first_stop : IsFirstStop readings (rounds_in target)
-  pub has_memory : option_map (λ t. t.memory) target ≡ memory_at (rounds_in target) readings
-  pub has_verdict : verdict ≡ verdict_at (rounds_in target) readings
+pub record TellsVerdict (readings : Readings) (target : Option LoadTarget) (verdict : Verdict) : Type 0 where
+  pub is_first_stop : IsFirstStop readings (rounds_loaded target)
+  pub has_memory : option_map (λ t. t.memory) target ≡ memory_at (rounds_loaded target) readings
+  pub has_verdict : verdict ≡ verdict_at (rounds_loaded target) readings
 
--- the verdict where a growth was refused behind so many rounds
-abbrev pub wants_memory : ℕ → Verdict
-wants_memory rounds = failed rounds origin.Round fault.NoMemory
+-- the verdict where an allocation was refused behind so many rounds
+abbrev pub failed_without_memory : ℕ → Verdict
+failed_without_memory rounds = failed rounds origin.Round fault.NoMemory
 
--- What advancing leaves: more rounds are counted, and where no growth was refused all up to the first that doesn't pass.
+-- What advancing leaves: more rounds are counted, and where no allocation was refused all up to the first that doesn't pass.
 pub record HasAdvanced {E : Type 0} (f : Feeding) (s : FedSources) (target : Option LoadTarget) (result : Result Verdict E) : Type 0 where
   pub advances : Advances f s target
-  pub is_told : IfOk result (IsTold f.readings target)
+  pub is_told : IfOk result (TellsVerdict f.readings target)
 
 -- What the taking of a piece leaves, by what the texts with it tell.
 abbrev pub HasTaken : {E : Type 0} → Feeding → Source → List ℕ → FedSources → Option LoadTarget → Result Verdict E → Type 0
-HasTaken f from piece s target result = (readings : Readings) → AreReadings f.page_size f.uuid f.limit (fed from piece f.texts) readings
+HasTaken f from piece s target result = (readings : Readings) → AreReadings f.page_size f.uuid f.limit (feed_step from piece f.texts) readings
     → HasRounds readings target
-    × IfOk result (λ verdict. Holds f.page_size f.uuid f.limit (rounds_in target) (fed from piece f.texts) s × IsTold readings target verdict)
+    × IfOk result (λ verdict. Holds f.page_size f.uuid f.limit (rounds_loaded target) (feed_step from piece f.texts) s × TellsVerdict readings target verdict)
 
 -- the sources tell no verdict at a round: all have it, and no hello's id comes again
 abbrev pub IsDue : ℕ → Readings → Type 0
 IsDue k readings = first_some (verdicts_told k (main_at k readings) (channels_at k readings) (repeated_hello (hello_ids readings))) ≡ None
 
 -- The next round has come of all sources, and is judged.
-pub record Comes (f : Feeding) (s : FedSources) (t : LoadTarget) : Type 0 where
+pub record RoundIsDue (f : Feeding) (s : FedSources) (t : LoadTarget) : Type 0 where
   pub advances : Advances f s (Some t)
   pub is_due : IsDue t.rounds f.readings
 
--- What the judging of that round leaves: it passes and is in the memory; or it doesn't, or a growth was refused, and the memory stays.
-abbrev pub HasPut : Feeding → LoadTarget → Result ⊤ LoadFault → LoadTarget → Type 0
-HasPut f old (Ok x) new = HasRounds f.readings (Some new) × (new.rounds ≡ old.rounds + 1)
-HasPut f old (Err found) new = (new ≡ old) × (((found.fault ≢ fault.NoMemory) × IsTold f.readings (Some old) (Failed found)) ⊎ (found.fault ≡ fault.NoMemory))
+-- What the judging of that round leaves: it passes and is in the memory; or it doesn't, or an allocation was refused, and the memory stays.
+abbrev pub PutsOrRefuses : Feeding → LoadTarget → Result ⊤ LoadFault → LoadTarget → Type 0
+PutsOrRefuses f old (Ok x) new = HasRounds f.readings (Some new) × (new.rounds ≡ old.rounds + 1)
+PutsOrRefuses f old (Err found) new = (new ≡ old) × (((found.fault ≢ fault.NoMemory) × TellsVerdict f.readings (Some old) (Failed found)) ⊎ (found.fault ≡ fault.NoMemory))

@@ -5,11 +5,11 @@ use Rattle.mig_packet.specs.Hello.{hello_len}
 use Rattle.mig_packet.specs.declared.state.ChannelState.{ChannelState}
 use Rattle.mig_packet.specs.Progress.{ChannelProgress, start}
 use Rattle.mig_packet.specs.Reading.{Reads}
-use Rattle.mig_packet.specs.Pieces.{all_packets}
+use Rattle.mig_packet.specs.ChannelItems.{all_packets}
 use Rattle.mig_load.specs.declared.cursor.Cursor.{Cursor}
 use Rattle.mig_load.specs.declared.log.ChannelText.{ChannelText}
 use Rattle.mig_load.specs.declared.message.Message.{Message}
-use Rattle.mig_load.specs.Pieces.{channel_text}
+use Rattle.mig_load.specs.RelayItems.{channel_text}
 use Rattle.mig_load.specs.Messages.{front_messages, BeginsMessages, is_last}
 
 abbrev pub text_of : Cursor → List ℕ → ChannelText

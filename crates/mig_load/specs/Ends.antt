@@ -4,12 +4,12 @@ use Rattle.mig_packet.specs.PageSize.{IsPageSize}
 use Rattle.mig_load.specs.declared.cursor.Cursor.{Cursor}
 use Rattle.mig_load.specs.declared.item.Item.{Item}
 use Rattle.mig_load.specs.declared.log.Log.{Log}
-use Rattle.mig_load.specs.Pieces.{as_piece, IsOfPageSize}
+use Rattle.mig_load.specs.RelayItems.{as_channel_item, IsOfPageSize}
 use Rattle.mig_load.specs.Messages.{AreMessages, BeginsMessages}
-use Rattle.mig_load.specs.Queue.{feeding, collecting, pieces_in}
+use Rattle.mig_load.specs.Queue.{feeding, collecting, items_in}
 use Rattle.mig_load.specs.Cursor.{text_of, IsBehind}
 
--- a feeder that stands there, after so many pieces, with a pass that knows this
+-- a feeder that stands there, after so many items, with a pass that knows this
 pub record IsFeeding (k : Cursor) (text : List ℕ) (count : ℕ) (v : Log) : Type 0 where
   pub has_page_size : IsPageSize k.page_size
   pub within : k.at ≤ length text
@@ -23,7 +23,7 @@ pub record IsCollecting (page_size : ℕ) (text : List ℕ) (items : List Item) 
   pub of_page_size : v.source.page_size ≡ page_size
   pub of_text : v.source.text ≡ text
   pub role : v ≡ collecting v.source v.done
-  pub has_items : map as_piece items ≡ pieces_in v
+  pub has_items : map as_channel_item items ≡ items_in v
   pub of_size : All (IsOfPageSize page_size) items
   pub begun : BeginsMessages v.source v.done
   pub whole : over ≡ true → AreMessages v.source v.done

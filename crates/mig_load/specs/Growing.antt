@@ -22,9 +22,9 @@ abbrev pub AnswersStay : Type 0
 AnswersStay = (page_size : ℕ) (uuid : List ℕ) (limit : ℕ) (old new : Texts) (answer : Answer) → IsPageSize page_size → GoOn old new
     → IsAnswer page_size uuid limit old answer → answer.verdict ≢ Running → IsAnswer page_size uuid limit new answer
 
--- So does one for want of memory.
-abbrev pub WantsStay : Type 0
-WantsStay = (page_size : ℕ) (uuid : List ℕ) (limit : ℕ) (old new : Texts) (answer : Answer) → IsPageSize page_size → GoOn old new
+-- So does one without memory.
+abbrev pub WithoutMemoryStays : Type 0
+WithoutMemoryStays = (page_size : ℕ) (uuid : List ℕ) (limit : ℕ) (old new : Texts) (answer : Answer) → IsPageSize page_size → GoOn old new
     → IsWithoutMemory page_size uuid limit old answer → IsWithoutMemory page_size uuid limit new answer
 
 -- And rounds that were counted stay counted.

@@ -70,7 +70,7 @@ SentIsLoadedInPlace = (limit : ℕ) (first : Image) (rounds : List (List Page)) 
 -- ---- in the midst of a call
 
 -- The loader was fed this text, and the sections that its reader gave are in the memory, but for those of another table. Others may wait.
-pub record HasFedOnto (limit : ℕ) (first : Image) (l : InPlace) (text : List ℕ) (ended : Bool) : Type 0 where
+pub record WasFedOnto (limit : ℕ) (first : Image) (l : InPlace) (text : List ℕ) (ended : Bool) : Type 0 where
   pub is_table : IsTable first.table
   pub is_image : IsImage first
   pub taken : ℕ
@@ -83,13 +83,13 @@ pub record HasFedOnto (limit : ℕ) (first : Image) (l : InPlace) (text : List �
   pub other : IsOfOtherTable first reading → (l.target.memory ≡ first) × (l.target.rounds ≡ 0)
 
 -- It was fed some text, of fewer than 2^63 bytes.
-pub record HasFedOntoSome (l : InPlace) : Type 0 where
+pub record WasFedOntoSome (l : InPlace) : Type 0 where
   pub limit : ℕ
   pub first : Image
   pub text : List ℕ
   pub ended : Bool
   pub is_short : length text < 2 ^ 63
-  pub has_fed : HasFedOnto limit first l text ended
+  pub has_fed : WasFedOnto limit first l text ended
 
 -- It stands for some text, of fewer than 2^63 bytes.
 pub record LoadsOntoSome (l : InPlace) : Type 0 where

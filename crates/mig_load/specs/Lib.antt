@@ -14,6 +14,7 @@ pub mod LoadFaultNumber
 -- loaders that are fed in pieces
 pub mod Loader
 pub mod InPlace
+pub mod InPlaceState
 -- sessions: what callers see of them, and then the inside, what is kept of each source
 pub mod Session
 pub mod Sources
@@ -21,8 +22,8 @@ pub mod Advancing
 -- pumps, which feed a session what they read
 pub mod Reads
 pub mod Pumping
--- the relay of channels: what its contracts say of pieces, and then the inside, messages in a queue under a rule
-pub mod Pieces
+-- the relay of channels: what its contracts say of items, and then the inside, messages in a queue under a rule
+pub mod RelayItems
 pub mod Relay
 pub mod Relayed
 pub mod Multi

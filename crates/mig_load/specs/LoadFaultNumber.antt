@@ -1,4 +1,4 @@
--- The numbers of the faults of a load, and of a pump.
+-- The numbers of the faults of a load, of a piece that is put into a memory, and of a pump.
 use Rattle.std.specs.Prelude.{ℕ}
 use Rattle.mig_mem.specs.Refusal.{no_memory_number}
 use Rattle.mig_stream.specs.FaultNumber.{fault_number as stream_fault_number}
@@ -6,6 +6,8 @@ use Rattle.mig_packet.specs.FaultNumber.{fault_number as channel_fault_number}
 use Rattle.mig_assemble.specs.RoundFaultNumber.{fault_number as round_fault_number}
 use Rattle.mig_load.specs.declared.fault.Fault.{Fault}
 use Rattle.mig_load.specs.declared.fault.Fault.TheVariants.{Stream, Channel, Round, HelloTwice, Extra, Short, OtherTable, NoMemory}
+use Rattle.mig_load.specs.declared.fault.InPlaceFault.{InPlaceFault}
+use Rattle.mig_load.specs.declared.fault.InPlaceFault.TheVariants as in_place
 use Rattle.mig_load.specs.declared.pumping.PumpFault.{PumpFault}
 use Rattle.mig_load.specs.declared.pumping.PumpFault.TheVariants as pump
 
@@ -18,6 +20,10 @@ fault_number Extra = 52
 fault_number Short = 53
 fault_number OtherTable = 63
 fault_number NoMemory = no_memory_number
+
+abbrev pub in_place_fault_number : InPlaceFault → ℕ
+in_place_fault_number in_place.OtherTable = 63
+in_place_fault_number in_place.NoMemory = no_memory_number
 
 abbrev pub pump_fault_number : PumpFault → ℕ
 pump_fault_number pump.Read = 70

@@ -12,7 +12,7 @@ use Rattle.mig_stream.specs.Reader.{Reader, SoFar, Stands, HasTable}
 use Rattle.mig_assemble.specs.Target.{LoadTarget}
 use Rattle.mig_load.specs.declared.loaded.Loaded.{Loaded}
 use Rattle.mig_load.specs.declared.fault.LoadFault.{LoadFault}
-use Rattle.mig_load.specs.SingleLoad.{memory_after, verdict_of, want_of_memory, IsAnswer, unloaded}
+use Rattle.mig_load.specs.SingleLoad.{memory_after, verdict_of, no_memory_at, IsSingleAnswer, unloaded}
 
 -- what a loader holds: the reader of its text, and the memory that it loads, once that could be had
 pub record Loader : Type 0 where
@@ -26,8 +26,8 @@ loader reader target = record { reader = reader; target = target }
 abbrev pub memory_of : Loader → Option Image
 memory_of l = option_map (λ t. t.memory) l.target
 
-abbrev pub rounds_of : Loader → ℕ
-rounds_of l = option_map_or (λ t. t.rounds) l.target 0
+abbrev pub sections_loaded : Loader → ℕ
+sections_loaded l = option_map_or (λ t. t.rounds) l.target 0
 
 -- ---- the sections of a text
 
@@ -36,7 +36,7 @@ pub record HasAllSections (page_size limit : ℕ) (l : Loader) (text : List ℕ)
   pub reading : StreamReading
   pub is_reading : IsReading (settings Single page_size limit) text reading
   pub has_memory : memory_of l ≡ memory_after page_size reading.table reading.rounds
-  pub has_rounds : rounds_of l ≡ length reading.rounds
+  pub has_rounds : sections_loaded l ≡ length reading.rounds
 
 -- The text has a table, and the loader no memory, since none was found for it: all sections wait.
 pub record Waits (page_size limit : ℕ) (l : Loader) (text : List ℕ) : Type 0 where
@@ -52,7 +52,7 @@ put_so_far text ended n = record { text = text; ended = ended; taken = n }
 -- or they wait.
 pub record Loads (page_size limit : ℕ) (l : Loader) (text : List ℕ) (ended : Bool) : Type 0 where
   pub is_page_size : IsPageSize page_size
-  pub stands : Stands (settings Single page_size limit) (put_so_far text ended (rounds_of l)) l.reader
+  pub stands : Stands (settings Single page_size limit) (put_so_far text ended (sections_loaded l)) l.reader
   pub has_sections : HasAllSections page_size limit l text ⊎ Waits page_size limit l text
 
 -- ---- its answers
@@ -63,15 +63,15 @@ pub record HasVerdict (page_size limit : ℕ) (text : List ℕ) (verdict : Resul
   pub is_reading : IsReading (settings Single page_size limit) text reading
   pub is_verdict : verdict ≡ verdict_of (length reading.rounds) reading.state
 
--- the verdict of a loader: that on its text; or want of memory, where its sections wait
+-- the verdict of a loader: that on its text; or `NoMemory`, where its sections wait
 abbrev pub Judges : ℕ → ℕ → Loader → List ℕ → Result ⊤ LoadFault → Type 0
 Judges page_size limit l text verdict =
-    (HasAllSections page_size limit l text × HasVerdict page_size limit text verdict) ⊎ (Waits page_size limit l text × (verdict ≡ want_of_memory 0))
+    (HasAllSections page_size limit l text × HasVerdict page_size limit text verdict) ⊎ (Waits page_size limit l text × (verdict ≡ no_memory_at 0))
 
--- the answer of a loader: that on its text; or want of memory, where its sections wait
+-- the answer of a loader: that on its text; or `NoMemory`, where its sections wait
 abbrev pub Answers : {A : Type 0} → ℕ → ℕ → Loader → List ℕ → Loaded A → Type 0
 Answers page_size limit l text a =
-    (HasAllSections page_size limit l text × IsAnswer page_size limit text a) ⊎ (Waits page_size limit l text × (a ≡ unloaded))
+    (HasAllSections page_size limit l text × IsSingleAnswer page_size limit text a) ⊎ (Waits page_size limit l text × (a ≡ unloaded))
 
 -- ---- in the midst of a call
 
@@ -82,42 +82,42 @@ pub record HasFirst (page_size limit : ℕ) (first : Image) (text : List ℕ) (t
       → t.memory ≡ with_rounds first (map (map (page_of page_size)) (take t.rounds reading.rounds))
 
 -- A reader was given this text, and the sections that it gave are in the memory. Others may wait.
-pub record HasPut (page_size limit : ℕ) (first : Image) (text : List ℕ) (ended : Bool) (r : Reader) (t : LoadTarget) : Type 0 where
+pub record HasPutSections (page_size limit : ℕ) (first : Image) (text : List ℕ) (ended : Bool) (r : Reader) (t : LoadTarget) : Type 0 where
   pub is_page_size : IsPageSize page_size
   pub stands : Stands (settings Single page_size limit) (put_so_far text ended t.rounds) r
   pub has_first : HasFirst page_size limit first text t
 
 -- It was given some text, of fewer than 2^63 bytes.
-pub record HasPutSome (r : Reader) (t : LoadTarget) : Type 0 where
+pub record HasPutSectionsSome (r : Reader) (t : LoadTarget) : Type 0 where
   pub page_size : ℕ
   pub limit : ℕ
   pub first : Image
   pub text : List ℕ
   pub ended : Bool
   pub is_short : length text < 2 ^ 63
-  pub has_put : HasPut page_size limit first text ended r t
+  pub has_put : HasPutSections page_size limit first text ended r t
 
 -- No section waits: all whole ones are in the memory.
-pub record HasPutAll (page_size limit : ℕ) (first : Image) (text : List ℕ) (t : LoadTarget) : Type 0 where
+pub record HasPutAllSections (page_size limit : ℕ) (first : Image) (text : List ℕ) (t : LoadTarget) : Type 0 where
   pub reading : StreamReading
   pub is_reading : IsReading (settings Single page_size limit) text reading
   pub has_memory : t.memory ≡ with_rounds first (map (map (page_of page_size)) reading.rounds)
   pub has_rounds : t.rounds ≡ length reading.rounds
 
 -- The loader was fed this text, and the sections that its reader gave are in the memory, which began with zeros. Others may wait.
-pub record HasFed (page_size limit : ℕ) (l : Loader) (text : List ℕ) (ended : Bool) : Type 0 where
+pub record WasFed (page_size limit : ℕ) (l : Loader) (text : List ℕ) (ended : Bool) : Type 0 where
   pub is_page_size : IsPageSize page_size
-  pub stands : Stands (settings Single page_size limit) (put_so_far text ended (rounds_of l)) l.reader
+  pub stands : Stands (settings Single page_size limit) (put_so_far text ended (sections_loaded l)) l.reader
   pub has_first : IfSome l.target (λ t. HasFirst page_size limit (zero_image t.memory.table) text t)
 
 -- It was fed some text, of fewer than 2^63 bytes.
-pub record HasFedSome (l : Loader) : Type 0 where
+pub record WasFedSome (l : Loader) : Type 0 where
   pub page_size : ℕ
   pub limit : ℕ
   pub text : List ℕ
   pub ended : Bool
   pub is_short : length text < 2 ^ 63
-  pub has_fed : HasFed page_size limit l text ended
+  pub has_fed : WasFed page_size limit l text ended
 
 -- It stands for some text, of fewer than 2^63 bytes.
 pub record LoadsSome (l : Loader) : Type 0 where

@@ -1,4 +1,4 @@
--- The pieces of a channel's text as places in it: what goes through the channel's queue.
+-- The items of a channel's text as places in it: what goes through the channel's queue.
 use Rattle.std.specs.Prelude.{◌≡◌, ℕ, ◌+◌, ◌≤◌, Bool, true, false, List, [], ◌∷◌, ◌++◌, length, take, drop, Option, None, Some, ⊤}
 use Rattle.mig_packet.specs.declared.state.ChannelState.{ChannelState}
 use Rattle.mig_packet.specs.declared.state.ChannelState.TheVariants as state
@@ -6,21 +6,21 @@ use Rattle.mig_packet.specs.Hello.{hello_len}
 use Rattle.mig_packet.specs.Packet.{fields_of, IsPacketText}
 use Rattle.mig_packet.specs.Progress.{ChannelProgress, start}
 use Rattle.mig_packet.specs.Reading.{Reads, state_at}
-use Rattle.mig_packet.specs.Pieces.{Piece, Hello, Page, Stop, all_packets}
+use Rattle.mig_packet.specs.ChannelItems.{ChannelItem, Hello, Page, Stop, all_packets}
 use Rattle.mig_load.specs.declared.item.ChannelEnd.TheVariants.{Clean, Bad}
 use Rattle.mig_load.specs.declared.log.ChannelText.{ChannelText}
 use Rattle.mig_load.specs.declared.message.Message.{Message}
 use Rattle.mig_load.specs.declared.message.Message.TheVariants as message
-use Rattle.mig_load.specs.Pieces.{fault_of}
+use Rattle.mig_load.specs.RelayItems.{end_fault}
 
--- the piece that a message stands for
-abbrev pub piece_in : ℕ → List ℕ → Message → Piece
-piece_in page_size text (message.Hello id) = Hello id
-piece_in page_size text (message.Page at len) = Page (fields_of page_size (take len (drop at text)))
-piece_in page_size text (message.Stop end) = Stop (fault_of end)
+-- the item that a message stands for
+abbrev pub item_in : ℕ → List ℕ → Message → ChannelItem
+item_in page_size text (message.Hello id) = Hello id
+item_in page_size text (message.Page at len) = Page (fields_of page_size (take len (drop at text)))
+item_in page_size text (message.Stop end) = Stop (end_fault end)
 
-abbrev pub piece_of : ChannelText → Message → Piece
-piece_of source message = piece_in source.page_size source.text message
+abbrev pub item_of_message : ChannelText → Message → ChannelItem
+item_of_message source message = item_in source.page_size source.text message
 
 -- ---- the messages of a text that is over
 

@@ -5,7 +5,7 @@ use Rattle.mig_mem.specs.PageSize.{IsPageSize}
 use Rattle.mig_load.specs.declared.loaded.Loaded.{Loaded}
 use Rattle.mig_load.specs.Texts.{ended_texts}
 use Rattle.mig_load.specs.MultiLoad.{IsAnswer, IsWithoutMemory, answer_of}
-use Rattle.mig_load.specs.Pieces.{QueueEnd}
+use Rattle.mig_load.specs.RelayItems.{QueueEnd}
 use Rattle.mig_load.specs.Relayed.{IsRelayOf}
 
 abbrev pub AnswersRelay : {A : Type 0} → ℕ → List ℕ → List QueueEnd → Loaded A → Type 0

@@ -126,7 +126,7 @@ pub record IsAnswer (page_size : ℕ) (uuid : List ℕ) (limit : ℕ) (texts : T
   pub has_memory : answer.memory ≡ memory_at answer.rounds readings
   pub has_verdict : answer.verdict ≡ verdict_at answer.rounds readings
 
--- The answer where memory was refused: the memory is that after the rounds counted, each of which passes, or None where none was counted.
+-- The answer where an allocation was refused: the memory is that after the rounds counted, each of which passes, or None where none was counted.
 pub record IsWithoutMemory (page_size : ℕ) (uuid : List ℕ) (limit : ℕ) (texts : Texts) (answer : Answer) : Type 0 where
   pub readings : Readings
   pub are_readings : AreReadings page_size uuid limit texts readings

@@ -6,10 +6,10 @@ use Rattle.mig_load.specs.declared.pumping.PumpFault.{PumpFault}
 use Rattle.mig_load.specs.declared.pumping.PumpFault.TheVariants.{Read, TooManyTurns, NoMemory}
 use Rattle.mig_load.specs.declared.source.Source.{Source}
 use Rattle.mig_load.specs.Texts.{Texts}
-use Rattle.mig_load.specs.Reads.{Reads, after_pieces, after_end, after_failure}
+use Rattle.mig_load.specs.Reads.{ReadsSoFar, after_pieces, after_end, after_failure}
 use Rattle.mig_load.specs.Sources.{Counts}
-use Rattle.mig_load.specs.Advancing.{wants_memory}
-use Rattle.mig_load.specs.Session.{LoadSession, answer_in, fed, ended, with_fed, with_end, StepsOn, RunsOut, StillLacks}
+use Rattle.mig_load.specs.Advancing.{failed_without_memory}
+use Rattle.mig_load.specs.Session.{LoadSession, answer_in, feed_step, end_step, with_fed, with_end, StepsOn, RunsOut, StillLacks}
 
 -- ---- what was read
 
@@ -24,14 +24,14 @@ pub record IsPiece (piece : List ℕ) : Type 0 where
 
 -- What the reader's counts tell of an answer. Ok: one read was an end, and none failed. Read: one failed, and none was an end.
 -- TooManyTurns: there were all the reads that were allowed, and each gave bytes. NoMemory: each gave bytes.
-abbrev pub Explains : ℕ → Reads → Reads → Result ℕ PumpFault → Type 0
+abbrev pub Explains : ℕ → ReadsSoFar → ReadsSoFar → Result ℕ PumpFault → Type 0
 Explains turns old new (Ok len) = (new.ends ≡ old.ends + 1) × (new.failed ≡ old.failed)
 Explains turns old new (Err Read) = (new.ends ≡ old.ends) × (new.failed ≡ old.failed + 1)
 Explains turns old new (Err TooManyTurns) = (new.reads ≡ old.reads + turns) × (new.ends ≡ old.ends) × (new.failed ≡ old.failed)
 Explains turns old new (Err NoMemory) = (new.ends ≡ old.ends) × (new.failed ≡ old.failed)
 
 -- the reads of so many pieces: one for each, and then the one that found the end, or failed
-abbrev pub reads_after : Reads → ℕ → Result ℕ PumpFault → Reads
+abbrev pub reads_after : ReadsSoFar → ℕ → Result ℕ PumpFault → ReadsSoFar
 reads_after old pieces (Ok len) = after_end (after_pieces old pieces)
 reads_after old pieces (Err Read) = after_failure (after_pieces old pieces)
 reads_after old pieces (Err TooManyTurns) = after_pieces old pieces
@@ -47,35 +47,35 @@ pub record HasRead (pieces : List (List ℕ)) (result : Result ℕ PumpFault) (b
 -- ---- what was fed
 
 -- the texts with these pieces of a source fed, one after another
-abbrev pub fed_all : Source → List (List ℕ) → Texts → Texts
-fed_all source [] texts = texts
-fed_all source (piece ∷ pieces) texts = fed_all source pieces (fed source piece texts)
+abbrev pub piece_steps : Source → List (List ℕ) → Texts → Texts
+piece_steps source [] texts = texts
+piece_steps source (piece ∷ pieces) texts = piece_steps source pieces (feed_step source piece texts)
 
 -- the same, and the source ended where the end of its input was found
-abbrev pub pumped : Source → List (List ℕ) → Result ℕ PumpFault → Texts → Texts
-pumped source pieces (Ok len) texts = ended source (fed_all source pieces texts)
-pumped source pieces (Err fault) texts = fed_all source pieces texts
+abbrev pub pump_step : Source → List (List ℕ) → Result ℕ PumpFault → Texts → Texts
+pump_step source pieces (Ok len) texts = end_step source (piece_steps source pieces texts)
+pump_step source pieces (Err fault) texts = piece_steps source pieces texts
 
 abbrev pub counts_after : Counts → Source → List (List ℕ) → Result ℕ PumpFault → Counts
 counts_after counts source pieces (Ok len) = with_end (with_fed counts source (length (concat pieces))) source
 counts_after counts source pieces (Err fault) = with_fed counts source (length (concat pieces))
 
--- A growth was refused as the session took the last of the pieces.
+-- An allocation was refused as the session took the last of the pieces.
 pub record HasRunOut (source : Source) (pieces : List (List ℕ)) (old new : LoadSession) : Type 0 where
   pub has_last : pieces ≢ []
-  pub runs_out : RunsOut (fed_all source pieces) old new
-  pub has_verdict : new.verdict ≡ wants_memory (answer_in new).rounds
+  pub runs_out : RunsOut (piece_steps source pieces) old new
+  pub has_verdict : new.verdict ≡ failed_without_memory (answer_in new).rounds
 
 -- What a pump that fed these pieces makes of the texts that a session stands for. At NoMemory it ran out in the last piece, or the pump's
 -- buffer was refused, and nothing has changed.
-abbrev pub Stands : Source → List (List ℕ) → Result ℕ PumpFault → LoadSession → LoadSession → Type 0
-Stands source pieces (Ok len) old new = StepsOn (pumped source pieces (Ok len)) old new
-Stands source pieces (Err Read) old new = StepsOn (fed_all source pieces) old new
-Stands source pieces (Err TooManyTurns) old new = StepsOn (fed_all source pieces) old new
-Stands source pieces (Err NoMemory) old new = HasRunOut source pieces old new ⊎ ((pieces ≡ []) × (new ≡ old))
+abbrev pub PumpsOn : Source → List (List ℕ) → Result ℕ PumpFault → LoadSession → LoadSession → Type 0
+PumpsOn source pieces (Ok len) old new = StepsOn (pump_step source pieces (Ok len)) old new
+PumpsOn source pieces (Err Read) old new = StepsOn (piece_steps source pieces) old new
+PumpsOn source pieces (Err TooManyTurns) old new = StepsOn (piece_steps source pieces) old new
+PumpsOn source pieces (Err NoMemory) old new = HasRunOut source pieces old new ⊎ ((pieces ≡ []) × (new ≡ old))
 
 -- These pieces were fed, in this order, and the source was ended at Ok.
-pub record HasFed (source : Source) (pieces : List (List ℕ)) (result : Result ℕ PumpFault) (old new : LoadSession) : Type 0 where
-  pub stands : Stands source pieces result old new
-  pub lacking : StillLacks (pumped source pieces result) old new
+pub record FeedsPieces (source : Source) (pieces : List (List ℕ)) (result : Result ℕ PumpFault) (old new : LoadSession) : Type 0 where
+  pub stands : PumpsOn source pieces result old new
+  pub lacking : StillLacks (pump_step source pieces result) old new
   pub has_counts : new.counts ≡ counts_after old.counts source pieces result

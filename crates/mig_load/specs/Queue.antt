@@ -2,12 +2,12 @@
 use Rattle.std.specs.Prelude.{◌≡◌, ℕ, Bool, true, false, List, [], ◌∷◌, ◌++◌, map}
 use mathlib.Core.Option.{some}
 use lib.ListN.{get_elem?}
-use Rattle.mig_packet.specs.Pieces.{Piece}
+use Rattle.mig_packet.specs.ChannelItems.{ChannelItem}
 use Rattle.mig_load.specs.declared.log.ChannelText.{ChannelText}
 use Rattle.mig_load.specs.declared.log.Log.{Log}
 use Rattle.mig_load.specs.declared.message.Message.{Message}
-use Rattle.mig_load.specs.Pieces.{channel_text}
-use Rattle.mig_load.specs.Messages.{piece_of, BeginsMessages}
+use Rattle.mig_load.specs.RelayItems.{channel_text}
+use Rattle.mig_load.specs.Messages.{item_of_message, BeginsMessages}
 
 -- ---- what a pass knows
 
@@ -15,12 +15,12 @@ abbrev pub log : Bool → Bool → ChannelText → List Message → Log
 log feeds collects source done = record { feeds = feeds; collects = collects; source = source; done = done }
 
 -- a text of no bytes, as long as the pass knows of none
-abbrev pub no_text : ChannelText
-no_text = channel_text 4096 [] 0 []
+abbrev pub no_channel_text : ChannelText
+no_channel_text = channel_text 4096 [] 0 []
 
 -- the pass before it is split
 abbrev pub fresh : Log
-fresh = log true true no_text []
+fresh = log true true no_channel_text []
 
 -- the pass that pushes
 abbrev pub feeding : ChannelText → List Message → Log
@@ -30,9 +30,9 @@ feeding source done = log true false source done
 abbrev pub collecting : ChannelText → List Message → Log
 collecting source done = log false true source done
 
--- the pieces that a pass has pushed or popped
-abbrev pub pieces_in : Log → List Piece
-pieces_in v = map (piece_of v.source) v.done
+-- the items that a pass has pushed or popped
+abbrev pub items_in : Log → List ChannelItem
+items_in v = map (item_of_message v.source) v.done
 
 -- ---- the rule
 

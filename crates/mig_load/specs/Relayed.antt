@@ -5,7 +5,7 @@ use Rattle.mig_mem.specs.PageSize.{IsPageSize}
 use Rattle.mig_packet.specs.Lent.{fields}
 use Rattle.mig_packet.specs.Packet.{Fields}
 use Rattle.mig_packet.specs.declared.packet.Packet.{Packet}
-use Rattle.mig_packet.specs.Pieces.{Piece}
+use Rattle.mig_packet.specs.ChannelItems.{ChannelItem}
 use Rattle.mig_assemble.specs.declared.fault.RoundFault.{RoundFault}
 use Rattle.mig_assemble.specs.Target.{LoadTarget, Fits}
 use Rattle.mig_stream.specs.Reader.{Reader, Stands}
@@ -21,7 +21,7 @@ use Rattle.mig_load.specs.declared.fault.LoadFault.{LoadFault}
 use Rattle.mig_load.specs.declared.loaded.Loaded.{Loaded}
 use Rattle.mig_load.specs.declared.verdict.Verdict.{Verdict}
 use Rattle.mig_load.specs.declared.verdict.Verdict.TheVariants.{Running, Done}
-use Rattle.mig_load.specs.SingleLoad.{want_of_memory}
+use Rattle.mig_load.specs.SingleLoad.{no_memory_at}
 use Rattle.mig_load.specs.Texts.{Readings, AreReadings, ended_texts}
 use Rattle.mig_load.specs.Rounds.{memory_at, base_at, packets_at, refusal_at}
 use Rattle.mig_load.specs.MultiLoad.{Standing, channels_at, hello_ids, repeated_hello, passes, IsFirstStop, failed, verdict_at, as_verdict, answer_of, IsAnswer, IsWithoutMemory}
@@ -30,7 +30,7 @@ use Rattle.mig_load.specs.declared.item.ChannelEnd.{ChannelEnd}
 use Rattle.mig_load.specs.declared.item.ChannelEnd.TheVariants as channel_end
 use Rattle.mig_load.specs.declared.item.Item.{Item}
 use Rattle.mig_load.specs.declared.fault.Fault.TheVariants as fault
-use Rattle.mig_load.specs.Pieces.{as_piece, IsOfPageSize, channel_text, QueueEnd, BeginsPieces, IsThrough}
+use Rattle.mig_load.specs.RelayItems.{as_channel_item, IsOfPageSize, channel_text, QueueEnd, BeginsItems, IsThrough}
 
 -- ---- the relay of some texts
 
@@ -47,7 +47,7 @@ pub record IsRelay (ends : List QueueEnd) : Type 0 where
   pub is_page_size : IsPageSize page_size
   pub is_relay : IsRelayOf page_size uuid texts ends
 
-abbrev pub received_of : List QueueEnd → List (List Piece)
+abbrev pub received_of : List QueueEnd → List (List ChannelItem)
 received_of ends = map (λ p. p.passed) ends
 
 -- the same queue and text, and what was taken begins with what it was
@@ -62,50 +62,50 @@ pub record HasReceived (rounds : ℕ) (done : Bool) (old new : QueueEnd) : Type 
   pub has_rounds : rounds ≤ round_count new.passed
   pub has_stop : done ≡ true → IsThrough new
 
--- ---- one channel, gone through piece by piece
+-- ---- one channel, gone through item by item
 
 -- the status that a stop tells
 abbrev pub stop_status : ChannelEnd → Status
 stop_status channel_end.Clean = Clean
 stop_status (channel_end.Bad f) = Bad (fault.Channel f)
 
--- the first `at` pieces were taken, and the stop isn't among them
+-- the first `at` items were taken, and the stop isn't among them
 abbrev pub IsOpenAt : ℕ → QueueEnd → Type 0
 IsOpenAt at p = (at ≤ length p.passed) × (end_in (take at p.passed) ≡ Pending)
 
--- The first `at` pieces that were taken of a channel were gone through: they have these whole rounds, then no further packet, and no stop.
-pub record IsAt (at : ℕ) (passed : List Piece) (rounds : List (List Fields)) : Type 0 where
+-- The first `at` items that were taken of a channel were gone through: they have these whole rounds, then no further packet, and no stop.
+pub record IsAt (at : ℕ) (passed : List ChannelItem) (rounds : List (List Fields)) : Type 0 where
   pub within : at ≤ length passed
-  pub has_rounds : (more : List Piece) → rounds_in (take at passed ++ more) ≡ rounds ++ rounds_in more
+  pub has_rounds : (more : List ChannelItem) → rounds_in (take at passed ++ more) ≡ rounds ++ rounds_in more
   pub is_open : end_in (take at passed) ≡ Pending
 
 -- they have exactly k whole rounds
-pub record IsAtRound (k at : ℕ) (passed : List Piece) : Type 0 where
+pub record IsAtRound (k at : ℕ) (passed : List ChannelItem) : Type 0 where
   pub rounds : List (List Fields)
   pub has_count : length rounds ≡ k
   pub is_at : IsAt at passed rounds
 
 -- enough was taken of a channel to tell round k
-abbrev pub IsTold : ℕ → QueueEnd → Type 0
-IsTold k p = BeginsPieces p.source p.passed × ((k < round_count p.passed) ⊎ IsThrough p)
+abbrev pub HasEnough : ℕ → QueueEnd → Type 0
+HasEnough k p = BeginsItems p.source p.passed × ((k < round_count p.passed) ⊎ IsThrough p)
 
 -- Round k of a channel was gone through, up to there: how the channel stands at it, and the packets where it is whole.
 pub record HasGone (k to : ℕ) (p : QueueEnd) (status : Status) (packets : List Fields) : Type 0 where
-  pub is_told : IsTold k p
+  pub is_told : HasEnough k p
   pub has_status : status ≡ status_in k p.passed
   pub has_packets : status ≡ Whole → packets ≡ channel_packets_in k p.passed
   pub goes_on : status ≡ Whole → IsAtRound (k + 1) to p.passed
 
--- Piece `at` of channel j is this item, which was taken where it wasn't yet. The other channels stay.
+-- Item `at` of channel j is this item, which was taken where it wasn't yet. The other channels stay.
 pub record GivesItem (j at : ℕ) (old new : List QueueEnd) (item : Item) : Type 0 where
   pub before : QueueEnd
   pub behind : QueueEnd
   pub has_before : slice_get old j ≡ Some before
   pub has_new : new ≡ slice_set old j behind
   pub continues : Continues before behind
-  pub begun : BeginsPieces behind.source behind.passed
+  pub begun : BeginsItems behind.source behind.passed
   pub is_there : at < length behind.passed
-  pub has_piece : take (at + 1) behind.passed ≡ take at before.passed ++ as_piece item ∷ []
+  pub has_passed : take (at + 1) behind.passed ≡ take at before.passed ++ as_channel_item item ∷ []
   pub is_page_size : IsPageSize before.source.page_size
   pub has_page_size : IsOfPageSize before.source.page_size item
 
@@ -131,7 +131,7 @@ standings statuses = map (λ s. record { source = origin.Channel s.0; status = s
 
 -- Round k of all channels was gone through: how they stand at it, and where it is whole of each the packets of all.
 pub record HaveGone (k : ℕ) (places : List ℕ) (ends : List QueueEnd) (statuses : List Status) (packets : List Fields) : Type 0 where
-  pub are_told : All (IsTold k) ends
+  pub are_told : All (HasEnough k) ends
   pub has_statuses : statuses ≡ map (status_in k) (received_of ends)
   pub has_packets : All (λ status. status ≡ Whole) statuses → packets ≡ packets_in k (received_of ends)
   pub goes_on : All (λ status. status ≡ Whole) statuses → AreAtRound (k + 1) places ends
@@ -182,9 +182,9 @@ pub record ToldAt (l : Load) (k : ℕ) (main : Status) (told : Option Verdict) (
   pub refused : told ≡ None → (why : RoundFault) → refusal_at k l.readings ≡ Some why
       → IsFirstStop l.readings k × (verdict_at k l.readings ≡ failed k origin.Round (fault.Round why))
 
--- the answer of a load at round k: that of the texts, or want of memory
+-- the answer of a load at round k: that of the texts, or `NoMemory`
 abbrev pub IsAnswered : Load → ℕ → Result ⊤ LoadFault → Type 0
-IsAnswered l k verdict = (IsFirstStop l.readings k × (verdict_at k l.readings ≡ as_verdict verdict)) ⊎ (verdict ≡ want_of_memory k)
+IsAnswered l k verdict = (IsFirstStop l.readings k × (verdict_at k l.readings ≡ as_verdict verdict)) ⊎ (verdict ≡ no_memory_at k)
 
 -- each channel has the SYNC packets of the first k rounds
 abbrev pub HaveRounds : ℕ → List QueueEnd → Type 0
@@ -197,7 +197,7 @@ pub record HasEnded (l : Load) (k : ℕ) (verdict : Result ⊤ LoadFault) (ends 
   pub through : is_ok verdict ≡ true → All IsThrough ends
 
 -- a load has come to a round of these records, which the main stream has, with the rounds before it in the memory
-pub record Comes (l : Load) (target : LoadTarget) (places : List ℕ) (ends : List QueueEnd) (round : RoundOfRecords) : Type 0 where
+pub record ComesToRound (l : Load) (target : LoadTarget) (places : List ℕ) (ends : List QueueEnd) (round : RoundOfRecords) : Type 0 where
   pub loading : Loading l target.rounds places ends
   pub has_loaded : HasLoaded target.rounds l.readings target
   pub few_packets : target.base ≤ 2 ^ 63
@@ -218,10 +218,10 @@ pub record EndsAt (l : Load) (k : ℕ) (state : StreamState) (places : List ℕ)
   pub is_last : length l.readings.main.rounds ≡ k
   pub has_state : l.readings.main.state ≡ state
 
--- an `Err` that a round has: want of memory, or why it is refused
+-- an `Err` that a round has: `NoMemory`, or why it is refused
 abbrev pub IsRefused : ℕ → Option RoundFault → Result ⊤ LoadFault → Type 0
 IsRefused k refused (Ok x) = ⊤
-IsRefused k refused (Err found) = (Err found ≡ want_of_memory k)
+IsRefused k refused (Err found) = (Err found ≡ no_memory_at k)
     ⊎ ((why : RoundFault) × (refused ≡ Some why) × (found ≡ record { round = k; source = origin.Round; fault = fault.Round why }))
 
 -- a load has put the first rounds of the main stream, of which the reader gives the others, into the memory
@@ -238,7 +238,7 @@ pub record Begins (l : Load) (reader : Reader) (places : List ℕ) (ends : List 
   pub loading : Loading l 0 places ends
   pub is_short : length l.main < 2 ^ 63
 
--- the answer of a load: that on its texts, or the one for want of memory
+-- the answer of a load: that on its texts, or the one without memory
 abbrev pub IsAnswerOf : {A : Type 0} → Load → Loaded A → Type 0
 IsAnswerOf l loaded =
     IsAnswer l.page_size l.uuid l.limit (ended_texts l.main l.texts) (answer_of loaded)

@@ -9,7 +9,7 @@ use Rattle.mig_stream.specs.Written.{single}
 use Rattle.mig_send.specs.DealtRounds.{DealtRound, IsSending}
 use Rattle.mig_load.specs.declared.loaded.Loaded.{Loaded}
 use Rattle.mig_load.specs.declared.verdict.Verdict.TheVariants.{Done}
-use Rattle.mig_load.specs.SingleLoad.{IsAnswer as IsSingleAnswer}
+use Rattle.mig_load.specs.SingleLoad.{IsSingleAnswer}
 use Rattle.mig_load.specs.Texts.{ended_texts}
 use Rattle.mig_load.specs.MultiLoad.{Answer, IsAnswer}
 

@@ -29,12 +29,12 @@ pub record LoadSession : Type 0 where
   pub verdict : Verdict
 
 -- how many rounds are in the memory
-abbrev pub rounds_in : Option LoadTarget → ℕ
-rounds_in target = option_map_or (λ t. t.rounds) target 0
+abbrev pub rounds_loaded : Option LoadTarget → ℕ
+rounds_loaded target = option_map_or (λ t. t.rounds) target 0
 
 -- what a session tells
 abbrev pub answer_in : LoadSession → Answer
-answer_in s = record { memory = option_map (λ t. t.memory) s.target; rounds = rounds_in s.target; verdict = s.verdict }
+answer_in s = record { memory = option_map (λ t. t.memory) s.target; rounds = rounds_loaded s.target; verdict = s.verdict }
 
 -- ---- its sources
 
@@ -76,12 +76,12 @@ at_source source.Main step texts = record texts { main = step texts.main }
 at_source (source.Channel j) step texts = record texts { channels = slice_set texts.channels j (step (get_or texts.channels j no_text)) }
 
 -- a piece of a source's text has come
-abbrev pub fed : Source → List ℕ → Texts → Texts
-fed from piece texts = at_source from (with_piece piece) texts
+abbrev pub feed_step : Source → List ℕ → Texts → Texts
+feed_step from piece texts = at_source from (with_piece piece) texts
 
 -- a source's text has ended
-abbrev pub ended : Source → Texts → Texts
-ended from texts = at_source from over texts
+abbrev pub end_step : Source → Texts → Texts
+end_step from texts = at_source from over texts
 
 -- the number that the next round's first packet is to have
 pub record HasBase (page_size : ℕ) (uuid : List ℕ) (limit : ℕ) (texts : Texts) (t : LoadTarget) : Type 0 where
@@ -90,7 +90,7 @@ pub record HasBase (page_size : ℕ) (uuid : List ℕ) (limit : ℕ) (texts : Te
 
 -- As long as a load runs, all of the texts was read, and the rounds that it counts were judged.
 pub record IsRunning (page_size : ℕ) (uuid : List ℕ) (limit : ℕ) (texts : Texts) (target : Option LoadTarget) (sources : FedSources) : Type 0 where
-  pub holds : Holds page_size uuid limit (rounds_in target) texts sources
+  pub holds : Holds page_size uuid limit (rounds_loaded target) texts sources
   pub has_base : IfSome target (HasBase page_size uuid limit texts)
 
 -- The session was made with this page size, UUID and limit, and so much of the texts has come. It tells their answer.
@@ -100,7 +100,7 @@ pub record StandsFor (page_size : ℕ) (uuid : List ℕ) (limit : ℕ) (texts : 
   pub is_answer : IsAnswer page_size uuid limit texts (answer_in s)
   pub runs : IfSome s.sources (IsRunning page_size uuid limit texts s.target)
 
--- The same, where memory was refused: the answer is the one for that, and stays.
+-- The same, where an allocation was refused: the answer is the one for that, and stays.
 pub record LacksMemory (page_size : ℕ) (uuid : List ℕ) (limit : ℕ) (texts : Texts) (s : LoadSession) : Type 0 where
   pub is_page_size : IsPageSize page_size
   pub has_counts : s.counts ≡ counts_in texts
@@ -110,17 +110,17 @@ pub record LacksMemory (page_size : ℕ) (uuid : List ℕ) (limit : ℕ) (texts 
 abbrev pub StepsOn : (Texts → Texts) → LoadSession → LoadSession → Type 0
 StepsOn step old new = (page_size : ℕ) (uuid : List ℕ) (limit : ℕ) (texts : Texts) → StandsFor page_size uuid limit texts old → StandsFor page_size uuid limit (step texts) new
 
--- a growth was refused in the step
+-- an allocation was refused in the step
 abbrev pub RunsOut : (Texts → Texts) → LoadSession → LoadSession → Type 0
 RunsOut step old new = (page_size : ℕ) (uuid : List ℕ) (limit : ℕ) (texts : Texts) → StandsFor page_size uuid limit texts old → LacksMemory page_size uuid limit (step texts) new
 
--- a growth had been refused before
+-- an allocation had been refused before
 abbrev pub StillLacks : (Texts → Texts) → LoadSession → LoadSession → Type 0
 StillLacks step old new = (page_size : ℕ) (uuid : List ℕ) (limit : ℕ) (texts : Texts) → LacksMemory page_size uuid limit texts old → LacksMemory page_size uuid limit (step texts) new
 
 -- the rounds that were counted stay counted, and a memory that was found stays
 pub record KeepsRounds (old new : LoadSession) : Type 0 where
-  pub more_rounds : rounds_in old.target ≤ rounds_in new.target
+  pub more_rounds : rounds_loaded old.target ≤ rounds_loaded new.target
   pub has_memory : old.target ≢ None → new.target ≢ None
 
 -- ---- the inside

@@ -30,31 +30,31 @@ verdict_of rounds Closed = Ok _
 verdict_of rounds (Bad f) = at_main rounds (fault.Stream f)
 verdict_of rounds Reading = at_main rounds (fault.Stream Truncated)
 
--- want of memory, after so many sections
-abbrev pub want_of_memory : ℕ → Result ⊤ LoadFault
-want_of_memory rounds = Err (record { round = rounds; source = origin.Round; fault = fault.NoMemory })
+-- a refused allocation, after so many sections
+abbrev pub no_memory_at : ℕ → Result ⊤ LoadFault
+no_memory_at rounds = Err (record { round = rounds; source = origin.Round; fault = fault.NoMemory })
 
 -- The answer on a text: the memory is that after its whole sections, None where its size list isn't whole, and `rounds` is
 -- the number of them; it is Ok where the text has its end byte, and else the text's first fault.
-pub record IsAnswer {A : Type 0} (page_size limit : ℕ) (text : List ℕ) (a : Loaded A) : Type 0 where
+pub record IsSingleAnswer {A : Type 0} (page_size limit : ℕ) (text : List ℕ) (a : Loaded A) : Type 0 where
   pub reading : StreamReading
   pub is_reading : IsReading (settings Single page_size limit) text reading
   pub has_memory : a.memory ≡ memory_after page_size reading.table reading.rounds
   pub has_rounds : a.rounds ≡ length reading.rounds
   pub has_verdict : a.verdict ≡ verdict_of a.rounds reading.state
 
--- The answer where memory was refused: the memory is that after the sections counted, which the text has, or None where none
+-- The answer where an allocation was refused: the memory is that after the sections counted, which the text has, or None where none
 -- was counted.
-pub record IsWithoutMemory {A : Type 0} (page_size limit : ℕ) (text : List ℕ) (a : Loaded A) : Type 0 where
+pub record IsSingleWithoutMemory {A : Type 0} (page_size limit : ℕ) (text : List ℕ) (a : Loaded A) : Type 0 where
   pub reading : StreamReading
   pub is_reading : IsReading (settings Single page_size limit) text reading
-  pub has_verdict : a.verdict ≡ want_of_memory a.rounds
+  pub has_verdict : a.verdict ≡ no_memory_at a.rounds
   pub has_rounds : a.rounds ≤ length reading.rounds
   pub has_memory : (a.memory ≡ memory_after page_size reading.table (take a.rounds reading.rounds)) ⊎ ((a.memory ≡ None) × (a.rounds ≡ 0))
 
--- the answer where memory was refused before any section
+-- the answer where an allocation was refused before any section
 abbrev pub unloaded : {A : Type 0} → Loaded A
-unloaded = record { memory = None; rounds = 0; verdict = want_of_memory 0 }
+unloaded = record { memory = None; rounds = 0; verdict = no_memory_at 0 }
 
 -- The answer on the text that a sender made of a table and rounds: the memory after these rounds. START and END count as a
 -- section each.

@@ -94,12 +94,12 @@ pub record Holds (page_size : ℕ) (uuid : List ℕ) (limit k : ℕ) (texts : Te
 -- ---- what is told of a source
 
 -- this is how it stands at the round that is judged next
-abbrev pub TellsMain : FedMain → Status → Type 0
-TellsMain m status = (page_size limit k : ℕ) (text : Text) (reading : stream.StreamReading) → IsPageSize page_size
+abbrev pub TellsMainStatus : FedMain → Status → Type 0
+TellsMainStatus m status = (page_size limit k : ℕ) (text : Text) (reading : stream.StreamReading) → IsPageSize page_size
     → HoldsMain (stream.settings Main page_size limit) k text m → IsMainReading page_size limit text reading → status ≡ main_status k reading
 
-abbrev pub TellsChannel : FedChannel → Status → Type 0
-TellsChannel c status = (given : channel.Settings) (k : ℕ) (text : Text) (reading : channel.ChannelReading) → IsPageSize given.page_size
+abbrev pub TellsChannelStatus : FedChannel → Status → Type 0
+TellsChannelStatus c status = (given : channel.Settings) (k : ℕ) (text : Text) (reading : channel.ChannelReading) → IsPageSize given.page_size
     → HoldsChannel given k text c → channel.IsReading given text.bytes text.ended reading → status ≡ channel_status k reading
 
 -- this is the id that its hello names

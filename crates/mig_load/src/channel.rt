@@ -1,8 +1,8 @@
-//! The end of a channel's queue that pops.
+//! The end of a channel's queue that pops. The collector of a relay has one for each channel.
 
 ghost use Rattle.std.specs.Prelude.{◌≡◌, map, All, IfOk, OnErr};
 ghost use Rattle.mig_mem.specs.PageSize.{IsPageSize};
-ghost use Rattle.mig_load.specs.Pieces.{as_piece, BeginsPieces, IsOfPageSize};
+ghost use Rattle.mig_load.specs.RelayItems.{as_channel_item, BeginsItems, IsOfPageSize};
 ghost use Rattle.mig_load.specs.Relay.{Takes};
 
 use crate::item::Item;
@@ -13,7 +13,7 @@ use std::alloc::{Allocator, Global};
 use std::marker::Model;
 use std::sync::Wait;
 
-/// The pieces of one channel's text as they come. Contracts see its queue, the text, and the pieces that it has popped.
+/// The items of one channel's text as they come. Contracts see its queue, the text, and the items that it has popped.
 #[derive(Drop)]
 pub struct Channel<'a, A: Allocator = Global> {
     pub(crate) page_size: u64,
@@ -26,17 +26,17 @@ pub struct Channel<'a, A: Allocator = Global> {
 }
 
 impl<'a, A: Allocator> Model for Channel<'a, A> {
-    ghost use Rattle.mig_load.specs.Pieces.{QueueEnd};
+    ghost use Rattle.mig_load.specs.RelayItems.{QueueEnd};
 
     ghost Value = { QueueEnd };
 
     ghost use Rattle.crossbeam_channel.specs.Claims.{view as known, IsSeatAt};
     ghost use Rattle.crossbeam_channel.specs.Ends.{receives_on};
-    ghost use Rattle.mig_load.specs.Pieces.{queue_end};
-    ghost use Rattle.mig_load.specs.Queue.{pieces_in};
+    ghost use Rattle.mig_load.specs.RelayItems.{queue_end};
+    ghost use Rattle.mig_load.specs.Queue.{items_in};
     ghost use Rattle.mig_load.specs.Ends.{IsCollecting};
 
-    ghost view = { λ a. queue_end a.pass.table_id (known a.pass).source (pieces_in (known a.pass)) };
+    ghost view = { λ a. queue_end a.pass.table_id (known a.pass).source (items_in (known a.pass)) };
 
     ghost invariant = { λ a. IsSeatAt (receives_on a.receiver) a.pass × IsCollecting a.page_size a.text.now a.items.items a.over (known a.pass) };
 }
@@ -50,17 +50,17 @@ impl<'a, A: Allocator> Channel<'a, A> {
         self.page_size
     }
 
-    /// The pieces that were popped.
+    /// The items that were popped.
     pub(crate) fn received(&self) -> &[Item<'a>]
-        ensures items { map as_piece result.now ≡ self.now.passed }
-        ensures begun { BeginsPieces self.now.source self.now.passed }
+        ensures items { map as_channel_item result.now ≡ self.now.passed }
+        ensures begun { BeginsItems self.now.source self.now.passed }
         ensures page_size { IsPageSize self.now.source.page_size }
         ensures page_sizes { All (IsOfPageSize self.now.source.page_size) result.now }
     {
         self.items.as_slice()
     }
 
-    /// Pops the next piece. False where the stop was popped before. On an `Err` none was popped.
+    /// Pops the next item. False where the stop was popped before. On an `Err` none was popped.
     pub(crate) fn next<R: Wait>(&mut self, wait: &R) -> Result<bool, NoMemory>
         ensures ok { IfOk result (λ more. Takes self.old self.new more) }
         ensures err { OnErr result (self.new ≡ self.old) }

@@ -1,11 +1,11 @@
-//! What a session keeps of a channel: the reader, and the round that is judged next.
+//! What a session keeps of a channel, for `sources`: the reader, and the round that is judged next.
 
 ghost use Rattle.std.specs.Prelude.{ℕ, true, false, ◌≡◌, ◌+◌, ◌++◌, ◌<◌, ◌≤◌, ◌^◌, IsFalse, OnOk, OnErr, All, length, map};
 ghost use Rattle.mig_packet.specs.PageSize.{IsPageSize};
 ghost use Rattle.mig_packet.specs.Lent.{fields};
 ghost use Rattle.mig_packet.specs.Reading.{Settings, settings};
 ghost use Rattle.mig_load.specs.Texts.{Text, no_text, with_piece, over};
-ghost use Rattle.mig_load.specs.Sources.{HoldsChannel, TakesChannel, TellsChannel, TellsHello, channel_count, packets_of, IsOfSize};
+ghost use Rattle.mig_load.specs.Sources.{HoldsChannel, TakesChannel, TellsChannelStatus, TellsHello, channel_count, packets_of, IsOfSize};
 
 use crate::status::{Status, channel_end};
 use mig_assemble::Gathered;
@@ -106,7 +106,7 @@ impl<A: Allocator> ChannelSource<A> {
 
     /// How the channel stands at the round that is judged next.
     pub(crate) fn status(&self) -> Status
-        ensures { TellsChannel self.now result }
+        ensures { TellsChannelStatus self.now result }
     {
         if self.round.is_some() {
             return Status::Whole;

@@ -1,6 +1,6 @@
-//! How much of each source's text has come.
+//! How much of each source's text has come, for `Session`, which tells it also once it has let go of its readers.
 
-ghost use Rattle.std.specs.Prelude.{◌≡◌, ◌+◌, ◌<◌, ◌≤◌, ◌^◌, IfOk, replicate};
+ghost use Rattle.std.specs.Prelude.{◌≡◌, ◌+◌, ◌<◌, ◌≤◌, ◌^◌, IfOk, length, replicate};
 ghost use Rattle.mig_load.specs.Session.{HasSource, count_of, no_count, with_fed, with_end};
 
 use crate::Source;
@@ -50,6 +50,13 @@ impl<A: Allocator> SourceCounts<A> {
             main: NOTHING,
             channels: counts,
         })
+    }
+
+    /// The number of channels.
+    pub(crate) fn channels(&self) -> usize
+        ensures { result ≡ length self.now.channels }
+    {
+        self.channels.len()
     }
 
     pub(crate) fn of(&self, source: Source) -> Count

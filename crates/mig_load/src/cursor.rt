@@ -1,4 +1,4 @@
-//! A place in a channel's text, between two pieces.
+//! A place in a channel's text, between two items, and how the next one is found. A feeder keeps one.
 
 ghost use Rattle.std.specs.Prelude.{◌≡◌, ◌≤◌, true, false, length};
 ghost use Rattle.mig_packet.specs.PageSize.{IsPageSize};
@@ -14,7 +14,7 @@ use uuid::Uuid;
 // how many bytes a hello has
 const HELLO_LEN: usize = 64;
 
-/// A place in a channel's text that is over, between two pieces, and what was handed in to read the text by.
+/// A place in a channel's text that is over, between two items, and what was handed in to read the text by.
 #[derive(Clone, Copy)]
 pub(crate) struct Cursor {
     pub(crate) page_size: u64,
@@ -29,7 +29,7 @@ pub(crate) struct Cursor {
 }
 
 impl Cursor {
-    /// The next piece, and the place behind it.
+    /// The next item, and the place behind it.
     pub(crate) fn read(self, text: &[u8]) -> (Message, Cursor)
         requires page_size { IsPageSize self.page_size }
         requires within { self.at ≤ length text.now }

@@ -1,8 +1,8 @@
-//! Why a load didn't come to its end: names and numbers, and where.
+//! Why a load didn't come to its end, by name and number, and where: what every loader answers.
 
 ghost use Rattle.std.specs.Prelude.{◌≡◌};
 ghost use Rattle.mig_mem.specs.Refusal.{no_memory_number};
-ghost use Rattle.mig_load.specs.LoadFaultNumber.{fault_number};
+ghost use Rattle.mig_load.specs.LoadFaultNumber.{fault_number, in_place_fault_number};
 
 use mig_assemble::RoundFault;
 use mig_mem::NoMemory;
@@ -18,7 +18,7 @@ pub enum Origin {
     Main,
     /// In a channel, by its place among the texts that were handed in.
     Channel(usize),
-    /// In no one text: what all texts bring of a round together, and want of memory, are told there.
+    /// In no one text: what all texts bring of a round together, and refused allocations, are told there.
     Round,
 }
 
@@ -29,7 +29,7 @@ pub enum Fault {
     Stream(StreamFault),
     /// The channel's fault.
     Channel(ChannelFault),
-    /// The round isn't lawful: 54 to 59. A refused growth is `NoMemory` instead.
+    /// The round isn't lawful: 54 to 59. A refused allocation is `NoMemory` instead.
     Round(RoundFault),
     /// The channel's hello names the id of an earlier channel.
     HelloTwice,
@@ -39,7 +39,7 @@ pub enum Fault {
     Short,
     /// The stream is of another table than the memory that was handed in for it.
     OtherTable,
-    /// A growth was refused.
+    /// An allocation was refused.
     NoMemory,
 }
 
@@ -129,17 +129,17 @@ impl Display for LoadFault {
 
 impl Error for LoadFault {}
 
-/// Why a piece wasn't loaded: want of memory, with what stands after it.
+/// Why a piece wasn't loaded: `NoMemory`, with what stands after it.
 #[derive(Clone, Copy, Debug, PartialEq, Eq)]
 pub enum FeedFault {
-    /// A growth was refused, and nothing has changed: the piece can be fed again.
+    /// An allocation was refused, and nothing has changed: the piece can be fed again.
     NoMemory,
     /// The piece was taken, and no memory was found for the guest: `settle` tries again, and the next piece may be fed too.
     NoGuestMemory,
 }
 
 impl FeedFault {
-    /// The fault's number in documents and in the tool's output: that of want of memory, of both.
+    /// The fault's number in documents and in the tool's output: that of `NoMemory`, of both.
     pub fn number(self) -> u8
         ensures { result ≡ no_memory_number }
     {
@@ -164,3 +164,40 @@ impl Display for FeedFault {
 }
 
 impl Error for FeedFault {}
+
+/// Why a piece wasn't loaded into the memory that it was handed in with. Nothing has changed: the piece can be fed again.
+#[derive(Clone, Copy, Debug, PartialEq, Eq)]
+pub enum InPlaceFault {
+    /// The memory is of another table than the load.
+    OtherTable,
+    /// An allocation was refused.
+    NoMemory,
+}
+
+impl InPlaceFault {
+    /// The fault's number in documents and in the tool's output.
+    pub fn number(self) -> u8
+        ensures { result ≡ in_place_fault_number self }
+    {
+        match self {
+            InPlaceFault::OtherTable => 63,
+            InPlaceFault::NoMemory => NoMemory.number(),
+        }
+    }
+}
+
+/// The fault's number, and what it says.
+impl Display for InPlaceFault {
+    fn fmt<W: fmt::Write>(&self, f: &mut Formatter<W>) -> fmt::Result {
+        match self {
+            InPlaceFault::OtherTable => write!(
+                f,
+                "{}: the memory is of another table than the load",
+                self.number()
+            ),
+            InPlaceFault::NoMemory => Display::fmt(&NoMemory, f),
+        }
+    }
+}
+
+impl Error for InPlaceFault {}

@@ -1,4 +1,4 @@
-//! What a channel brings: its pieces, one after another.
+//! What a channel brings: its items, one after another. Feeders push them, and the collector gives them.
 
 use mig_packet::{ChannelFault, Packet};
 
@@ -11,7 +11,7 @@ pub enum ChannelEnd {
     Bad(ChannelFault),
 }
 
-/// A piece of a channel's text. A packet borrows the text's bytes.
+/// An item of a channel's text. A packet borrows the text's bytes.
 #[derive(Clone, Copy, Debug)]
 pub enum Item<'a> {
     /// The hello, with its channel id.

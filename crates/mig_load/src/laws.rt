@@ -4,7 +4,7 @@
 //! callers can have it.
 
 ghost use Rattle.mig_load.specs.Law.{HasOneAnswer, EndedTextsAreJudged};
-ghost use Rattle.mig_load.specs.Growing.{AnswersStay, WantsStay, RoundsStay};
+ghost use Rattle.mig_load.specs.Growing.{AnswersStay, WithoutMemoryStays, RoundsStay};
 ghost use Rattle.mig_load.specs.Received.{FrontTellsChannel, StopIsLast, RoundsAreCounted, FrontsTellAllChannels};
 ghost use Rattle.mig_load.specs.Dealt.{DealtRoundsAreLawful};
 ghost use Rattle.mig_load.specs.Sent.{SendingsAreLoaded, ChannelsLoadAsOneStream};
@@ -19,17 +19,17 @@ pub fn texts_have_one_answer()
 {}
 
 /// Texts that go on leave an answer as it is, once it isn't `Running`: whatever bytes follow in them, and whichever of them end, the memory,
-/// the rounds and the verdict stay. So does an answer for want of memory. And a round that was counted stays counted, whatever comes. So a
+/// the rounds and the verdict stay. So does an answer without memory. And a round that was counted stays counted, whatever comes. So a
 /// load can answer before its texts are over.
 pub fn answers_stay()
     ensures settled { AnswersStay }
-    ensures wanting { WantsStay }
+    ensures wanting { WithoutMemoryStays }
     ensures rounds { RoundsStay }
 {}
 
-/// A front of a channel's pieces tells of a round what the channel's whole text tells, once it has the round's SYNC packet, or the stop: the
+/// Some first items of a channel tell of a round what the channel's whole text tells, once they have the round's SYNC packet, or the stop: the
 /// hello, how the channel stands at the round, and its packets of each round up to it. So a load can judge a round by what it has received
-/// of each channel, before the texts are over. The stop is the last piece, and there are as many whole rounds as SYNC packets.
+/// of each channel, before the texts are over. The stop is the last item, and there are as many whole rounds as SYNC packets.
 pub fn received_tells_status()
     ensures channel { FrontTellsChannel }
     ensures stop { StopIsLast }

@@ -1,12 +1,12 @@
 //! The loaders: they make a guest's memory from the texts of its migration.
 //!
-//! What a loader answers is a function of the texts, the page size, the limit and what the memory held, want of memory aside: the memory after the
-//! rounds that they have whole, how many these are, and the first fault after them (`specs/SingleLoad.antt`). The text of a
+//! What a loader answers is a function of the texts, the page size, the limit and what the memory held, refused allocations aside: the memory
+//! after the rounds that they have whole, how many these are, and the first fault after them (`specs/SingleLoad.antt`). The text of a
 //! stream is `mig_stream`'s, and how a round goes into memory `mig_assemble`'s. Of several channels it is a function of the main stream's text
 //! and of theirs (`specs/MultiLoad.antt`), which names neither threads nor queues.
 //!
-//! A relay hands on the pieces of channels' texts from one thread for each channel to one that loads: each channel has a `Feeder`, a queue,
-//! and its place in the one `Collector`. What a piece is says `mig_packet`; what the two ends promise says `specs/Relay.antt`.
+//! A relay hands on the items of channels' texts from one thread for each channel to one that loads: each channel has a `Feeder`, a queue,
+//! and its place in the one `Collector`. What an item is says `mig_packet`; what the two ends promise says `specs/Relay.antt`.
 #![tactic(auto)]
 
 mod channel;
@@ -16,6 +16,7 @@ mod cursor;
 mod fault;
 mod feeder;
 mod in_place;
+mod in_place_state;
 mod item;
 mod laws;
 mod loaded;
@@ -39,9 +40,10 @@ mod taking;
 mod told;
 mod verdict;
 
-pub use fault::{Fault, FeedFault, LoadFault, Origin};
+pub use fault::{Fault, FeedFault, InPlaceFault, LoadFault, Origin};
 pub use feeder::{Fed, Feeder, FeederStep};
 pub use in_place::{InPlaceLoader, sent_is_loaded_in_place};
+pub use in_place_state::InPlaceState;
 pub use item::{ChannelEnd, Item};
 pub use laws::{
     answers_stay, dealt_rounds_are_lawful, received_tells_status, sendings_are_loaded,

@@ -1,4 +1,4 @@
-//! What a load answers.
+//! What a load answers: `load_single`, `SingleLoader::finish`, `load_multi` and `load_relayed`.
 
 use crate::LoadFault;
 use mig_mem::Memory;

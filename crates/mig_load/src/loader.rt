@@ -1,4 +1,4 @@
-//! The loader of a single stream that comes in pieces.
+//! The loader of a single stream that comes in pieces, into a memory of its own: for callers that read from a connection.
 
 ghost use Rattle.std.specs.Prelude.{◌≡◌, ◌+◌, ◌<◌, ◌≤◌, ◌^◌, ◌++◌, ℕ, Bool, List, [], length, true, false, IsFalse, IsOk, OnOk, OnErr, IfErr};
 ghost use Rattle.std.specs.Option.{option_copied};
@@ -7,7 +7,7 @@ ghost use Rattle.mig_stream.specs.declared.item.Mode.TheVariants.{Single};
 ghost use Rattle.mig_stream.specs.Reading.{settings};
 ghost use Rattle.mig_stream.specs.Reader.{IsSettled};
 ghost use Rattle.mig_load.specs.declared.fault.FeedFault.TheVariants.{NoMemory as fault_no_memory, NoGuestMemory as fault_no_guest_memory};
-ghost use Rattle.mig_load.specs.Loader.{memory_of, rounds_of, HasAllSections, Waits, Loads, Judges, Answers};
+ghost use Rattle.mig_load.specs.Loader.{memory_of, sections_loaded, HasAllSections, Waits, Loads, Judges, Answers};
 
 use crate::settle::{answer, settle, verdict};
 use crate::{FeedFault, LoadFault, Loaded};
@@ -18,8 +18,8 @@ use std::alloc::{Allocator, Global};
 use std::marker::Model;
 
 /// Loads a guest from the pieces of a single stream. Each section is put into the memory by the call that brings its footer, and its
-/// buffers are given back. So between calls it holds the guest and the pages of one section, which isn't whole, unless sections wait for
-/// want of memory; in a call also the pages that the piece brings.
+/// buffers are given back. So between calls it holds the guest and the pages of one section, which isn't whole, unless sections wait since
+/// an allocation was refused; in a call also the pages that the piece brings.
 #[derive(Drop)]
 pub struct SingleLoader<A: Allocator = Global> {
     alloc: A,
@@ -124,7 +124,7 @@ impl<A: Allocator> SingleLoader<A> {
 
     /// How many sections are in the memory.
     pub fn rounds(&self) -> u64
-        ensures { result ≡ rounds_of self.now }
+        ensures { result ≡ sections_loaded self.now }
     {
         match &self.target {
             Some(target) => target.rounds(),
@@ -133,14 +133,14 @@ impl<A: Allocator> SingleLoader<A> {
     }
 
     /// The verdict that `finish` would give now: Ok where the end byte was read, else the text's first fault, which is `Truncated` where
-    /// it is whole so far; or want of memory, where sections wait.
+    /// it is whole so far; or `NoMemory`, where sections wait.
     pub fn verdict(&self) -> Result<(), LoadFault>
         ensures { (page_size limit : ℕ) (text : List ℕ) (ended : Bool) → Loads page_size limit self.now text ended → Judges page_size limit self.now text result }
     {
         verdict(&self.reader, &self.target)
     }
 
-    /// The answer on the text, as if it were over here: that of `load_single`. Where sections wait it is the one for want of memory.
+    /// The answer on the text, as if it were over here: that of `load_single`. Where sections wait it is the one without memory.
     pub fn finish(self) -> Loaded<A>
         ensures { (page_size limit : ℕ) (text : List ℕ) (ended : Bool) → Loads page_size limit self text ended → Answers page_size limit self text result }
     {

@@ -1,4 +1,4 @@
-//! The rule of a channel's queue, and the kinds of steps that are made under it.
+//! The rule of a channel's queue, and the kinds of steps that are made under it, for `queue`.
 //!
 //! Nothing here runs. `crossbeam_channel` asks at each step that it keeps the rule, whatever the queue holds and all passes know by
 //! then, and answers what the step tells. The steps are: the making of the queue with one pass, that this pass is split in two, one to push
@@ -38,7 +38,7 @@ impl Protocol<Message, Log> for InOrder {
     ghost first = { fresh };
 }
 
-/// Names the text whose pieces a queue is to carry.
+/// Names the text whose items a queue is to carry.
 pub trait Carries {
     ghost use Rattle.mig_load.specs.declared.log.ChannelText.{ChannelText};
 
@@ -46,9 +46,9 @@ pub trait Carries {
 }
 
 impl Carries for Brand {
-    ghost use Rattle.mig_load.specs.Queue.{no_text};
+    ghost use Rattle.mig_load.specs.Queue.{no_channel_text};
 
-    ghost source = { no_text };
+    ghost source = { no_channel_text };
 }
 
 /// The step that makes the pass that pops out of a queue's first one, which pushes from then on. Both know the text.

@@ -1,4 +1,4 @@
-//! What a session keeps of its main stream: the reader, and the round that is judged next.
+//! What a session keeps of its main stream, for `sources`: the reader, and the round that is judged next.
 
 ghost use Rattle.std.specs.Prelude.{ℕ, true, false, ◌≡◌, ◌+◌, ◌<◌, ◌≤◌, ◌^◌, List, IsFalse, IfSome, OnOk, OnErr, length, Some};
 ghost use Rattle.std.specs.Option.{option_copied};
@@ -7,7 +7,7 @@ ghost use Rattle.mig_stream.specs.declared.item.Mode.TheVariants.{Main};
 ghost use Rattle.mig_stream.specs.Reading.{Settings, settings};
 ghost use Rattle.mig_stream.specs.Reader.{waiting, HasTable};
 ghost use Rattle.mig_load.specs.Texts.{Text, no_text, with_piece, over};
-ghost use Rattle.mig_load.specs.Sources.{HoldsMain, TakesMain, TellsMain, main_count, main_waiting};
+ghost use Rattle.mig_load.specs.Sources.{HoldsMain, TakesMain, TellsMainStatus, main_count, main_waiting};
 
 use crate::status::{Status, stream_end};
 use mig_mem::{NoMemory, Table};
@@ -87,7 +87,7 @@ impl<A: Allocator> MainSource<A> {
 
     /// How the main stream stands at the round that is judged next.
     pub(crate) fn status(&self) -> Status
-        ensures { TellsMain self.now result }
+        ensures { TellsMainStatus self.now result }
     {
         if self.round.is_some() {
             return Status::Whole;

@@ -1,14 +1,15 @@
-//! A piece as it goes through a channel's queue: numbers alone, which say where in the text it lies.
+//! An item as it goes through a channel's queue: numbers alone, which say where in the text it lies. A cursor makes them, and the popping end
+//! makes items of them.
 
 ghost use Rattle.std.specs.Prelude.{◌≡◌};
 ghost use Rattle.mig_packet.specs.PageSize.{IsPageSize};
-ghost use Rattle.mig_load.specs.Pieces.{as_piece, IsOfPageSize};
-ghost use Rattle.mig_load.specs.Messages.{LiesIn, is_last, piece_in};
+ghost use Rattle.mig_load.specs.RelayItems.{as_channel_item, IsOfPageSize};
+ghost use Rattle.mig_load.specs.Messages.{LiesIn, is_last, item_in};
 
 use crate::item::{ChannelEnd, Item};
 use mig_packet::{PacketRead, read_packet};
 
-/// Where a piece lies in its text.
+/// Where an item lies in its text.
 #[derive(Clone, Copy)]
 pub enum Message {
     /// The hello, with its channel id.
@@ -28,11 +29,11 @@ impl Message {
     }
 }
 
-/// The piece that lies there.
+/// The item that lies there.
 pub(crate) fn item_of<'a>(page_size: u64, text: &'a [u8], message: Message) -> Item<'a>
     requires page_size { IsPageSize page_size }
     requires lies { LiesIn page_size text.now message }
-    ensures piece { as_piece result ≡ piece_in page_size text.now message }
+    ensures piece { as_channel_item result ≡ item_in page_size text.now message }
     ensures page_size { IsOfPageSize page_size result }
 {
     match message {

@@ -1,4 +1,4 @@
-//! The load of texts on several channels, with a worker for each channel.
+//! The load of whole texts on several channels, for callers that have them: a relay, with a worker for each channel.
 
 ghost use Rattle.std.specs.Prelude.{ℕ, ◌≡◌, ◌≤◌, ◌^◌, ◌⊎◌, List, length, map, IfOk, vec_len, vec_capacity};
 ghost use Rattle.mig_mem.specs.PageSize.{IsPageSize};
@@ -8,7 +8,7 @@ ghost use Rattle.mig_send.specs.DealtRounds.{DealtRound};
 ghost use Rattle.mig_load.specs.Texts.{ended_texts};
 ghost use Rattle.mig_load.specs.MultiLoad.{IsAnswer, IsWithoutMemory, answer_of, bytes_of};
 ghost use Rattle.mig_load.specs.Sent.{IsSentInAnyOrder, sent_answer};
-ghost use Rattle.mig_load.specs.Pieces.{IsThrough};
+ghost use Rattle.mig_load.specs.RelayItems.{IsThrough};
 ghost use Rattle.mig_load.specs.Multi.{AnswersRelay};
 
 use crate::Loaded;
@@ -24,12 +24,12 @@ use std::thread;
 use std::thread::{JoinHandle, Scope, Threads};
 use uuid::Uuid;
 
-// how many pieces the queue of a channel holds
+// how many items the queue of a channel holds
 const QUEUE_CAPACITY: usize = 64;
 
 /// Loads a guest from the texts of a migration on several channels, all of which are over: the main stream's, and the channels' in any
 /// order, of pages of this size, under this UUID. The blocks may have `limit` bytes together. Each channel's text is read by a worker on a
-/// thread of its own for the whole load, which passes the gate with each piece that it found, and that it pushed. All workers have ended
+/// thread of its own for the whole load, which passes the gate with each item that it found, and that it pushed. All workers have ended
 /// when it returns.
 pub fn load_multi<
     R: Threads + Wait + Sync,

@@ -1,8 +1,8 @@
-//! Readers of pieces: where a pump has its bytes from.
+//! Readers of pieces: where a pump has its bytes from. Callers hand one in, mostly a `Counted` over a reader of theirs.
 
 ghost use Rattle.std.specs.Prelude.{ℕ, ◌≡◌, ◌+◌, ◌<◌, ◌≤◌, ◌^◌, List, length, Option, None, IfOk};
 ghost use Rattle.std.specs.Io.KnownBytes.{ReadConsumes};
-ghost use Rattle.mig_load.specs.Reads.{Reads, no_reads, after_read};
+ghost use Rattle.mig_load.specs.Reads.{ReadsSoFar, no_reads, after_read};
 
 use std::io::Read;
 use std::marker::Model;
@@ -14,12 +14,12 @@ pub struct ReadFailed;
 /// A reader of pieces, which may be read 2^63 times.
 pub trait PieceReader {
     // How often it was read, how many of these reads failed, and how many found the end.
-    ghost reads: { Self → Reads };
+    ghost reads: { Self → ReadsSoFar };
 
     // The bytes that are still to come, where they are known.
     ghost remaining: { Self → Option (List ℕ) } = { λ _. None };
 
-    /// Reads into the front of a piece, and gives the number of bytes: 0 where the input is at its end, or the piece is empty.
+    /// Reads into the beginning of a piece, and gives the number of bytes: 0 where the input is at its end, or the piece is empty.
     fn read_piece(&mut self, piece: &mut [u8]) -> Result<usize, ReadFailed>
         requires room { (reads self.old).reads < 2 ^ 63 }
         ensures len { length piece.new ≡ length piece.old }
@@ -37,7 +37,7 @@ struct ReadCounts {
 }
 
 impl Model for ReadCounts {
-    ghost Value = { Reads };
+    ghost Value = { ReadsSoFar };
 
     ghost view = { λ c. record { reads = c.reads; failed = c.failed; ends = c.ends } };
 

@@ -1,10 +1,10 @@
-//! The pump: it reads a source to its end, and feeds a session what it reads.
+//! The pump, for callers with a reader for each source: it reads one to its end, and feeds a session what it reads.
 
 ghost use Rattle.std.specs.Prelude.{ℕ, ◌≡◌, ◌≢◌, ◌+◌, ◌*◌, ◌<◌, ◌≤◌, ◌^◌, List, length, IsFalse, IfOk};
 ghost use Rattle.mig_load.specs.declared.verdict.Verdict.TheVariants.{Running as running};
 ghost use Rattle.mig_load.specs.LoadFaultNumber.{pump_fault_number};
 ghost use Rattle.mig_load.specs.Session.{HasSource, count_of, answer_in, KeepsRounds};
-ghost use Rattle.mig_load.specs.Pumping.{piece_limit, Explains, reads_after, HasRead, HasFed};
+ghost use Rattle.mig_load.specs.Pumping.{piece_limit, Explains, reads_after, HasRead, FeedsPieces};
 
 use crate::{PieceReader, ReadFailed, Session, Source};
 use mig_mem::NoMemory;
@@ -19,7 +19,7 @@ pub enum PumpFault {
     Read,
     /// None of the reads found the end, and there were as many as were allowed.
     TooManyTurns,
-    /// A growth was refused: one of the session's, or that of the pump's buffer, before the first read.
+    /// An allocation was refused: one of the session's, or that of the pump's buffer, before the first read.
     NoMemory,
 }
 
@@ -74,7 +74,7 @@ fn room<A: Allocator>(alloc: A) -> Result<Vec<u8, A>, NoMemory>
 
 /// Reads a source at most `turns` times, at most 65,536 bytes each, and feeds the session each piece. At the end of the input it ends the
 /// source, and gives the number of bytes that it read. On any fault what was read before is fed, and the source isn't ended: it can be
-/// pumped on. A session that is refused a growth has counted the piece, and failed.
+/// pumped on. A session that is refused an allocation has counted the piece, and failed.
 pub fn pump<A: Allocator + Copy, P: PieceReader>(
     alloc: A,
     reader: &mut P,
@@ -91,7 +91,7 @@ pub fn pump<A: Allocator + Copy, P: PieceReader>(
     ensures reads { Explains turns (P.reads reader.old) (P.reads reader.new) result }
     ensures pumped { (pieces : List (List ℕ)) × (P.reads reader.new ≡ reads_after (P.reads reader.old) (length pieces) result)
         × HasRead pieces result (P.remaining reader.old) (P.remaining reader.new)
-        × HasFed source pieces result session.old session.new }
+        × FeedsPieces source pieces result session.old session.new }
     ensures settled { session.old.verdict ≢ running → (answer_in session.new ≡ answer_in session.old)
         × (result ≡ Err PumpFault.NoMemory → session.new ≡ session.old) }
     ensures keeps { KeepsRounds session.old session.new }

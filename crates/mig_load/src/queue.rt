@@ -1,10 +1,10 @@
-//! A channel's queue: one pass that pushes, and one that pops.
+//! A channel's queue: one pass that pushes, and one that pops. `Relay::start` makes one for each channel, for a feeder and the collector.
 
 ghost use Rattle.std.specs.Prelude.{◌≡◌, ◌<◌, true, [], ◌∷◌, ◌++◌, IfOk};
 ghost use Rattle.crossbeam_channel.specs.Claims.{view, IsSeatAt};
 ghost use Rattle.crossbeam_channel.specs.Ends.{sends_on, receives_on};
 ghost use Rattle.mig_packet.specs.PageSize.{IsPageSize};
-ghost use Rattle.mig_load.specs.Pieces.{channel_text};
+ghost use Rattle.mig_load.specs.RelayItems.{channel_text};
 ghost use Rattle.mig_load.specs.Messages.{BeginsMessages};
 ghost use Rattle.mig_load.specs.Queue.{fresh, feeding, collecting};
 
@@ -45,7 +45,7 @@ fn cut<Q: Carries, A: Allocator>(
     sender.another::<Cut<Q>>(pass)
 }
 
-/// The two ends of a queue for the pieces of this text, each with its pass.
+/// The two ends of a queue for the items of this text, each with its pass.
 pub(crate) fn queue_for<A: Allocator + Copy>(
     alloc: A,
     page_size: u64,

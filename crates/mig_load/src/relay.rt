@@ -1,8 +1,9 @@
-//! A relay: a queue for each channel of a load, between a feeder and the one collector.
+//! A relay: a queue for each channel of a load, between a feeder and the one collector. `load_multi` starts one, and `load_relayed` takes
+//! from it.
 
 ghost use Rattle.std.specs.Prelude.{◌≡◌, ◌<◌, ◌≤◌, false, [], map, length, slice_get, All, IfOk, IfSome, OnErr};
 ghost use Rattle.mig_packet.specs.PageSize.{IsPageSize};
-ghost use Rattle.mig_load.specs.Pieces.{as_piece, BeginsPieces, IsOfPageSize};
+ghost use Rattle.mig_load.specs.RelayItems.{as_channel_item, BeginsItems, IsOfPageSize};
 ghost use Rattle.mig_load.specs.Cursor.{text_of};
 ghost use Rattle.mig_load.specs.Relay.{at_start, so_far, TakesAt};
 ghost use Rattle.mig_load.specs.Relayed.{IsRelay};
@@ -18,7 +19,7 @@ use std::marker::Model;
 use std::sync::Wait;
 use uuid::Uuid;
 
-/// The pieces of all channels as they come. Contracts see each channel's queue, its text, and the pieces that were taken from it.
+/// The items of all channels as they come. Contracts see each channel's queue, its text, and the items that were taken from it.
 #[derive(Drop)]
 pub struct Collector<'a, A: Allocator = Global> {
     channels: Vec<Channel<'a, A>, A>,
@@ -26,7 +27,7 @@ pub struct Collector<'a, A: Allocator = Global> {
 
 impl<'a, A: Allocator> Model for Collector<'a, A> {
     ghost use Rattle.std.specs.Prelude.{List};
-    ghost use Rattle.mig_load.specs.Pieces.{QueueEnd};
+    ghost use Rattle.mig_load.specs.RelayItems.{QueueEnd};
 
     ghost Value = { List QueueEnd };
 
@@ -41,8 +42,8 @@ impl<'a, A: Allocator> Model for Collector<'a, A> {
 pub struct Relay;
 
 impl Relay {
-    /// A feeder for each text of a channel that is over, and the collector of their pieces: packets of pages of this size, under this UUID.
-    /// Each channel has a queue of its own, which holds up to `capacity` pieces.
+    /// A feeder for each text of a channel that is over, and the collector of their items: packets of pages of this size, under this UUID.
+    /// Each channel has a queue of its own, which holds up to `capacity` items.
     pub fn start<'a, A: Allocator + Copy, B: Allocator>(
         alloc: A,
         page_size: u64,
@@ -133,11 +134,11 @@ impl<'a, A: Allocator> Collector<'a, A> {
         self.channels[0].page_size()
     }
 
-    /// The pieces that were taken from channel `j`: the first ones of its text, in order and whole.
+    /// The items that were taken from channel `j`: the first ones of its text, in order and whole.
     pub fn received(&self, j: usize) -> &[Item<'a>]
         requires { j < length self.now }
-        ensures items { IfSome (slice_get self.now j) (λ p. map as_piece result.now ≡ p.passed) }
-        ensures begun { IfSome (slice_get self.now j) (λ p. BeginsPieces p.source p.passed) }
+        ensures items { IfSome (slice_get self.now j) (λ p. map as_channel_item result.now ≡ p.passed) }
+        ensures begun { IfSome (slice_get self.now j) (λ p. BeginsItems p.source p.passed) }
         ensures page_size { IfSome (slice_get self.now j) (λ p. IsPageSize p.source.page_size) }
         ensures page_sizes { IfSome (slice_get self.now j) (λ p. All (IsOfPageSize p.source.page_size) result.now) }
     {
@@ -145,7 +146,7 @@ impl<'a, A: Allocator> Collector<'a, A> {
         channel.received()
     }
 
-    /// Takes the next piece of channel `j`, and waits for it. False, without waiting, where its stop was taken before. On an `Err` nothing
+    /// Takes the next item of channel `j`, and waits for it. False, without waiting, where its stop was taken before. On an `Err` nothing
     /// was taken. Where the channel's feeder was dropped before its stop, it may wait for ever.
     pub fn next<R: Wait>(&mut self, wait: &R, j: usize) -> Result<bool, NoMemory>
         requires { j < length self.old }
@@ -156,7 +157,7 @@ impl<'a, A: Allocator> Collector<'a, A> {
         channel.next(wait)
     }
 
-    /// Takes and drops what channels 0 to `started` - 1 still bring, up to their stops. It takes no memory.
+    /// Takes and drops what channels 0 to `started` - 1 still bring, up to their stops. It allocates nothing.
     pub fn drain<R: Wait>(self, wait: &R, started: usize)
         requires { started ≤ length self }
     {

@@ -1,4 +1,4 @@
-//! The load of what a relay brings, round by round.
+//! The load of what a relay brings, round by round: `load_multi` calls it beside its workers, and so may callers with a relay of their own.
 
 ghost use Rattle.std.specs.Prelude.{ℕ, ◌≡◌, ◌≢◌, ◌<◌, ◌≤◌, ◌^◌, ◌⊎◌, [], List, None, length, map, replicate, is_ok, IsTrue, All, IfOk, OnOk, OnErr};
 ghost use Rattle.std.specs.List.{AllZip};
@@ -9,7 +9,7 @@ ghost use Rattle.mig_load.specs.declared.verdict.Verdict.TheVariants.{Running as
 ghost use Rattle.mig_load.specs.Status.{main_status};
 ghost use Rattle.mig_load.specs.Texts.{ended_texts};
 ghost use Rattle.mig_load.specs.MultiLoad.{IsAnswer, IsWithoutMemory, passes, as_verdict, answer_of};
-ghost use Rattle.mig_load.specs.Relayed.{IsRelayOf, HasReceived, Continues, AreAtRound, Load, Loading, HasLoaded, ToldAt, repeated_at, IsRefused, Comes, HasJudged, HasEnded, EndsAt, Goes, Begins, IsAnswerOf};
+ghost use Rattle.mig_load.specs.Relayed.{IsRelayOf, HasReceived, Continues, AreAtRound, Load, Loading, HasLoaded, ToldAt, repeated_at, IsRefused, ComesToRound, HasJudged, HasEnded, EndsAt, Goes, Begins, IsAnswerOf};
 
 use crate::relay::Collector;
 use crate::settle::{no_memory, without_memory};
@@ -23,7 +23,7 @@ use mig_stream::{Mode, StreamReader, StreamRound, StreamState};
 use std::alloc::Allocator;
 use std::sync::Wait;
 
-// Packets are numbered below 2^63, and as many rounds are counted: more are refused as for want of memory. No text in memory has so many.
+// Packets are numbered below 2^63, and as many rounds are counted: more are refused with `NoMemory`. No text in memory has so many.
 const PACKET_LIMIT: u64 = 1 << 63;
 
 const ROUND_LIMIT: u64 = 1 << 63;
@@ -115,8 +115,8 @@ fn load_round<'a, R: Wait, A: Allocator + Copy>(
     target: &mut Target<A>,
     round: &StreamRound<'_, A>,
 ) -> Option<Result<(), LoadFault>>
-    requires { (l : Load) × Comes l target.old places.old.items collector.old round.now }
-    ensures judged { (l : Load) → Comes l target.old places.old.items collector.old round.now → HasJudged l target.old result target.new places.new.items collector.new }
+    requires { (l : Load) × ComesToRound l target.old places.old.items collector.old round.now }
+    ensures judged { (l : Load) → ComesToRound l target.old places.old.items collector.old round.now → HasJudged l target.old result target.new places.new.items collector.new }
     ensures continues { AllZip Continues collector.old collector.new }
 {
     let mut gathered = Gathered::new(alloc);

@@ -1,4 +1,4 @@
-//! The load of texts on several channels that come in pieces, in any order.
+//! The load of texts on several channels that come in pieces, in any order: for callers that read from connections, and for `pump`.
 
 ghost use Rattle.std.specs.Prelude.{ℕ, ◌≡◌, ◌≢◌, ◌+◌, ◌<◌, ◌≤◌, ◌^◌, IsTrue, List, Option, None, Some, IsOk, IsFalse, IfOk, IfSome, OnOk, OnErr, length, map, replicate};
 ghost use Rattle.std.specs.Option.{option_copied, unwrap_or};
@@ -9,8 +9,8 @@ ghost use Rattle.mig_load.specs.declared.verdict.Verdict.{Verdict};
 ghost use Rattle.mig_load.specs.declared.verdict.Verdict.TheVariants.{Failed as failed_with};
 ghost use Rattle.mig_load.specs.Texts.{Texts, no_texts};
 ghost use Rattle.mig_load.specs.Sources.{counts_of, Holds, TellsAll};
-ghost use Rattle.mig_load.specs.Session.{HasSource, count_of, no_count, with_fed, with_end, fed, ended, answer_in, rounds_in, StandsFor, StepsOn, RunsOut, StillLacks, KeepsRounds, LoadsSent};
-ghost use Rattle.mig_load.specs.Advancing.{Feeding, Advances, HasAdvanced, HasTaken, IsTold, wants_memory};
+ghost use Rattle.mig_load.specs.Session.{HasSource, count_of, no_count, with_fed, with_end, feed_step, end_step, answer_in, rounds_loaded, StandsFor, StepsOn, RunsOut, StillLacks, KeepsRounds, LoadsSent};
+ghost use Rattle.mig_load.specs.Advancing.{Feeding, Advances, HasAdvanced, HasTaken, TellsVerdict, failed_without_memory};
 
 use crate::counts::SourceCounts;
 use crate::sources::Sources;
@@ -23,8 +23,8 @@ use uuid::Uuid;
 
 /// Loads a guest from the pieces of a main stream and of its channels, as they come. A round is judged and put into the memory by the call
 /// that makes it whole of the last source, and its buffers are given back. So between calls it holds the guest, and of each source what came
-/// of rounds that not every source has yet. What it tells depends on the texts so far, and on which of them are over: not on where they were
-/// cut, nor on the order in which the sources were fed.
+/// of rounds that not every source has yet. Until an allocation is refused, what it tells depends on the texts so far, and on which of them are over:
+/// not on where they were cut, nor on the order in which the sources were fed.
 #[derive(Drop)]
 pub struct Session<A: Allocator = Global> {
     alloc: A,
@@ -47,7 +47,7 @@ impl<A: Allocator> Model for Session<A> {
 }
 
 fn wants_memory(round: u64) -> Verdict
-    ensures { result ≡ wants_memory round }
+    ensures { result ≡ failed_without_memory round }
 {
     Verdict::Failed(LoadFault {
         round,
@@ -57,7 +57,7 @@ fn wants_memory(round: u64) -> Verdict
 }
 
 fn rounds_of<A: Allocator>(target: &Option<Target<A>>) -> u64
-    ensures { result ≡ rounds_in target.now }
+    ensures { result ≡ rounds_loaded target.now }
 {
     match target {
         Some(target) => target.rounds(),
@@ -65,7 +65,7 @@ fn rounds_of<A: Allocator>(target: &Option<Target<A>>) -> u64
     }
 }
 
-// The verdict that a fault of a round gives. `Err` is want of memory.
+// The verdict that a fault of a round gives. `Err` is `NoMemory`.
 fn verdict_of(fault: LoadFault) -> Result<Verdict, NoMemory>
     ensures ok { IfOk result (λ verdict. (verdict ≡ failed_with fault) × (fault.fault ≢ fault_no_memory)) }
     ensures err { OnErr result (fault.fault ≡ fault_no_memory) }
@@ -111,7 +111,7 @@ fn make_target<A: Allocator + Copy>(
         × (target.new ≡ None → f.readings.main.table ≡ None)) }
     ensures err { OnErr result (target.new ≡ target.old) }
     ensures stays { target.old ≢ None → target.new ≡ target.old }
-    ensures rounds { rounds_in target.new ≡ rounds_in target.old }
+    ensures rounds { rounds_loaded target.new ≡ rounds_loaded target.old }
 {
     if target.is_some() {
         return Ok(());
@@ -128,7 +128,7 @@ fn make_target<A: Allocator + Copy>(
 // The verdict before the table is there.
 fn told_without_table<A: Allocator>(sources: &mut Sources<A>) -> Verdict
     requires { (f : Feeding) × Advances f sources.old None × (f.readings.main.table ≡ None) }
-    ensures told { (f : Feeding) → Advances f sources.old None → f.readings.main.table ≡ None → IsTold f.readings None result }
+    ensures told { (f : Feeding) → Advances f sources.old None → f.readings.main.table ≡ None → TellsVerdict f.readings None result }
     ensures same { sources.new ≡ sources.old }
 {
     match sources.told(0) {
@@ -146,7 +146,7 @@ fn advance<A: Allocator + Copy>(
     requires { (f : Feeding) × Advances f sources.old target.old }
     ensures advanced { (f : Feeding) → Advances f sources.old target.old → HasAdvanced f sources.new target.new result }
     ensures counts { counts_of sources.new ≡ counts_of sources.old }
-    ensures rounds { rounds_in target.old ≤ rounds_in target.new }
+    ensures rounds { rounds_loaded target.old ≤ rounds_loaded target.new }
     ensures stays { target.old ≢ None → target.new ≢ None }
 {
     make_target(alloc, sources, target)?;
@@ -170,7 +170,7 @@ fn take<A: Allocator + Copy>(
     requires advances { (f : Feeding) × Advances f sources.old target.old }
     ensures taken { (f : Feeding) → Advances f sources.old target.old → HasTaken f source piece.now sources.new target.new result }
     ensures counts { OnOk result (counts_of sources.new ≡ with_fed (counts_of sources.old) source (length piece.now)) }
-    ensures rounds { rounds_in target.old ≤ rounds_in target.new }
+    ensures rounds { rounds_loaded target.old ≤ rounds_loaded target.new }
     ensures stays { target.old ≢ None → target.new ≢ None }
 {
     let Ok(()) = sources.feed(source, piece) else {
@@ -183,7 +183,7 @@ fn take<A: Allocator + Copy>(
 fn end_source<A: Allocator>(sources: &mut Sources<A>, source: Source, rounds: u64) -> Verdict
     requires { HasSource (counts_of sources.old) source }
     ensures holds { (page_size : ℕ) (uuid : List ℕ) (limit k : ℕ) (texts : Texts) → Holds page_size uuid limit k texts sources.old
-        → Holds page_size uuid limit k (ended source texts) sources.new }
+        → Holds page_size uuid limit k (end_step source texts) sources.new }
     ensures told { (told : Option Verdict) × TellsAll rounds sources.new told × (result ≡ unwrap_or told running) }
     ensures counts { counts_of sources.new ≡ with_end (counts_of sources.old) source }
 {
@@ -235,10 +235,10 @@ impl<A: Allocator + Copy> Session<A> {
         requires source { HasSource self.old.counts source }
         requires open { IsFalse (count_of self.old.counts source).ended }
         requires room { (count_of self.old.counts source).fed + length piece.now < 2 ^ 64 }
-        ensures ok { OnOk result (StepsOn (fed source piece.now) self.old self.new) }
-        ensures err { OnErr result (RunsOut (fed source piece.now) self.old self.new) }
-        ensures failed { OnErr result (self.new.verdict ≡ wants_memory (answer_in self.new).rounds) }
-        ensures lacking { StillLacks (fed source piece.now) self.old self.new }
+        ensures ok { OnOk result (StepsOn (feed_step source piece.now) self.old self.new) }
+        ensures err { OnErr result (RunsOut (feed_step source piece.now) self.old self.new) }
+        ensures failed { OnErr result (self.new.verdict ≡ failed_without_memory (answer_in self.new).rounds) }
+        ensures lacking { StillLacks (feed_step source piece.now) self.old self.new }
         ensures settled { self.old.verdict ≢ running → IsOk result × (answer_in self.new ≡ answer_in self.old) }
         ensures counts { self.new.counts ≡ with_fed self.old.counts source (length piece.now) }
         ensures keeps { KeepsRounds self.old self.new }
@@ -267,8 +267,8 @@ impl<A: Allocator> Session<A> {
     /// The text of a source is over: no piece of it is fed from now on. A second call changes nothing.
     pub fn end(&mut self, source: Source)
         requires { HasSource self.old.counts source }
-        ensures steps { StepsOn (ended source) self.old self.new }
-        ensures lacking { StillLacks (ended source) self.old self.new }
+        ensures steps { StepsOn (end_step source) self.old self.new }
+        ensures lacking { StillLacks (end_step source) self.old self.new }
         ensures settled { self.old.verdict ≢ running → answer_in self.new ≡ answer_in self.old }
         ensures counts { self.new.counts ≡ with_end self.old.counts source }
         ensures same { self.new.target ≡ self.old.target }
@@ -281,6 +281,13 @@ impl<A: Allocator> Session<A> {
         };
         self.verdict = verdict;
         keep(&mut self.sources, verdict);
+    }
+
+    /// The number of channels.
+    pub fn channels(&self) -> usize
+        ensures { result ≡ length self.now.counts.channels }
+    {
+        self.counts.channels()
     }
 
     /// Whether the text of a source is over.
@@ -300,7 +307,8 @@ impl<A: Allocator> Session<A> {
     }
 
     /// How the load stands on the texts so far. What a sender on several channels has sent, fed in any pieces and in any order of the sources
-    /// and ended, is done, with the memory after its rounds.
+    /// and ended, is done, with the memory after its rounds, where the session has the sender's page size and UUID, and a limit of at least
+    /// the table's bytes.
     pub fn verdict(&self) -> Verdict
         ensures value { result ≡ self.now.verdict }
         ensures sent { LoadsSent self.now }

@@ -1,9 +1,9 @@
-//! Puts the whole sections of a reader into the memory, and answers by both.
+//! Puts the whole sections of a reader into the memory, and answers by both: the loop that all loaders of single streams call.
 
 ghost use Rattle.std.specs.Prelude.{◌≡◌, ℕ, Bool, List, None, Some, OnOk, OnErr};
-ghost use Rattle.mig_load.specs.SingleLoad.{want_of_memory, verdict_of, unloaded};
+ghost use Rattle.mig_load.specs.SingleLoad.{no_memory_at, verdict_of, unloaded};
 ghost use Rattle.mig_mem.specs.Image.{Image};
-ghost use Rattle.mig_load.specs.Loader.{loader, HasAllSections, Waits, Loads, Judges, Answers, HasPut, HasPutSome, HasPutAll, HasFed, HasFedSome};
+ghost use Rattle.mig_load.specs.Loader.{loader, HasAllSections, Waits, Loads, Judges, Answers, HasPutSections, HasPutSectionsSome, HasPutAllSections, WasFed, WasFedSome};
 
 use crate::{Fault, LoadFault, Loaded, Origin};
 use mig_assemble::Target;
@@ -16,9 +16,9 @@ pub(crate) fn put_sections<A: Allocator, M: GuestTarget>(
     reader: &mut StreamReader<'_, A>,
     target: &mut Target<A, M>,
 )
-    requires { HasPutSome reader.old target.old }
-    ensures all { (page_size limit : ℕ) (first : Image) (text : List ℕ) (ended : Bool) → HasPut page_size limit first text ended reader.old target.old
-        → HasPut page_size limit first text ended reader.new target.new × HasPutAll page_size limit first text target.new }
+    requires { HasPutSectionsSome reader.old target.old }
+    ensures all { (page_size limit : ℕ) (first : Image) (text : List ℕ) (ended : Bool) → HasPutSections page_size limit first text ended reader.old target.old
+        → HasPutSections page_size limit first text ended reader.new target.new × HasPutAllSections page_size limit first text target.new }
     ensures fed { reader.new.fed ≡ reader.old.fed }
     ensures ended { reader.new.ended ≡ reader.old.ended }
 {
@@ -33,11 +33,11 @@ pub(crate) fn settle<A: Allocator + Copy>(
     reader: &mut StreamReader<'_, A>,
     target: &mut Option<Target<A>>,
 ) -> Result<(), NoMemory>
-    requires { HasFedSome (loader reader.old target.old) }
-    ensures ok { OnOk result ((page_size limit : ℕ) (text : List ℕ) (ended : Bool) → HasFed page_size limit (loader reader.old target.old) text ended
+    requires { WasFedSome (loader reader.old target.old) }
+    ensures ok { OnOk result ((page_size limit : ℕ) (text : List ℕ) (ended : Bool) → WasFed page_size limit (loader reader.old target.old) text ended
         → Loads page_size limit (loader reader.new target.new) text ended × HasAllSections page_size limit (loader reader.new target.new) text) }
     ensures err { OnErr result ((reader.new ≡ reader.old) × (target.new ≡ target.old)) }
-    ensures waits { OnErr result ((page_size limit : ℕ) (text : List ℕ) (ended : Bool) → HasFed page_size limit (loader reader.old target.old) text ended
+    ensures waits { OnErr result ((page_size limit : ℕ) (text : List ℕ) (ended : Bool) → WasFed page_size limit (loader reader.old target.old) text ended
         → Waits page_size limit (loader reader.old target.old) text) }
     ensures fed { reader.new.fed ≡ reader.old.fed }
     ensures ended { reader.new.ended ≡ reader.old.ended }
@@ -71,9 +71,9 @@ pub(crate) fn verdict_at(rounds: u64, state: StreamState) -> Result<(), LoadFaul
     })
 }
 
-/// The verdict where memory was refused after so many rounds.
+/// The verdict where an allocation was refused after so many rounds.
 pub(crate) fn no_memory(round: u64) -> Result<(), LoadFault>
-    ensures { result ≡ want_of_memory round }
+    ensures { result ≡ no_memory_at round }
 {
     Err(LoadFault {
         round,
@@ -82,7 +82,7 @@ pub(crate) fn no_memory(round: u64) -> Result<(), LoadFault>
     })
 }
 
-/// The verdict on the text so far, as if it were over; want of memory where its sections wait.
+/// The verdict on the text so far, as if it were over; `NoMemory` where its sections wait.
 pub(crate) fn verdict<A: Allocator>(
     reader: &StreamReader<'_, A>,
     target: &Option<Target<A>>,
@@ -97,7 +97,7 @@ pub(crate) fn verdict<A: Allocator>(
     }
 }
 
-/// The answer on the text so far, as if it were over; want of memory where its sections wait.
+/// The answer on the text so far, as if it were over; `NoMemory` where its sections wait.
 pub(crate) fn answer<A: Allocator>(
     reader: &StreamReader<'_, A>,
     target: Option<Target<A>>,
@@ -123,7 +123,7 @@ pub(crate) fn answer<A: Allocator>(
     }
 }
 
-/// The answer where memory was refused before any section.
+/// The answer where an allocation was refused before any section.
 pub(crate) fn without_memory<A: Allocator>() -> Loaded<A>
     ensures { result ≡ unloaded }
 {

@@ -1,4 +1,4 @@
-//! The loader of a single stream that is there whole.
+//! The loader of a single stream that is there whole: for the tool, and for callers that have such a text.
 
 ghost use Rattle.std.specs.Prelude.{◌≡◌, ◌≤◌, ◌^◌, ◌⊎◌, List, All};
 ghost use Rattle.mig_mem.specs.PageSize.{IsPageSize};
@@ -7,7 +7,7 @@ ghost use Rattle.mig_mem.specs.Image.{Page};
 ghost use Rattle.mig_mem.specs.Round.{IsRound};
 ghost use Rattle.mig_stream.specs.Text.{total_bytes};
 ghost use Rattle.mig_stream.specs.Written.{single};
-ghost use Rattle.mig_load.specs.SingleLoad.{IsAnswer, IsWithoutMemory, loaded};
+ghost use Rattle.mig_load.specs.SingleLoad.{IsSingleAnswer, IsSingleWithoutMemory, loaded};
 
 use crate::Loaded;
 use crate::settle::{answer, settle, without_memory};
@@ -24,9 +24,9 @@ pub fn load_single<A: Allocator + Copy>(
 ) -> Loaded<A>
     requires page_size { IsPageSize page_size }
     requires limit { limit ≤ 2 ^ 40 }
-    ensures answer { IsAnswer page_size limit text.now result ⊎ IsWithoutMemory page_size limit text.now result }
+    ensures answer { IsSingleAnswer page_size limit text.now result ⊎ IsSingleWithoutMemory page_size limit text.now result }
     ensures sent { (table : RamTable) (rounds : List (List Page)) → IsTable table → table.page_size ≡ page_size → total_bytes table ≤ limit
-        → All (IsRound table) rounds → text.now ≡ single table rounds → (result ≡ loaded table rounds) ⊎ IsWithoutMemory page_size limit text.now result }
+        → All (IsRound table) rounds → text.now ≡ single table rounds → (result ≡ loaded table rounds) ⊎ IsSingleWithoutMemory page_size limit text.now result }
 {
     load(alloc, page_size, text, limit)
 }
@@ -35,7 +35,7 @@ pub fn load_single<A: Allocator + Copy>(
 fn load<A: Allocator + Copy>(alloc: A, page_size: u64, text: &[u8], limit: u64) -> Loaded<A>
     requires page_size { IsPageSize page_size }
     requires limit { limit ≤ 2 ^ 40 }
-    ensures { IsAnswer page_size limit text.now result ⊎ IsWithoutMemory page_size limit text.now result }
+    ensures { IsSingleAnswer page_size limit text.now result ⊎ IsSingleWithoutMemory page_size limit text.now result }
 {
     let Ok(mut reader) = StreamReader::of_text(alloc, Mode::Single, page_size, limit, text) else {
         return without_memory();

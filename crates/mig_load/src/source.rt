@@ -1,4 +1,4 @@
-//! The sources of a load on several channels.
+//! The sources of a load on several channels, as callers name them to `Session` and `pump`.
 
 /// One of the texts of a load on several channels.
 #[derive(Clone, Copy, Debug, PartialEq, Eq)]

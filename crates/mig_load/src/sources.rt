@@ -1,4 +1,4 @@
-//! What a session keeps of all its sources, and what they tell at the round that is judged next.
+//! What a session keeps of all its sources, and what they tell at the round that is judged next. `Session` has it as long as it runs.
 
 ghost use Rattle.std.specs.Prelude.{ℕ, ◌≡◌, ◌≢◌, ◌+◌, ◌<◌, ◌≤◌, ◌^◌, ◌++◌, List, [], None, IsFalse, IfOk, OnOk, OnErr, All, length, map, replicate, vec_len, vec_capacity};
 ghost use Rattle.std.specs.List.{AllZip};
@@ -11,9 +11,9 @@ ghost use Rattle.mig_packet.specs.Lent.{fields};
 ghost use Rattle.mig_packet.specs.Reading.{settings};
 ghost use Rattle.mig_load.specs.Texts.{Texts, no_text, no_texts};
 ghost use Rattle.mig_load.specs.MultiLoad.{repeated_hello};
-ghost use Rattle.mig_load.specs.Sources.{FedSources, Holds, HoldsChannel, counts_of, channel_count, TellsChannel, TellsHello, TellsAll, HaveRound, TakesChannel, packets_of_all, IsOfSize, main_waiting};
-ghost use Rattle.mig_load.specs.Session.{HasSource, count_of, with_fed, with_end, fed, ended, no_count};
-ghost use Rattle.mig_load.specs.Advancing.{Feeding, Comes, HasPut};
+ghost use Rattle.mig_load.specs.Sources.{FedSources, Holds, HoldsChannel, counts_of, channel_count, TellsChannelStatus, TellsHello, TellsAll, HaveRound, TakesChannel, packets_of_all, IsOfSize, main_waiting};
+ghost use Rattle.mig_load.specs.Session.{HasSource, count_of, with_fed, with_end, feed_step, end_step, no_count};
+ghost use Rattle.mig_load.specs.Advancing.{Feeding, RoundIsDue, PutsOrRefuses};
 
 use crate::channel_source::ChannelSource;
 use crate::main_source::MainSource;
@@ -72,7 +72,7 @@ fn no_channels<A: Allocator + Copy>(
 // How the channels stand at the round that is judged next.
 fn look_at_statuses<A: Allocator>(channels: &[ChannelSource<A>], statuses: &mut Vec<Status, A>)
     requires room { length channels.now ≤ vec_capacity statuses.old }
-    ensures told { AllZip TellsChannel channels.now statuses.new.items }
+    ensures told { AllZip TellsChannelStatus channels.now statuses.new.items }
     ensures room { vec_capacity statuses.old ≤ vec_capacity statuses.new }
 {
     statuses.clear();
@@ -151,7 +151,7 @@ impl<A: Allocator + Copy> Sources<A> {
         requires open { IsFalse (count_of (counts_of self.old) source).ended }
         requires room { (count_of (counts_of self.old) source).fed + length piece.now < 2 ^ 64 }
         ensures ok { OnOk result ((page_size : ℕ) (uuid : List ℕ) (limit k : ℕ) (texts : Texts) → IsPageSize page_size
-            → Holds page_size uuid limit k texts self.old → Holds page_size uuid limit k (fed source piece.now texts) self.new) }
+            → Holds page_size uuid limit k texts self.old → Holds page_size uuid limit k (feed_step source piece.now texts) self.new) }
         ensures counts { OnOk result (counts_of self.new ≡ with_fed (counts_of self.old) source (length piece.now)) }
         ensures err { OnErr result (self.new ≡ self.old) }
     {
@@ -166,8 +166,8 @@ impl<A: Allocator + Copy> Sources<A> {
 
     /// Judges the round that is next, and puts it into the memory where it is lawful. An `Err` changes nothing.
     pub(crate) fn judge(&self, target: &mut Target<A>) -> Result<(), LoadFault>
-        requires { (f : Feeding) × Comes f self.now target.old }
-        ensures { (f : Feeding) → Comes f self.now target.old → HasPut f target.old result target.new }
+        requires { (f : Feeding) × RoundIsDue f self.now target.old }
+        ensures { (f : Feeding) → RoundIsDue f self.now target.old → PutsOrRefuses f target.old result target.new }
     {
         let mut gathered = Gathered::new(self.alloc);
         let Ok(()) = gather_all(&self.channels, &mut gathered) else {
@@ -196,7 +196,7 @@ impl<A: Allocator> Sources<A> {
     pub(crate) fn end(&mut self, source: Source)
         requires { HasSource (counts_of self.old) source }
         ensures holds { (page_size : ℕ) (uuid : List ℕ) (limit k : ℕ) (texts : Texts) → Holds page_size uuid limit k texts self.old
-            → Holds page_size uuid limit k (ended source texts) self.new }
+            → Holds page_size uuid limit k (end_step source texts) self.new }
         ensures counts { counts_of self.new ≡ with_end (counts_of self.old) source }
     {
         match source {

@@ -1,4 +1,4 @@
-//! How a source of a load stands at a round: the main stream, or a channel.
+//! How a source of a load stands at a round, the main stream or a channel: relays and sessions find it, and `told` makes a verdict of it.
 
 ghost use Rattle.std.specs.Prelude.{◌≡◌};
 ghost use Rattle.mig_load.specs.Status.{stream_end, channel_end};

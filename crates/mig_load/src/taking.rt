@@ -1,4 +1,4 @@
-//! Takes a round of what a relay brings, of one channel and of all.
+//! Takes a round of what a relay brings, of one channel and of all, for `load_relayed`.
 
 ghost use Rattle.std.specs.Prelude.{ℕ, ◌≡◌, ◌<◌, ◌^◌, ◌++◌, [], List, length, map, slice_get, All, IfSome, IfOk, OnOk};
 ghost use Rattle.std.specs.List.{AllZip};
@@ -14,7 +14,7 @@ use mig_mem::NoMemory;
 use std::alloc::Allocator;
 use std::sync::Wait;
 
-// Piece `at` of channel `j`, which is taken where it wasn't yet.
+// Item `at` of channel `j`, which is taken where it wasn't yet.
 fn item_at<'a, R: Wait, A: Allocator>(
     wait: &R,
     collector: &mut Collector<'a, A>,
@@ -33,7 +33,7 @@ fn item_at<'a, R: Wait, A: Allocator>(
     Ok(collector.received(j)[at])
 }
 
-// Goes through channel `j` from piece `at` on, up to the SYNC packet that ends its round, or to its stop, and gathers the packets. Gives how
+// Goes through channel `j` from item `at` on, up to the SYNC packet that ends its round, or to its stop, and gathers the packets. Gives how
 // the channel stands at that round, and where it is gone through to.
 fn take_of_channel<'a, R: Wait, A: Allocator, B: Allocator>(
     wait: &R,

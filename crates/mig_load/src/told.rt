@@ -1,4 +1,4 @@
-//! The verdict that the sources of a load tell at a round, before the round itself is judged.
+//! The verdict that the sources of a load tell at a round, before the round itself is judged: for `load_relayed` and for sessions.
 
 ghost use Rattle.std.specs.Prelude.{◌≡◌, List, [], ◌∷◌, map, is_some, None, if◌then◌else◌};
 ghost use Rattle.std.specs.List.{list_any, list_all, position};
@@ -9,7 +9,7 @@ ghost use Rattle.mig_load.specs.declared.fault.Origin.TheVariants as origin;
 ghost use Rattle.mig_load.specs.Status.{is_whole, is_clean, is_pending, fault_of};
 ghost use Rattle.mig_load.specs.MultiLoad.{main_standing, failed, failed_at_first, failed_with_own, verdicts_told, repeated_hello};
 ghost use Rattle.mig_load.specs.Received.{hello_in};
-ghost use Rattle.mig_load.specs.Pieces.{as_piece};
+ghost use Rattle.mig_load.specs.RelayItems.{as_channel_item};
 ghost use Rattle.mig_load.specs.Relayed.{standings, received_of};
 
 use crate::item::Item;
@@ -201,9 +201,9 @@ pub(crate) fn repeated_hello<A: Allocator>(collector: &Collector<'_, A>) -> Opti
     None
 }
 
-// The id that the hello names, which is the first of some pieces.
+// The id that the hello names, which is the first of some items.
 fn first_hello(items: &[Item<'_>]) -> Option<u8>
-    ensures { result ≡ hello_in (map as_piece items.now) }
+    ensures { result ≡ hello_in (map as_channel_item items.now) }
 {
     match items.first() {
         Some(Item::Hello(id)) => Some(*id),

@@ -1,4 +1,4 @@
-//! How a load stands, as far as its texts have come.
+//! How a load on several channels stands, as far as its texts have come: what `Session::verdict` answers.
 
 use crate::LoadFault;
 
@@ -9,6 +9,6 @@ pub enum Verdict {
     Running,
     /// All sources are closed behind the same number of rounds, which are in the memory.
     Done,
-    /// The fault of the first round that doesn't pass.
+    /// The fault of the first round that doesn't pass; or `NoMemory`, behind so many rounds.
     Failed(LoadFault),
 }

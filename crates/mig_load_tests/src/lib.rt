@@ -1,4 +1,4 @@
-//! Tests of the relay and of the load on several channels: on one thread and on a thread for each channel, and with each growth refused.
+//! Tests of the relay and of the load on several channels: on one thread and on a thread for each channel, and with each allocation refused.
 #![tactic(auto)]
 
 #[cfg(test)]

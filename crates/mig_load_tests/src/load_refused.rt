@@ -1,4 +1,4 @@
-//! Loads on several channels with each growth refused in turn.
+//! Loads on several channels with each allocation refused in turn.
 
 use crate::load_texts::{
     assert_done, assert_failed, assert_full, main_of, one, sevens_then_zeros, syncs_of, two,
@@ -46,8 +46,8 @@ fn assert_no_memory(rt: &impl Abort, loaded: &Loaded<&Refusing>, bytes: &[u8]) {
     assert_full(rt, loaded, 1, *byte);
 }
 
-// Loads with each growth refused in turn, up to the first run that has no refusal, which loads all rounds.
-fn assert_growths<R: AllocGlobal + Abort + Threads + Wait + Sync>(
+// Loads with each allocation refused in turn, up to the first run that has no refusal, which loads all rounds.
+fn assert_allocations<R: AllocGlobal + Abort + Threads + Wait + Sync>(
     rt: &R,
     main: &[u8],
     channels: &[Vec<u8>],
@@ -76,11 +76,11 @@ fn assert_growths<R: AllocGlobal + Abort + Threads + Wait + Sync>(
 #[test]
 fn load_of_a_channel(rt: HostRuntime) {
     let texts = one(&rt, sevens_then_zeros(&rt));
-    assert_growths(&rt, &main_of(&rt, 1, 2), &texts, &[0, 7, 0]);
+    assert_allocations(&rt, &main_of(&rt, 1, 2), &texts, &[0, 7, 0]);
 }
 
 #[test]
 fn load_of_two_channels(rt: HostRuntime) {
     let texts = two(&rt, syncs_of(&rt, 0, &[0, 2]), syncs_of(&rt, 1, &[1, 3]));
-    assert_growths(&rt, &main_of(&rt, 1, 2), &texts, &[0, 0, 0]);
+    assert_allocations(&rt, &main_of(&rt, 1, 2), &texts, &[0, 0, 0]);
 }

@@ -205,7 +205,7 @@ fn channel_with_a_round_more(rt: HostRuntime) {
 
 // ---- gates
 
-// A gate that counts the pieces found and those pushed.
+// A gate that counts the items found and those pushed.
 #[derive(Drop)]
 struct Counting {
     found: AtomicU64,
@@ -251,7 +251,7 @@ fn reaches(word: &AtomicU64, bits: u64) -> bool {
     false
 }
 
-// A gate of two channels: each waits with its first piece until the other has found its own.
+// A gate of two channels: each waits with its first item until the other has found its own.
 #[derive(Drop)]
 struct Meeting {
     come: AtomicU64,
@@ -285,7 +285,7 @@ fn two_workers_at_once(rt: HostRuntime) {
     assert!(rt; gate.given_up.load(Ordering::SeqCst) == 0);
 }
 
-// A gate of two channels: channel 0 waits with its first piece until channel 1 has pushed its piece 2.
+// A gate of two channels: channel 0 waits with its first item until channel 1 has pushed its item 2.
 #[derive(Drop)]
 struct Lasting {
     pushed: AtomicU64,
@@ -303,7 +303,7 @@ impl Gate for Lasting {
     }
 }
 
-// Piece 2 is the SYNC packet of the second round: workers that were started anew for each round wouldn't get through.
+// Item 2 is the SYNC packet of the second round: workers that were started anew for each round wouldn't get through.
 #[test]
 fn worker_that_lasts(rt: HostRuntime) {
     let gate = Lasting {

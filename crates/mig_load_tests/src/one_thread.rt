@@ -1,4 +1,4 @@
-//! A relay whose feeders step on one thread before the collector takes: its queues have room for all pieces.
+//! A relay whose feeders step on one thread before the collector takes: its queues have room for all items.
 
 use crate::pieces::{Seen, assert_over, assert_received, feed, take};
 use crate::texts::{hello_of, put_sync, put_text};
@@ -18,7 +18,7 @@ fn channel(rt: &(impl AllocGlobal + Abort)) -> Vec<u8> {
     text
 }
 
-// A channel with a whole round, and one that ends before its hello, whose only piece is its stop.
+// A channel with a whole round, and one that ends before its hello, whose only item is its stop.
 #[test]
 fn pieces_of_a_channel_and_of_an_empty_text(rt: HostRuntime) {
     let mut texts = Vec::new(rt.alloc());
@@ -70,7 +70,7 @@ fn pages_of_a_piece(rt: HostRuntime) {
 
 // ---- the steps of a feeder
 
-// A gate of channel 1 that counts the steps it is told in order: piece i is found as step 2 * i, and pushed as the next one.
+// A gate of channel 1 that counts the steps it is told in order: item i is found as step 2 * i, and pushed as the next one.
 #[derive(Drop)]
 struct Steps {
     told: AtomicU64,

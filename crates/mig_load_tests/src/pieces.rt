@@ -1,4 +1,4 @@
-//! What tests ask of the pieces that a relay hands on, and the feeders that bring them.
+//! What tests ask of the items that a relay hands on, and the feeders that bring them.
 
 use mig_load::{ChannelEnd, Collector, Feeder, FeederStep, Item};
 use mig_packet::Gate;
@@ -6,7 +6,7 @@ use std::alloc::Allocator;
 use std::process::Abort;
 use std::sync::Wait;
 
-/// A piece as tests compare it: a packet by its number, and whether it is a SYNC packet.
+/// An item as tests compare it: a packet by its number, and whether it is a SYNC packet.
 #[derive(Clone, Copy, PartialEq, Eq)]
 pub(crate) enum Seen {
     Hello(u8),
@@ -24,7 +24,7 @@ fn what_is(item: &Item<'_>) -> Seen {
     }
 }
 
-/// Asserts the pieces that were taken from a channel.
+/// Asserts the items that were taken from a channel.
 pub(crate) fn assert_received<A: Allocator>(
     rt: &impl Abort,
     collector: &Collector<'_, A>,
@@ -50,7 +50,7 @@ pub(crate) fn feed<A: Allocator, R: Wait, G: Gate>(rt: &R, feeder: Feeder<'_, A>
     }
 }
 
-/// Takes so many pieces of a channel, with ample memory.
+/// Takes so many items of a channel, with ample memory.
 pub(crate) fn take<A: Allocator, R: Wait + Abort>(
     rt: &R,
     collector: &mut Collector<'_, A>,

@@ -1,4 +1,4 @@
-//! A relay and its collector with each growth refused in turn, on one thread.
+//! A relay and its collector with each allocation refused in turn, on one thread.
 
 use crate::pieces::{Seen, assert_over, assert_received, feed};
 use crate::texts::{put_text, syncs};
@@ -18,7 +18,7 @@ fn two_texts(rt: &(impl AllocGlobal + Abort)) -> Vec<Vec<u8>> {
     texts
 }
 
-// The pieces of the channel of nine.
+// The items of the channel of nine.
 const NINE: [Seen; 11] = [
     Seen::Hello(0),
     Seen::Sync(0),
@@ -33,7 +33,7 @@ const NINE: [Seen; 11] = [
     Seen::Stop(ChannelEnd::Clean),
 ];
 
-// The pieces of the channel of none.
+// The items of the channel of none.
 const NONE: [Seen; 2] = [Seen::Hello(0), Seen::Stop(ChannelEnd::Clean)];
 
 // A relay of two texts, with whatever memory the allocator has.
@@ -54,7 +54,7 @@ fn start<'a>(rt: &impl Abort, heap: &'a Refusing, texts: &'a [Vec<u8>]) -> Optio
     }
 }
 
-// The feeders take no memory.
+// The feeders allocate nothing.
 fn feed_all<'a, R: Wait + Abort>(
     rt: &R,
     heap: &Refusing,
@@ -71,7 +71,7 @@ fn feed_all<'a, R: Wait + Abort>(
     collector
 }
 
-// Takes so many pieces of a channel, each refused one again with memory. A refused call has taken nothing.
+// Takes so many items of a channel, each refused one again with memory. A refused call has taken nothing.
 fn take_again<R: Wait + Abort>(
     rt: &R,
     collector: &mut Collector<'_, &Refusing>,
@@ -94,7 +94,7 @@ fn take_again<R: Wait + Abort>(
 
 // A refused start leaves the texts to a later one, which makes both ends.
 #[test]
-fn start_with_each_growth_refused(rt: HostRuntime) {
+fn start_with_each_allocation_refused(rt: HostRuntime) {
     let texts = two_texts(&rt);
     let heap = Refusing::new(rt.alloc(), 0);
     for nth in 1..1000u64 {
@@ -115,7 +115,7 @@ fn start_with_each_growth_refused(rt: HostRuntime) {
     panic!(rt; "each run had a refusal");
 }
 
-// Takes all pieces of both channels with growth `nth` refused, and says whether it came. Behind its stop a channel takes no
+// Takes all items of both channels with allocation `nth` refused, and says whether it came. Behind its stop a channel takes no
 // memory, nor does the drain.
 fn take_all_refused<R: Wait + Abort>(
     rt: &R,
@@ -138,7 +138,7 @@ fn take_all_refused<R: Wait + Abort>(
 }
 
 #[test]
-fn next_with_each_growth_refused(rt: HostRuntime) {
+fn next_with_each_allocation_refused(rt: HostRuntime) {
     let texts = two_texts(&rt);
     let heap = Refusing::new(rt.alloc(), 0);
     for nth in 1..1000u64 {

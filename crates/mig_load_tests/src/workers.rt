@@ -10,7 +10,7 @@ use std::sync::Wait;
 use std::thread::{self, JoinHandle, Scope, Threads};
 use uuid::Uuid;
 
-// What is wanted of a channel: its first pieces, all that are taken of it, and whether the stop is one of them.
+// What is wanted of a channel: its first items, all that are taken of it, and whether the stop is one of them.
 #[derive(Clone, Copy)]
 struct Wanted<'a> {
     pieces: &'a [Seen],
@@ -68,7 +68,7 @@ fn relay<R: AllocGlobal + Abort + Threads + Wait + Sync>(
     });
 }
 
-// All pieces of two channels, also through queues that have room for one piece.
+// All items of two channels, also through queues that have room for one item.
 #[test]
 fn two_channels_on_two_threads(rt: HostRuntime) {
     let texts = two_channels(&rt);
@@ -89,7 +89,7 @@ fn two_channels_on_two_threads(rt: HostRuntime) {
     relay(&rt, &texts, 1, &wanted);
 }
 
-// Of 102 pieces three are taken: a worker that waits at a full queue goes on as the rest is dropped.
+// Of 102 items three are taken: a worker that waits at a full queue goes on as the rest is dropped.
 #[test]
 fn pieces_that_nobody_takes(rt: HostRuntime) {
     let mut texts = Vec::new(rt.alloc());

@@ -17,4 +17,6 @@ pub mod Kept
 pub mod Lents
 pub mod Bits
 pub mod Sets
+pub mod Counts
+pub mod Differing
 pub mod Walks

@@ -7,6 +7,7 @@ pub mod Place
 pub mod Image
 pub mod Round
 pub mod PlaceSet
+pub mod Difference
 pub mod Tracking
 pub mod Lent
 -- How the types keep their values: only contracts of the inside cite these.

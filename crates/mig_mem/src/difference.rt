@@ -1,4 +1,4 @@
-//! Where two memories differ.
+//! The first place where two memories differ.
 
 ghost use Rattle.std.specs.Prelude.{◌≡◌, ℕ, ◌<◌, length, find, IfSome, IfNone, false, not};
 ghost use Rattle.mig_mem.specs.RamTable.{block as block_of_number};
@@ -37,8 +37,12 @@ fn first_page<A: Allocator, B: Allocator>(a: &Memory<A>, b: &Memory<B>, block: u
     None
 }
 
-// Whether they have the same content at a place. Where neither was written there nothing is read.
-fn is_same_at<A: Allocator, B: Allocator>(a: &Memory<A>, b: &Memory<B>, place: Place) -> bool
+/// Whether they have the same content at a place. Where neither was written there nothing is read.
+pub(crate) fn is_same_at<A: Allocator, B: Allocator>(
+    a: &Memory<A>,
+    b: &Memory<B>,
+    place: Place,
+) -> bool
     requires same { a.now.table ≡ b.now.table }
     requires place { IsPlace a.now.table place }
     ensures { differs a.now b.now place ≡ not result }

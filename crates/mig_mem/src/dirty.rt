@@ -1,10 +1,10 @@
-//! Sets of a guest's pages: the dirty bitmap.
+//! Dirty sets, the bitmap of a guest's pages: callers mark what they write, senders walk one, and `Target` marks a round's places in one.
 
-ghost use Rattle.std.specs.Prelude.{◌≡◌, ℕ, ◌<◌, ◌≤◌, length, false, replicate, not, find, IfOk, IfSome, IfNone, Ok, []};
+ghost use Rattle.std.specs.Prelude.{◌≡◌, ℕ, ◌<◌, ◌≤◌, length, false, replicate, not, find, IfOk, IfSome, IfNone, Ok, [], ◌^◌, All, sum_by};
 ghost use Rattle.mig_mem.specs.Place.{IsPlace, IsAscending, place_at, place_lt, has_place};
 ghost use Rattle.mig_mem.specs.PlaceSet.{PlaceSet, IsPlaceSet, IsFirstIn, with_place, without_place};
 ghost use Rattle.mig_mem.specs.Buffers.{buffers_of};
-ghost use Rattle.mig_mem.specs.Marks.{AreCleared};
+ghost use Rattle.mig_mem.specs.Marks.{AreCleared, AreMarks, marks_in, set_in};
 
 use crate::{NoMemory, Place, Table, marks};
 use std::alloc::{Allocator, Global};
@@ -48,6 +48,19 @@ fn clear_rows<A: Allocator>(rows: &mut [Vec<u64, A>])
     }
 }
 
+// The number of marks in all blocks.
+fn count_rows<A: Allocator>(rows: &[Vec<u64, A>]) -> u64
+    requires few { length rows.now ≤ 256 }
+    requires short { All (λ row. length row < 2 ^ 50) (buffers_of rows.now) }
+    ensures { result ≡ sum_by marks_in (buffers_of rows.now) }
+{
+    let mut count = 0;
+    for row in rows {
+        count += marks::count(row);
+    }
+    count
+}
+
 impl<A: Allocator + Copy> Dirty<A> {
     /// The empty set. It keeps a copy of the table.
     pub fn none<B: Allocator>(alloc: A, table: &Table<B>) -> Result<Dirty<A>, NoMemory>
@@ -55,7 +68,7 @@ impl<A: Allocator + Copy> Dirty<A> {
     {
         let mut words = Vec::with_capacity(alloc, table.len())?;
         for i in 0..table.len() {
-            let len = table.pages(i).div_ceil(marks::WORD) as usize;
+            let len = marks::words_for(table.pages(i)) as usize;
             words.push(no_words(alloc, len)?)?;
         }
         let table = table.copy_in(alloc)?;
@@ -85,6 +98,19 @@ impl<A: Allocator + Copy> Dirty<A> {
 }
 
 impl<A: Allocator> Dirty<A> {
+    /// The set of the places whose pages are marked.
+    pub(crate) fn from_rows(table: Table<A>, words: Vec<Vec<u64, A>, A>) -> Dirty<A>
+        requires { AreMarks table (buffers_of words.items) }
+        ensures { result ≡ set_in table words.items }
+    {
+        let count = count_rows(&words);
+        Dirty {
+            table,
+            words,
+            count,
+        }
+    }
+
     /// The table whose places may be in the set. It also says what a set keeps: its places are the table's, ascending.
     pub fn table(&self) -> &Table<A>
         ensures value { result.now ≡ self.now.table }
@@ -93,7 +119,7 @@ impl<A: Allocator> Dirty<A> {
         &self.table
     }
 
-    /// Adds a place, and says whether it is new. `Table::holds` is the test of the place. It takes no memory, and is always
+    /// Adds a place, and says whether it is new. `Table::holds` is the test of the place. It allocates nothing, and is always
     /// `Ok`.
     pub fn mark(&mut self, place: Place) -> Result<bool, NoMemory>
         requires { IsPlace self.old.table place }

@@ -1,4 +1,4 @@
-//! Why a call was refused: names and numbers.
+//! Why a call on guest memory was refused, by name and number. Every crate above answers `NoMemory` by this one.
 
 ghost use Rattle.std.specs.Prelude.{◌≡◌};
 ghost use Rattle.mig_mem.specs.Refusal.{fault_number, no_memory_number};
@@ -22,7 +22,7 @@ pub enum TableFault {
     NoPages(usize),
     /// All blocks together have more than 2^40 bytes.
     TooLarge,
-    /// A growth was refused.
+    /// An allocation was refused.
     NoMemory,
 }
 
@@ -64,7 +64,7 @@ impl Display for TableFault {
 
 impl Error for TableFault {}
 
-/// A growth was refused.
+/// An allocation was refused.
 #[derive(Clone, Copy, Debug, PartialEq, Eq)]
 pub struct NoMemory;
 
@@ -77,8 +77,8 @@ impl NoMemory {
     }
 }
 
-// What want of memory says of itself.
-const REFUSED: &str = "a growth was refused";
+// What `NoMemory` says of itself.
+const REFUSED: &str = "an allocation was refused";
 
 /// The fault's number, and what it says.
 impl Display for NoMemory {

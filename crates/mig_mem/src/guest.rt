@@ -1,4 +1,4 @@
-//! What a sender and a loader ask of a guest's memory, whoever keeps it.
+//! What a sender asks of a guest's memory (`GuestPages`) and a loader (`GuestTarget`), whoever keeps it. Callers may implement both.
 
 ghost use Rattle.std.specs.Prelude.{◌≡◌, ◌↔◌, length, IfSome, IsSome};
 ghost use Rattle.std.specs.Option.{option_copied};
@@ -64,7 +64,7 @@ pub trait GuestTarget {
         ensures { image self.new ≡ with_page (image self.old) place bytes.now };
 
     /// Makes a page zeros. Lent bytes that are zeros aren't written, and neither is a page of a `Memory` that never was, so that such a
-    /// page takes no memory of the system; no contract says so.
+    /// page allocates nothing of the system; no contract says so.
     fn put_zero_page(&mut self, place: Place)
         requires { IsPlace (image self.old).table place }
         ensures { image self.new ≡ with_page (image self.old) place (zero_page (image self.old).table.page_size) };

@@ -8,7 +8,7 @@ ghost use Rattle.mig_mem.specs.Tracking.{TrackingGivesLastImage};
 ghost use Rattle.mig_mem.specs.Lent.{LentPagesAreParts};
 
 /// A list of blocks is refused for no reason exactly where it makes a lawful table. So blocks that keep the limits are
-/// refused by `Table::new` for want of memory alone.
+/// refused by `Table::new` with `NoMemory` alone.
 pub fn table_is_lawful()
     ensures { TableIsLawful }
 {}

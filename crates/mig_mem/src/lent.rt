@@ -1,4 +1,4 @@
-//! A guest's memory whose bytes another owns.
+//! A guest's memory whose bytes another owns, lent for reading: callers of senders make one for each round of a paused guest.
 
 ghost use Rattle.std.specs.Prelude.{◌≡◌, ◌↔◌, IfSome, IsSome, IsTrue};
 ghost use Rattle.mig_mem.specs.Place.{IsPlace};

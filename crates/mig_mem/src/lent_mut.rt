@@ -1,4 +1,4 @@
-//! A guest's memory in bytes that another owns, and that may be written.
+//! A guest's memory in bytes that another owns, lent for writing: callers of `InPlaceLoader` and `Target::over` load into one.
 
 ghost use Rattle.std.specs.Prelude.{◌≡◌, ◌↔◌, ◌+◌, ◌*◌, ◌≤◌, length, IfOk, IfErr, IsOk, IsTrue};
 ghost use Rattle.mig_mem.specs.PageSize.{IsPageSize};

@@ -5,6 +5,7 @@
 //! `Dirty` as a `PlaceSet`, and never how they are kept.
 #![tactic(auto)]
 
+mod comparing;
 mod difference;
 mod dirty;
 mod fault;
@@ -22,6 +23,7 @@ mod refusal;
 mod slots;
 mod table;
 
+pub use comparing::differences;
 pub use difference::first_difference;
 pub use dirty::Dirty;
 pub use fault::{NoMemory, TableFault};

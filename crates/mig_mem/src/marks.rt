@@ -1,11 +1,18 @@
-//! The marks of one block's pages, in words of 64.
+//! The marks of one block's pages, in words of 64. `Dirty` keeps one such list for each block.
 
-ghost use Rattle.std.specs.Prelude.{◌≡◌, ℕ, ◌*◌, ◌^◌, ◌<◌, ◌≤◌, ◌==◌, ◌||◌, ◌&&◌, not, length, replicate, IfSome, IfNone, false};
+ghost use Rattle.std.specs.Prelude.{◌≡◌, ℕ, ◌+◌, ◌*◌, ◌/◌, ◌^◌, ◌<◌, ◌≤◌, ◌==◌, ◌||◌, ◌&&◌, not, length, replicate, IfSome, IfNone, false};
 ghost use Rattle.std.specs.Int.{bit_at};
-ghost use Rattle.mig_mem.specs.Marks.{is_set, IsLowestBit, IsFirstSet};
+ghost use Rattle.mig_mem.specs.Marks.{is_set, marks_in, IsLowestBit, IsFirstSet};
 
 /// The number of marks in a word.
 pub(crate) const WORD: u64 = 64;
+
+/// The number of words that so many pages take.
+pub(crate) fn words_for(pages: u64) -> u64
+    ensures { result ≡ (pages + 63) / 64 }
+{
+    pages.div_ceil(WORD)
+}
 
 /// Whether a page is marked.
 #[tactic(auto, unfolding(crate::specs::Marks::is_set), using(std::proofs::lemmas::Nat::Bits::shr_and_one))]
@@ -37,6 +44,18 @@ pub(crate) fn clear(words: &mut [u64])
     ensures { words.new ≡ replicate (length words.old) 0 }
 {
     words.fill(0);
+}
+
+/// The number of marks.
+pub(crate) fn count(words: &[u64]) -> u64
+    requires { length words.now < 2 ^ 50 }
+    ensures { result ≡ marks_in words.now }
+{
+    let mut count = 0;
+    for i in 0..words.len() {
+        count += u64::from(words[i].count_ones());
+    }
+    count
 }
 
 // The lowest set bit of a word from a bit on.

@@ -1,4 +1,4 @@
-//! The content of a guest's pages.
+//! A guest's memory that owns its pages: callers and the tool write to one, senders read it, and loaders build one.
 
 ghost use Rattle.std.specs.Prelude.{◌≡◌, ◌*◌, ◌<◌, ◌↔◌, length, IfOk, IfSome, IsSome, IsTrue};
 ghost use Rattle.std.specs.Option.{option_copied};

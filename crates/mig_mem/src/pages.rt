@@ -1,4 +1,4 @@
-//! The pages of a block, of which only those have bytes that were written.
+//! The pages of a block, of which only those have bytes that were written. `Memory` keeps one such value for each block.
 
 ghost use Rattle.std.specs.Prelude.{◌≡◌, ◌*◌, ◌^◌, ◌<◌, ◌≤◌, length, replicate, slice_set, IfOk, IsTrue, vec_capacity};
 ghost use Rattle.mig_mem.specs.PageSize.{IsPageSize};
@@ -45,7 +45,7 @@ pub(crate) fn zeros(size: u64) -> &'static [u8]
     front(&ZEROS, size)
 }
 
-// The front of some zeros.
+// The first of some zeros.
 fn front(zeros: &[u8], len: u64) -> &[u8]
     requires zeros { zeros.now ≡ replicate (length zeros.now) 0 }
     requires len { len ≤ length zeros.now }
@@ -103,7 +103,7 @@ impl<A: Allocator> Pages<A> {
         self.slots.get(i) == 0
     }
 
-    /// Writes a page. It takes no memory.
+    /// Writes a page. It allocates nothing.
     pub(crate) fn put(&mut self, i: u64, content: &[u8])
         requires page { i < length self.old.pages }
         requires size { length content.now ≡ self.old.size }
@@ -118,7 +118,7 @@ impl<A: Allocator> Pages<A> {
         }
     }
 
-    /// Makes a page zeros. It takes no memory, and none is touched where the page was never written.
+    /// Makes a page zeros. It allocates nothing, and none is touched where the page was never written.
     pub(crate) fn put_zeros(&mut self, i: u64)
         requires { i < length self.old.pages }
         ensures { self.new ≡ with_content self.old i (zero_page self.old.size) }
@@ -129,7 +129,7 @@ impl<A: Allocator> Pages<A> {
         }
     }
 
-    /// Writes one byte of a page. It takes no memory.
+    /// Writes one byte of a page. It allocates nothing.
     pub(crate) fn set(&mut self, i: u64, offset: u64, byte: u8)
         requires page { i < length self.old.pages }
         requires offset { offset < self.old.size }

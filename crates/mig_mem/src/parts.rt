@@ -1,4 +1,4 @@
-//! Items in parts of one size, one part after another.
+//! A list in runs of one length, one after another: `Pages` keeps pages so, `Slots` leaves, and lent memory is read and written so.
 
 ghost use Rattle.std.specs.Prelude.{◌≡◌, ◌+◌, ◌*◌, ◌<◌, ◌≤◌, ◌++◌, length, slice_set, vec_capacity, vec_len};
 ghost use Rattle.mig_mem.specs.Parts.{part_at, ChangesPart};

@@ -1,4 +1,4 @@
-//! Judging the list that is handed in for a table.
+//! Judging the list that is handed in for a table, for `Table::new`; and what an id may be, which readers of streams ask too.
 
 ghost use Rattle.std.specs.Prelude.{◌≡◌, ◌≤◌, ◌*◌, ◌^◌, length, map};
 ghost use Rattle.std.specs.List.{list_any, list_all, range_with_len};

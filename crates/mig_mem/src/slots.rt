@@ -1,4 +1,4 @@
-//! A long list of numbers that takes memory only where it was written.
+//! A long list of numbers that allocates only where it was written. `Pages` keeps in it where each page's bytes are.
 
 ghost use Rattle.std.specs.Prelude.{◌≡◌, ◌^◌, ◌<◌, ◌≤◌, length, replicate, slice_index, slice_set, IfOk};
 
@@ -98,7 +98,7 @@ impl<A: Allocator> Slots<A> {
         part_of(&self.numbers, LEAF, leaf - 1)[(i % LEAF) as usize]
     }
 
-    /// Writes a number. It takes no memory.
+    /// Writes a number. It allocates nothing.
     pub(crate) fn set(&mut self, i: u64, number: u64)
         requires { i < length self.old }
         ensures { self.new ≡ slice_set self.old i number }

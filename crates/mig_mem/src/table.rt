@@ -1,4 +1,4 @@
-//! The table of a guest's memory: its page size and its RAM blocks.
+//! The table of a guest's memory: its page size and its RAM blocks. Callers make one, or the reader of a stream does of its size list.
 
 ghost use Rattle.std.specs.Prelude.{◌≡◌, ◌*◌, ◌^◌, ◌<◌, ◌≤◌, ◌⊎◌, ◌↔◌, length, IfOk, IfErr, IfSome, OnOk, IsTrue, None, Some};
 ghost use Rattle.mig_mem.specs.PageSize.{IsPageSize};
@@ -21,6 +21,9 @@ pub const MAX_ID_LEN: usize = 255;
 /// The most bytes that all blocks have together.
 pub const MAX_TOTAL: u64 = 1 << 40;
 
+// What a key is multiplied by for each eight bytes: an odd number with bits of all places.
+const KEY_FACTOR: u64 = 0x9E37_79B9_7F4A_7C15;
+
 // Where a block's id lies in the buffer of all ids, and how many pages the block has.
 #[derive(Clone, Copy)]
 struct Span {
@@ -29,10 +32,10 @@ struct Span {
     pages: u64,
 }
 
-// A block in the order of the ids: the front of its id, by which most ids are told apart, and its number.
+// A block in the order of the keys of the ids: that key, by which nearly all ids are told apart, and the block's number.
 #[derive(Clone, Copy)]
 struct Entry {
-    front: u64,
+    key: u64,
     block: usize,
 }
 
@@ -42,7 +45,7 @@ pub struct Table<A: Allocator = Global> {
     page_size: u64,
     ids: Vec<u8, A>,
     spans: Vec<Span, A>,
-    // the blocks in the order of their ids. It only tells where to look for an id first: nothing rests on it
+    // the blocks in the order of their ids' keys. It only tells where to look for an id first: nothing rests on it
     order: Vec<Entry, A>,
 }
 
@@ -69,35 +72,51 @@ fn id_of<'a>(ids: &'a [u8], spans: &[Span], i: usize) -> &'a [u8] {
     rest.get(..span.len).unwrap_or_default()
 }
 
-// The first eight bytes of an id as one number, which is in the order of the ids. A shorter id is filled up with zeros, which no id has.
-fn front_of(id: &[u8]) -> u64 {
-    let mut front = 0;
-    for i in 0..8 {
-        let byte = id.get(i).copied().unwrap_or(0);
-        front = front << 8 | u64::from(byte);
+// A number made of all bytes of an id. Ids of fewer than eight bytes have keys of their own, since no id has a zero byte; of longer
+// ones it takes intent to have the same key.
+fn key_of(id: &[u8]) -> u64 {
+    let (words, rest) = id.as_chunks::<8>();
+    let mut key = 0;
+    for byte in rest {
+        key = key << 8 | u64::from(*byte);
     }
-    front
+    for word in words {
+        key = (key ^ u64::from_le_bytes(*word)).wrapping_mul(KEY_FACTOR);
+    }
+    key
 }
 
-// The order of a block's id and of another id: that of their fronts, and where these are equal that of the ids.
-fn order_to(ids: &[u8], spans: &[Span], entry: Entry, front: u64, id: &[u8]) -> Ordering {
-    match entry.front.cmp(&front) {
+// The order of a block's id and of another id: that of their keys, and where these are equal that of the ids.
+fn order_to(ids: &[u8], spans: &[Span], entry: Entry, key: u64, id: &[u8]) -> Ordering {
+    match entry.key.cmp(&key) {
         Ordering::Equal => id_of(ids, spans, entry.block).cmp(id),
         other => other,
     }
 }
 
-// The blocks in the order of their ids.
+// The blocks in that order.
 fn order_of<A: Allocator>(alloc: A, ids: &[u8], spans: &[Span]) -> Result<Vec<Entry, A>, NoMemory> {
     let mut order = Vec::with_capacity(alloc, spans.len())?;
     for block in 0..spans.len() {
-        let front = front_of(id_of(ids, spans, block));
-        order.push(Entry { front, block })?;
+        let key = key_of(id_of(ids, spans, block));
+        order.push(Entry { key, block })?;
     }
-    order.sort_unstable_by(|a, b| {
-        order_to(ids, spans, *a, b.front, id_of(ids, spans, b.block))
-    });
+    order.sort_unstable_by(|a, b| { order_to(ids, spans, *a, b.key, id_of(ids, spans, b.block)) });
     Ok(order)
+}
+
+// The place of the last block whose key is at most this one, or the first place. It is found digit by digit, the highest first: a
+// number of steps that is known becomes code without a loop and without branches on keys, which no processor could foretell.
+fn last_up_to(order: &[Entry], key: u64) -> usize {
+    let mut place = 0;
+    for digit in [128, 64, 32, 16, 8, 4, 2, 1] {
+        let next = place | digit;
+        match order.get(next) {
+            Some(entry) if entry.key <= key => place = next,
+            _ => {}
+        }
+    }
+    place
 }
 
 // The list's ids in one buffer.
@@ -218,20 +237,44 @@ impl<A: Allocator> Table<A> {
     pub fn find(&self, id: &[u8]) -> Option<usize>
         ensures { result ≡ block_of self.now.blocks id.now }
     {
-        match self.find_ordered(id) {
+        let key = key_of(id);
+        match self.find_keyed(key, id) {
+            Some(i) => Some(i),
+            None => self.find_otherwise(key, id),
+        }
+    }
+
+    // The same where the last block with the id's key has that id. None says nothing.
+    fn find_keyed(&self, key: u64, id: &[u8]) -> Option<usize>
+        ensures { IfSome result (λ i. block_of self.now.blocks id.now ≡ Some i) }
+    {
+        self.found(last_up_to(&self.order, key), id)
+    }
+
+    // The same where that block isn't it: another one with the same key, or none.
+    fn find_otherwise(&self, key: u64, id: &[u8]) -> Option<usize>
+        ensures { result ≡ block_of self.now.blocks id.now }
+    {
+        match self.find_ordered(key, id) {
             Some(i) => Some(i),
             None => self.find_in_turn(id),
         }
     }
 
-    // The same by halving the order of the ids. None says nothing.
-    fn find_ordered(&self, id: &[u8]) -> Option<usize>
+    // The same by halving the order of keys and ids. None says nothing.
+    fn find_ordered(&self, key: u64, id: &[u8]) -> Option<usize>
         ensures { IfSome result (λ i. block_of self.now.blocks id.now ≡ Some i) }
     {
         let order = &self.order;
-        let front = front_of(id);
-        let at = order.binary_search_by(|e| order_to(&self.ids, &self.spans, *e, front, id));
-        let i = order.get(at.ok()?)?.block;
+        let at = order.binary_search_by(|e| order_to(&self.ids, &self.spans, *e, key, id));
+        self.found(at.ok()?, id)
+    }
+
+    // The block at a place of the order, where its id is this one.
+    fn found(&self, at: usize, id: &[u8]) -> Option<usize>
+        ensures { IfSome result (λ i. block_of self.now.blocks id.now ≡ Some i) }
+    {
+        let i = self.order.get(at)?.block;
         if i < self.len() && self.id(i) == id {
             return Some(i);
         }

@@ -159,7 +159,7 @@ fn assert_lengths(rt: &(impl AllocGlobal + Abort), size: u64)
     }
 }
 
-// The front of some blocks isn't taken, but for that of two.
+// The first of some blocks isn't taken, but for that of two.
 fn assert_counts(rt: &(impl AllocGlobal + Abort), size: u64)
     requires { IsPageSize size }
 {

@@ -1,8 +1,10 @@
-//! Tests of guest memory, with each call that takes memory with its growths refused, and what takes none.
+//! Tests of guest memory, with each call that allocates with its allocations refused, and what takes none.
 //!
 //! The worked examples are cases of `mig_rows`.
 #![tactic(auto)]
 
+#[cfg(test)]
+mod compared;
 #[cfg(test)]
 mod lent_mut;
 #[cfg(test)]

@@ -1,9 +1,9 @@
-//! Each call on guest memory that takes memory, with its first growth refused, then its second, until a run has no refusal. A refused run
-//! answers want of memory and leaves what it was handed as it was; the run with memory answers as ever.
+//! Each call on guest memory that allocates, with its first allocation refused, then its second, until a run has no refusal. A refused run
+//! answers `NoMemory` and leaves what it was handed as it was; the run with memory answers as ever.
 
 use mig_fixtures::{at, has_byte, is_full, list, places_of, set, table, zeroed};
 use mig_mem::{Dirty, Memory, PAGE_SIZE_4K, Place, Table, TableFault, first_difference};
-use mig_refusing::{Refusing, with_each_growth_refused};
+use mig_refusing::{Refusing, with_each_allocation_refused};
 use std::alloc::{AllocGlobal, Allocator};
 use std::process::Abort;
 use std::test::Fail;
@@ -35,7 +35,7 @@ fn new_table<'a>(
 fn table_new(rt: HostRuntime) -> Result<(), Fail> {
     let heap = Refusing::new(rt.alloc(), 0);
     let others = Refusing::new(rt.alloc(), 0);
-    with_each_growth_refused!(rt, heap, new_table(&others, &heap), made => {
+    with_each_allocation_refused!(rt, heap, new_table(&others, &heap), made => {
         assert!(rt; has_blocks(&made));
     });
 }
@@ -44,7 +44,7 @@ fn table_new(rt: HostRuntime) -> Result<(), Fail> {
 fn table_copy(rt: HostRuntime) -> Result<(), Fail> {
     let heap = Refusing::new(rt.alloc(), 0);
     let made = table(&heap, &BLOCKS).expect(&rt, "a table");
-    with_each_growth_refused!(rt, heap, made.try_copy(), copy => {
+    with_each_allocation_refused!(rt, heap, made.try_copy(), copy => {
         assert!(rt; has_blocks(&made));
         assert!(rt; copy.same(&made));
     });
@@ -54,7 +54,7 @@ fn table_copy(rt: HostRuntime) -> Result<(), Fail> {
 fn memory_zeroed(rt: HostRuntime) -> Result<(), Fail> {
     let heap = Refusing::new(rt.alloc(), 0);
     let table = table(&heap, &BLOCKS).expect(&rt, "a table");
-    with_each_growth_refused!(rt, heap, Memory::zeroed(&heap, &table), memory => {
+    with_each_allocation_refused!(rt, heap, Memory::zeroed(&heap, &table), memory => {
         assert!(rt; memory.table().same(&table));
         assert!(rt; is_full(&memory, at(1, 64), 0));
     });
@@ -83,9 +83,9 @@ fn assert_written<A: Allocator>(rt: &impl Abort, memory: &Memory<A>) {
     }
 }
 
-// Asserts that a copy of a memory, made after refused growths, has the same pages.
+// Asserts that a copy of a memory, made after refused allocations, has the same pages.
 fn assert_copied(rt: &impl Abort, heap: &Refusing, memory: &Memory<&Refusing>) -> Result<(), Fail> {
-    with_each_growth_refused!(rt, heap, memory.try_copy(), copy => {
+    with_each_allocation_refused!(rt, heap, memory.try_copy(), copy => {
         assert!(rt; copy.table().same(memory.table()));
         assert!(rt; first_difference(memory, &copy).is_none());
         assert_written(rt, &copy);
@@ -109,7 +109,7 @@ fn fill<A: Allocator>(rt: &impl Abort, memory: &mut Memory<A>, place: Place) {
     assert!(rt; is_full(memory, place, 9));
 }
 
-// Writes pages for the first time and again, whole and by a byte, and makes some zeros, with the first growth refused. It
+// Writes pages for the first time and again, whole and by a byte, and makes some zeros, with the first allocation refused. It
 // doesn't come.
 fn assert_writes_take_none(rt: &impl Abort, heap: &Refusing, memory: &mut Memory<&Refusing>) {
     heap.refuse(1);
@@ -147,7 +147,7 @@ fn memory_writes_in_a_copy(rt: HostRuntime) {
 fn dirty_none(rt: HostRuntime) -> Result<(), Fail> {
     let heap = Refusing::new(rt.alloc(), 0);
     let table = table(&heap, &BLOCKS).expect(&rt, "a table");
-    with_each_growth_refused!(rt, heap, Dirty::none(&heap, &table), dirty => {
+    with_each_allocation_refused!(rt, heap, Dirty::none(&heap, &table), dirty => {
         assert!(rt; dirty.table().same(&table));
         assert!(rt; dirty.count() == 0);
     });
@@ -159,13 +159,13 @@ fn dirty_pages(rt: HostRuntime) -> Result<(), Fail> {
     let table = table(&heap, &BLOCKS).expect(&rt, "a table");
     let places = [at(1, 64), at(0, 1), at(1, 0)];
     let dirty = places_of(&heap, &table, &places).expect(&rt, "a set");
-    with_each_growth_refused!(rt, heap, dirty.pages(), pages => {
+    with_each_allocation_refused!(rt, heap, dirty.pages(), pages => {
         assert!(rt; pages.as_slice() == [at(0, 1), at(1, 0), at(1, 64)].as_slice());
         assert!(rt; dirty.count() == 3);
     });
 }
 
-// It takes no memory: the growth that is to be refused doesn't come.
+// It allocates nothing: the allocation that is to be refused doesn't come.
 #[test]
 fn dirty_mark(rt: HostRuntime) {
     let heap = Refusing::new(rt.alloc(), 0);

@@ -1,4 +1,4 @@
--- Each text has a reading and a list of pieces, and it has no other.
+-- Each text has a reading and a list of items, and it has no other.
 use Rattle.std.proofs.Common.{◌≡◌, ◌⊎◌, ℕ, zero, suc, ◌+◌, ◌<◌, Bool, true, List, [], ◌++◌, length, take, drop}
 use Rattle.std.proofs.Common.{Option, Some, None, refl, sym, ap, ◌∙◌, inl, inr, append_assoc, arith}
 use Rattle.std.proofs.lemmas.Bool.{cases_lt}
@@ -8,8 +8,8 @@ use Rattle.mig_packet.specs.declared.state.ChannelState.TheVariants.{Reading, Ba
 use Rattle.mig_packet.specs.declared.fault.ChannelFault.{ChannelFault}
 use Rattle.mig_packet.specs.Progress.{ChannelProgress, start, judged_len, item_len, first_fault, due_fault, after}
 use Rattle.mig_packet.specs.Reading.{IsItem, Front, Reads, state_at, ChannelReading}
-use Rattle.mig_packet.specs.Pieces.{pieces_of}
-use Rattle.mig_packet.specs.Law.{HasOneReading, HasOneListOfPieces}
+use Rattle.mig_packet.specs.ChannelItems.{items_of}
+use Rattle.mig_packet.specs.Law.{HasOneReading, HasOneListOfItems}
 use Rattle.mig_packet.proofs.Fronts.{Front-none, Front-push, no_head, no_item, item_at, due_is, faultless_front}
 use Rattle.mig_packet.proofs.Unique.{one_reading}
 
@@ -86,20 +86,20 @@ one_reading_law = λ given text ended is.
           is_other.has_rounds is_other.has_state,
     )
 
-same_pieces : (from : ChannelProgress) (text : List ℕ) (c : ChannelProgress) (x : List ℕ) (s : ChannelState) → Reads from text c x s
-    → (d : ChannelProgress) (y : List ℕ) (t : ChannelState) → Reads from text d y t → pieces_of d (state_at true d y t) ≡ pieces_of c (state_at true c x s)
-same_pieces from text c x s a d y t b =
+same_items : (from : ChannelProgress) (text : List ℕ) (c : ChannelProgress) (x : List ℕ) (s : ChannelState) → Reads from text c x s
+    → (d : ChannelProgress) (y : List ℕ) (t : ChannelState) → Reads from text d y t → items_of d (state_at true d y t) ≡ items_of c (state_at true c x s)
+same_items from text c x s a d y t b =
     let same = one_reading from text d c y x t s b a in
-    ap (λ (p : ChannelProgress). pieces_of p (state_at true p y t)) same.0
-    ∙ ap (λ (z : List ℕ). pieces_of c (state_at true c z t)) same.1
-    ∙ ap (λ (z : ChannelState). pieces_of c (state_at true c x z)) same.2
+    ap (λ (p : ChannelProgress). items_of p (state_at true p y t)) same.0
+    ∙ ap (λ (z : List ℕ). items_of c (state_at true c z t)) same.1
+    ∙ ap (λ (z : ChannelState). items_of c (state_at true c x z)) same.2
 
--- Each text that is over has exactly one list of pieces.
-pub one_list_law : HasOneListOfPieces
+-- Each text that is over has exactly one list of items.
+pub one_list_law : HasOneListOfItems
 one_list_law = λ given text is.
     let from : ChannelProgress = start given.page_size given.uuid given.channels in
     let r = some_reading from text in (
-      pieces_of r.0 (state_at true r.0 r.1 r.2),
-      record { to = r.0; rest = r.1; found = r.2; reads = r.3; has_pieces = refl },
-      λ other is_other. is_other.has_pieces ∙ same_pieces from text r.0 r.1 r.2 r.3 is_other.to is_other.rest is_other.found is_other.reads,
+      items_of r.0 (state_at true r.0 r.1 r.2),
+      record { to = r.0; rest = r.1; found = r.2; reads = r.3; has_items = refl },
+      λ other is_other. is_other.has_items ∙ same_items from text r.0 r.1 r.2 r.3 is_other.to is_other.rest is_other.found is_other.reads,
     )

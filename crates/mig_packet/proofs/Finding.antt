@@ -1,4 +1,4 @@
--- The hello or the packet at the front of bytes is found, and is the only one there.
+-- The hello or the packet at the beginning of bytes is found, and is the only one there.
 use Rattle.std.proofs.Common.{◌≡◌, ℕ, ◌+◌, ◌*◌, ◌<◌, ◌≤◌, leb, List, [], ◌++◌, length, get_or, take, drop, Some, None, refl, sym, ap, subst, ◌∙◌, arith}
 use Rattle.std.proofs.lemmas.List.{append-nil, length-take-le, take-append-drop, get_or_append_left, take_at, drop_at}
 use Rattle.mig_packet.specs.declared.front.PacketRead.{PacketRead}

@@ -13,7 +13,7 @@ use Rattle.mig_packet.specs.Faults.{first_of}
 use Rattle.mig_packet.specs.Hello.{hello_faults}
 use Rattle.mig_packet.specs.Packet.{flags_in, contents_len_in, normal_count, zero_count, IsPacketText, packet_faults}
 
--- ---- fields at the front of bytes, whatever follows them
+-- ---- fields at the beginning of bytes, whatever follows them
 
 range_stays : (a b : List ℕ) (i j : ℕ) → i ≤ j → j ≤ length a → slice_range (a ++ b) i j ≡ slice_range a i j
 range_stays a b i j le in_a =

@@ -1,4 +1,4 @@
--- Fields at the front of bytes and behind others, whatever surrounds them.
+-- Fields at the beginning of bytes and behind others, whatever surrounds them.
 use Rattle.std.proofs.Common.{◌≡◌, ℕ, ◌+◌, ◌-◌, ◌≤◌, List, ◌++◌, length, take, drop, sym, ap, ◌∙◌, arith}
 use Rattle.std.specs.Prelude.{slice_range}
 use Rattle.std.specs.Int.{w32, w64, from_be_bytes}

@@ -1,4 +1,4 @@
--- What stands at the front of bytes: what `read_hello` and `read_packet` answer.
+-- What stands at the beginning of bytes: what `read_hello` and `read_packet` answer.
 use Rattle.std.specs.Prelude.{◌≡◌, ℕ, ◌≤◌, ◌<◌, List, ◌++◌, length, take, Some, None}
 use Rattle.mig_packet.specs.declared.front.HelloRead.{HelloRead}
 use Rattle.mig_packet.specs.declared.front.HelloRead.TheVariants as hello

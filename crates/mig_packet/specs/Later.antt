@@ -1,11 +1,11 @@
 -- What items leave as it was, so that a reader can go back.
 use Rattle.std.specs.Prelude.{◌≡◌, ◌⊎◌, ℕ, List, [], ◌∷◌, ◌++◌, length, take, slice_index_or}
-use Rattle.mig_packet.specs.declared.progress.Mark.{Mark}
+use Rattle.mig_packet.specs.declared.progress.Checkpoint.{Checkpoint}
 use Rattle.mig_packet.specs.Progress.{ChannelProgress}
 
 -- the mark that is made there
-abbrev pub mark_of : ChannelProgress → Mark
-mark_of c = record { hello = c.hello; packets = length c.packets; rounds = length c.rounds }
+abbrev pub checkpoint_of : ChannelProgress → Checkpoint
+checkpoint_of c = record { hello = c.hello; packets = length c.packets; rounds = length c.rounds }
 
 -- these packets have followed: the round that wasn't whole has grown by them, or is whole and others have followed it
 abbrev pub HasGrownBy : ChannelProgress → List (List ℕ) → ChannelProgress → Type 0

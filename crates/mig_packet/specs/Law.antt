@@ -6,7 +6,7 @@ use Rattle.mig_packet.specs.Packet.{IsPacketText, IsPacket, is_sync}
 use Rattle.mig_packet.specs.Written.{written_packet, written_fields, IsWritable}
 use Rattle.mig_packet.specs.declared.state.ChannelState.TheVariants.{Reading, Closed}
 use Rattle.mig_packet.specs.Reading.{ChannelReading, Settings, IsReading}
-use Rattle.mig_packet.specs.Pieces.{Piece, ArePieces}
+use Rattle.mig_packet.specs.ChannelItems.{ChannelItem, AreItems}
 
 -- What is written for a UUID and an id is a hello of them.
 abbrev pub WrittenHellosAreHellos : Type 0
@@ -27,11 +27,11 @@ HasOneReading = (given : Settings) (text : List ℕ) (ended : Bool) → IsPageSi
     → (reading : ChannelReading) × IsReading given text ended reading
     × ((other : ChannelReading) → IsReading given text ended other → other ≡ reading)
 
--- And each text that is over has exactly one list of pieces.
-abbrev pub HasOneListOfPieces : Type 0
-HasOneListOfPieces = (given : Settings) (text : List ℕ) → IsPageSize given.page_size
-    → (pieces : List Piece) × ArePieces given text pieces
-    × ((other : List Piece) → ArePieces given text other → other ≡ pieces)
+-- And each text that is over has exactly one list of items.
+abbrev pub HasOneListOfItems : Type 0
+HasOneListOfItems = (given : Settings) (text : List ℕ) → IsPageSize given.page_size
+    → (items : List ChannelItem) × AreItems given text items
+    × ((other : List ChannelItem) → AreItems given text other → other ≡ items)
 
 -- a round ends with its only SYNC packet
 pub record EndsWithSync (round : List (List ℕ)) : Type 0 where

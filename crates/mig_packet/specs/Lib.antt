@@ -7,12 +7,12 @@ pub mod Packet
 pub mod Written
 pub mod Lent
 pub mod FaultNumber
--- .. what stands at the front of bytes, how a whole text is read, what a reader of it stands for, and the laws
+-- .. what stands at the beginning of bytes, how a whole text is read, what a reader of it stands for, and the laws
 pub mod FrontRead
 pub mod Progress
 pub mod Reading
 pub mod Reader
-pub mod Pieces
+pub mod ChannelItems
 pub mod Law
 -- Of the inside: only contracts of private functions name these.
 pub mod Taking

@@ -1,4 +1,4 @@
--- What a run over bytes leaves where memory is refused.
+-- What a run over bytes leaves where an allocation is refused.
 use Rattle.std.specs.Prelude.{◌≡◌, List, ℕ, ◌++◌}
 use Rattle.mig_packet.specs.Progress.{ChannelProgress}
 use Rattle.mig_packet.specs.Reading.{Front}

@@ -1,4 +1,4 @@
-//! Why a channel is refused: names and numbers.
+//! Why a channel is refused, by name and number: what readers of hellos, packets and channels answer, and loads pass on.
 
 ghost use Rattle.std.specs.Prelude.{◌≡◌};
 ghost use Rattle.mig_packet.specs.FaultNumber.{fault_number, no_memory_number};
@@ -85,7 +85,7 @@ impl Display for ChannelFault {
 
 impl Error for ChannelFault {}
 
-/// A growth was refused.
+/// An allocation was refused.
 #[derive(Clone, Copy, Debug, PartialEq, Eq)]
 pub struct NoMemory;
 
@@ -101,7 +101,7 @@ impl NoMemory {
 /// The fault's number, and what it says.
 impl Display for NoMemory {
     fn fmt<W: fmt::Write>(&self, f: &mut Formatter<W>) -> fmt::Result {
-        write!(f, "{}: a growth was refused", self.number())
+        write!(f, "{}: an allocation was refused", self.number())
     }
 }
 

@@ -1,4 +1,4 @@
-//! Reading what lies at the front of bytes: a hello, or a packet.
+//! Reading what bytes begin with: a hello, or a packet. `progress` calls it, the feeder of a relay, and callers that have a text whole.
 
 ghost use Rattle.std.specs.Prelude.{◌≡◌, ◌+◌, ◌*◌, ◌<◌, ◌≤◌, ◌++◌, ℕ, List, length};
 ghost use Rattle.mig_packet.specs.declared.front.HelloRead.TheVariants as hello_read;
@@ -14,7 +14,7 @@ use crate::format::{HELLO_LEN, MULTIFD_FLAG_SYNC, MULTIFD_MAGIC, MULTIFD_VERSION
 use crate::packet::{Packet, head_len, page_limit};
 use uuid::Uuid;
 
-/// What stands at the front of bytes, where a hello is expected.
+/// What stands at the beginning of bytes, where a hello is expected.
 #[derive(Clone, Copy, Debug, PartialEq, Eq)]
 pub enum HelloRead {
     /// A hello, with its channel id.
@@ -25,7 +25,7 @@ pub enum HelloRead {
     Bad(ChannelFault),
 }
 
-/// What stands at the front of bytes, where a packet is expected.
+/// What stands at the beginning of bytes, where a packet is expected.
 #[derive(Clone, Copy, Debug)]
 pub enum PacketRead<'a> {
     /// A packet, and how many bytes it has.
@@ -36,7 +36,7 @@ pub enum PacketRead<'a> {
     Bad(ChannelFault),
 }
 
-/// Reads the hello at the front of these bytes, where so many channels are expected under this UUID.
+/// Reads the hello at the beginning of these bytes, where so many channels are expected under this UUID.
 pub fn read_hello(bytes: &[u8], uuid: &Uuid, channels: usize) -> HelloRead
     ensures reads { ReadsHello uuid.now channels bytes.now result }
     ensures found { (front more : List ℕ) (id : ℕ) → bytes.now ≡ front ++ more → IsHello uuid.now id front → id < channels → result ≡ hello_read.Whole id }
@@ -71,7 +71,7 @@ pub(crate) fn hello_fault(bytes: &[u8], uuid: &Uuid, channels: usize) -> Option<
     None
 }
 
-/// Reads the packet at the front of these bytes, of pages of this size, in bytes.
+/// Reads the packet at the beginning of these bytes, of pages of this size, in bytes.
 pub fn read_packet<'a>(page_size: u64, bytes: &'a [u8]) -> PacketRead<'a>
     requires { IsPageSize page_size }
     ensures reads { ReadsPacket page_size bytes.now result }

@@ -1,15 +1,15 @@
-//! Gates: where a test may hold the threads that send or load, so as to see how they run.
+//! Gates: where a test may hold the threads that send or load, so as to see how they run. The workers of `mig_send` and `mig_load` pass them.
 
-/// What a thread has just done, with the number of the packet or piece.
+/// What a thread has just done, with the number of the packet or item.
 #[derive(Clone, Copy, Debug, PartialEq, Eq)]
 pub enum Step {
     /// A sending worker drew this packet number, its last one included.
     Drawn(u64),
     /// A sending worker packed the packet of this number.
     Packed(u64),
-    /// A loading worker read its channel's piece of this number, from 0.
+    /// A loading worker read its channel's item of this number, from 0.
     Found(u64),
-    /// A loading worker handed that piece on.
+    /// A loading worker handed that item on.
     Pushed(u64),
 }
 

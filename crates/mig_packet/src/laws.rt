@@ -3,7 +3,7 @@
 //! Each law is the clause of a function that does nothing, so that it is proved with the crate and callers can have it.
 
 ghost use Rattle.mig_packet.specs.Law.{WrittenHellosAreHellos, WrittenPacketsArePackets, NoPacketBeginsAnother};
-ghost use Rattle.mig_packet.specs.Law.{HasOneReading, HasOneListOfPieces, ReadingsKeepLimits};
+ghost use Rattle.mig_packet.specs.Law.{HasOneReading, HasOneListOfItems, ReadingsKeepLimits};
 
 /// What is written for a UUID and an id is a hello of them. So `read_hello` finds it, whatever follows.
 pub fn written_hellos_are_hellos()
@@ -27,9 +27,9 @@ pub fn text_has_one_reading()
     ensures { HasOneReading }
 {}
 
-/// Each text of a channel that is over has exactly one list of pieces.
-pub fn text_has_one_list_of_pieces()
-    ensures { HasOneListOfPieces }
+/// Each text of a channel that is over has exactly one list of items.
+pub fn text_has_one_list_of_items()
+    ensures { HasOneListOfItems }
 {}
 
 /// Each whole round of a text is packets, of which the last one alone has SYNC. None is whole before the hello is, and a

@@ -2,11 +2,11 @@
 //!
 //! The definitions stand in `specs/`, apart from the code of both directions. To read first, in this order: the layout of a
 //! hello and of a packet (`Hello`, `Packet`), the one text that is written for some fields (`Written`), how any bytes of a
-//! channel are read, with every fault by name (`Progress`, `Reading`), what a reader stands for (`Reader`), the pieces of a
-//! text that is over (`Pieces`), and the laws between them (`Law`). `Taking`, `Later` and `Filling` are of the inside: only
+//! channel are read, with every fault by name (`Progress`, `Reading`), what a reader stands for (`Reader`), the items of a
+//! text that is over (`ChannelItems`), and the laws between them (`Law`). `Taking`, `Later` and `Filling` are of the inside: only
 //! contracts of private functions name them.
 //!
-//! `hello`, `put_packet` and `PacketFields` write; `read_hello` and `read_packet` read what lies at the front of bytes; a
+//! `hello`, `put_packet` and `PacketFields` write; `read_hello` and `read_packet` read what lies at the beginning of bytes; a
 //! `ChannelReader` reads a channel that comes in pieces. Whether the packets of a round fit together, and what becomes of
 //! their pages, is for other crates, and so are the threads that send and load.
 #![tactic(auto)]
@@ -29,7 +29,7 @@ pub use fault::{ChannelFault, NoMemory};
 pub use front::{HelloRead, PacketRead, read_hello, read_packet};
 pub use gate::{Gate, OpenGate, Step};
 pub use laws::{
-    no_packet_begins_another, readings_keep_limits, text_has_one_list_of_pieces,
+    no_packet_begins_another, readings_keep_limits, text_has_one_list_of_items,
     text_has_one_reading, written_hellos_are_hellos, written_packets_are_packets,
 };
 pub use packet::{Packet, head_len, page_limit};

@@ -1,4 +1,4 @@
-//! A packet, as it lies in bytes that somebody else holds.
+//! A packet, as it lies in bytes that somebody else holds: what readers and relays give, and `Target` puts into memory.
 
 ghost use Rattle.std.specs.Prelude.{◌≡◌, ◌+◌, ◌<◌, ◌==◌, length};
 ghost use Rattle.std.specs.List.{before_first, position};

@@ -1,4 +1,4 @@
-//! How far a channel has been read: what its items leave, and how one is taken after another.
+//! How far a channel has been read: what its items leave, and how one is taken after another. `ChannelReader` keeps one.
 
 ghost use Rattle.std.specs.Prelude.{◌≡◌, ◌≢◌, ◌≤◌, ◌<◌, [], ◌∷◌, List, ℕ, None, slice_get, length, IsTrue, IsFalse, IfOk, IfErr, IfSome, IfNone, OnOk, OnErr};
 ghost use Rattle.mig_packet.specs.PageSize.{IsPageSize};
@@ -6,7 +6,7 @@ ghost use Rattle.mig_packet.specs.Packet.{IsPacketText};
 ghost use Rattle.mig_packet.specs.Progress.{ChannelProgress, start, judged_len, item_len, first_fault, after, after_packet};
 ghost use Rattle.mig_packet.specs.Reading.{IsItem, Reads};
 ghost use Rattle.mig_packet.specs.Taking.{HasTaken};
-ghost use Rattle.mig_packet.specs.Later.{mark_of, IsLater, reopened};
+ghost use Rattle.mig_packet.specs.Later.{checkpoint_of, IsLater, reopened};
 ghost use Rattle.mig_packet.specs.Reader.{with_taken};
 
 use crate::fields::be32;
@@ -53,7 +53,7 @@ impl<A: Allocator> Model for Progress<A> {
 
 /// How far a channel had been read, to go back to: its lists only grow.
 #[derive(Clone, Copy)]
-pub(crate) struct Mark {
+pub(crate) struct Checkpoint {
     hello: Option<u8>,
     packets: usize,
     rounds: usize,
@@ -120,7 +120,7 @@ impl<A: Allocator + Copy> Progress<A> {
         Ok(())
     }
 
-    /// Takes items from the front of the bytes, as far as they are whole and without a fault. Gives the bytes that are left,
+    /// Takes items from the beginning of the bytes, as far as they are whole and without a fault. Gives the bytes that are left,
     /// and how they stand. After an `Err` some items were taken.
     pub(crate) fn run<'a>(&mut self, bytes: &'a [u8]) -> Result<(&'a [u8], ChannelState), NoMemory>
         ensures ok { IfOk result (λ r. Reads self.old bytes.now self.new r.0.now r.1) }
@@ -217,10 +217,10 @@ impl<A: Allocator> Progress<A> {
     }
 
     /// The mark of this place.
-    pub(crate) fn mark(&self) -> Mark
-        ensures { result ≡ mark_of self.now }
+    pub(crate) fn checkpoint(&self) -> Checkpoint
+        ensures { result ≡ checkpoint_of self.now }
     {
-        Mark {
+        Checkpoint {
             hello: self.hello,
             packets: self.packets.len(),
             rounds: self.rounds.len(),
@@ -228,13 +228,13 @@ impl<A: Allocator> Progress<A> {
     }
 
     /// Goes back to where the mark was made. Gives the first of the packets that had followed.
-    pub(crate) fn undo(&mut self, mark: Mark) -> Option<PacketText<A>>
-        ensures back { (c : ChannelProgress) (more : List (List ℕ)) → mark ≡ mark_of c → IsLater c more self.old → self.new ≡ c }
-        ensures first { (c : ChannelProgress) (more : List (List ℕ)) → mark ≡ mark_of c → IsLater c more self.old → result ≡ slice_get more 0 }
+    pub(crate) fn undo(&mut self, checkpoint: Checkpoint) -> Option<PacketText<A>>
+        ensures back { (c : ChannelProgress) (more : List (List ℕ)) → checkpoint ≡ checkpoint_of c → IsLater c more self.old → self.new ≡ c }
+        ensures first { (c : ChannelProgress) (more : List (List ℕ)) → checkpoint ≡ checkpoint_of c → IsLater c more self.old → result ≡ slice_get more 0 }
     {
-        self.hello = mark.hello;
-        self.reopen(mark.rounds);
-        self.packets.cut(mark.packets)
+        self.hello = checkpoint.hello;
+        self.reopen(checkpoint.rounds);
+        self.packets.cut(checkpoint.packets)
     }
 
     // Drops the rounds from a place on; the first of them is open again.

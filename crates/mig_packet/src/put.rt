@@ -1,4 +1,4 @@
-//! Writing hellos and packets.
+//! Writing hellos and packets, for the senders of `mig_send` and for callers with pages of their own.
 
 ghost use Rattle.std.specs.Prelude.{◌≡◌, ◌+◌, ◌-◌, ◌*◌, ◌<◌, ◌≤◌, ◌++◌, length, OnOk, OnErr, replicate, vec_len, vec_capacity};
 ghost use Rattle.std.specs.List.{flat_map};

@@ -1,7 +1,7 @@
-//! The reader of a channel that comes in pieces.
+//! The reader of a channel that comes in pieces. A session of `mig_load` has one for each channel.
 //!
 //! It keeps what was read as a `Progress`, and of the text only the bytes of an item that isn't whole yet. A piece is read in
-//! place, but for what such an item needs of its front; and a packet that comes in pieces is kept where its bytes were
+//! place, but for what such an item needs of its beginning; and a packet that comes in pieces is kept where its bytes were
 //! gathered. So each byte of a packet is copied once.
 
 ghost use Rattle.std.specs.Prelude.{◌≡◌, ◌≢◌, ◌+◌, ◌<◌, ◌≤◌, ◌^◌, ◌++◌, ℕ, List, [], length, take, true};
@@ -56,7 +56,7 @@ pub(crate) enum Filled<'a> {
     Faulty(ChannelFault),
 }
 
-// Appends the front of a piece until there are `len` bytes, or the piece is used up. Gives what is left of the piece.
+// Appends the beginning of a piece until there are `len` bytes, or the piece is used up. Gives what is left of the piece.
 fn append_up_to<'a, A: Allocator>(
     pending: &mut Vec<u8, A>,
     len: usize,
@@ -79,7 +79,7 @@ fn append_up_to<'a, A: Allocator>(
     Ok(rest)
 }
 
-// Fills the pending item up from the front of a piece.
+// Fills the pending item up from the beginning of a piece.
 fn fill_up<'a, A: Allocator>(
     progress: &Progress<A>,
     pending: &mut Vec<u8, A>,
@@ -150,7 +150,7 @@ fn read_behind_packet<A: Allocator + Copy>(
     ensures ok { IfOk result (λ found. ReadsOn progress.old (pending.old.items ++ rest.now) progress.new pending.new.items found) }
     ensures err { OnErr result ((progress.new ≡ progress.old) × (pending.new.items ≡ pending.old.items)) }
 {
-    let mark = progress.mark();
+    let checkpoint = progress.checkpoint();
     let buffer = progress.buffer();
     let packet = PacketText::of(mem::replace(pending, buffer));
     if let Err(packet) = progress.take_packet(packet) {
@@ -160,7 +160,7 @@ fn read_behind_packet<A: Allocator + Copy>(
     match read_in_place(progress, pending, rest) {
         Ok(found) => Ok(found),
         Err(error) => {
-            if let Some(packet) = progress.undo(mark) {
+            if let Some(packet) = progress.undo(checkpoint) {
                 *pending = packet.into_bytes();
             }
             Err(error)
@@ -254,7 +254,7 @@ impl<A: Allocator + Copy> ChannelReader<A> {
         ensures same { OnOk result ((self.new.fed ≡ self.old.fed) × (self.new.ended ≡ self.old.ended)) }
         ensures err { OnErr result (self.new ≡ self.old) }
     {
-        let mark = self.progress.mark();
+        let checkpoint = self.progress.checkpoint();
         let len = self.pending.len();
         match read(&mut self.progress, &mut self.pending, piece) {
             Ok(found) => {
@@ -262,7 +262,7 @@ impl<A: Allocator + Copy> ChannelReader<A> {
                 Ok(())
             }
             Err(error) => {
-                drop(self.progress.undo(mark));
+                drop(self.progress.undo(checkpoint));
                 self.pending.truncate(len);
                 Err(error)
             }
@@ -335,7 +335,7 @@ impl<A: Allocator> ChannelReader<A> {
         self.progress.hello()
     }
 
-    /// The next whole round that was not taken, in the order of the text. It takes no memory, and is always `Ok`.
+    /// The next whole round that was not taken, in the order of the text. It allocates nothing, and is always `Ok`.
     pub fn take_round(&mut self) -> Result<Option<PacketRound<A>>, NoMemory>
         ensures ok { IsOk result }
         ensures none { IfOk result (λ o. IfNone o (self.new ≡ self.old)) }

@@ -1,4 +1,4 @@
-//! The rounds of a channel: their packets.
+//! The rounds of a channel: their packets. `Progress` fills them, and a session gathers the packets of each.
 
 ghost use Rattle.std.specs.Prelude.{◌≡◌, ◌++◌, [], ◌∷◌, length, take, map, All, slice_get, IfOk, IfErr, OnOk, OnErr};
 ghost use Rattle.mig_packet.specs.Reader.{IsPacketRound};

@@ -1,4 +1,4 @@
-//! How a channel stands.
+//! The state of a channel: reading, closed or bad. `ChannelReader::state` answers it.
 
 use crate::ChannelFault;
 

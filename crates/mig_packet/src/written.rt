@@ -1,4 +1,4 @@
-//! A packet by its fields, for who writes one.
+//! A packet by its fields, as one record with names: for callers that write one, in place of `put_packet`'s list of arguments.
 
 ghost use Rattle.std.specs.Prelude.{◌≡◌, ◌+◌, ◌*◌, ◌<◌, ◌≤◌, ◌++◌, length, OnOk, OnErr, vec_len, vec_capacity};
 ghost use Rattle.mig_packet.specs.PageSize.{IsPageSize, page_limit, head_len};

@@ -1,4 +1,4 @@
-//! Tests of packets and channels: each call that takes memory with its growths refused, and the gate that does nothing.
+//! Tests of packets and channels: each call that allocates with its allocations refused, and the gate that does nothing.
 //!
 //! The worked examples are cases of `mig_rows`.
 #![tactic(auto)]

@@ -1,5 +1,5 @@
-//! Each call on packets and channels that takes memory, with its first growth refused, then its second, until a run has no
-//! refusal. A refused run answers want of memory and leaves what it was handed as it was; the run with memory answers as ever.
+//! Each call on packets and channels that allocates, with its first allocation refused, then its second, until a run has no
+//! refusal. A refused run answers `NoMemory` and leaves what it was handed as it was; the run with memory answers as ever.
 
 use mig_fixtures::put_page_and_zeros;
 use mig_packet::{
@@ -50,7 +50,7 @@ fn packets(rt: HostRuntime) {
     assert!(rt; text.as_slice() == wanted.as_slice());
 }
 
-// A head takes one growth. Its page appended by the caller, it is the whole packet.
+// A head takes one allocation. Its page appended by the caller, it is the whole packet.
 #[test]
 fn heads(rt: HostRuntime) {
     let heap = Refusing::new(rt.alloc(), 0);
@@ -100,7 +100,7 @@ fn has_read<A: Allocator + Copy>(reader: &mut ChannelReader<A>, len: u64) -> boo
         && has_no_round(reader)
 }
 
-// A refused piece leaves the reader as it was, also where the packet that it makes whole was taken before the growth; fed
+// A refused piece leaves the reader as it was, also where the packet that it makes whole was taken before the allocation; fed
 // again with memory, it is read as ever.
 #[test]
 fn pieces(rt: HostRuntime) {
@@ -131,7 +131,7 @@ fn pieces(rt: HostRuntime) {
     }
 }
 
-// A round's packets are lent, in a list that is the only growth; to take a round takes none.
+// A round's packets are lent, in a list that is the only allocation; to take a round takes none.
 #[test]
 fn rounds(rt: HostRuntime) {
     let heap = Refusing::new(rt.alloc(), 0);

@@ -1,7 +1,7 @@
-//! For tests: an allocator that refuses one growth, so that a test sees what stands after it.
+//! For tests: an allocator that refuses one allocation, so that a test sees what stands after it.
 //!
-//! A call that takes memory can find none at any of its growths. A test hands it a [`Refusing`], which refuses the
-//! growth of a chosen number and passes each other one on. The test runs the call with its first growth refused, then
+//! A call that allocates can find none at any of its allocations. A test hands it a [`Refusing`], which refuses the
+//! allocation of a chosen number and passes each other one on. The test runs the call with its first allocation refused, then
 //! with its second, and so on until a run has no refusal. After each run it compares the answer, and what the call left
 //! of the values that it was handed.
 //!
@@ -10,36 +10,36 @@
 //!
 //! ```text
 //! let heap = Refusing::new(rt.alloc(), 0);    // refuses none: make what the call takes
-//! heap.refuse(nth);                           // from here on, refuses growth number nth
-//! let answer = Table::new(&heap, list);       // no growth was refused if heap.is_waiting() is still true
+//! heap.refuse(nth);                           // from here on, refuses allocation number nth
+//! let answer = Table::new(&heap, list);       // no allocation was refused if heap.is_waiting() is still true
 //! ```
 //!
-//! [`with_each_growth_refused!`] is that loop, for a test that ends with its last run.
+//! [`with_each_allocation_refused!`] is that loop, for a test that ends with its last run.
 //!
-//! Threads may share it. They share one count, so one growth among all of theirs is refused, and the schedule decides
+//! Threads may share it. They share one count, so one allocation among all of theirs is refused, and the schedule decides
 //! whose it is.
 //!
 //! What is proved is that it is safe to use: a block that it answers is one of the allocator inside it, with room for
-//! what was asked. No contract can say what an atomic holds, so none says which growth is refused.
+//! what was asked. No contract can say what an atomic holds, so none says which allocation is refused.
 #![tactic(auto)]
 
 use std::alloc::{AllocError, Allocator, Global};
 use std::sync::atomic::{AtomicU64, Ordering};
 
-/// An allocator that refuses one growth, chosen by its number, and passes each other one on to another allocator.
+/// An allocator that refuses one allocation, chosen by its number, and passes each other one on to another allocator.
 ///
-/// A growth is a call of `allocate`. Each one is counted, from 1, also where the other allocator then has no memory. A
+/// An allocation is a call of `allocate`. Each one is counted, from 1, also where the other allocator then has no memory. A
 /// `grow` or a `shrink` of a block is one too, since it allocates the new block. Giving a block back is neither counted
-/// nor refused. The count is exact for 2^63 growths, far more than a test makes.
+/// nor refused. The count is exact for 2^63 allocations, far more than a test makes.
 #[derive(Drop)]
 pub struct Refusing<A: Allocator = Global> {
     inner: A,
-    // The growths up to the one to refuse, that one included. Below 1 it wraps round, and refuses none.
+    // The allocations up to the one to refuse, that one included. Below 1 it wraps round, and refuses none.
     countdown: AtomicU64,
 }
 
 impl<A: Allocator> Refusing<A> {
-    /// Passes growths on to `inner`, and refuses number `nth`, counted from 1, and none if `nth` is 0.
+    /// Passes allocations on to `inner`, and refuses number `nth`, counted from 1, and none if `nth` is 0.
     pub fn new(inner: A, nth: u64) -> Refusing<A> {
         Refusing {
             inner,
@@ -47,7 +47,7 @@ impl<A: Allocator> Refusing<A> {
         }
     }
 
-    /// Starts the count again: refuses growth number `nth` from here on, and none if `nth` is 0.
+    /// Starts the count again: refuses allocation number `nth` from here on, and none if `nth` is 0.
     pub fn refuse(&self, nth: u64) {
         self.countdown.store(nth, Ordering::SeqCst);
     }
@@ -59,7 +59,7 @@ impl<A: Allocator> Refusing<A> {
     }
 }
 
-// Counts one growth, and says whether it is the one to refuse.
+// Counts one allocation, and says whether it is the one to refuse.
 fn is_refused(countdown: &AtomicU64) -> bool {
     countdown.fetch_sub(1, Ordering::SeqCst) == 1
 }
@@ -79,10 +79,10 @@ unsafe impl<A: Allocator> Allocator for Refusing<A> {
     }
 }
 
-/// Runs a call with growth 1 refused, then with growth 2, and so on, up to the first run that has no refusal, whose answer
+/// Runs a call with allocation 1 refused, then with allocation 2, and so on, up to the first run that has no refusal, whose answer
 /// is handed to the block. A run with a refusal has to answer fault 60, and there has to be one.
 #[macro_export]
-macro_rules! with_each_growth_refused {
+macro_rules! with_each_allocation_refused {
     ($rt:expr, $heap:expr, $call:expr, $answer:ident => $checks:block) => {
         for nth in 1..1000u64 {
             $heap.refuse(nth);

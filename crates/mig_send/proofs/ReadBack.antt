@@ -26,7 +26,7 @@ use Rattle.mig_packet.specs.Packet.{IsPacketText, NormalPage, Fields, fields_of,
 use Rattle.mig_packet.specs.Written.{IsWritable, written_packet}
 use Rattle.mig_packet.specs.Progress.{ChannelProgress, start, first_fault, after}
 use Rattle.mig_packet.specs.Reading.{Front, Reads, Settings, settings}
-use Rattle.mig_packet.specs.Pieces.{Hello, Page, Stop}
+use Rattle.mig_packet.specs.ChannelItems.{Hello, Page, Stop}
 use Rattle.mig_packet.proofs.Judging.{hello_free, text_free}
 use Rattle.mig_packet.proofs.Fronts.{Front-none, Front-push, Front-append, no_head}
 use Rattle.mig_packet.proofs.ReadBack.{hello_back, packet_back}
@@ -35,7 +35,7 @@ use Rattle.mig_send.specs.Packing.{packed_of, normals_of, zeros_of, offsets_of, 
 use Rattle.mig_send.specs.Work.{Share, no_batch, claimed_packet}
 use Rattle.mig_send.specs.Dealing.{sync_packet}
 use Rattle.mig_send.specs.DealtRounds.{DealtRound, IsDealtRound, AreNumbered, IsSending, no_share, packet_count, round_text, channel_text}
-use Rattle.mig_send.specs.ReadBack.{round_packets, channel_pieces, SendingsAreReadBack, SayTheirPages}
+use Rattle.mig_send.specs.ReadBack.{round_packets, channel_items, SendingsAreReadBack, SayTheirPages}
 use Rattle.mig_send.proofs.Packing.{is_packed, batch_writable, normal_pages_are}
 use Rattle.mig_send.proofs.Cutting.{batches_fit}
 
@@ -279,18 +279,18 @@ sendings_are_read_back mains spelled = λ table uuid limit channels rounds main_
     has_rounds = refl;
     has_state = refl;
   };
-  have_pieces = λ channel lt. record {
+  have_items = λ channel lt. record {
     to = at (settings table.page_size uuid channels) channel (map (round_packets channel) rounds) [];
     rest = [];
     found = Reading;
     reads = each_read table uuid limit channels rounds main_text texts is channel lt;
-    has_pieces = pieces_are table.page_size rounds channel;
+    has_items = items_are table.page_size rounds channel;
   };
 }
   where
-    pieces_are : (page_size : ℕ) (rounds : List DealtRound) (channel : ℕ) → channel_pieces page_size rounds channel
+    items_are : (page_size : ℕ) (rounds : List DealtRound) (channel : ℕ) → channel_items page_size rounds channel
         ≡ Hello channel ∷ map (λ packet. Page (fields_of page_size packet)) (flat_map (λ round. round) (map (round_packets channel) rounds) ++ []) ++ Stop None ∷ []
-    pieces_are page_size rounds channel =
+    items_are page_size rounds channel =
         ap (λ (l : List (List ℕ)). Hello channel ∷ map (λ packet. Page (fields_of page_size packet)) l ++ Stop None ∷ [])
         (sym (append-nil (flat_map (λ round. round) (map (round_packets channel) rounds)) ∙ flat_map-map (λ round. round) (round_packets channel) rounds))
 

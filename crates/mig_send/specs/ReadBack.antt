@@ -10,7 +10,7 @@ use Rattle.mig_stream.specs.Law.{closed}
 use Rattle.mig_packet.specs.declared.state.ChannelState.TheVariants.{Closed}
 use Rattle.mig_packet.specs.Packet.{Fields, fields_of}
 use Rattle.mig_packet.specs.Reading.{ChannelReading, IsReading, settings}
-use Rattle.mig_packet.specs.Pieces.{Piece, Hello, Page, Stop, ArePieces}
+use Rattle.mig_packet.specs.ChannelItems.{ChannelItem, Hello, Page, Stop, AreItems}
 use Rattle.mig_send.specs.Batches.{BatchOfPages, IsBatch, batch_places}
 use Rattle.mig_send.specs.Packing.{packed_of, normals_of, zeros_of, offsets_of}
 use Rattle.mig_send.specs.Work.{Share, claimed_packet}
@@ -32,9 +32,9 @@ round_packets channel round = share_packets round.base round.snapshot.image roun
 abbrev pub channel_told : List DealtRound → ℕ → ChannelReading
 channel_told rounds channel = record { hello = Some channel; rounds = map (round_packets channel) rounds; state = Closed }
 
--- and its pieces: the hello, what each packet says, one after another, and a stop without a fault
-abbrev pub channel_pieces : ℕ → List DealtRound → ℕ → List Piece
-channel_pieces page_size rounds channel =
+-- and its items: the hello, what each packet says, one after another, and a stop without a fault
+abbrev pub channel_items : ℕ → List DealtRound → ℕ → List ChannelItem
+channel_items page_size rounds channel =
     Hello channel ∷ map (λ packet. Page (fields_of page_size packet)) (flat_map (round_packets channel) rounds) ++ Stop None ∷ []
 
 -- ---- the law
@@ -46,8 +46,8 @@ pub record AreReadBack (table : RamTable) (uuid : List ℕ) (channels : ℕ) (ro
       → stream.IsReading (stream.settings Main table.page_size limit) main_text (closed table (replicate (length rounds) []))
   pub channels_are_read : (channel : ℕ) → channel < channels
       → IsReading (settings table.page_size uuid channels) (get_or texts channel []) true (channel_told rounds channel)
-  pub have_pieces : (channel : ℕ) → channel < channels
-      → ArePieces (settings table.page_size uuid channels) (get_or texts channel []) (channel_pieces table.page_size rounds channel)
+  pub have_items : (channel : ℕ) → channel < channels
+      → AreItems (settings table.page_size uuid channels) (get_or texts channel []) (channel_items table.page_size rounds channel)
 
 abbrev pub SendingsAreReadBack : Type 0
 SendingsAreReadBack = (table : RamTable) (uuid : List ℕ) (limit channels : ℕ) (rounds : List DealtRound) (main_text : List ℕ) (texts : List (List ℕ))

@@ -20,7 +20,7 @@ HasSentDrained drained sender rounds = HasDrained drained sender (map RoundPart 
 abbrev pub AreOf : RamTable → Image → PlaceSet → Type 0
 AreOf table image dirty = (image.table ≡ table) × (dirty.table ≡ table)
 
--- a round is refused for another table or for want of memory, and for nothing else
+-- a round is refused for another table or a refused allocation, and for nothing else
 abbrev pub IsRoundFault : SendFault → Type 0
 IsRoundFault Channels = ⊥
 IsRoundFault Limit = ⊥

@@ -1,4 +1,4 @@
-//! Batches: the dirty pages of a round in groups, each for one packet.
+//! Batches: the dirty pages of a round in groups, each for one packet. `MultiSender::round` cuts them.
 
 ghost use Rattle.std.specs.Prelude.{◌≡◌, ◌<◌, ◌≤◌, ◌∷◌, All, IfOk, Some};
 ghost use Rattle.mig_mem.specs.PlaceSet.{IsPlaceSet};

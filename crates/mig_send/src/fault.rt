@@ -1,4 +1,4 @@
-//! Why a sender was refused: names and numbers.
+//! Why a sender isn't made, or a round isn't sent, by name and number.
 
 ghost use Rattle.std.specs.Prelude.{◌≡◌};
 ghost use Rattle.mig_send.specs.SendFaultNumber.{fault_number};
@@ -16,7 +16,7 @@ pub enum SendFault {
     Limit,
     /// The image or the dirty set is of another table than the sender's.
     OtherTable,
-    /// A growth was refused.
+    /// An allocation was refused.
     NoMemory,
 }
 

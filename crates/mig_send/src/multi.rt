@@ -1,4 +1,5 @@
-//! The sender on several channels: a main stream with a FLUSH for each round, and the rounds' packets on the channels beside it.
+//! The sender on several channels, for hypervisors: a main stream with a FLUSH for each round, and the rounds' packets on the channels beside
+//! it.
 
 ghost use Rattle.std.specs.Prelude.{◌≡◌, ◌↔◌, ◌<◌, ◌≤◌, ◌++◌, ◌∷◌, [], List, ℕ, Err, length, map, replicate, IfOk, IfErr, OnOk, OnErr, vec_len};
 ghost use Rattle.std.specs.List.{range_with_len};
@@ -128,7 +129,7 @@ impl<A: Allocator + Copy + Send + Sync> MultiSender<A> {
     /// Sends a round: cuts the dirty pages into batches and deals these to the workers, each of which puts its packets, with a SYNC
     /// packet behind them, on its channel, and puts a FLUSH on the main stream. An `Err` changes nothing, so the round can be sent
     /// again. It returns when all workers are done; where no thread can be made, a worker runs on the caller's. Once more than
-    /// 2^63 packets were numbered, each round is refused as for want of memory.
+    /// 2^63 packets were numbered, each round is refused with `NoMemory`.
     pub fn round<
         R: Threads + Sync,
         M: GuestPages<Alloc: Sync> + Sync,
@@ -202,7 +203,7 @@ impl<A: Allocator> MultiSender<A> {
     }
 
     /// Hands out the bytes of the main stream that were written and not drained yet, into a buffer: what it held is dropped, and
-    /// its room is used for what is written next. It takes no memory.
+    /// its room is used for what is written next. It allocates nothing.
     pub fn drain_main(&mut self, bytes: &mut Vec<u8, A>)
         ensures counts { KeepsCounts self.old self.new }
         ensures all { (drained : Drained) (rounds : List DealtRound) → HasSentRounds drained self.old rounds

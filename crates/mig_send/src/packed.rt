@@ -1,4 +1,4 @@
-//! Packing: the packet of a batch.
+//! Packing: the packet of a batch, for `worker`, and for `share`, which writes it to a text.
 
 ghost use Rattle.std.specs.Prelude.{◌≡◌, ◌+◌, ◌<◌, ◌≤◌, ◌++◌, length, map, All, IfOk, OnOk};
 ghost use Rattle.mig_mem.specs.RamTable.{IsTable};

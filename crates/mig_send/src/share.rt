@@ -1,4 +1,4 @@
-//! A worker of a round on several channels: it writes the packets of its share to its channel's text.
+//! A worker of a round on several channels: it writes the packets of its share to its channel's text. `workers` runs one on each thread.
 
 ghost use Rattle.std.specs.Prelude.{◌≡◌, ◌++◌, IsOk, OnOk};
 ghost use Rattle.mig_send.specs.Batches.{IsBatch};
@@ -21,7 +21,7 @@ pub(crate) struct Written<A: Allocator> {
     pub(crate) spent: Spent,
 }
 
-/// Draws as `work` does, and appends the packets to the text of the worker's channel, with a SYNC packet behind them. Once a growth
+/// Draws as `work` does, and appends the packets to the text of the worker's channel, with a SYNC packet behind them. Once an allocation
 /// was refused it draws on without packing; then the text goes on from what it had by a part of the share.
 pub(crate) fn write_share<A: Allocator + Copy, M: GuestPages, C: Allocator, D: Allocator, G: Gate>(
     alloc: A,
@@ -67,7 +67,7 @@ pub(crate) fn write_share<A: Allocator + Copy, M: GuestPages, C: Allocator, D: A
     }
 }
 
-// Appends the packet of one more batch; nothing where memory was refused before.
+// Appends the packet of one more batch; nothing where an allocation was refused before.
 fn add<A: Allocator, M: GuestPages, C: Allocator, G: Gate>(
     made: Result<(), NoMemory>,
     text: &mut Vec<u8, A>,
@@ -89,7 +89,7 @@ fn add<A: Allocator, M: GuestPages, C: Allocator, G: Gate>(
     Ok(())
 }
 
-// Appends the SYNC packet of a number; nothing where memory was refused before.
+// Appends the SYNC packet of a number; nothing where an allocation was refused before.
 fn end<A: Allocator, M: GuestPages>(
     made: Result<(), NoMemory>,
     text: &mut Vec<u8, A>,

@@ -1,4 +1,4 @@
-//! The sender of a single stream: each round becomes one section of page records.
+//! The sender of a single stream, for hypervisors and the tool: each round becomes one section of page records.
 
 ghost use Rattle.std.specs.Prelude.{◌≡◌, ◌++◌, ◌↔◌, ℕ, [], ◌∷◌, List, length, map, Err, IfOk, IfErr, OnOk, OnErr};
 ghost use Rattle.mig_mem.specs.Place.{IsPlace};
@@ -75,7 +75,7 @@ impl<A: Allocator> SingleSender<A> {
     }
 
     /// Hands out the bytes that were written and not drained yet: all that stands of the stream so far is what was drained in
-    /// all. What is drained, piece after piece, and then what `finish` gives is the stream. It takes no memory.
+    /// all. What is drained, piece after piece, and then what `finish` gives is the stream. It allocates nothing.
     pub fn drain(&mut self) -> Vec<u8, A>
     where
         A: Copy,

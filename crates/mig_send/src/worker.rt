@@ -1,4 +1,5 @@
-//! Workers: each draws numbers from the deal of a round, and packs the batches that these claim.
+//! Workers whose packets stand alone, for callers with threads of their own: each draws numbers from the deal of a round, and packs the
+//! batches that these claim.
 //!
 //! A worker starts no thread and waits for nobody. Who runs several of them gives each a seat of its own.
 
@@ -15,7 +16,7 @@ use mig_mem::{GuestPages, NoMemory};
 use mig_packet::{Gate, Step};
 use std::alloc::{Allocator, Global};
 
-/// What a worker answers: its packets in the order of their numbers, or want of memory; its last number, which claims no batch;
+/// What a worker answers: its packets in the order of their numbers, or `NoMemory`; its last number, which claims no batch;
 /// and what is left of its seat, which the deal's end takes.
 pub struct Worked<A: Allocator = Global> {
     pub packets: Result<Vec<Packed<A>, A>, NoMemory>,
@@ -24,8 +25,8 @@ pub struct Worked<A: Allocator = Global> {
 }
 
 /// Draws from a deal until the seat's last number, and packs the batch that each number before it claims: base + i claims batch i.
-/// It tells the gate each draw, the last one too, and each packet that it made. Once a growth was refused it draws on without
-/// packing, so that no number is left out, and answers want of memory.
+/// It tells the gate each draw, the last one too, and each packet that it made. Once an allocation was refused it draws on without
+/// packing, so that no number is left out, and answers `NoMemory`.
 pub fn work<A: Allocator + Copy, M: GuestPages, C: Allocator, D: Allocator, G: Gate>(
     alloc: A,
     deal: &Deal<D>,
@@ -61,7 +62,7 @@ pub fn work<A: Allocator + Copy, M: GuestPages, C: Allocator, D: Allocator, G: G
     }
 }
 
-// The packets with that of one more batch; or want of memory, also where there was none before.
+// The packets with that of one more batch; or `NoMemory`, also where there was none before.
 fn add<A: Allocator + Copy, M: GuestPages, C: Allocator, G: Gate>(
     alloc: A,
     packets: Result<Vec<Packed<A>, A>, NoMemory>,

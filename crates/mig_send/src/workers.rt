@@ -1,4 +1,5 @@
-//! The workers of a round, each with a seat of its own and on a thread of its own, and what they write together.
+//! The workers of a round, each with a seat of its own and on a thread of its own, and what they write together. `MultiSender::round` runs
+//! them.
 
 ghost use Rattle.std.specs.Prelude.{◌≡◌, ◌+◌, ◌<◌, ◌≤◌, ◌∷◌, ◌++◌, [], All, IsOk, OnOk, length, map, vec_len, vec_capacity};
 ghost use Rattle.std.specs.List.{AllZip};
@@ -85,7 +86,7 @@ fn run_all<
     );
 }
 
-// Adds to a list that has room, so it takes no memory.
+// Adds to a list that has room, so it allocates nothing.
 fn put<T, A: Allocator>(list: &mut Vec<T, A>, item: T)
     requires { vec_len list.old < vec_capacity list.old }
     ensures items { list.new.items ≡ list.old.items ++ item ∷ [] }

@@ -1,5 +1,5 @@
 //! Tests of a load on several channels that is fed in pieces: worked texts byte by byte, texts with a fault, guests from a seeded generator
-//! in random pieces, each growth refused, and what is held meanwhile.
+//! in random pieces, each allocation refused, and what is held meanwhile.
 #![tactic(auto)]
 
 #[cfg(test)]

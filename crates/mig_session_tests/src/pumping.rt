@@ -1,4 +1,4 @@
-//! Pumps of the worked texts from readers that give little, that don't end, and that fail, and with each growth refused.
+//! Pumps of the worked texts from readers that give little, that don't end, and that fail, and with each allocation refused.
 
 use crate::checked::CheckedSession;
 use crate::feeding::{feed_text, source_at, text_of};
@@ -161,7 +161,7 @@ fn reads_of_many_lengths(rt: HostRuntime) {
     assert!(rt; pumped == Err(PumpFault::TooManyTurns) && session.fed(&rt, channel) == 65_536);
 }
 
-// Pumps a source with growth `nth` refused, and says whether it was. The first growth is the buffer's, which leaves the session as it was,
+// Pumps a source with allocation `nth` refused, and says whether it was. The first allocation is the buffer's, which leaves the session as it was,
 // and each other one a piece's, which counts.
 fn is_refused<A: Refuses>(
     rt: &impl Abort,
@@ -213,7 +213,7 @@ fn is_pump_refused<A: Refuses>(
 }
 
 #[test]
-fn each_growth_refused(rt: HostRuntime) {
+fn each_allocation_refused(rt: HostRuntime) {
     let texts = page_and_zeros(&rt);
     let heap = Refusing::new(rt.alloc(), 0);
     for number in 0..2usize {

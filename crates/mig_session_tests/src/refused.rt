@@ -1,4 +1,4 @@
-//! Sessions with each growth refused in turn.
+//! Sessions with each allocation refused in turn.
 
 use crate::checked::CheckedSession;
 use crate::feeding::{source_at, text_of};
@@ -25,7 +25,7 @@ fn is_made<A: Allocator + Copy>(rt: &impl Abort, alloc: A) -> bool {
 }
 
 #[test]
-fn new_with_each_growth_refused(rt: HostRuntime) {
+fn new_with_each_allocation_refused(rt: HostRuntime) {
     let heap = Refusing::new(rt.alloc(), 0);
     for nth in 1..1000u64 {
         heap.refuse(nth);
@@ -39,7 +39,7 @@ fn new_with_each_growth_refused(rt: HostRuntime) {
     panic!(rt; "each run had a refusal");
 }
 
-// Asserts what a session tells once a growth was refused: the memory is that after the rounds counted. Before the first round there may be
+// Asserts what a session tells once an allocation was refused: the memory is that after the rounds counted. Before the first round there may be
 // none.
 fn assert_no_memory<A: Allocator>(rt: &impl Abort, session: &CheckedSession<A>) {
     let rounds = session.rounds();
@@ -113,7 +113,7 @@ fn assert_stays<A: Refuses>(
     assert_no_memory(rt, session);
 }
 
-// Feeds a session the texts of two rounds with growth `nth` refused. Gives the rounds of a session that was refused it; the others are done.
+// Feeds a session the texts of two rounds with allocation `nth` refused. Gives the rounds of a session that was refused it; the others are done.
 fn rounds_when_refused<A: Refuses>(
     rt: &impl Abort,
     heap: A,
@@ -138,8 +138,8 @@ fn rounds_when_refused<A: Refuses>(
     None
 }
 
-// Each growth is refused in turn, up to the first session that has no refusal. Some of the refused ones have the first round.
-fn assert_growths(rt: &(impl AllocGlobal + Abort), texts: &Sent, len: usize) {
+// Each allocation is refused in turn, up to the first session that has no refusal. Some of the refused ones have the first round.
+fn assert_allocations(rt: &(impl AllocGlobal + Abort), texts: &Sent, len: usize) {
     let heap = Refusing::new(rt.alloc(), 0);
     let mut most = 0u64;
     for nth in 1..10_000u64 {
@@ -157,9 +157,9 @@ fn assert_growths(rt: &(impl AllocGlobal + Abort), texts: &Sent, len: usize) {
 
 // In pieces that end inside items, and as whole texts, which bring both rounds with one piece.
 #[test]
-fn feed_with_each_growth_refused(rt: HostRuntime) {
+fn feed_with_each_allocation_refused(rt: HostRuntime) {
     for len in [9usize, 1000, 100_000] {
-        assert_growths(&rt, &sevens_then_zeros(&rt), len);
-        assert_growths(&rt, &sevens_then_zeros_on_two(&rt), len);
+        assert_allocations(&rt, &sevens_then_zeros(&rt), len);
+        assert_allocations(&rt, &sevens_then_zeros_on_two(&rt), len);
     }
 }

@@ -1,12 +1,12 @@
-//! An allocator that refuses one growth, as tests hand it on.
+//! An allocator that refuses one allocation, as tests hand it on.
 
 use mig_refusing::Refusing;
 use std::alloc::Allocator;
 
-/// A reference to an allocator that refuses one growth. What is generic in it the checker's borrow rules cover, and not what names
+/// A reference to an allocator that refuses one allocation. What is generic in it the checker's borrow rules cover, and not what names
 /// `&Refusing`.
 pub(crate) trait Refuses: Allocator + Copy {
-    /// Refuses growth number `nth` from here on, and none if `nth` is 0.
+    /// Refuses allocation number `nth` from here on, and none if `nth` is 0.
     fn refuse(&self, nth: u64);
 
     /// Whether the refusal hasn't come yet.

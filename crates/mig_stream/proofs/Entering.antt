@@ -15,7 +15,7 @@ use Rattle.mig_mem.proofs.Lawful.{unrefused}
 use Rattle.mig_stream.specs.Entries.{Listed, AreListed, IsNext}
 use Rattle.mig_stream.proofs.Tables.{new_id}
 
--- A lawful table is refused for want of memory alone.
+-- A lawful table is refused with `NoMemory` alone.
 pub memory_alone : (table built : RamTable) (e : TableFault) → IsTable table → built ≡ table → (e ≡ fault.NoMemory) ⊎ (refusal built ≡ Some e) → e ≡ fault.NoMemory
 memory_alone table built e is same (inl h) = h
 memory_alone table built e is same (inr h) = absurd (let clash : None ≡ Some e = sym (unrefused table is) ∙ ap refusal (sym same) ∙ h in cc)

@@ -74,20 +74,20 @@ work_small Footer = omega arith
 work_small Nothing = omega arith
 
 -- an item is not empty, or it is a name, behind which no name comes
-step : (c : StreamProgress) (d : Due) (item : List ℕ) → 0 < c.page_size → d ≢ Nothing → length item ≡ size c.page_size d item → work (after_item c d item).due < 2 * length item + work d
-step c FileHeader item some open_ whole = omega arith
-step c (TypeByte before) item some open_ whole = omega (arith, work_small (after_type c (slice_index item 0)).due)
-step c ConfigLength item some open_ whole = omega (arith, work_small (after_item c ConfigLength item).due)
-step c (ConfigName len) item some open_ whole = omega arith
-step c StartHead item some open_ whole = omega arith
-step c SectionHead item some open_ whole = omega arith
-step c RecordHead item some open_ whole = omega (arith, work_small (after_item c RecordHead item).due)
-step c ListEntry item some open_ whole = omega (arith, work_small (after_item c ListEntry item).due)
-step c (BlockName filling page) item some open_ whole = omega arith
-step c (Content Zero place) item some open_ whole = omega arith
-step c (Content Normal place) item some open_ whole = omega arith
-step c Footer item some open_ whole = omega arith
-step c Nothing item some open_ whole = absurd (open_ refl)
+pub work_falls : (c : StreamProgress) (d : Due) (item : List ℕ) → 0 < c.page_size → d ≢ Nothing → length item ≡ size c.page_size d item → work (after_item c d item).due < 2 * length item + work d
+work_falls c FileHeader item some open_ whole = omega arith
+work_falls c (TypeByte before) item some open_ whole = omega (arith, work_small (after_type c (slice_index item 0)).due)
+work_falls c ConfigLength item some open_ whole = omega (arith, work_small (after_item c ConfigLength item).due)
+work_falls c (ConfigName len) item some open_ whole = omega arith
+work_falls c StartHead item some open_ whole = omega arith
+work_falls c SectionHead item some open_ whole = omega arith
+work_falls c RecordHead item some open_ whole = omega (arith, work_small (after_item c RecordHead item).due)
+work_falls c ListEntry item some open_ whole = omega (arith, work_small (after_item c ListEntry item).due)
+work_falls c (BlockName filling page) item some open_ whole = omega arith
+work_falls c (Content Zero place) item some open_ whole = omega arith
+work_falls c (Content Normal place) item some open_ whole = omega arith
+work_falls c Footer item some open_ whole = omega arith
+work_falls c Nothing item some open_ whole = absurd (open_ refl)
 
 -- whether an item is due at all
 is_nothing : (d : Due) → (d ≡ Nothing) ⊎ (d ≢ Nothing)
@@ -132,7 +132,7 @@ read_on (suc fuel) from c text front rest some few e so_far =
             elim (faulty (first_fault c item)) [
               | inl free ↦
                   let lens : length item + length more ≡ length rest = sym (length-append item more) ∙ ap length parts in
-                  let less : work (after c item).due < 2 * length item + work c.due = step c c.due item some open_ is.is_whole in
+                  let less : work (after c item).due < 2 * length item + work c.due = work_falls c c.due item some open_ is.is_whole in
                   let text_is : text ≡ (front ++ item) ++ more = e ∙ ap (λ (x : List ℕ). front ++ x) (sym parts) ∙ sym (append_assoc front item more) in
                   read_on fuel from (after c item) text (front ++ item) more (omega (arith, item_size c c.due item)) (omega arith) text_is (Front-push from c front item so_far is free)
               | inr found ↦ (c, rest, Bad found.0, record { front = front; has_text = e; leads = so_far; ends = (item, more, sym parts, is, found.1) })

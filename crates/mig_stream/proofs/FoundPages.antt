@@ -49,7 +49,7 @@ pub record RestOfName (Behind : StreamProgress → List ℕ → Type 0) (c : Str
 
 -- ---- contents
 
--- the mark of a zero page, in front of the section's rest
+-- a zero record, in front of the section's rest
 pub zero_back : (Behind : StreamProgress → List ℕ → Type 0) (c : StreamProgress) (place : Place) (item bytes : List ℕ) → length item ≡ 1 → first_of (faults c (Content Zero place) item) ≡ None
     → RestOfBody Behind (with_record c place None) bytes → RestOfPage Behind c Zero place (item ++ bytes)
 zero_back Behind c place [] bytes len free r = absurd cc

@@ -37,3 +37,4 @@ pub mod Standing
 pub mod Keeping
 pub mod Limits
 pub mod Longer
+pub mod ZeroRecords

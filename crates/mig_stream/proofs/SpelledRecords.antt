@@ -36,7 +36,7 @@ page_fits table b page kind is known in_range =
     omega (arith, flags_small kind, page_size_large table.page_size is.has_page_size, page_before table.page_size (block table.blocks b).pages page in_range, block_room table b is known)
 
 -- a page's content, as a mark or whole
-content_front : (c : StreamProgress) (at : Place) (content : Option (List ℕ)) → IfSome content (λ bytes. length bytes ≡ c.page_size)
+pub content_front : (c : StreamProgress) (at : Place) (content : Option (List ℕ)) → IfSome content (λ bytes. length bytes ≡ c.page_size)
     → Front (record c { due = Content (filling_of content) at }) (content_bytes content) (with_record c at content)
 content_front c at None len = item_front (record c { due = Content Zero at }) (0 ∷ []) (λ e. absurd cc) refl refl
 content_front c at (Some bytes) len = item_front (record c { due = Content Normal at }) bytes (λ e. absurd cc) len refl

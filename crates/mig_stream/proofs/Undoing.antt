@@ -3,14 +3,14 @@ use Rattle.std.proofs.Common.{◌≡◌, ℕ, suc, ◌<◌, ◌≤◌, List, ◌
 use Rattle.std.specs.List.{remove}
 use Rattle.std.proofs.lemmas.List.{length-append, length-take-le, take_at, get_or_at}
 use Rattle.mig_mem.specs.RamTable.{Block}
-use Rattle.mig_stream.specs.declared.progress.Mark.{Mark}
+use Rattle.mig_stream.specs.declared.progress.Checkpoint.{Checkpoint}
 use Rattle.mig_stream.specs.declared.item.Mode.{Mode}
 use Rattle.mig_stream.specs.declared.item.Section.{Section}
 use Rattle.mig_stream.specs.declared.item.Due.{Due}
 use Rattle.mig_stream.specs.PageRecord.{PageRecord}
 use Rattle.mig_stream.specs.Progress.{StreamProgress, is_used_up}
 use Rattle.mig_stream.specs.Entries.{Listed, AreListed, WereListed}
-use Rattle.mig_stream.specs.Later.{mark_of, HasGrown, IsLater, WasMarked}
+use Rattle.mig_stream.specs.Later.{checkpoint_of, HasGrown, IsLater, WasSaved}
 
 -- where a round ended behind the mark, its first records are those of the mark
 pub open_round : (c now : StreamProgress) (n m : ℕ) (x : List PageRecord) (left : List (List PageRecord)) → n ≡ length c.rounds → m ≡ length c.records → HasGrown c now → n < length now.rounds
@@ -33,14 +33,14 @@ same_round c now n m n_is m_is (inr h) le = absurd (omega (arith, ap length h.2,
 pub same_entries : (c now : StreamProgress) → IsLater c now → take (length c.blocks) now.blocks ≡ c.blocks
 same_entries c now l = ap (take (length c.blocks)) l.has_blocks ∙ take_at c.blocks l.more_blocks (length c.blocks) refl
 
-pub were_listed : (mark : Mark) (now : StreamProgress) (e : Listed) → WasMarked mark now → e.page_size ≡ now.page_size → e.limit ≡ now.limit → e.left ≡ now.left → e.blocks ≡ now.blocks → WereListed e mark.left mark.blocks
-were_listed mark now e w same_size same_limit same_left same_blocks =
+pub were_listed : (checkpoint : Checkpoint) (now : StreamProgress) (e : Listed) → WasSaved checkpoint now → e.page_size ≡ now.page_size → e.limit ≡ now.limit → e.left ≡ now.left → e.blocks ≡ now.blocks → WereListed e checkpoint.left checkpoint.blocks
+were_listed checkpoint now e w same_size same_limit same_left same_blocks =
     let c : StreamProgress = w.before in
-    let left : mark.left ≡ c.left = ap (λ (m : Mark). m.left) w.is_mark in
-    let count : mark.blocks ≡ length c.blocks = ap (λ (m : Mark). m.blocks) w.is_mark in
-    let blocks : take mark.blocks e.blocks ≡ c.blocks = ap (λ (n : ℕ). take n e.blocks) count ∙ ap (take (length c.blocks)) same_blocks ∙ same_entries c now w.is_later in
+    let left : checkpoint.left ≡ c.left = ap (λ (m : Checkpoint). m.left) w.is_checkpoint in
+    let count : checkpoint.blocks ≡ length c.blocks = ap (λ (m : Checkpoint). m.blocks) w.is_checkpoint in
+    let blocks : take checkpoint.blocks e.blocks ≡ c.blocks = ap (λ (n : ℕ). take n e.blocks) count ∙ ap (take (length c.blocks)) same_blocks ∙ same_entries c now w.is_later in
     record {
-      are_listed = subst (λ (b : List Block). AreListed e.page_size e.limit mark.left b) (sym blocks)
+      are_listed = subst (λ (b : List Block). AreListed e.page_size e.limit checkpoint.left b) (sym blocks)
           (subst (λ (o : Option ℕ). AreListed e.page_size e.limit o c.blocks) (sym left)
           (subst (λ (n : ℕ). AreListed e.page_size n c.left c.blocks) (sym (same_limit ∙ w.is_later.same_limit))
           (subst (λ (n : ℕ). AreListed n c.limit c.left c.blocks) (sym (same_size ∙ w.is_later.same_page_size)) w.are_listed)));
@@ -50,19 +50,19 @@ were_listed mark now e w same_size same_limit same_left same_blocks =
     }
 
 -- what was read to there, field by field
-pub is_back : (c now new : StreamProgress) (mark : Mark) → mark ≡ mark_of c → IsLater c now → new.mode ≡ now.mode → new.page_size ≡ now.page_size → new.limit ≡ now.limit
-    → new.due ≡ mark.due → new.section ≡ mark.section → new.section_id ≡ mark.section_id → new.left ≡ mark.left → new.named ≡ mark.named
-    → new.blocks ≡ take mark.blocks now.blocks → new.records ≡ c.records → new.rounds ≡ c.rounds → new ≡ c
-is_back c now new mark is l mode page_size limit due section section_id left named blocks records rounds =
-    let back : take mark.blocks now.blocks ≡ c.blocks = ap (λ (m : Mark). take m.blocks now.blocks) is ∙ same_entries c now l in
+pub is_back : (c now new : StreamProgress) (checkpoint : Checkpoint) → checkpoint ≡ checkpoint_of c → IsLater c now → new.mode ≡ now.mode → new.page_size ≡ now.page_size → new.limit ≡ now.limit
+    → new.due ≡ checkpoint.due → new.section ≡ checkpoint.section → new.section_id ≡ checkpoint.section_id → new.left ≡ checkpoint.left → new.named ≡ checkpoint.named
+    → new.blocks ≡ take checkpoint.blocks now.blocks → new.records ≡ c.records → new.rounds ≡ c.rounds → new ≡ c
+is_back c now new checkpoint is l mode page_size limit due section section_id left named blocks records rounds =
+    let back : take checkpoint.blocks now.blocks ≡ c.blocks = ap (λ (m : Checkpoint). take m.blocks now.blocks) is ∙ same_entries c now l in
     ap (λ (x : Mode). record new { mode = x }) (mode ∙ l.same_mode)
     ∙ ap (λ (x : ℕ). record new { mode = c.mode; page_size = x }) (page_size ∙ l.same_page_size)
     ∙ ap (λ (x : ℕ). record new { mode = c.mode; page_size = c.page_size; limit = x }) (limit ∙ l.same_limit)
-    ∙ ap (λ (x : Due). record c { due = x; section = new.section; section_id = new.section_id; left = new.left; named = new.named; blocks = new.blocks; records = new.records; rounds = new.rounds }) (due ∙ ap (λ (m : Mark). m.due) is)
-    ∙ ap (λ (x : Section). record c { section = x; section_id = new.section_id; left = new.left; named = new.named; blocks = new.blocks; records = new.records; rounds = new.rounds }) (section ∙ ap (λ (m : Mark). m.section) is)
-    ∙ ap (λ (x : ℕ). record c { section_id = x; left = new.left; named = new.named; blocks = new.blocks; records = new.records; rounds = new.rounds }) (section_id ∙ ap (λ (m : Mark). m.section_id) is)
-    ∙ ap (λ (x : Option ℕ). record c { left = x; named = new.named; blocks = new.blocks; records = new.records; rounds = new.rounds }) (left ∙ ap (λ (m : Mark). m.left) is)
-    ∙ ap (λ (x : Option ℕ). record c { named = x; blocks = new.blocks; records = new.records; rounds = new.rounds }) (named ∙ ap (λ (m : Mark). m.named) is)
+    ∙ ap (λ (x : Due). record c { due = x; section = new.section; section_id = new.section_id; left = new.left; named = new.named; blocks = new.blocks; records = new.records; rounds = new.rounds }) (due ∙ ap (λ (m : Checkpoint). m.due) is)
+    ∙ ap (λ (x : Section). record c { section = x; section_id = new.section_id; left = new.left; named = new.named; blocks = new.blocks; records = new.records; rounds = new.rounds }) (section ∙ ap (λ (m : Checkpoint). m.section) is)
+    ∙ ap (λ (x : ℕ). record c { section_id = x; left = new.left; named = new.named; blocks = new.blocks; records = new.records; rounds = new.rounds }) (section_id ∙ ap (λ (m : Checkpoint). m.section_id) is)
+    ∙ ap (λ (x : Option ℕ). record c { left = x; named = new.named; blocks = new.blocks; records = new.records; rounds = new.rounds }) (left ∙ ap (λ (m : Checkpoint). m.left) is)
+    ∙ ap (λ (x : Option ℕ). record c { named = x; blocks = new.blocks; records = new.records; rounds = new.rounds }) (named ∙ ap (λ (m : Checkpoint). m.named) is)
     ∙ ap (λ (x : List Block). record c { blocks = x; records = new.records; rounds = new.rounds }) (blocks ∙ back)
     ∙ ap (λ (x : List PageRecord). record c { records = x; rounds = new.rounds }) records
     ∙ ap (λ (x : List (List PageRecord)). record c { rounds = x }) rounds

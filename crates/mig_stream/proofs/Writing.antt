@@ -87,7 +87,7 @@ pub round_of-push : (m : Image) (ps : List Place) (p : Place) → round_of m (ps
 unfolding pages_of
 round_of-push m ps p = map-append (λ (q : Place). record { place = q; content = content_at m q }) ps (p ∷ [])
 
--- the front of a text that grew, and grew again
+-- the beginning of a text that grew, and grew again
 front_of_more : (x more z : List ℕ) → take (length (x ++ more)) z ≡ x ++ more → take (length x) z ≡ x
 front_of_more x more z h =
     let short : length x ≤ length (x ++ more) = omega (arith, length-append x more) in

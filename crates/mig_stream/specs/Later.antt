@@ -1,15 +1,15 @@
 -- What items leave as it was, so that a reader can go back.
 use Rattle.std.specs.Prelude.{◌≡◌, ◌⊎◌, List, ◌∷◌, ◌++◌, length, true}
 use Rattle.mig_mem.specs.RamTable.{Block}
-use Rattle.mig_stream.specs.declared.progress.Mark.{Mark}
+use Rattle.mig_stream.specs.declared.progress.Checkpoint.{Checkpoint}
 use Rattle.mig_stream.specs.PageRecord.{PageRecord}
 use Rattle.mig_stream.specs.Progress.{StreamProgress, is_used_up}
 use Rattle.mig_stream.specs.Entries.{AreListed}
 use Rattle.mig_stream.specs.Kept.{HasShortPlace}
 
 -- the mark that is made there
-abbrev pub mark_of : StreamProgress → Mark
-mark_of c = record {
+abbrev pub checkpoint_of : StreamProgress → Checkpoint
+checkpoint_of c = record {
   due = c.due;
   section = c.section;
   section_id = c.section_id;
@@ -37,9 +37,9 @@ pub record IsLater (old new : StreamProgress) : Type 0 where
   pub same_table : is_used_up old.left ≡ true → (new.left ≡ old.left) × (new.blocks ≡ old.blocks)
 
 -- the mark was made before items that led here
-pub record WasMarked (mark : Mark) (now : StreamProgress) : Type 0 where
+pub record WasSaved (checkpoint : Checkpoint) (now : StreamProgress) : Type 0 where
   pub before : StreamProgress
-  pub is_mark : mark ≡ mark_of before
+  pub is_checkpoint : checkpoint ≡ checkpoint_of before
   pub is_later : IsLater before now
   pub are_listed : AreListed before.page_size before.limit before.left before.blocks
   pub has_short_place : HasShortPlace before.due

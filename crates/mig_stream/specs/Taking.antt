@@ -1,6 +1,7 @@
 -- What taking an item does to how far a stream has been read.
-use Rattle.std.specs.Prelude.{◌≡◌, ℕ, List, ◌++◌, Some, None, Result, Ok, Err, ⊤}
+use Rattle.std.specs.Prelude.{◌≡◌, ◌≤◌, ℕ, List, ◌++◌, length, take, Some, None, Result, Ok, Err, ⊤}
 use Rattle.mig_stream.specs.declared.item.Due.{Due}
+use Rattle.mig_stream.specs.declared.item.Due.TheVariants.{RecordHead}
 use Rattle.mig_stream.specs.declared.item.RecordKind.{RecordKind}
 use Rattle.mig_stream.specs.declared.stop.Stop.{Stop}
 use Rattle.mig_stream.specs.declared.stop.Stop.TheVariants as stop
@@ -9,7 +10,7 @@ use Rattle.mig_mem.specs.First.{first_of}
 use Rattle.mig_stream.specs.Items.{faults, kind_faults, after_kind, after_item}
 use Rattle.mig_stream.specs.Reading.{Front}
 
--- An item of this kind is taken where it has no fault, and else its first fault is told. Where memory was refused nothing is
+-- An item of this kind is taken where it has no fault, and else its first fault is told. Where an allocation was refused nothing is
 -- told. Without the item nothing changes.
 abbrev pub TakesAs : StreamProgress → Due → List ℕ → StreamProgress → Result ⊤ Stop → Type 0
 TakesAs old due item new (Ok done) = (first_of (faults old due item) ≡ None) × (new ≡ after_item old due item)
@@ -28,3 +29,16 @@ pub record HasTaken (old : StreamProgress) (bytes : List ℕ) (new : StreamProgr
   pub rest : List ℕ
   pub has_bytes : bytes ≡ front ++ rest
   pub leads : Front old front new
+
+-- the bytes before this rest, whole items without a fault, were taken
+abbrev pub HasTakenTo : StreamProgress → List ℕ → List ℕ → StreamProgress → Type 0
+HasTakenTo old bytes rest new = (front : List ℕ) × (bytes ≡ front ++ rest) × Front old front new
+
+-- The first n bytes, whole records without a fault, were taken: the next record is due, and the table stays.
+pub record HasTakenRecords (old : StreamProgress) (bytes : List ℕ) (n : ℕ) (new : StreamProgress) : Type 0 where
+  pub fits : n ≤ length bytes
+  pub leads : Front old (take n bytes) new
+  pub is_due : new.due ≡ RecordHead
+  pub same_left : new.left ≡ old.left
+  pub same_blocks : new.blocks ≡ old.blocks
+  pub same_page_size : new.page_size ≡ old.page_size

@@ -1,4 +1,4 @@
-//! Bytes in memory of their own.
+//! Bytes copied into memory of their own, for the ids of a size list (`entries`).
 
 ghost use Rattle.std.specs.Prelude.{◌≡◌, IfOk};
 

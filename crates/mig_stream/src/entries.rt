@@ -1,4 +1,4 @@
-//! The entries of a size list, and the table that they make.
+//! The entries of a size list, and the table that they make. `Progress` keeps them as they are read.
 
 ghost use Rattle.std.specs.Prelude.{◌≡◌, ◌+◌, ◌*◌, ◌<◌, ◌≤◌, ◌^◌, length, take, None, Some, [], IfOk, OnOk, OnErr, IsTrue, IfSome, nat_lt};
 ghost use Rattle.std.specs.Option.{option_copied, unwrap_or};

@@ -1,4 +1,4 @@
-//! Why a stream is refused: names and numbers.
+//! Why a stream is refused, by name and number: what `StreamReader::state` answers, and loads pass on.
 
 ghost use Rattle.std.specs.Prelude.{◌≡◌};
 ghost use Rattle.mig_stream.specs.FaultNumber.{fault_number};

@@ -1,4 +1,5 @@
-//! The items that a stream is read by, as plain names. What each of them has to look like stands in `specs/`.
+//! The items that a stream is read by, as plain names, for the definitions and for `items`, `progress` and `reader`. What each of them has
+//! to look like stands in `specs/`.
 
 use crate::StreamFault;
 use mig_mem::Place;
@@ -42,7 +43,7 @@ pub enum Before {
     LastFooter,
 }
 
-/// How a page record holds its page: as the mark of a zero page, or whole.
+/// How a page record holds its page: as a zero record, or whole.
 #[derive(Clone, Copy)]
 pub enum Filling {
     /// `RAM_SAVE_FLAG_ZERO`.

@@ -1,4 +1,4 @@
-//! How each item of a stream is taken.
+//! How each item of a stream is taken. `Progress::run` calls it for the kind that is due.
 //!
 //! A function takes one kind of item, whole: it judges it, in the order of the item's faults, and notes what it tells.
 
@@ -349,7 +349,7 @@ fn after_entry(left: u64) -> Due
 }
 
 // The page number and the flags of a record's head. The sizes are named, so that none is divided by at run time.
-fn split_head(head: u64, page_size: u64) -> (u64, u16)
+pub(crate) fn split_head(head: u64, page_size: u64) -> (u64, u16)
     requires { IsPageSize page_size }
     ensures page { result.0 ≡ head / page_size }
     ensures flags { result.1 ≡ head % page_size }

@@ -22,6 +22,7 @@ mod record;
 mod round;
 mod stop;
 mod writer;
+mod zeros;
 
 pub use fault::StreamFault;
 pub use item::{Mode, StreamState};

@@ -1,4 +1,4 @@
-//! The front of a stream that a writer makes: file header and START.
+//! What a stream begins with that a writer makes: file header and START. `StreamWriter::new` calls it.
 
 ghost use Rattle.std.specs.Prelude.{◌≡◌, ◌*◌, ◌<◌, ◌≤◌, ◌^◌, ◌++◌, length, IfOk, OnOk};
 ghost use Rattle.std.specs.List.{flat_map};

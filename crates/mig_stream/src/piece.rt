@@ -1,4 +1,4 @@
-//! The bytes that a reader is given to read.
+//! The bytes that a reader is given to read, which pass by or stay: `reader` makes them, and `round` copies or lends of them.
 
 ghost use Rattle.std.specs.Prelude.{◌≡◌, ◌≤◌, length, take, drop};
 ghost use Rattle.mig_stream.specs.Kept.{bytes_of};

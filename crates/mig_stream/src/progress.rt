@@ -1,4 +1,4 @@
-//! How far a stream has been read.
+//! How far a stream has been read, and the loop over its items. `StreamReader` keeps one.
 
 ghost use Rattle.std.specs.Prelude.{◌≡◌, ◌≢◌, ◌≤◌, ◌^◌, OnErr, IfOk, IfSome, IfNone, [], ◌∷◌, IsTrue, IsFalse};
 ghost use Rattle.std.specs.Option.{option_copied};
@@ -10,7 +10,7 @@ ghost use Rattle.mig_stream.specs.Reading.{IsItem, Reads};
 ghost use Rattle.mig_stream.specs.Taking.{TakesAs, HasTaken};
 ghost use Rattle.mig_stream.specs.Entries.{AreListed};
 ghost use Rattle.mig_stream.specs.Kept.{bytes_of, HasShortPlace};
-ghost use Rattle.mig_stream.specs.Later.{mark_of, IsLater, WasMarked};
+ghost use Rattle.mig_stream.specs.Later.{checkpoint_of, IsLater, WasSaved};
 ghost use Rattle.mig_stream.specs.Reader.{with_taken};
 
 use crate::entries::Entries;
@@ -68,7 +68,7 @@ impl<'a, A: Allocator> Model for Progress<'a, A> {
 
 /// How far a stream had been read, to go back to: its lists only grow.
 #[derive(Clone, Copy)]
-pub(crate) struct Mark {
+pub(crate) struct Checkpoint {
     due: Due,
     section: Section,
     section_id: u32,
@@ -125,7 +125,7 @@ impl<'a, A: Allocator + Copy> Progress<'a, A> {
         }
     }
 
-    /// Takes items from the front of the bytes, as far as they are whole and without a fault. Gives the bytes that are left,
+    /// Takes items from the beginning of the bytes, as far as they are whole and without a fault. Gives the bytes that are left,
     /// and how they stand. After an `Err` some items were taken.
     pub(crate) fn run<'b>(
         &mut self,
@@ -143,7 +143,7 @@ impl<'a, A: Allocator + Copy> Progress<'a, A> {
             }
             let (item, behind) = rest.split_at(size);
             match self.take(item) {
-                Ok(()) => rest = behind,
+                Ok(()) => rest = self.pass_zeros(behind)?,
                 Err(Stop::Fault(fault)) => return Ok((rest, StreamState::Bad(fault))),
                 Err(Stop::Memory) => return Err(NoMemory),
             }
@@ -209,12 +209,12 @@ impl<'a, A: Allocator> Progress<'a, A> {
     }
 
     /// The mark of this place.
-    pub(crate) fn mark(&self) -> Mark
-        ensures value { result ≡ mark_of self.now }
+    pub(crate) fn checkpoint(&self) -> Checkpoint
+        ensures value { result ≡ checkpoint_of self.now }
         ensures listed { AreListed self.now.page_size self.now.limit self.now.left self.now.blocks }
         ensures short { HasShortPlace self.now.due }
     {
-        Mark {
+        Checkpoint {
             due: self.due,
             section: self.section,
             section_id: self.section_id,
@@ -227,19 +227,19 @@ impl<'a, A: Allocator> Progress<'a, A> {
     }
 
     /// Goes back to where the mark was made.
-    pub(crate) fn undo(&mut self, mark: Mark)
-        requires { WasMarked mark self.old }
-        ensures { (c : StreamProgress) → mark ≡ mark_of c → IsLater c self.old → self.new ≡ c }
+    pub(crate) fn undo(&mut self, checkpoint: Checkpoint)
+        requires { WasSaved checkpoint self.old }
+        ensures { (c : StreamProgress) → checkpoint ≡ checkpoint_of c → IsLater c self.old → self.new ≡ c }
     {
-        self.due = mark.due;
-        self.section = mark.section;
-        self.section_id = mark.section_id;
-        self.named = mark.named;
-        self.entries.go_back(mark.left, mark.blocks);
-        if let Some(records) = self.rounds.remove(mark.rounds) {
+        self.due = checkpoint.due;
+        self.section = checkpoint.section;
+        self.section_id = checkpoint.section_id;
+        self.named = checkpoint.named;
+        self.entries.go_back(checkpoint.left, checkpoint.blocks);
+        if let Some(records) = self.rounds.remove(checkpoint.rounds) {
             let _others = mem::replace(&mut self.records, records);
-            self.rounds.truncate(mark.rounds);
+            self.rounds.truncate(checkpoint.rounds);
         }
-        self.records.truncate(mark.records);
+        self.records.truncate(checkpoint.records);
     }
 }

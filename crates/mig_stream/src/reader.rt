@@ -1,7 +1,7 @@
-//! The reader of a stream that comes in pieces.
+//! The reader of a stream that comes in pieces, or is there whole. The loaders of `mig_load` call it.
 //!
 //! It keeps what was read as a `Progress`, and of the text only the bytes of an item that isn't whole yet. A piece is read in
-//! place, but for what such an item needs of its front.
+//! place, but for what such an item needs of its beginning.
 
 ghost use Rattle.std.specs.Prelude.{◌≡◌, ◌≢◌, ◌+◌, ◌<◌, ◌≤◌, ◌^◌, ◌++◌, ◌↔◌, ℕ, Bool, List, [], ◌∷◌, length, take, true, false, IsTrue, IsFalse, IsOk, Some, All, IfOk, IfSome, IfNone, OnOk, OnErr};
 ghost use Rattle.std.specs.Option.{option_copied};
@@ -60,7 +60,7 @@ fn state_at(ended: bool, found: StreamState) -> StreamState
     }
 }
 
-// Fills the pending item up from the front of a piece. Gives what is left of the piece, or None where the item isn't whole
+// Fills the pending item up from the beginning of a piece. Gives what is left of the piece, or None where the item isn't whole
 // with all of it.
 fn complete<'b, A: Allocator>(
     progress: &Progress<'_, A>,
@@ -214,7 +214,7 @@ impl<'a, A: Allocator + Copy> StreamReader<'a, A> {
         ensures same { OnOk result ((self.new.fed ≡ self.old.fed) × (self.new.ended ≡ self.old.ended)) }
         ensures err { OnErr result (self.new ≡ self.old) }
     {
-        let mark = self.progress.mark();
+        let checkpoint = self.progress.checkpoint();
         let len = self.pending.len();
         match read(&mut self.progress, &mut self.pending, piece) {
             Ok(found) => {
@@ -222,7 +222,7 @@ impl<'a, A: Allocator + Copy> StreamReader<'a, A> {
                 Ok(())
             }
             Err(error) => {
-                self.progress.undo(mark);
+                self.progress.undo(checkpoint);
                 self.pending.truncate(len);
                 Err(error)
             }
@@ -277,7 +277,7 @@ impl<'a, A: Allocator> StreamReader<'a, A> {
         self.progress.table()
     }
 
-    /// The next whole round that was not taken, in the order of the text. It takes no memory, and is always `Ok`.
+    /// The next whole round that was not taken, in the order of the text. It allocates nothing, and is always `Ok`.
     pub fn take_round(&mut self) -> Result<Option<StreamRound<'a, A>>, NoMemory>
         ensures ok { IsOk result }
         ensures none { IfOk result (λ o. IfNone o (self.new ≡ self.old)) }

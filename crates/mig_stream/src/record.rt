@@ -1,4 +1,4 @@
-//! Page records as they are kept, each in 24 bytes.
+//! Page records as they are kept, each in 24 bytes, for `round`.
 //!
 //! The bytes of copied pages lie together in buffers, so that most pages need no allocation of their own. A buffer belongs to the
 //! record of its first page, and the records behind it say where in it their bytes are.
@@ -6,6 +6,7 @@
 ghost use Rattle.std.specs.Prelude.{◌≡◌, ◌+◌, ◌<◌, ◌≤◌, ◌^◌, ◌++◌, [], ◌∷◌, length, take, None, Some, IfOk, IfSome, IfNone};
 ghost use Rattle.std.specs.Option.{option_copied};
 ghost use Rattle.mig_stream.specs.Kept.{buffer_of, buffers_of_records, bytes_at, IsWithin, place_of, IsGrown, records_after, AreHeldAfter};
+ghost use Rattle.mig_mem.specs.Place.{place_at};
 ghost use Rattle.mig_stream.specs.Round.{record_at};
 
 use mig_mem::{NoMemory, Place};
@@ -45,10 +46,17 @@ impl<'a, A: Allocator> Record<'a, A> {
             Record::Behind(block, page, _) => (*block, *page),
             Record::Lent(block, page, _) => (*block, *page),
         };
-        Place {
-            block: block as usize,
-            page: page as u64,
-        }
+        place_of(block, page)
+    }
+}
+
+/// The place of these numbers.
+pub(crate) fn place_of(block: u8, page: u32) -> Place
+    ensures { result ≡ place_at block page }
+{
+    Place {
+        block: block as usize,
+        page: page as u64,
     }
 }
 

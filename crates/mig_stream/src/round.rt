@@ -1,24 +1,35 @@
-//! The rounds of a stream: their page records.
+//! The rounds of a stream: their page records. `Progress` fills them, `StreamReader::take_round` gives them, and `Target` reads them.
 
-ghost use Rattle.std.specs.Prelude.{◌≡◌, ◌<◌, ◌^◌, ◌++◌, [], ◌∷◌, length, take, None, Some, IfSome, IfOk, OnOk, OnErr};
+ghost use Rattle.std.specs.Prelude.{◌≡◌, ◌<◌, ◌^◌, ◌++◌, [], ◌∷◌, length, take, None, Some, IfSome, IfOk, OnOk, OnErr, vec_len, vec_capacity};
 ghost use Rattle.std.specs.Option.{option_copied};
 ghost use Rattle.mig_stream.specs.Kept.{bytes_of, buffers_of_records, record_in, IsHeld, IsShort, records_after, AreHeldAfter};
 ghost use Rattle.mig_stream.specs.Round.{record_at, AreWhole};
 
 use crate::piece::Piece;
-use crate::record::{Record, content_at, next_buffer, put_behind};
+use crate::record::{Record, content_at, next_buffer, place_of, put_behind};
 use mig_mem::{NoMemory, Place};
 use std::alloc::{Allocator, Global};
 use std::marker::Model;
 
 // Makes room for one more record: as much again as there is, and at first for one, since a text may have many rounds of few
 // records.
-fn make_room<A: Allocator>(records: &mut Vec<Record<'_, A>, A>) -> Result<(), NoMemory>
-    ensures { records.new.items ≡ records.old.items }
+#[inline(never)]
+fn grow<A: Allocator>(records: &mut Vec<Record<'_, A>, A>) -> Result<(), NoMemory>
+    ensures items { records.new.items ≡ records.old.items }
+    ensures room { OnOk result (vec_len records.new < vec_capacity records.new) }
 {
-    let len = records.len();
-    if len == records.capacity() {
-        records.reserve_exact(len.max(1))?;
+    records.reserve_exact(records.len().max(1))?;
+    Ok(())
+}
+
+// The same where there is none.
+#[inline(always)]
+fn make_room<A: Allocator>(records: &mut Vec<Record<'_, A>, A>) -> Result<(), NoMemory>
+    ensures items { records.new.items ≡ records.old.items }
+    ensures room { OnOk result (vec_len records.new < vec_capacity records.new) }
+{
+    if records.len() == records.capacity() {
+        return grow(records);
     }
     Ok(())
 }
@@ -37,7 +48,7 @@ fn push<'a, A: Allocator>(
     ensures err { OnErr result (records_after [] records.new.items ≡ records_after [] records.old.items) }
 {
     make_room(records)?;
-    records.push(item)?;
+    records.push_reserved(item);
     Ok(())
 }
 
@@ -81,6 +92,7 @@ impl<'a, A: Allocator> Records<'a, A> {
     }
 
     /// Adds a record of a page of zeros. An `Err` changes nothing.
+    #[inline(always)]
     pub(crate) fn push_zeros(&mut self, place: Place) -> Result<(), NoMemory>
         requires { IsShort place }
         ensures ok { OnOk result (self.new ≡ self.old ++ record { place = place; content = None } ∷ []) }
@@ -102,6 +114,18 @@ impl<'a, A: Allocator> Records<'a, A> {
         ensures { option_copied result ≡ (record_at self.now i).content }
     {
         content_at(&self.items, i)
+    }
+
+    #[inline(always)]
+    pub(crate) fn get(&self, i: usize) -> (Place, Option<&[u8]>)
+        requires { i < length self.now }
+        ensures place { result.0 ≡ (record_at self.now i).place }
+        ensures content { option_copied result.1 ≡ (record_at self.now i).content }
+    {
+        match self.items[i] {
+            Record::Zeros(block, page) => (place_of(block, page), None),
+            _ => (self.place(i), self.content(i)),
+        }
     }
 }
 
@@ -207,13 +231,24 @@ impl<'a, A: Allocator> StreamRound<'a, A> {
         self.records.place(i)
     }
 
-    /// What a record says that its page holds, as many bytes as the page size: None is the mark of a page of zeros.
+    /// What a record says that its page holds, as many bytes as the page size: None is a zero record.
     pub fn content(&self, i: usize) -> Option<&[u8]>
         requires { i < length self.now.records }
         ensures value { option_copied result ≡ (record_at self.now.records i).content }
         ensures size { IfSome result (λ bytes. length bytes.now ≡ self.now.page_size) }
     {
         self.records.content(i)
+    }
+
+    /// Both: where the page of a record is, and what the record says that it holds.
+    #[inline(always)]
+    pub fn record(&self, i: usize) -> (Place, Option<&[u8]>)
+        requires { i < length self.now.records }
+        ensures place { result.0 ≡ (record_at self.now.records i).place }
+        ensures content { option_copied result.1 ≡ (record_at self.now.records i).content }
+        ensures size { IfSome result.1 (λ bytes. length bytes.now ≡ self.now.page_size) }
+    {
+        self.records.get(i)
     }
 
     /// The number of bytes of a page.

@@ -1,4 +1,4 @@
-//! Why an item was not taken.
+//! Why an item was not taken: a fault, or a refused allocation. `items` tells it `progress`, and that the reader.
 
 ghost use Rattle.std.specs.Prelude.{◌≡◌};
 ghost use Rattle.mig_stream.specs.declared.stop.Stop.TheVariants.{Memory};
@@ -7,7 +7,7 @@ use crate::StreamFault;
 use mig_mem::NoMemory;
 use std::alloc::{AllocError, AllocFailed};
 
-/// Why an item was not taken: a growth was refused, or the item has this fault.
+/// Why an item was not taken: an allocation was refused, or the item has this fault.
 #[derive(Debug, Drop)]
 pub(crate) enum Stop {
     Memory,

@@ -1,4 +1,4 @@
-//! The writer of a stream: of one table and some parts it makes the one text that `specs/Written.antt` says.
+//! The writer of a stream: of one table and some parts it makes the one text that `specs/Written.antt` says. The senders of `mig_send` call it.
 //!
 //! It only appends. Which rounds there are, and which stream a part belongs to, is for its caller.
 
@@ -245,7 +245,7 @@ impl<A: Allocator> StreamWriter<A> {
     }
 
     /// Hands out the bytes that were written and not drained yet: all that stands of the text so far is what was drained in all.
-    /// What is drained, piece after piece, and then what `finish` gives is the text. It takes no memory.
+    /// What is drained, piece after piece, and then what `finish` gives is the text. It allocates nothing.
     pub fn drain(&mut self) -> Vec<u8, A>
     where
         A: Copy,

@@ -86,14 +86,14 @@ pub(crate) fn feed<A: Allocator + Copy>(
     reader.feed(piece)
 }
 
-/// What became of a run in which a growth was to be refused.
+/// What became of a run in which an allocation was to be refused.
 #[derive(Clone, Copy, PartialEq, Eq)]
 pub(crate) enum Run {
-    /// It answered want of memory.
+    /// It answered `NoMemory`.
     Refused,
     /// It was refused a smaller block for a list that it had, and kept the list where it was.
     Survived,
-    /// It has no such growth.
+    /// It has no such allocation.
     Whole,
 }
 

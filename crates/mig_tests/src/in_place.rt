@@ -2,7 +2,7 @@
 //! of another table's.
 
 use crate::parts::{PIECE, all_of, block_of, feed, send};
-use linked_list_allocator::LocalHeap;
+use mig_counting::Counting;
 use mig_fixtures::{at, places_of, table, table_of};
 use mig_load::{Fault, InPlaceLoader, LoadFault, Origin};
 use mig_mem::{
@@ -19,15 +19,16 @@ const BLOCKS: [(&str, u64); 3] = [("a", 3), ("pc.ram", 70), ("vga", 1)];
 // What the caller's bytes hold before a stream comes.
 const OTHER: u8 = 0xEE;
 
-// What a load came to: the sections that were put, and the verdict.
-type Answer = (u64, Result<(), LoadFault>);
+/// What a load came to: the sections that were put, and the verdict.
+pub(crate) type Answer = (u64, Result<(), LoadFault>);
 
-// One value, two or three as an array.
+// One value, or three as an array.
 fn alone<T: Drop>(one: T) -> [T; 1] {
     [one]
 }
 
-fn both<T: Drop>(one: T, other: T) -> [T; 2] {
+/// Two values as an array.
+pub(crate) fn both<T: Drop>(one: T, other: T) -> [T; 2] {
     [one, other]
 }
 
@@ -62,8 +63,8 @@ fn migrate_all<A: Allocator + Copy, B: Allocator>(
     migrate(alloc, &guest, all_of(alloc, table)?, most, memory)
 }
 
-// So many bytes that are none of the guest's.
-fn others(rt: &(impl AllocGlobal + Abort), page_size: u64, pages: u64) -> Vec<u8> {
+/// So many bytes that are none of the guest's.
+pub(crate) fn others(rt: &(impl AllocGlobal + Abort), page_size: u64, pages: u64) -> Vec<u8> {
     assert!(rt; page_size <= 8192);
     assert!(rt; pages <= 65_536);
     vec![in rt.alloc(); OTHER; (page_size * pages) as usize].expect(rt, "bytes")
@@ -98,13 +99,22 @@ fn migrated(rt: HostRuntime) {
     assert_migrated(&rt, PAGE_SIZE_8K);
 }
 
-// A guest of 16 MiB goes in parts of 64 pages, which are 256 KiB. All that sender and loader ask for fits a heap of eight such parts.
+// A part of 64 pages without zeros, and its text: of the guest's first pages also the opening, which has less than 100 bytes.
+const PART: u64 = 64 * PAGE_SIZE_4K;
+
+const TEXT: u64 = PART + 64 * 8 + 128;
+
+// Of a guest of 16 MiB, sent in parts of 64 pages, sender and loader hold at once at most: the text that is fed and the buffer
+// of the next one, both of which doubled as they grew, so that each has room for two texts; and the pages of a section until it
+// ends, in buffers of at most 64 KiB. The last of those may be empty but for one page: that is one piece. The marks, the
+// records and an item that a piece cut in two don't take another piece.
 #[test]
-fn migrated_in_a_small_heap(rt: HostRuntime) {
+fn migrated_in_little_memory(rt: HostRuntime) {
+    let most = 2 * (2 * TEXT) + PART + 2 * PIECE as u64;
     let table = table(rt.alloc(), &[("pc.ram", 4096)]).expect(&rt, "a table");
-    let heap = LocalHeap::new(rt.alloc(), 8 * 64 * 4096).expect(&rt, "a heap");
-    let bytes = bytes_of(&rt, 4096, 1, 4096);
-    let mut onto = others(&rt, 4096, 4096);
+    let bytes = others(&rt, 4096, 4096);
+    let mut onto = vec![in rt.alloc(); 0u8; bytes.len()].expect(&rt, "bytes");
+    let heap = Counting::new(rt.alloc());
     let answer = migrate_all(
         &heap,
         &table,
@@ -113,8 +123,9 @@ fn migrated_in_a_small_heap(rt: HostRuntime) {
         64,
     );
     assert!(rt; answer == Some((66, Ok(()))));
-    assert!(rt; heap.used() == 0);
     assert!(rt; onto.as_slice() == bytes.as_slice());
+    assert_eq!(rt; heap.held(), 0);
+    assert!(rt; heap.peak() <= most);
 }
 
 // The stream of a guest with one round for each of these sets.
@@ -152,8 +163,8 @@ fn load<A: Allocator + Copy, M: GuestTarget + Drop>(
     Some(answer)
 }
 
-// Two blocks, of two pages and of three.
-const SMALL: [(&str, u64); 2] = [("a", 2), ("b", 3)];
+/// Two blocks, of two pages and of three.
+pub(crate) const SMALL: [(&str, u64); 2] = [("a", 2), ("b", 3)];
 
 // The stream of a guest of those blocks, with two rounds: page 1 of each block, and then page 2 of the second one.
 fn small_text(rt: &(impl AllocGlobal + Abort), first: &[u8], second: &[u8]) -> Vec<u8> {
@@ -176,12 +187,15 @@ fn load_onto(
     load(rt.alloc(), memory, text, len).expect(rt, "a load")
 }
 
-// What two blocks are to hold after a load.
+/// What two blocks are to hold after a load.
 #[derive(Drop)]
-struct Wanted {
-    answer: Answer,
-    first: Vec<u8>,
-    second: Vec<u8>,
+pub(crate) struct Wanted {
+    /// What it came to.
+    pub(crate) answer: Answer,
+    /// The bytes of the first block.
+    pub(crate) first: Vec<u8>,
+    /// The bytes of the second.
+    pub(crate) second: Vec<u8>,
 }
 
 // Some pages one after another.
@@ -210,8 +224,8 @@ fn assert_left(
     assert!(rt; two.as_slice() == wanted.second.as_slice());
 }
 
-// A fault of the stream after so many sections.
-fn fault_at(round: u64, fault: Fault) -> Answer {
+/// A fault of the stream after so many sections.
+pub(crate) fn fault_at(round: u64, fault: Fault) -> Answer {
     let source = Origin::Main;
     (
         round,
@@ -228,8 +242,8 @@ fn small_guest(rt: &(impl AllocGlobal + Abort)) -> [Vec<u8>; 2] {
     both(bytes_of(rt, 4096, 0, 2), bytes_of(rt, 4096, 1, 3))
 }
 
-// What is left where no page came.
-fn untouched(rt: &(impl AllocGlobal + Abort), answer: Answer) -> Wanted {
+/// What is left where no page came.
+pub(crate) fn untouched(rt: &(impl AllocGlobal + Abort), answer: Answer) -> Wanted {
     Wanted {
         answer,
         first: others(rt, 4096, 2),
@@ -237,8 +251,8 @@ fn untouched(rt: &(impl AllocGlobal + Abort), answer: Answer) -> Wanted {
     }
 }
 
-// What is left where page 1 of each block came, and page 2 of the second block or not. Page 0 of both stays.
-fn left(rt: &(impl AllocGlobal + Abort), answer: Answer, has_last: bool) -> Wanted {
+/// What is left where page 1 of each block came, and page 2 of the second block or not. Page 0 of both stays.
+pub(crate) fn left(rt: &(impl AllocGlobal + Abort), answer: Answer, has_last: bool) -> Wanted {
     let [first, second] = small_guest(rt);
     let other = others(rt, 4096, 1);
     let zeros = [0; 4096];
@@ -252,9 +266,9 @@ fn left(rt: &(impl AllocGlobal + Abort), answer: Answer, has_last: bool) -> Want
     }
 }
 
-// The stream of the small guest. Its opening has 66 bytes, of which the size list ends at the 53rd; the first PART, of a page and of
-// zeros, has 4135; the second, of one page, 4122; and END with the end byte 19.
-fn text_of_small(rt: &(impl AllocGlobal + Abort)) -> Vec<u8> {
+/// The stream of the small guest. Its opening has 66 bytes, of which the size list ends at the 53rd; the first PART, of a page and of
+/// zeros, has 4135; the second, of one page, 4122; and END with the end byte 19.
+pub(crate) fn text_of_small(rt: &(impl AllocGlobal + Abort)) -> Vec<u8> {
     let [first, second] = small_guest(rt);
     let text = small_text(rt, &first, &second);
     assert_eq!(rt; text.len(), 66 + 4135 + 4122 + 19);

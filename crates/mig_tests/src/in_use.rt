@@ -5,7 +5,7 @@ use mig_mem::{Dirty, Memory, PAGE_SIZE_4K, Place, Table, first_difference};
 use mig_send::SingleSender;
 use std::alloc::Allocator;
 
-// A guest with one block, of two pages, writes a byte of the second one. None where memory was refused.
+// A guest with one block, of two pages, writes a byte of the second one. None where an allocation was refused.
 fn send_and_load<A: Allocator + Copy>(alloc: A) -> Option<bool> {
     let id = Vec::from_slice(alloc, b"pc.ram").ok()?;
     let mut blocks = Vec::new(alloc);

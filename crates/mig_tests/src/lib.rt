@@ -1,4 +1,4 @@
-//! Tests of the stream and of the whole path, from senders to loads: each call that takes memory with its growths refused, and what
+//! Tests of the stream and of the whole path, from senders to loads: each call that allocates with its allocations refused, and what
 //! a refused round leaves; the libraries in use; and what faults say of themselves.
 //!
 //! The worked examples are cases of `mig_rows`.
@@ -8,6 +8,8 @@
 mod building;
 #[cfg(test)]
 mod in_place;
+#[cfg(test)]
+mod in_place_state;
 #[cfg(test)]
 mod in_use;
 #[cfg(test)]

@@ -1,4 +1,4 @@
-//! The loader that is fed in pieces: however a text is cut it gives what `load_single` gives, also where growths were refused on the
+//! The loader that is fed in pieces: however a text is cut it gives what `load_single` gives, also where allocations were refused on the
 //! way.
 
 use crate::building::two_rounds;
@@ -21,7 +21,7 @@ fn feed<A: Allocator + Copy>(
     loader.feed(piece)
 }
 
-// Feeds a piece; where a growth is refused it is fed again, or its sections are put, as the fault says. Whether a growth was refused.
+// Feeds a piece; where an allocation is refused it is fed again, or its sections are put, as the fault says. Whether an allocation was refused.
 fn is_refused<A: Allocator + Copy>(
     rt: &impl Abort,
     loader: &mut SingleLoader<A>,
@@ -41,7 +41,7 @@ fn is_refused<A: Allocator + Copy>(
     true
 }
 
-// Feeds a text of two rounds in pieces of this length, and asserts what is loaded. Whether a growth was refused.
+// Feeds a text of two rounds in pieces of this length, and asserts what is loaded. Whether an allocation was refused.
 fn loads_with_refusal<A: Allocator + Copy>(
     rt: &impl Abort,
     alloc: A,
@@ -70,7 +70,7 @@ fn loaded_in_pieces(rt: HostRuntime) {
     }
 }
 
-// Each growth is refused in turn, until a run has no refusal. What is loaded is the same each time.
+// Each allocation is refused in turn, until a run has no refusal. What is loaded is the same each time.
 #[test]
 fn loaded_after_refusals(rt: HostRuntime) {
     let heap = Refusing::new(rt.alloc(), 0);

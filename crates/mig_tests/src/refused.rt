@@ -1,5 +1,5 @@
-//! Each call on senders, targets and loads that takes memory, with its first growth refused, then its second, until a run has no
-//! refusal. A refused run answers want of memory and leaves what it was handed as it was; the run with memory answers as ever.
+//! Each call on senders, targets and loads that allocates, with its first allocation refused, then its second, until a run has no
+//! refusal. A refused run answers `NoMemory` and leaves what it was handed as it was; the run with memory answers as ever.
 
 ghost use Rattle.std.specs.Prelude.{◌≡◌, All};
 
@@ -10,7 +10,7 @@ use mig_fixtures::{at, has_byte, is_full, table};
 use mig_load::{Fault, LoadFault, Loaded, Origin, load_single};
 use mig_mem::{MAX_TOTAL, Memory, NoMemory, PAGE_SIZE_4K, Place, Table};
 use mig_packet::Packet;
-use mig_refusing::{Refusing, with_each_growth_refused};
+use mig_refusing::{Refusing, with_each_allocation_refused};
 use mig_send::SingleSender;
 use mig_stream::StreamRound;
 use std::alloc::{AllocGlobal, Allocator};
@@ -29,13 +29,13 @@ pub(crate) fn assert_text<A: Allocator>(
     }
 }
 
-// Asserts that a sender of a table, made after refused growths, has an empty text.
+// Asserts that a sender of a table, made after refused allocations, has an empty text.
 fn assert_new_sender(
     rt: &(impl AllocGlobal + Abort),
     heap: &Refusing,
     table: &Table<&Refusing>,
 ) -> Result<(), Fail> {
-    with_each_growth_refused!(rt, heap, SingleSender::new(heap, table), sender => {
+    with_each_allocation_refused!(rt, heap, SingleSender::new(heap, table), sender => {
         assert_text(rt, sender, &empty_text(rt));
     });
 }
@@ -47,7 +47,7 @@ fn sender_new(rt: HostRuntime) -> Result<(), Fail> {
     assert_new_sender(&rt, &heap, &table)
 }
 
-// Asserts the text of a sender of one round, sent after refused growths.
+// Asserts the text of a sender of one round, sent after refused allocations.
 fn assert_round(
     rt: &(impl AllocGlobal + Abort),
     heap: &Refusing,
@@ -56,7 +56,7 @@ fn assert_round(
     places: &[Place],
 ) -> Result<(), Fail> {
     let dirty = dirty_of(rt, places);
-    with_each_growth_refused!(rt, heap, sender.round(image, &dirty), _done => {
+    with_each_allocation_refused!(rt, heap, sender.round(image, &dirty), _done => {
         assert_text(rt, sender, &text_of(rt, image, &[places]));
     });
 }
@@ -92,7 +92,7 @@ fn empty_rounds(rt: &(impl AllocGlobal + Abort), image: &Memory, count: usize) -
     text_of(rt, image, &rounds)
 }
 
-// A sender that is given back since its last growth is refused; None where it takes none.
+// A sender that is given back since its last allocation is refused; None where it takes none.
 fn given_back<'a>(
     heap: &'a Refusing,
     sender: SingleSender<&'a Refusing>,
@@ -129,14 +129,14 @@ fn assert_no_round<A: Allocator, B: Allocator>(
     assert!(rt; is_full(target.memory(), at(1, 64), 0));
 }
 
-// Asserts that a target of a table, made after refused growths, has no round.
+// Asserts that a target of a table, made after refused allocations, has no round.
 fn assert_new_target<A: Allocator + Copy, B: Allocator>(
     rt: &impl Abort,
     heap: &Refusing,
     alloc: A,
     table: &Table<B>,
 ) -> Result<(), Fail> {
-    with_each_growth_refused!(rt, heap, Target::new(alloc, table), target => {
+    with_each_allocation_refused!(rt, heap, Target::new(alloc, table), target => {
         assert_no_round(rt, &target, table);
     });
 }
@@ -148,7 +148,7 @@ fn target_new(rt: HostRuntime) -> Result<(), Fail> {
     assert_new_target(&rt, &heap, &heap, &table)
 }
 
-// A load's answer, or its fault where that is want of memory, found in putting rounds into memory, with no memory and no
+// A load's answer, or its fault where that is `NoMemory`, found in putting rounds into memory, with no memory and no
 // round.
 fn load_or_fault<'a>(heap: &'a Refusing, text: &[u8]) -> Result<Loaded<&'a Refusing>, Fault> {
     let loaded = load_single(heap, PAGE_SIZE_4K, text, MAX_TOTAL);
@@ -172,7 +172,7 @@ pub(crate) fn assert_two_rounds<A: Allocator>(rt: &impl Abort, loaded: &Loaded<A
     assert!(rt; is_full(memory, at(1, 64), 0));
 }
 
-// Loads that text with growth `nth` refused.
+// Loads that text with allocation `nth` refused.
 fn run_of_load(rt: &impl Abort, heap: &Refusing, text: &[u8], nth: u64) -> Run {
     heap.refuse(nth);
     let answer = load_or_fault(heap, text);
@@ -205,7 +205,7 @@ fn loads(rt: HostRuntime) {
     panic!(rt; "each run had a refusal");
 }
 
-// Gathers a packet, after a refused growth that leaves the list as it was.
+// Gathers a packet, after a refused allocation that leaves the list as it was.
 fn assert_pushed(rt: &(impl AllocGlobal + Abort), heap: &Refusing, packet: Packet<'_>) {
     let mut gathered = Gathered::new(heap);
     assert!(rt; gathered.len() == 0);
@@ -219,7 +219,7 @@ fn assert_pushed(rt: &(impl AllocGlobal + Abort), heap: &Refusing, packet: Packe
     assert!(rt; gathered.len() == 1);
 }
 
-// A packet gathered takes one growth at first; after a refused one the list is as it was.
+// A packet gathered takes one allocation at first; after a refused one the list is as it was.
 #[test]
 fn gathered_push(rt: HostRuntime) {
     let heap = Refusing::new(rt.alloc(), 0);
@@ -228,7 +228,7 @@ fn gathered_push(rt: HostRuntime) {
     assert_pushed(&rt, &heap, packet);
 }
 
-// Whether a round got into a memory with growth `nth` refused. If not, it answered want of memory, and the memory is as it was.
+// Whether a round got into a memory with allocation `nth` refused. If not, it answered `NoMemory`, and the memory is as it was.
 fn is_put<A: Allocator + Copy>(
     rt: &(impl AllocGlobal + Abort),
     target: &mut Target<A>,

@@ -1,4 +1,4 @@
-//! Growths refused in turn on the path of parts: rounds and parts that are put page by page, and the loader and the target over bytes
+//! Allocations refused in turn on the path of parts: rounds and parts that are put page by page, and the loader and the target over bytes
 //! that the caller keeps. After a refusal all is as it was, and the end is as if there had been none.
 
 use crate::building::{BLOCKS, finished, image_with, text_of, two_rounds};
@@ -12,7 +12,7 @@ use mig_stream::{Mode, OpenPart, StreamReader, StreamWriter};
 use std::alloc::{AllocGlobal, Allocator};
 use std::process::Abort;
 
-// Puts a page of an image into a round, after refused growths. How many there were.
+// Puts a page of an image into a round, after refused allocations. How many there were.
 fn put_in_round<A: Allocator>(
     rt: &impl Abort,
     heap: &Refusing,
@@ -36,7 +36,7 @@ fn put_in_round<A: Allocator>(
     panic!(rt; "each run had a refusal");
 }
 
-// Begins a round of a sender whose text has no room, after a refused growth.
+// Begins a round of a sender whose text has no room, after a refused allocation.
 fn begin_round<A: Allocator>(
     rt: &impl Abort,
     heap: &Refusing,
@@ -77,7 +77,7 @@ fn open_round(rt: HostRuntime) {
     assert!(rt; joined_text(&rt, &drained, sender).as_slice() == wanted.as_slice());
 }
 
-// Ends a round of the first pages of a block, so many of them. Where a growth is refused there it is ended again, and the text is as if
+// Ends a round of the first pages of a block, so many of them. Where an allocation is refused there it is ended again, and the text is as if
 // there had been none. Whether one was.
 fn ends_after_refusal(
     rt: &(impl AllocGlobal + Abort),
@@ -117,7 +117,7 @@ fn end_round(rt: HostRuntime) {
     panic!(rt; "no text was full");
 }
 
-// Puts a page of an image into a part, after refused growths. How many there were.
+// Puts a page of an image into a part, after refused allocations. How many there were.
 fn put_in_part<A: Allocator>(
     rt: &impl Abort,
     heap: &Refusing,
@@ -141,7 +141,7 @@ fn put_in_part<A: Allocator>(
     panic!(rt; "each run had a refusal");
 }
 
-// A part of the first pages of a block, so many of them, begun and ended with a growth refused where there is one. Whether there was
+// A part of the first pages of a block, so many of them, begun and ended with an allocation refused where there is one. Whether there was
 // one at its end.
 fn part_after_refusals(
     rt: &(impl AllocGlobal + Abort),
@@ -186,7 +186,7 @@ fn open_part(rt: HostRuntime) {
     assert!(rt; refused > 0);
 }
 
-// A loader over a memory, made after refused growths, each of which gave the memory back.
+// A loader over a memory, made after refused allocations, each of which gave the memory back.
 fn new_loader<A: Allocator + Copy, M: GuestTarget + Drop>(
     rt: &impl Abort,
     heap: &Refusing,
@@ -209,7 +209,7 @@ fn new_loader<A: Allocator + Copy, M: GuestTarget + Drop>(
     panic!(rt; "each run had a refusal");
 }
 
-// Feeds a piece after refused growths, each of which changed nothing. How many there were.
+// Feeds a piece after refused allocations, each of which changed nothing. How many there were.
 fn feed<A: Allocator + Copy, M: GuestTarget>(
     rt: &impl Abort,
     heap: &Refusing,
@@ -236,7 +236,7 @@ fn feed<A: Allocator + Copy, M: GuestTarget>(
     panic!(rt; "each run had a refusal");
 }
 
-// Loads a text of two rounds onto a memory, with each growth refused on the way.
+// Loads a text of two rounds onto a memory, with each allocation refused on the way.
 fn load_after_refusals<A: Allocator + Copy, M: GuestTarget + Drop>(
     rt: &impl Abort,
     heap: &Refusing,
@@ -256,7 +256,7 @@ fn load_after_refusals<A: Allocator + Copy, M: GuestTarget + Drop>(
     assert!(rt; loader.verdict() == Ok(()));
 }
 
-// A target over a memory, made after refused growths, each of which gave the memory back.
+// A target over a memory, made after refused allocations, each of which gave the memory back.
 fn new_target<A: Allocator + Copy, M: GuestTarget + Drop>(
     rt: &impl Abort,
     heap: &Refusing,

@@ -19,7 +19,7 @@ pub(crate) fn text_of_packets(rt: &(impl AllocGlobal + Abort)) -> Vec<u8> {
     text
 }
 
-/// The packet at the front of a text, whose pages have 4096 bytes, and what follows it.
+/// The packet at the beginning of a text, whose pages have 4096 bytes, and what follows it.
 pub(crate) fn next_packet<'a>(
     rt: &(impl AllocGlobal + Abort),
     text: &'a [u8],

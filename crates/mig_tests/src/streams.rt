@@ -1,5 +1,5 @@
-//! Each call on streams that takes memory, with its first growth refused, then its second, until a run has no refusal. A refused
-//! run answers want of memory and leaves what it was handed as it was; the run with memory answers as ever.
+//! Each call on streams that allocates, with its first allocation refused, then its second, until a run has no refusal. A refused
+//! run answers `NoMemory` and leaves what it was handed as it was; the run with memory answers as ever.
 
 use crate::building::{
     BLOCKS, Run, dirty_of, empty_text, feed, finished, image_with, part, run_of, text_of,
@@ -7,7 +7,7 @@ use crate::building::{
 };
 use mig_fixtures::{at, table};
 use mig_mem::{MAX_TOTAL, Memory, NoMemory, PAGE_SIZE_4K, Place, Table};
-use mig_refusing::{Refusing, with_each_growth_refused};
+use mig_refusing::{Refusing, with_each_allocation_refused};
 use mig_stream::{Mode, StreamReader, StreamRound, StreamState, StreamWriter};
 use std::alloc::{AllocGlobal, Allocator};
 use std::process::Abort;
@@ -22,13 +22,13 @@ fn assert_text<A: Allocator>(
     assert!(rt; finished(rt, writer).as_slice() == wanted);
 }
 
-// Asserts that a writer of a table, made after refused growths, has an empty text.
+// Asserts that a writer of a table, made after refused allocations, has an empty text.
 fn assert_new_writer(
     rt: &(impl AllocGlobal + Abort),
     heap: &Refusing,
     table: &Table<&Refusing>,
 ) -> Result<(), Fail> {
-    with_each_growth_refused!(rt, heap, StreamWriter::new(heap, table), writer => {
+    with_each_allocation_refused!(rt, heap, StreamWriter::new(heap, table), writer => {
         assert!(rt; writer.table().same(table));
         assert_text(rt, writer, &empty_text(rt));
     });
@@ -41,7 +41,7 @@ fn writer_new(rt: HostRuntime) -> Result<(), Fail> {
     assert_new_writer(&rt, &heap, &table)
 }
 
-// Asserts the text of a writer of one PART, written after refused growths.
+// Asserts the text of a writer of one PART, written after refused allocations.
 fn assert_part(
     rt: &(impl AllocGlobal + Abort),
     heap: &Refusing,
@@ -50,7 +50,7 @@ fn assert_part(
     places: &[Place],
 ) -> Result<(), Fail> {
     let dirty = dirty_of(rt, places);
-    with_each_growth_refused!(rt, heap, part(rt, &mut writer, image, &dirty), _done => {
+    with_each_allocation_refused!(rt, heap, part(rt, &mut writer, image, &dirty), _done => {
         assert_text(rt, writer, &text_of(rt, image, &[places]));
     });
 }
@@ -117,7 +117,7 @@ fn writer_flush(rt: HostRuntime) {
     assert_flushes(&rt, &heap, writer, count);
 }
 
-// A writer that is given back since its last growth is refused; None where it takes none.
+// A writer that is given back since its last allocation is refused; None where it takes none.
 fn given_back<'a>(
     heap: &'a Refusing,
     writer: StreamWriter<&'a Refusing>,
@@ -141,7 +141,7 @@ fn writer_finish(rt: HostRuntime) {
     panic!(rt; "no text was full");
 }
 
-// Whether the next round has these pages: each a place and the first byte of its content, None where it is a mark of zeros.
+// Whether the next round has these pages: each a place and the first byte of its content, None where it is a zero record.
 fn has_round<A: Allocator + Copy>(
     reader: &mut StreamReader<A>,
     pages: &[(Place, Option<u8>)],
@@ -191,7 +191,7 @@ fn has_both_rounds<A: Allocator + Copy>(reader: &mut StreamReader<A>) -> bool {
         && has_no_round(reader)
 }
 
-// Feeds a reader of 40 bytes the rest of the text with growth `nth` refused, and where that is refused leaves it as it was, once
+// Feeds a reader of 40 bytes the rest of the text with allocation `nth` refused, and where that is refused leaves it as it was, once
 // more. It has both rounds then.
 fn run_of_feed(
     rt: &(impl AllocGlobal + Abort),
@@ -220,7 +220,7 @@ fn run_in_pieces(rt: &(impl AllocGlobal + Abort), nth: u64, front: &[u8], rest: 
     run_of_feed(rt, &heap, &mut reader, nth, rest)
 }
 
-// Reads the text of two rounds in two pieces, the second one with each of its growths refused. It lives with one refusal: that of
+// Reads the text of two rounds in two pieces, the second one with each of its allocations refused. It lives with one refusal: that of
 // a smaller block for the list of three records.
 fn assert_read_in_pieces(rt: &(impl AllocGlobal + Abort), front: &[u8], rest: &[u8]) {
     let mut survived = 0u64;
@@ -238,7 +238,7 @@ fn assert_read_in_pieces(rt: &(impl AllocGlobal + Abort), front: &[u8], rest: &[
     panic!(rt; "each run had a refusal");
 }
 
-// A refused piece leaves the reader as it was, also where many items of the piece were taken before the growth; fed again
+// A refused piece leaves the reader as it was, also where many items of the piece were taken before the allocation; fed again
 // with memory, it is read as ever.
 #[test]
 fn reader_feed(rt: HostRuntime) {
@@ -299,7 +299,7 @@ fn reader_of<'a>(
     StreamReader::of_text(heap, Mode::Single, PAGE_SIZE_4K, MAX_TOTAL, text)
 }
 
-// Makes a reader of the text with growth `nth` refused. Where there is one, it has the same.
+// Makes a reader of the text with allocation `nth` refused. Where there is one, it has the same.
 fn run_of_text(rt: &(impl AllocGlobal + Abort), heap: &Refusing, text: &[u8], nth: u64) -> Run {
     heap.refuse(nth);
     let answer = reader_of(heap, text);
@@ -312,7 +312,7 @@ fn run_of_text(rt: &(impl AllocGlobal + Abort), heap: &Refusing, text: &[u8], nt
     run
 }
 
-// A refused growth leaves no reader, but for that of a smaller block for the list of three records; with memory it reads the text as
+// A refused allocation leaves no reader, but for that of a smaller block for the list of three records; with memory it reads the text as
 // if it had been fed.
 #[test]
 fn reader_of_text(rt: HostRuntime) {

@@ -25,7 +25,7 @@ fn texts_of_faults(rt: HostRuntime) {
         source: Origin::Main,
         fault: Fault::Stream(StreamFault::Version),
     };
-    assert_text(&rt, alloc, NoMemory, "60: a growth was refused");
+    assert_text(&rt, alloc, NoMemory, "60: an allocation was refused");
     assert_text(&rt, alloc, TableFault::NoPages(4), "5: entry 4 has no page");
     assert_text(
         &rt,

@@ -1,20 +1,22 @@
 -- A scenario's stream, loaded again and compared.
-use Rattle.std.proofs.Common.{ℕ, ◌≡◌, ◌+◌, ◌≤◌, ◌^◌, List, ◌++◌, length, refl, sym, ap, ap₂, ◌∙◌, append-nil, inl, inr, Option, Some, None, true, false, subst, bytes_eq}
-use Rattle.std.specs.Prelude.{◌⊎◌, IsTrue, IfSome, IsSomeAnd, Vec, Result, Ok, Err, ⊤, find, MatchOption}
+use Rattle.std.proofs.Common.{ℕ, ◌≡◌, ◌+◌, ◌≤◌, ◌^◌, List, ◌++◌, length, refl, arith, sym, ap, ap₂, ◌∙◌, append-nil, inl, inr, Option, Some, None, true, false, subst, bytes_eq}
+use Rattle.std.specs.Prelude.{◌⊎◌, IsTrue, IfSome, IsSomeAnd, Vec, Result, Ok, Err, ⊤, [], ◌∷◌, ◌==◌, not, nat_lt, find}
 use Rattle.std.specs.List.{All}
+use Rattle.std.proofs.lemmas.Bool.{cases_Bool, le-ltb}
 use Rattle.std.proofs.lemmas.Slice.Eq.{bytes_eq-Decides}
 use Rattle.mig_mem.specs.RamTable.{RamTable, IsTable}
 use Rattle.mig_mem.specs.Image.{Page, Image, content_at, differs}
 use Rattle.mig_mem.specs.Round.{after, IsRound}
 use Rattle.mig_mem.specs.declared.place.Place.{Place}
-use Rattle.mig_mem.specs.Place.{places}
-use Rattle.mig_mem.proofs.Walks.{no_place}
+use Rattle.mig_mem.specs.Place.{place_at, place_lt}
+use Rattle.mig_mem.specs.Difference.{differing}
+use Rattle.mig_mem.proofs.Sets.{where_none}
 use Rattle.mig_mem.specs.Tracking.{rounds_of}
 use Rattle.mig_stream.specs.Text.{total_bytes}
 use Rattle.mig_stream.specs.Written.{single}
 use Rattle.mig_load.specs.declared.loaded.Loaded.{Loaded}
 use Rattle.mig_load.specs.declared.fault.LoadFault.{LoadFault}
-use Rattle.mig_load.specs.SingleLoad.{IsWithoutMemory, loaded}
+use Rattle.mig_load.specs.SingleLoad.{IsSingleWithoutMemory, loaded}
 use Rattle.mig_tool.specs.declared.answer.Answer.{Answer}
 use Rattle.mig_tool.specs.declared.answer.Answer.TheVariants as answers
 use Rattle.mig_tool.specs.declared.answer.Answer.TheVariants.{Refused, Unloaded}
@@ -27,7 +29,7 @@ use Rattle.mig_tool.specs.Line.{ScenarioLine}
 use Rattle.mig_tool.specs.Scenario.{lines_of, table_of, refusal, is_within, unsent}
 use Rattle.mig_tool.specs.Guest.{ScenarioGuest, played, rounds_from}
 use Rattle.mig_tool.specs.Report.{refused, report_as, single_line, same_line}
-use Rattle.mig_tool.specs.Answer.{Compares, Answers, IsLoadOf, IsRoundTrip, answer_from, printed}
+use Rattle.mig_tool.specs.Answer.{comparison_of, Compares, Answers, IsLoadOf, IsRoundTrip, answer_from, printed}
 use Rattle.mig_tool.proofs.Faithful.{played_is_sent, played_are_rounds}
 
 -- ---- faults
@@ -40,7 +42,7 @@ err_same : {T E : Type 0} (r : Result T E) (x y : E) → r ≡ Err x → r ≡ E
 err_same r x y a b = cc
 
 pub is_unloaded : {A : Type 0} (size : ℕ) (text sent : List ℕ) (limit : ℕ) (table : RamTable) (rounds : List (List Page)) (a : Loaded A) (e : LoadFault)
-    → (a ≡ loaded table rounds) ⊎ IsWithoutMemory size limit sent a → a.verdict ≡ Err e → Answers size text (Unloaded e)
+    → (a ≡ loaded table rounds) ⊎ IsSingleWithoutMemory size limit sent a → a.verdict ≡ Err e → Answers size text (Unloaded e)
 is_unloaded size text sent limit table rounds a e (inl is) bad = let good : a.verdict ≡ Ok _ = ap (λ (x : Loaded _). x.verdict) is in absurd cc
 is_unloaded size text sent limit table rounds a e (inr want) bad =
     let same : e ≡ _ = err_same a.verdict e _ bad want.has_verdict in
@@ -56,8 +58,25 @@ same_place m p = let same : bytes_eq (content_at m p) (content_at m p) ≡ true 
 
 pub is_same : (a b : Image) (c : Comparison) → a ≡ b → Compares a b c → c ≡ Same
 is_same a b c e h =
-    let none : find (differs a b) (places a.table) ≡ None = subst (λ (m : Image). find (differs a m) (places a.table) ≡ None) e (no_place a.table (differs a a) (λ q _. same_place a q)) in
-    subst (λ (o : Option Place). MatchOption o (c ≡ Same) (λ first. (count : ℕ) × (c ≡ Differs count first))) none h
+    let none : (differing a b).marked ≡ [] = subst (λ (m : Image). (differing a m).marked ≡ []) e (where_none a.table (differs a a) (λ q _. same_place a q)) in
+    h ∙ ap comparison_of none
+
+-- no place is before the first one
+from_start : (p : Place) → place_lt p (place_at 0 0) ≡ false
+from_start p =
+    let block : nat_lt p.block 0 ≡ false = le-ltb p.block 0 (omega arith) in
+    let page : nat_lt p.page 0 ≡ false = le-ltb p.page 0 (omega arith) in
+    rw (block, page) (elim (cases_Bool (p.block == 0)) [ inl t ↦ rw t refl | inr f ↦ rw f refl ])
+
+-- what comes of walking the places that differ
+pub compared_same : (ps : List Place) → find (λ p. not (place_lt p (place_at 0 0))) ps ≡ None → Same ≡ comparison_of ps
+compared_same [] e = refl
+compared_same (p ∷ ps) e = let some = rw (from_start p) at e in absurd cc
+
+pub compared_differs : (ps : List Place) (first : Place) (count : ℕ) → find (λ p. not (place_lt p (place_at 0 0))) ps ≡ Some first → count ≡ length ps
+    → Differs count first ≡ comparison_of ps
+compared_differs [] first count e len = absurd cc
+compared_differs (p ∷ ps) first count e len = let some = rw (from_start p) at e in ap₂ Differs len (sym (some_same p first some))
 
 -- so it is with what was loaded, where that is the guest's memory
 pub same_pages : (m : Option Image) (a b : Image) (c : Comparison) → m ≡ Some a → m ≡ Some b → Compares a b c → c ≡ Same
@@ -67,7 +86,7 @@ same_pages m a b c is also h = is_same a b c (some_same a b (sym is ∙ also)) h
 
 -- where the verdict is Ok, the memory is the guest's
 pub is_loaded : {A : Type 0} (size : ℕ) (sent : List ℕ) (limit : ℕ) (table : RamTable) (rounds : List (List Page)) (a : Loaded A) (v : ⊤)
-    → (a ≡ loaded table rounds) ⊎ IsWithoutMemory size limit sent a → a.verdict ≡ Ok v → a ≡ loaded table rounds
+    → (a ≡ loaded table rounds) ⊎ IsSingleWithoutMemory size limit sent a → a.verdict ≡ Ok v → a ≡ loaded table rounds
 is_loaded size sent limit table rounds a v (inl is) good = is
 is_loaded size sent limit table rounds a v (inr want) good = let bad = want.has_verdict in absurd cc
 
@@ -76,7 +95,7 @@ pub outcome : {A : Type 0} (size : ℕ) (text : List ℕ) (table : RamTable) (ls
     → IsTable table → table ≡ table_of size (lines_of text) → ls ≡ lines_of text → All (λ l. IsTrue (is_within table l)) ls → unsent (lines_of text) ≡ None
     → image ≡ (played table ls).image → sent ≡ single table (rounds_of (played table ls).snapshots)
     → ((t : RamTable) (rounds : List (List Page)) → IsTable t → t.page_size ≡ size → total_bytes t ≤ 2 ^ 40 → All (IsRound t) rounds → sent ≡ single t rounds
-    → (a ≡ loaded t rounds) ⊎ IsWithoutMemory size (2 ^ 40) sent a)
+    → (a ≡ loaded t rounds) ⊎ IsSingleWithoutMemory size (2 ^ 40) sent a)
     → IsRoundTrip size text image sent a
 outcome size text table ls image sent a is same_table same_lines within all_sent has_image has_text load =
     let lines : List ScenarioLine = lines_of text in

@@ -1,11 +1,11 @@
 -- How the tool's answers are printed.
-use Rattle.std.specs.Prelude.{◌≡◌, ◌⊎◌, ◌≤◌, ◌^◌, ℕ, All, List, [], ◌++◌, find, Option, None, Some, MatchOption, IsSomeAnd, IfSome, Result, Ok, Err, codes, decimal}
+use Rattle.std.specs.Prelude.{◌≡◌, ◌⊎◌, ◌≤◌, ◌^◌, ℕ, All, List, [], ◌∷◌, ◌++◌, length, Option, None, Some, MatchOption, IsSomeAnd, IfSome, Result, Ok, Err, codes, decimal}
 use Rattle.std.specs.Option.{option_map}
 use Rattle.std.specs.Io.KnownBytes.{Consumes, IsAtEnd, Appends}
 use Rattle.mig_mem.specs.RamTable.{RamTable, IsTable}
-use Rattle.mig_mem.specs.Place.{places}
 use Rattle.mig_mem.specs.declared.place.Place.{Place}
-use Rattle.mig_mem.specs.Image.{Page, Image, differs}
+use Rattle.mig_mem.specs.Image.{Page, Image}
+use Rattle.mig_mem.specs.Difference.{differing}
 use Rattle.mig_mem.specs.Round.{after, IsRound}
 use Rattle.mig_stream.specs.Text.{total_bytes}
 use Rattle.mig_stream.specs.Written.{single}
@@ -14,7 +14,7 @@ use Rattle.mig_load.specs.declared.fault.Fault.TheVariants as load_fault
 use Rattle.mig_load.specs.declared.verdict.Verdict.{Verdict}
 use Rattle.mig_load.specs.declared.verdict.Verdict.TheVariants.{Running, Done, Failed}
 use Rattle.mig_load.specs.declared.loaded.Loaded.{Loaded}
-use Rattle.mig_load.specs.SingleLoad.{IsWithoutMemory, loaded}
+use Rattle.mig_load.specs.SingleLoad.{IsSingleWithoutMemory, loaded}
 use Rattle.mig_load.specs.declared.fault.LoadFault.{LoadFault}
 use Rattle.mig_load.specs.declared.fault.Origin.{Origin}
 use Rattle.mig_load.specs.declared.fault.Origin.TheVariants as origin
@@ -31,9 +31,14 @@ use Rattle.mig_tool.specs.Scenario.{lines_of, table_of}
 use Rattle.mig_tool.specs.Guest.{rounds_from}
 use Rattle.mig_tool.specs.Report.{Report, fault_line, refused, single_line, same_line, report, IsWantOfMemory}
 
--- what comes of comparing two memories of a table: nothing differs, or this place is the first that does
+-- what comes of comparing by the places that differ, in order: none does, or so many do, of which this is the first
+abbrev pub comparison_of : List Place → Comparison
+comparison_of [] = Same
+comparison_of (first ∷ others) = Differs (length (first ∷ others)) first
+
+-- what comes of comparing two memories of a table
 abbrev pub Compares : Image → Image → Comparison → Type 0
-Compares a b comparison = MatchOption (find (differs a b) (places a.table)) (comparison ≡ Same) (λ first. (count : ℕ) × (comparison ≡ Differs count first))
+Compares a b comparison = comparison ≡ comparison_of (differing a b).marked
 
 abbrev pub in_origin : Origin → List ℕ
 in_origin origin.Main = codes " in main"
@@ -109,7 +114,7 @@ text_of (answers.Failed f) = None
 abbrev pub printed : Answer → Option Report
 printed answer = option_map (λ text. record { text = text; status = status_of answer }) (text_of answer)
 
--- The answer where a load has no memory to be written: its first fault, want of memory behind the rounds that it counted, or that its texts
+-- The answer where a load has no memory to be written: its first fault, a refused allocation behind the rounds that it counted, or that its texts
 -- weren't read to their end.
 abbrev pub unloaded_of : Verdict → ℕ → Answer
 unloaded_of (Failed fault) rounds = answers.Unloaded fault
@@ -118,9 +123,9 @@ unloaded_of Running rounds = answers.Failed tool.Unread
 
 -- a comparison of two memories is the answer
 abbrev pub IsComparison : Image → Image → Answer → Type 0
-IsComparison a b answer = (comparison : Comparison) × Compares a b comparison × (answer ≡ answers.Compared comparison)
+IsComparison a b answer = answer ≡ answers.Compared (comparison_of (differing a b).marked)
 
--- the answer on an input that wasn't read whole: a fault of its own, or want of memory
+-- the answer on an input that wasn't read whole: a fault of its own, or `NoMemory`
 abbrev pub IsUnread : Answer → Type 0
 IsUnread answer = MatchOption (printed answer) (status_of answer ≡ 3) IsWantOfMemory
 
@@ -129,27 +134,27 @@ abbrev pub answer_from : Result Checked Answer → Answer
 answer_from (Ok checked) = answers.Checked checked
 answer_from (Err other) = other
 
--- the answer on a text is printed as the report of it, or tells of want of memory
+-- the answer on a text is printed as the report of it, or tells of a refused allocation
 abbrev pub Answers : ℕ → List ℕ → Answer → Type 0
 Answers page_size text answer = (r : Report) × (printed answer ≡ Some r) × ((r ≡ report page_size text) ⊎ IsWantOfMemory r)
 
 -- what loading a text answers, where it is the stream of rounds of a table
 abbrev pub IsLoadOf : {A : Type 0} → ℕ → List ℕ → Loaded A → Type 0
 IsLoadOf page_size sent a = (table : RamTable) (rounds : List (List Page)) → IsTable table → table.page_size ≡ page_size → total_bytes table ≤ 2 ^ 40
-    → All (IsRound table) rounds → sent ≡ single table rounds → (a ≡ loaded table rounds) ⊎ IsWithoutMemory page_size (2 ^ 40) sent a
+    → All (IsRound table) rounds → sent ≡ single table rounds → (a ≡ loaded table rounds) ⊎ IsSingleWithoutMemory page_size (2 ^ 40) sent a
 
 -- a guest's image in the end and the stream of its rounds, as a scenario makes them, and what loading that stream answers
 pub record IsRoundTrip {A : Type 0} (page_size : ℕ) (text : List ℕ) (image : Image) (sent : List ℕ) (a : Loaded A) : Type 0 where
   pub is_sent : sent ≡ single (table_of page_size (lines_of text)) (rounds_from page_size (lines_of text))
   pub has_image : image ≡ after (table_of page_size (lines_of text)) (rounds_from page_size (lines_of text))
-  pub is_loaded : (a ≡ loaded (table_of page_size (lines_of text)) (rounds_from page_size (lines_of text))) ⊎ IsWithoutMemory page_size (2 ^ 40) sent a
+  pub is_loaded : (a ≡ loaded (table_of page_size (lines_of text)) (rounds_from page_size (lines_of text))) ⊎ IsSingleWithoutMemory page_size (2 ^ 40) sent a
 
 -- so it is with the single stream that was sent
 abbrev pub HasRoundTrip : {A : Type 0} → ℕ → List ℕ → Played A → Loaded A → Type 0
 HasRoundTrip page_size text played a = IsSomeAnd played.texts.single (λ sent. IsRoundTrip page_size text played.image sent.items a)
 
 -- A report is that of an input that was read to its end, with pages of 4096 bytes, where `input` was left before and `rest` is left after; or it tells
--- of want of memory.
+-- of a refused allocation.
 abbrev pub IsReportOf : Option (List ℕ) → Option (List ℕ) → Report → Type 0
 IsReportOf input rest r = ((text : List ℕ) × Consumes input rest text × IsAtEnd rest × (r ≡ report 4096 text)) ⊎ IsWantOfMemory r
 

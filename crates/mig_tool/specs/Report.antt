@@ -60,7 +60,7 @@ report_as page_size ls None = record { text = checked (table_of page_size ls) (r
 abbrev pub report : ℕ → List ℕ → Report
 report page_size text = report_as page_size (lines_of text) (refusal page_size text)
 
--- the answers for want of memory: outside of a load, and in it, after so many rounds
+-- the answers where an allocation was refused: outside of a load, and in it, after so many rounds
 abbrev pub IsWantOfMemory : Report → Type 0
 IsWantOfMemory r = (r.status ≡ 1) × ((r.text ≡ fault_line no_memory_number [])
     ⊎ ((rounds : ℕ) × (r.text ≡ fault_line no_memory_number (codes " round " ++ decimal rounds ++ codes " in round"))))

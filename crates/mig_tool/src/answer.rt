@@ -49,7 +49,7 @@ pub enum Answer {
     LoadedRounds(u64),
     /// A scenario's memory was compared with a file's.
     Compared(Comparison),
-    /// The input is no scenario, or memory was refused.
+    /// The input is no scenario, or an allocation was refused.
     Refused(ScenarioFault),
     /// What was to be loaded wasn't.
     Unloaded(LoadFault),

@@ -59,8 +59,9 @@ fn load_stream<A: Allocator + Copy>(alloc: A, page_size: u64, texts: &Texts<A>) 
 }
 
 // How many rounds were loaded, and how their memory compares with the guest's.
-fn compare_loaded<H: Threads, A: Allocator>(
+fn compare_loaded<H: Threads + Sync, A: Allocator + Copy + Send + Sync>(
     rt: &H,
+    alloc: A,
     loaded: &Loaded<A>,
     image: &Memory<A>,
 ) -> Result<(u64, Comparison), Answer>
@@ -74,7 +75,7 @@ fn compare_loaded<H: Threads, A: Allocator>(
     let round = loaded.rounds;
     match &loaded.memory {
         Some(memory) if memory.table().same(image.table()) => {
-            Ok((round, compared(rt, memory, image)?))
+            Ok((round, compared(rt, alloc, memory, image)?))
         }
         _ => Err(Answer::Unloaded(LoadFault {
             round,
@@ -133,7 +134,7 @@ fn check_texts<H: Threads + Wait + Sync, A: Allocator + Copy + Send + Sync>(
         → played.now.texts.several ≡ None → Answers page_size text (answer_from result) }
 {
     let single = single_len(&played.texts);
-    let (sections, of_single) = match compare_loaded(rt, loaded, &played.image) {
+    let (sections, of_single) = match compare_loaded(rt, alloc, loaded, &played.image) {
         Ok(pair) => pair,
         Err(answer) => return Err(answer),
     };
@@ -146,7 +147,7 @@ fn check_texts<H: Threads + Wait + Sync, A: Allocator + Copy + Send + Sync>(
         });
     };
     let loaded = load_sent(rt, alloc, layout, sent);
-    let (rounds, of_several) = compare_loaded(rt, &loaded, &played.image)?;
+    let (rounds, of_several) = compare_loaded(rt, alloc, &loaded, &played.image)?;
     Ok(Checked {
         single,
         sections,

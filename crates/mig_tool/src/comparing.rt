@@ -18,15 +18,16 @@ use std::fs::Files;
 use std::thread::Threads;
 
 // The answer on two memories of one table.
-fn answer_on<H: Threads, A: Allocator, B: Allocator>(
+fn answer_on<H: Threads + Sync, A: Allocator + Copy + Send + Sync>(
     rt: &H,
+    alloc: A,
     a: &Memory<A>,
-    b: &Memory<B>,
+    b: &Memory<A>,
 ) -> Result<Answer, NoMemory>
     requires { a.now.table ≡ b.now.table }
     ensures { IfOk result (IsComparison a.now b.now) }
 {
-    Ok(Answer::Compared(compared(rt, a, b)?))
+    Ok(Answer::Compared(compared(rt, alloc, a, b)?))
 }
 
 /// Compares the memory that a scenario makes with that of a file, and gives the answer. An `Err` is one too: that of the first
@@ -43,5 +44,5 @@ pub(crate) fn compare<H: Files + Threads + Sync, A: Allocator + Copy + Send + Sy
     let Some(memory) = memory_of(alloc, &scenario.table, &bytes)? else {
         return Err(Answer::Failed(ToolFault::ImageLen));
     };
-    Ok(answer_on(rt, &played.image, &memory)?)
+    Ok(answer_on(rt, alloc, &played.image, &memory)?)
 }

@@ -1,4 +1,4 @@
-//! Why the tool refuses: a scenario's faults, and the faults of its words, its input and its files.
+//! Why the tool refuses, by name and number: a scenario's faults, and the faults of its words and its input. `print` prints them.
 
 ghost use Rattle.std.specs.Prelude.{◌≡◌};
 ghost use Rattle.mig_tool.specs.Report.{scenario_number};
@@ -19,7 +19,7 @@ pub enum ScenarioFault {
     Range(usize),
     /// A step stands after the last round.
     Unsent(usize),
-    /// A growth was refused.
+    /// An allocation was refused.
     NoMemory,
 }
 

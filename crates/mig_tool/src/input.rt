@@ -1,4 +1,4 @@
-//! The reading of an input: whole, in so many reads at most.
+//! The reading of an input, for `run`: whole, in so many reads at most.
 
 ghost use Rattle.std.specs.Prelude.{◌≡◌, ◌<◌, length, IfOk, IfErr};
 ghost use Rattle.std.specs.Io.KnownBytes.{Consumes, IsAtEnd};

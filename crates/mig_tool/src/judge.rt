@@ -1,4 +1,4 @@
-//! The judging of a scenario: its table and its lines, or the first fault that applies.
+//! The judging of a scenario, for `check`: its table and its lines, or the first fault that applies.
 
 ghost use Rattle.std.specs.Prelude.{◌≡◌, ◌⊎◌, map, None, Some, IfOk, IfErr, OnOk, not, IsTrue, All};
 ghost use Rattle.mig_mem.specs.PageSize.{IsPageSize};

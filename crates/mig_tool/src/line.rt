@@ -1,4 +1,4 @@
-//! The lines of a scenario: what a text says, line by line.
+//! The lines of a scenario, for `judge` and `guest`: what a text says, line by line.
 
 ghost use Rattle.std.specs.Prelude.{◌≡◌, ◌<◌, ◌==◌, [], ◌∷◌, ◌⊎◌, length, map, Some, IfOk, IfErr, MatchOption, is_none};
 ghost use Rattle.std.specs.List.{slice_split};

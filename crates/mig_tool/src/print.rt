@@ -1,4 +1,4 @@
-//! The printing of an answer: its lines, and the program's status.
+//! The printing of an answer, for `run`: its lines, and the program's status.
 
 ghost use Rattle.std.specs.Prelude.{◌≡◌, ◌++◌, OnOk, IfSome, codes, decimal};
 ghost use Rattle.std.specs.Io.KnownBytes.{Appends};

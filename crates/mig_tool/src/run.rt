@@ -1,4 +1,4 @@
-//! The tool as a function: its words, its input and its output, and the status that it ends with.
+//! The tool as a function, which `main` and the tests call: its words, its input and its output, and the status that it ends with.
 
 ghost use Rattle.std.specs.Prelude.{◌≡◌, ◌≢◌, ◌≤◌, ◌⊎◌, [], map};
 ghost use Rattle.mig_tool.specs.Answer.{AnswersInput, HasPrinted, HasReported, status_of};

@@ -1,6 +1,7 @@
 //! Tests of the tool as a function, with readers and writers in memory, and files in a folder of each test's own. Here stands what they
 //! run; their cases are below.
 
+mod allocations;
 mod answers;
 mod channels;
 mod command_line;
@@ -8,7 +9,6 @@ mod comparisons;
 mod failing_files;
 mod files;
 mod folder;
-mod growths;
 mod images;
 mod loads;
 mod long;

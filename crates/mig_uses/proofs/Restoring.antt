@@ -1,4 +1,4 @@
--- What a load of a text that was sent answers: the memory, or want of memory.
+-- What a load of a text that was sent answers: the memory, or `NoMemory`.
 use Rattle.std.proofs.Common.{ℕ, ◌≡◌, ◌≤◌, List, refl, sym, ap, ◌∙◌, inl, inr, Option, Some, None}
 use Rattle.std.specs.Prelude.{◌⊎◌, All, Result, Ok, Err, IsErr, IsErrAnd, MatchResult, ⊤}
 use Rattle.mig_mem.specs.RamTable.{RamTable, IsTable}
@@ -9,7 +9,7 @@ use Rattle.mig_stream.specs.Written.{single}
 use Rattle.mig_load.specs.declared.loaded.Loaded.{Loaded}
 use Rattle.mig_load.specs.declared.fault.LoadFault.{LoadFault}
 use Rattle.mig_load.specs.declared.fault.Fault.TheVariants as fault
-use Rattle.mig_load.specs.SingleLoad.{IsWithoutMemory, loaded}
+use Rattle.mig_load.specs.SingleLoad.{IsSingleWithoutMemory, loaded}
 use Rattle.mig_load.specs.declared.verdict.Verdict.TheVariants.{Done, Failed}
 use Rattle.mig_load.specs.Texts.{Texts}
 use Rattle.mig_load.specs.MultiLoad.{Answer, as_verdict, answer_of, IsWithoutMemory as LacksMemory}
@@ -28,7 +28,7 @@ HasWanted a = (e : LoadFault) × (a.verdict ≡ Err e) × (e.fault ≡ fault.NoM
 -- what `load_single` says of a text, where that is the single stream of rounds
 abbrev pub LoadsSingle : {A : Type 0} → ℕ → ℕ → List ℕ → Loaded A → Type 0
 LoadsSingle page_size limit text a = (table : RamTable) (rounds : List (List Page)) → IsTable table → table.page_size ≡ page_size → total_bytes table ≤ limit
-    → All (IsRound table) rounds → text ≡ single table rounds → (a ≡ loaded table rounds) ⊎ IsWithoutMemory page_size limit text a
+    → All (IsRound table) rounds → text ≡ single table rounds → (a ≡ loaded table rounds) ⊎ IsSingleWithoutMemory page_size limit text a
 
 pub brought : {A : Type 0} (page_size limit : ℕ) (text : List ℕ) (a : Loaded A) (m : Image) → LoadsSingle page_size limit text a → IsTable m.table
     → m.table.page_size ≡ page_size → total_bytes m.table ≤ limit → BringsMemory m text → HasLoaded m a ⊎ HasWanted a

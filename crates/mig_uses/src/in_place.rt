@@ -11,7 +11,7 @@ use mig_load::{Fault, InPlaceLoader, LoadFault, Origin};
 use mig_mem::GuestTarget;
 use std::alloc::Allocator;
 
-// Want of memory before any round.
+// A refused allocation before any round.
 fn without_memory() -> LoadFault
     ensures { result.fault ≡ fault_no_memory }
 {

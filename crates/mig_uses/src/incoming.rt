@@ -26,7 +26,7 @@ fn is_unfinished(fault: Fault) -> bool
     fault == Fault::Stream(StreamFault::Truncated)
 }
 
-/// Takes the next piece of a stream, of any length, as a socket gives it, and tells how the stream stands. An `Err` is want of memory, and
+/// Takes the next piece of a stream, of any length, as a socket gives it, and tells how the stream stands. An `Err` is `NoMemory`, and
 /// says nothing of the stream: `FeedFault` has what to do then.
 pub fn take_piece<A: Allocator + Copy>(
     loader: &mut SingleLoader<A>,

@@ -9,7 +9,7 @@ use std::alloc::{AllocError, Allocator, Global};
 /// What a user is told of a load that failed.
 #[derive(Drop)]
 pub struct Notice<A: Allocator = Global> {
-    /// The fault's number, as `docs/FAULTS.md` has it. 60 is want of memory, after which the same load may be tried again.
+    /// The fault's number, as `docs/FAULTS.md` has it. 60 is `NoMemory`, after which the same load may be tried again.
     pub number: u8,
     /// How many rounds came before it. They are in the memory.
     pub rounds: u64,
@@ -19,7 +19,7 @@ pub struct Notice<A: Allocator = Global> {
     pub words: String<A>,
 }
 
-/// Makes the notice of a fault, for a log and for a person. Only its words take memory.
+/// Makes the notice of a fault, for a log and for a person. Only its words allocate.
 pub fn notice_of<A: Allocator + Copy>(alloc: A, fault: LoadFault) -> Result<Notice<A>, AllocError>
     ensures number { IfOk result (λ notice. notice.number ≡ fault_number fault.fault) }
     ensures place { IfOk result (λ notice. (notice.rounds ≡ fault.round) × (notice.source ≡ fault.source)) }

@@ -1,6 +1,6 @@
 //! The zero test of guest memory: whether a page, or any other run of bytes, has no byte other than 0.
 //!
-//! A sender asks it of each page that is due, since a page of zeros goes out as a short mark in place of its bytes.
+//! A sender asks it of each page that is due, since of a page of zeros no bytes go out, only that it is zeros.
 //! So it is to cost little beside the copy of a page that goes out whole, for a page of zeros and for any other. It
 //! only reads and answers: what a page is, how long it is and what becomes of it are for the crates above.
 #![tactic(auto)]

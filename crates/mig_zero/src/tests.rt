@@ -1,3 +1,5 @@
+//! Tests of the zero test: none, 4,096 zeros, the last one set, and a one at each place of many lengths.
+
 use crate::is_zero;
 use std::alloc::{AllocError, Global};
 use std::test::Fail;

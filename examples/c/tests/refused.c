@@ -1,4 +1,4 @@
-/* Each allocation refused in turn. A guest of two blocks is sent, loaded by a loader and by a session, and read out, with the nth call of malloc
+/* Each allocation refused in turn. A guest of two blocks is sent, loaded by a loader, into blocks and by a session, and read out, with the nth call of malloc
  * or realloc refused: the call that wanted it says so, and is made again. What comes of it is the same as with no refusal, and no block is left.
  * It is linked with -Wl,--wrap=malloc,--wrap=realloc,--wrap=free. */
 #include "zimgasol.h"
@@ -114,6 +114,67 @@ static void load(size_t cut) {
     zimgasol_loader_free(&loader);
 }
 
+/* The guest's blocks, and what they hold before the stream comes. */
+static uint8_t first_block[3 * PAGE], second_block[2 * PAGE];
+
+static int is_filled(const uint8_t *bytes, size_t len, uint8_t byte) {
+    for (size_t i = 0; i < len; i++) if (bytes[i] != byte) return 0;
+    return 1;
+}
+
+static void make_in_place(zimgasol_in_place *load) {
+    zimgasol_block blocks[2] = {{.id = "a", .pages = 3}, {.id = "pc.ram", .pages = 2}};
+    zimgasol_table table = {0};
+    size_t entry;
+    AGAIN(zimgasol_table_new(&table, PAGE, blocks, 2, &entry));
+    WANT(zimgasol_in_place_new(load, &table, (1ull << 40) + 1) == ZIMGASOL_BAD_LIMIT && load->at == NULL);
+    AGAIN(zimgasol_in_place_new(load, &table, 1 << 20));
+    zimgasol_table_free(&table);
+    memset(first_block, 0xEE, sizeof first_block);
+    memset(second_block, 0xEE, sizeof second_block);
+}
+
+/* Puts the pages that are due, and tries first what isn't to be done. */
+static void put_due(zimgasol_in_place *load) {
+    zimgasol_fault fault;
+    size_t block;
+    uint32_t status;
+    while ((status = zimgasol_in_place_next(load, &block)) == ZIMGASOL_IS_DUE) {
+        uint8_t *bytes = block == 0 ? first_block : second_block;
+        size_t len = block == 0 ? sizeof first_block : sizeof second_block;
+        WANT(block < 2 && zimgasol_in_place_fault(load, &fault) == ZIMGASOL_IS_DUE && fault.round == zimgasol_in_place_rounds(load));
+        WANT(zimgasol_in_place_put(load, 2, bytes, len) == ZIMGASOL_NO_PAGE && zimgasol_in_place_put(load, 1 - block, bytes, len) == ZIMGASOL_OUT_OF_TURN);
+        WANT(zimgasol_in_place_put(load, block, bytes, len - 1) == ZIMGASOL_BAD_LENGTH && zimgasol_in_place_put(load, block, bytes, 0) == ZIMGASOL_BAD_LENGTH);
+        WANT(zimgasol_in_place_put(load, block, bytes, len) == ZIMGASOL_DONE);
+        WANT(zimgasol_in_place_put(load, block, bytes, len) == ZIMGASOL_OUT_OF_TURN);
+    }
+    WANT(status == ZIMGASOL_DONE);
+}
+
+static void feed_in_place(zimgasol_in_place *load, size_t cut, int at_once) {
+    for (size_t at = 0; at < text_len; at += cut) {
+        size_t len = text_len - at < cut ? text_len - at : cut;
+        AGAIN(zimgasol_in_place_feed(load, text + at, len));
+        if (at_once) put_due(load);
+    }
+    if (!at_once) put_due(load);
+}
+
+/* Loads into blocks, whose pages are put after each piece, or only once all were fed. */
+static void load_in_place(size_t cut, int at_once) {
+    zimgasol_in_place load = {0};
+    zimgasol_fault fault;
+    make_in_place(&load);
+    feed_in_place(&load, cut, at_once);
+    zimgasol_in_place_end(&load);
+    WANT(zimgasol_in_place_feed(&load, text, 1) == ZIMGASOL_IS_OVER);
+    WANT(zimgasol_in_place_fault(&load, &fault) == ZIMGASOL_DONE && fault.number == 0 && zimgasol_in_place_rounds(&load) == 4);
+    zimgasol_in_place_free(&load);
+    WANT(load.at == NULL);
+    WANT(is_filled(first_block, 2 * PAGE, 0xEE) && first_block[2 * PAGE] == 3 && is_filled(first_block + 2 * PAGE + 1, PAGE - 1, 7));
+    WANT(is_filled(second_block, PAGE, 0) && is_filled(second_block + PAGE, PAGE, 0xEE));
+}
+
 /* The main stream of a round of a block of two pages, and its channel. */
 static void put_be(uint64_t number, int bytes) {
     while (bytes-- > 0) main_text[main_len++] = (uint8_t)(number >> 8 * bytes);
@@ -225,6 +286,8 @@ int main(int count, char **words) {
         counted = refusals = 0;
         send();
         load(1000);
+        load_in_place(900, 1);
+        load_in_place(5000, 0);
         put_channel();
         load_several(700);
         WANT(held == 0);

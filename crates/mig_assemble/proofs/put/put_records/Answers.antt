@@ -15,8 +15,8 @@ loop-i-preserved g c =
     let round = c.args.round.now in
     let r : PageRecord = record_at round.records c.loop-i.i in
     let size : here.table.page_size ≡ round.page_size = ap (λ (m : Image). m.table.page_size) c.loop-i.invariant ∙ sym c.requires.has_page_size in
-    let bytes : unwrap_or (option_copied c.content.result) (zero_page here.table.page_size) ≡ (page_of round.page_size r).content =
-    ap (λ (o : Option (List ℕ)). unwrap_or o (zero_page here.table.page_size)) c.content.ensures.value
+    let bytes : unwrap_or (option_copied c.record.result.1) (zero_page here.table.page_size) ≡ (page_of round.page_size r).content =
+    ap (λ (o : Option (List ℕ)). unwrap_or o (zero_page here.table.page_size)) c.record.ensures.content
     ∙ ap (λ (n : ℕ). unwrap_or r.content (zero_page n)) size in
     put_more (g.M.GuestTarget.image c.args.memory.now) here (g.M.GuestTarget.image c.put_record.new.memory) round.page_size round.records c.loop-i.i
-    c.place.result _ c.loop-i.invariant (omega arith) c.place.ensures bytes c.put_record.ensures
+    c.record.result.0 _ c.loop-i.invariant (omega arith) c.record.ensures.place bytes c.put_record.ensures

@@ -1,7 +1,8 @@
 use Rattle.std.proofs.Common.{inr}
 use Rattle.mig_load.specs.Texts.{ended_texts}
 use Rattle.mig_load.specs.MultiLoad.{answer_of, bytes_of}
-use Rattle.mig_load.proofs.Relaying.{is_without_memory, starts_relay, sending_is_loaded}
+use Rattle.mig_load.proofs.Relays.{relay_starts}
+use Rattle.mig_load.proofs.Relaying.{is_without_memory, sending_is_loaded}
 use Rattle.mig_load.proofs.multi.load_multi.Goals as goal
 
 pub returns-in_default-clause-answer : goal.returns-in_default-clause-answer
@@ -17,10 +18,10 @@ returns-in_default-clause-sent g c = λ table rounds sent size room. inr
 pub returns-clause-answer : goal.returns-clause-answer
 returns-clause-answer g c =
     c.load.ensures c.args.page_size c.args.uuid.now (bytes_of c.args.channels.now) c.requires.page_size
-    (starts_relay c.args.page_size c.args.uuid.now c.args.channels.now c.in-Ok.collector c.requires.channels.0 c.in-Ok.ensures.start)
+    (relay_starts c.args.page_size c.args.uuid.now c.args.channels.now c.in-Ok.collector c.requires.channels.0 c.in-Ok.ensures.start)
 
 pub returns-clause-sent : goal.returns-clause-sent
 returns-clause-sent g c =
     sending_is_loaded c.args.page_size c.args.uuid.now c.args.limit c.args.main.now (bytes_of c.args.channels.now) (answer_of c.load.result)
     (c.load.ensures c.args.page_size c.args.uuid.now (bytes_of c.args.channels.now) c.requires.page_size
-    (starts_relay c.args.page_size c.args.uuid.now c.args.channels.now c.in-Ok.collector c.requires.channels.0 c.in-Ok.ensures.start))
+    (relay_starts c.args.page_size c.args.uuid.now c.args.channels.now c.in-Ok.collector c.requires.channels.0 c.in-Ok.ensures.start))

@@ -13,7 +13,7 @@ returns-in_err-buffer-clause-pumped g c =
     let s = c.args.session.now in
     let pumps : Pumps c.args.source c.args.turns c.from_residual.result r r x x s s =
     subst (λ (result : Result ℕ PumpFault). Pumps c.args.source c.args.turns result r r x x s s)
-    (sym (is_no_memory c.from_residual.result c.from_residual.ensures)) (no_buffer c.args.source c.args.turns r x s) in pumps.pumped
+    (sym (is_no_memory c.from_residual.result c.from_residual.ensures)) (no_buffer c.args.source c.args.turns r x s) in pumps.pump_step
 
 pub loop-init : goal.loop-init
 loop-init g c = record {
@@ -42,7 +42,7 @@ returns-in-Ok-eq0-clause-pumped g c =
     record { steps = e.steps; lacking = e.lacking; settled = e.settled; has_counts = e.counts; same_target = e.same } in
     let pumps : Pumps c.args.source c.args.turns (Ok c.loop.total) (reads before) (reads after) (left before) (left after) old new =
     finds_end c.args.source c.args.turns c.loop.counter c.loop.total (reads before) (reads here) (reads after) (left before) (left here) (left after) old c.loop.session new
-    c.loop-test.true c.loop.invariant.so_far is_end given (read.bytes.1 none (omega (arith, read.len, long))) ends in pumps.pumped
+    c.loop-test.true c.loop.invariant.so_far is_end given (read.bytes.1 none (omega (arith, read.len, long))) ends in pumps.pump_step
 
 pub feed-requires-clause-room : goal.feed-requires-clause-room
 feed-requires-clause-room g c =
@@ -74,7 +74,7 @@ returns-in_err-feed-in-Ok-clause-pumped g c =
     subst (λ (r : Result ℕ PumpFault). Pumps c.args.source c.args.turns r (reads before) (reads after) (left before) (left after) old new)
     (sym (is_no_memory result c.from_residual-in_err-feed-in-Ok.ensures))
     (runs_out c.args.source c.args.turns c.loop.counter c.loop.total c.in-Ok.n piece (reads before) (reads here) (reads after) (left before) (left here) (left after) old c.loop.session new
-    c.requires.source c.loop-test.true c.loop.invariant.so_far q f e.err e.failed (λ over. let no = (e.settled over).0 in cc)) in pumps.pumped
+    c.requires.source c.loop-test.true c.loop.invariant.so_far q f e.err e.failed (λ over. let no = (e.settled over).0 in cc)) in pumps.pump_step
 
 pub overflow_add-total : goal.overflow_add-total
 overflow_add-total g c =

@@ -1,4 +1,4 @@
-use Rattle.mig_load.specs.Pieces.{channel_text}
+use Rattle.mig_load.specs.RelayItems.{channel_text}
 use Rattle.mig_load.proofs.queue.queue_for.Given as goal
 
 abbrev pub ghosts-cut : goal.ghosts-cut

@@ -4,7 +4,7 @@ use Rattle.mig_packet.specs.Lent.{fields}
 use Rattle.mig_assemble.specs.Judging.{refusal}
 use Rattle.mig_assemble.specs.Target.{pages_of_round}
 use Rattle.mig_load.specs.declared.fault.LoadFault.{LoadFault}
-use Rattle.mig_load.specs.SingleLoad.{want_of_memory}
+use Rattle.mig_load.specs.SingleLoad.{no_memory_at}
 use Rattle.mig_load.specs.declared.status.Status.TheVariants.{Whole}
 use Rattle.mig_load.specs.Relayed.{IsRefused}
 use Rattle.mig_load.proofs.RelayRounds.{told_now, ends_told, ends_without, sizes_of_packets, ends_refused, goes_in}
@@ -14,7 +14,7 @@ pub returns-in_default-clause-judged : goal.returns-in_default-clause-judged
 returns-in_default-clause-judged g c = λ l comes. (
   refl,
   ends_without l c.args.target.now.rounds c.no_memory.result c.args.places.now.items c.args.collector.now c.told_at.new.collector comes.loading c.told_at.ensures.continues
-      (c.no_memory.ensures ∙ ap want_of_memory c.rounds-rounds.ensures),
+      (c.no_memory.ensures ∙ ap no_memory_at c.rounds-rounds.ensures),
 )
 
 pub returns-in-Some-clause-judged : goal.returns-in-Some-clause-judged

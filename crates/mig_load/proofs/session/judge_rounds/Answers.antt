@@ -4,7 +4,7 @@ use Rattle.mig_assemble.specs.Target.{LoadTarget}
 use Rattle.mig_load.specs.declared.fault.LoadFault.{LoadFault}
 use Rattle.mig_load.specs.declared.verdict.Verdict.{Verdict}
 use Rattle.mig_load.specs.Sources.{FedSources, counts_of, TellsAll, main_waiting}
-use Rattle.mig_load.specs.Advancing.{Feeding, Advances, HasAdvanced, Comes, HasPut}
+use Rattle.mig_load.specs.Advancing.{Feeding, Advances, HasAdvanced, RoundIsDue, PutsOrRefuses}
 use Rattle.mig_load.proofs.Advances.{comes_of, told_of, round_comes, next_advances, none_told_of, fails}
 use Rattle.mig_load.proofs.session.judge_rounds.Goals as goal
 
@@ -27,7 +27,7 @@ pub returns-in-Err-clause-advanced : goal.returns-in-Err-clause-advanced
 returns-in-Err-clause-advanced g c = λ f before.
     let told = subst (λ (o : Option Verdict). TellsAll c.rounds.target.rounds c.rounds.sources o) (none_told_of c.rounds.told c.is_none.ensures c.rounds-test.true) c.rounds.invariant.told in
     let advances = c.rounds.invariant.advances f before in
-    let put = subst (λ (r : Result ⊤ LoadFault). HasPut f c.rounds.target r c.judge.new.target) c.in-Err.is (c.judge.ensures f (comes_of f c.rounds.sources c.rounds.target advances told)) in
+    let put = subst (λ (r : Result ⊤ LoadFault). PutsOrRefuses f c.rounds.target r c.judge.new.target) c.in-Err.is (c.judge.ensures f (comes_of f c.rounds.sources c.rounds.target advances told)) in
     fails f c.rounds.sources c.rounds.target c.judge.new.target c.in-Err.fault c.verdict_of.result advances put c.verdict_of.ensures.ok c.verdict_of.ensures.err
 
 pub returns-in-Err-clause-more : goal.returns-in-Err-clause-more
@@ -35,7 +35,7 @@ returns-in-Err-clause-more g c =
     let f : Feeding = c.requires.0 in
     let told = subst (λ (o : Option Verdict). TellsAll c.rounds.target.rounds c.rounds.sources o) (none_told_of c.rounds.told c.is_none.ensures c.rounds-test.true) c.rounds.invariant.told in
     let comes = comes_of f c.rounds.sources c.rounds.target (c.rounds.invariant.advances f c.requires.1) told in
-    let put = subst (λ (r : Result ⊤ LoadFault). HasPut f c.rounds.target r c.judge.new.target) c.in-Err.is (c.judge.ensures f comes) in
+    let put = subst (λ (r : Result ⊤ LoadFault). PutsOrRefuses f c.rounds.target r c.judge.new.target) c.in-Err.is (c.judge.ensures f comes) in
     let same = ap (λ (t : LoadTarget). t.rounds) put.0 in
     let more = c.rounds.invariant.more in
     omega (arith, more, same)
@@ -57,7 +57,7 @@ rounds-preserved g c =
       advances = λ f before.
           let advances = c.rounds.invariant.advances f before in
           let comes = comes_of f c.rounds.sources c.rounds.target advances told in
-          let put = subst (λ (r : Result ⊤ LoadFault). HasPut f c.rounds.target r c.judge.new.target) c.in_default.is (c.judge.ensures f comes) in
+          let put = subst (λ (r : Result ⊤ LoadFault). PutsOrRefuses f c.rounds.target r c.judge.new.target) c.in_default.is (c.judge.ensures f comes) in
           subst (λ (s : FedSources). Advances f s (Some c.judge.new.target)) (sym same)
           (next_advances f c.rounds.sources c.next.new.self c.rounds.target c.judge.new.target advances put.0 put.1
           (c.next.ensures.holds f.page_size f.uuid f.limit c.rounds.target.rounds f.texts (round_comes f c.rounds.sources c.rounds.target comes) advances.holds));
@@ -67,7 +67,7 @@ rounds-preserved g c =
       more =
           let f : Feeding = c.requires.0 in
           let comes = comes_of f c.rounds.sources c.rounds.target (c.rounds.invariant.advances f c.requires.1) told in
-          let put = subst (λ (r : Result ⊤ LoadFault). HasPut f c.rounds.target r c.judge.new.target) c.in_default.is (c.judge.ensures f comes) in
+          let put = subst (λ (r : Result ⊤ LoadFault). PutsOrRefuses f c.rounds.target r c.judge.new.target) c.in_default.is (c.judge.ensures f comes) in
           let more = c.rounds.invariant.more in
           omega (arith, more, put.1);
     }

@@ -4,7 +4,7 @@ use Rattle.mig_stream.specs.declared.item.Mode.TheVariants.{Main}
 use Rattle.mig_mem.specs.RamTable.{RamTable}
 use Rattle.mig_assemble.specs.Target.{LoadTarget}
 use Rattle.mig_load.specs.Advancing.{Feeding, Advances}
-use Rattle.mig_load.specs.Session.{rounds_in}
+use Rattle.mig_load.specs.Session.{rounds_loaded}
 use Rattle.mig_load.proofs.Advances.{table_found, zeros_advance, none_where}
 use Rattle.mig_load.proofs.session.make_target.Goals as goal
 
@@ -23,7 +23,7 @@ returns-in_ok-new-in-Some-clause-stays g c = λ some. absurd (some (none_where c
 
 pub returns-in_ok-new-in-Some-clause-rounds : goal.returns-in_ok-new-in-Some-clause-rounds
 returns-in_ok-new-in-Some-clause-rounds g c =
-    ap (λ (t : LoadTarget). t.rounds) c.in_ok-new-in-Some.ensures ∙ sym (ap rounds_in (none_where c.args.target.now c.is_some.ensures c.if-is_some.false))
+    ap (λ (t : LoadTarget). t.rounds) c.in_ok-new-in-Some.ensures ∙ sym (ap rounds_loaded (none_where c.args.target.now c.is_some.ensures c.if-is_some.false))
 
 pub returns-in-None-clause-ok : goal.returns-in-None-clause-ok
 returns-in-None-clause-ok g c = λ f advances. (

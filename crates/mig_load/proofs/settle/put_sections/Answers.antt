@@ -3,7 +3,7 @@ use Rattle.std.specs.Prelude.{Ok}
 use Rattle.mig_stream.specs.declared.item.Mode.TheVariants.{Single}
 use Rattle.mig_stream.specs.declared.round.StreamRound.{StreamRound}
 use Rattle.mig_stream.specs.Reading.{settings}
-use Rattle.mig_load.specs.Loader.{put_so_far, HasPut}
+use Rattle.mig_load.specs.Loader.{put_so_far, HasPutSections}
 use Rattle.mig_load.proofs.Sections.{is_few, fits_is, put_more, all_put, of_some, of_none}
 use Rattle.mig_load.proofs.settle.put_sections.Goals as goal
 
@@ -48,7 +48,7 @@ returns-in_default-clause-all g c = λ p limit first text ended before.
     let none : (r : StreamRound g.row.A.Denot) → c.take_round.result ≡ Ok (Some r) → ⊥ = λ r is. search rules in
     let same = of_none _ c.take_round.result c.take_round.ensures.ok none c.take_round.ensures.none in
     let was = c.sections.invariant.put p limit first text ended before in
-    let put = subst (λ r. HasPut p limit first text ended r t) (sym same) was in (
+    let put = subst (λ r. HasPutSections p limit first text ended r t) (sym same) was in (
       put,
       all_put p limit first text ended c.take_round.new.self t put
           (λ i round has. of_none _ c.take_round.result c.take_round.ensures.ok none c.take_round.ensures.last (settings Single p limit) (put_so_far text ended t.rounds) was.stands i round has),

@@ -3,7 +3,7 @@ use Rattle.mig_stream.specs.declared.item.Mode.TheVariants.{Single}
 use Rattle.mig_stream.specs.Reading.{settings}
 use Rattle.mig_stream.specs.Reader.{Reader, nothing_yet, with_piece, Stands}
 use Rattle.mig_mem.specs.PageSize.{IsPageSize}
-use Rattle.mig_load.specs.Loader.{loader, put_so_far, HasFed}
+use Rattle.mig_load.specs.Loader.{loader, put_so_far, WasFed}
 use Rattle.mig_load.proofs.Sections.{none_put, load_answers}
 use Rattle.mig_load.proofs.single.load.Goals as goal
 
@@ -11,7 +11,7 @@ pub returns-in_default : goal.returns-in_default
 returns-in_default g c = inr (rw c.without_memory.ensures (none_put c.args.page_size c.args.limit c.args.text.now c.requires.page_size))
 
 -- before the first section
-fed_whole : (p limit : ℕ) (text : List ℕ) (r : Reader) → IsPageSize p → Stands (settings Single p limit) (put_so_far text true 0) r → HasFed p limit (loader r None) text true
+fed_whole : (p limit : ℕ) (text : List ℕ) (r : Reader) → IsPageSize p → Stands (settings Single p limit) (put_so_far text true 0) r → WasFed p limit (loader r None) text true
 fed_whole p limit text r size stands = record { is_page_size = size; stands = stands; has_first = tt }
 
 pub settle-requires : goal.settle-requires

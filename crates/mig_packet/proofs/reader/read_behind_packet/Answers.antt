@@ -22,8 +22,8 @@ returns-in-Some-clause-err g c =
     let mid : c.take_packet.new.self ≡ after_packet p item = subst (λ (x : List ℕ). c.take_packet.new.self ≡ after_packet p x) packet c.in_default.ensures.ok in
     let taken = c.in-Err-read_in_place.ensures.err in
     let later = IsLater-packet p c.take_packet.new.self c.read_in_place.new.progress item taken.front mid taken.leads in
-    let back : c.undo.new.self ≡ p = c.undo.ensures.back p ((item ∷ []) ++ later.0) c.mark-mark.ensures later.1 in
-    let first : c.undo.result ≡ Some item = c.undo.ensures.first p ((item ∷ []) ++ later.0) c.mark-mark.ensures later.1 in
+    let back : c.undo.new.self ≡ p = c.undo.ensures.back p ((item ∷ []) ++ later.0) c.checkpoint-checkpoint.ensures later.1 in
+    let first : c.undo.result ≡ Some item = c.undo.ensures.first p ((item ∷ []) ++ later.0) c.checkpoint-checkpoint.ensures later.1 in
     let joined : Some c.in-Some.packet ≡ Some item = sym c.in-Some.is ∙ first in
     let same : c.in-Some.packet ≡ item = cc in
     (back, c.into_bytes-in-Some.ensures ∙ same)
@@ -36,5 +36,5 @@ returns-in_default-undo-clause-err g c =
     let mid : c.take_packet.new.self ≡ after_packet p item = subst (λ (x : List ℕ). c.take_packet.new.self ≡ after_packet p x) packet c.in_default.ensures.ok in
     let taken = c.in-Err-read_in_place.ensures.err in
     let later = IsLater-packet p c.take_packet.new.self c.read_in_place.new.progress item taken.front mid taken.leads in
-    let first : c.undo.result ≡ Some item = c.undo.ensures.first p ((item ∷ []) ++ later.0) c.mark-mark.ensures later.1 in
+    let first : c.undo.result ≡ Some item = c.undo.ensures.first p ((item ∷ []) ++ later.0) c.checkpoint-checkpoint.ensures later.1 in
     absurd (let clash : None ≡ Some item = sym c.in_default-undo.is ∙ first in cc)

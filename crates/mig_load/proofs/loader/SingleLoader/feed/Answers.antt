@@ -1,7 +1,7 @@
 use Rattle.std.proofs.Common.{◌++◌, ap, arith, false, subst, sym}
 use Rattle.mig_stream.specs.declared.item.Mode.TheVariants.{Single}
 use Rattle.mig_stream.specs.Reading.{settings}
-use Rattle.mig_load.specs.Loader.{Loader, loader, rounds_of, put_so_far, Loads}
+use Rattle.mig_load.specs.Loader.{Loader, loader, sections_loaded, put_so_far, Loads}
 use Rattle.mig_load.proofs.Sections.{fed_of}
 use Rattle.mig_load.proofs.Feeding.{fed_longer, fed_piece, settled_some, waits_now, not_err}
 use Rattle.mig_load.proofs.loader.SingleLoader.feed.Goals as goal
@@ -48,5 +48,5 @@ returns-clause-ok g c = λ p limit text loads.
 pub returns-in_default-clause-settled : goal.returns-in_default-clause-settled
 returns-in_default-clause-settled g c = λ _ p limit text before settled.
     let loads = subst (λ (l : Loader). Loads p limit l text false) (sym c.self.view_is) before in
-    let ok = c.feed.ensures.settled (settings Single p limit) (put_so_far text false (rounds_of (loader c.self.inside.reader c.self.inside.target))) loads.stands settled in
+    let ok = c.feed.ensures.settled (settings Single p limit) (put_so_far text false (sections_loaded (loader c.self.inside.reader c.self.inside.target))) loads.stands settled in
     not_err c.feed.result c.in_default.field-0 c.in_default.is ok

@@ -1,7 +1,7 @@
 use Rattle.std.proofs.Common.{◌≡◌, ◌<◌, List, length, refl, sym, subst, slice_get, slice_set, Some}
 use Rattle.std.specs.Prelude.{IfOk}
 use Rattle.std.proofs.lemmas.Option.{slice_get_read}
-use Rattle.mig_load.specs.Pieces.{QueueEnd}
+use Rattle.mig_load.specs.RelayItems.{QueueEnd}
 use Rattle.mig_load.specs.Relay.{TakesAt}
 use Rattle.mig_load.proofs.Relays.{relay_stays, sources_stay, source_kept, takes_there}
 use Rattle.mig_load.proofs.relay.Collector.next.Goals as goal

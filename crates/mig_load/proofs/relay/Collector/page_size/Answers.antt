@@ -1,6 +1,6 @@
 use Rattle.std.proofs.Common.{◌≡◌, List, subst}
 use Rattle.std.specs.List.{All}
-use Rattle.mig_load.specs.Pieces.{QueueEnd}
+use Rattle.mig_load.specs.RelayItems.{QueueEnd}
 use Rattle.mig_load.specs.Relayed.{IsRelay}
 use Rattle.mig_load.proofs.Relays.{relay_sizes}
 use Rattle.mig_load.proofs.relay.Collector.page_size.Goals as goal

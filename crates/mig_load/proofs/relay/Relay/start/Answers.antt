@@ -1,5 +1,6 @@
 use Rattle.std.proofs.Common.{ℕ, length, List, ◌∷◌, [], ◌++◌, sym, ap, ◌∙◌, map}
-use Rattle.mig_load.specs.Pieces.{channel_text}
+use Rattle.mig_load.specs.MultiLoad.{bytes_of}
+use Rattle.mig_load.specs.RelayItems.{channel_text}
 use Rattle.mig_load.specs.Relay.{so_far, at_start}
 use Rattle.std.proofs.lemmas.List.{take_all}
 use Rattle.mig_load.proofs.Ends.{one_started}
@@ -16,6 +17,11 @@ loop-j-preserved g c =
     )
 
 pub invariant_of-result : goal.invariant_of-result
-invariant_of-result g c =
-    relay_starts c.args.page_size c.args.uuid.now c.args.texts.now c.loop-j.channels.items c.requires.page_size c.requires.texts.0
-    (c.loop-j.invariant.0 ∙ ap (map (at_start c.args.page_size c.args.uuid.now (length c.args.texts.now))) (take_all c.loop-j.j c.args.texts.now c.loop-j-test.false))
+invariant_of-result g c = record {
+  page_size = c.args.page_size;
+  uuid = c.args.uuid.now;
+  texts = bytes_of c.args.texts.now;
+  is_page_size = c.requires.page_size;
+  is_relay = relay_starts c.args.page_size c.args.uuid.now c.args.texts.now c.loop-j.channels.items c.requires.texts.0
+      (c.loop-j.invariant.0 ∙ ap (map (at_start c.args.page_size c.args.uuid.now (length c.args.texts.now))) (take_all c.loop-j.j c.args.texts.now c.loop-j-test.false));
+}

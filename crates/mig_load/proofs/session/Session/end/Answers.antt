@@ -1,7 +1,7 @@
 use Rattle.std.proofs.Common.{◌≡◌, ◌∙◌, Option, Some, None, ap, subst, sym}
 use Rattle.std.specs.Prelude.{IfSome}
 use Rattle.mig_load.specs.Sources.{Counts, FedSources, counts_of}
-use Rattle.mig_load.specs.Session.{LoadSession, ended, with_end, StandsFor, LacksMemory}
+use Rattle.mig_load.specs.Session.{LoadSession, end_step, with_end, StandsFor, LacksMemory}
 use Rattle.mig_load.proofs.Sessions.{Keeps, end_counts, end_lacks, end_steps, is_session_still}
 use Rattle.mig_load.proofs.session.Session.end.Goals as goal
 
@@ -29,7 +29,7 @@ invariant_of-self-2 g c =
       page_size = some.page_size;
       uuid = some.uuid;
       limit = some.limit;
-      texts = ended c.args.source some.texts;
+      texts = end_step c.args.source some.texts;
       stands = end_steps some.page_size some.uuid some.limit some.texts s c.in-Some.sources new c.args.source c.rounds_of-rounds.result told.0 c.end_source-verdict.result c.keep.new.sources c.end.new.self
           c.self.invariant some.stands c.in-Some.is c.end_source-verdict.ensures.holds c.rounds_of-rounds.ensures told.1 told.2 c.end.ensures keeps;
     })

@@ -1,8 +1,8 @@
 use Rattle.std.proofs.Common.{◌≡◌, ◌∙◌, Option, Some, None, ap, length, subst, sym}
 use Rattle.std.specs.Prelude.{IfSome}
 use Rattle.mig_load.specs.Sources.{Counts, FedSources, counts_of}
-use Rattle.mig_load.specs.Session.{LoadSession, HasSource, count_of, fed, with_fed, StandsFor, LacksMemory}
-use Rattle.mig_load.specs.Advancing.{wants_memory}
+use Rattle.mig_load.specs.Session.{LoadSession, HasSource, count_of, feed_step, with_fed, StandsFor, LacksMemory}
+use Rattle.mig_load.specs.Advancing.{failed_without_memory}
 use Rattle.mig_load.specs.declared.verdict.Verdict.{Verdict}
 use Rattle.mig_load.proofs.Sessions.{Keeps, feeding_of, feed_steps, feed_runs_out, feed_counts, feed_lacks, is_session_still, has_source_of, open_of}
 use Rattle.mig_load.proofs.session.Session.feed.Goals as goal
@@ -38,7 +38,7 @@ invariant_of-self-in-Ok g c =
       page_size = some.page_size;
       uuid = some.uuid;
       limit = some.limit;
-      texts = fed c.args.source c.args.piece.now some.texts;
+      texts = feed_step c.args.source c.args.piece.now some.texts;
       stands = feed_steps some.page_size some.uuid some.limit some.texts s c.in-Some.sources new c.args.source c.args.piece.now c.take-taken.new.target c.take-taken.result c.in-Ok.verdict c.keep.new.sources
           c.add.new.self some.stands c.in-Some.is c.take-taken.ensures.taken c.in-Ok.is c.add.ensures keeps;
     })
@@ -53,7 +53,7 @@ returns-in-Ok-clause-ok g c = λ p uuid limit texts stands.
 pub returns-in-Err-clause-err : goal.returns-in-Err-clause-err
 returns-in-Err-clause-err g c = λ p uuid limit texts stands.
     let s : LoadSession = record { counts = c.self.inside.counts; sources = c.self.inside.sources; target = c.self.inside.target; verdict = c.self.inside.verdict } in
-    subst (λ (v : Verdict). LacksMemory p uuid limit (fed c.args.source c.args.piece.now texts) (record { counts = c.add.new.self; sources = None; target = c.take-taken.new.target; verdict = v }))
-    (sym (c.wants_memory-self-inside.ensures ∙ ap wants_memory c.rounds_of.ensures))
+    subst (λ (v : Verdict). LacksMemory p uuid limit (feed_step c.args.source c.args.piece.now texts) (record { counts = c.add.new.self; sources = None; target = c.take-taken.new.target; verdict = v }))
+    (sym (c.wants_memory-self-inside.ensures ∙ ap failed_without_memory c.rounds_of.ensures))
     (feed_runs_out p uuid limit texts s c.in-Some.sources c.take-taken.new.sources c.args.source c.args.piece.now c.take-taken.new.target c.take-taken.result None c.add.new.self
     (subst (λ (x : LoadSession). StandsFor p uuid limit texts x) (sym c.self.view_is) stands) c.in-Some.is c.take-taken.ensures.taken c.add.ensures)

@@ -7,7 +7,7 @@ use Rattle.mig_load.specs.declared.source.Source.{Source}
 use Rattle.mig_load.specs.declared.source.Source.TheVariants as source
 use Rattle.mig_load.specs.Texts.{no_text, over}
 use Rattle.mig_load.specs.Sources.{FedChannel, FedSources, Counts, counts_of, channel_count, main_count, Holds, HoldsChannel}
-use Rattle.mig_load.specs.Session.{ended, with_end, HasSource}
+use Rattle.mig_load.specs.Session.{end_step, with_end, HasSource}
 use Rattle.mig_load.proofs.KeptSources.{main_steps, channel_steps, channel_counts_step, zip_at, there_of}
 use Rattle.mig_load.proofs.sources.Sources.end.Goals as goal
 
@@ -15,7 +15,7 @@ pub returns-in-Main-clause-holds : goal.returns-in-Main-clause-holds
 returns-in-Main-clause-holds g c = λ p uuid limit k texts holds.
     let old : FedSources = record { main = c.self.inside.main; channels = c.self.inside.channels.items } in
     let before : Holds p uuid limit k texts old = subst (λ (s : FedSources). Holds p uuid limit k texts s) (sym c.self.view_is) holds in
-    subst (λ (x : Source). Holds p uuid limit k (ended x texts) (record { main = c.end.new.self; channels = c.self.inside.channels.items })) (sym c.in-Main.is)
+    subst (λ (x : Source). Holds p uuid limit k (end_step x texts) (record { main = c.end.new.self; channels = c.self.inside.channels.items })) (sym c.in-Main.is)
     (main_steps p uuid limit k over texts old c.end.new.self before (c.end.ensures.holds (main_settings Main p limit) k texts.main before.main))
 
 pub returns-in-Channel-clause-holds : goal.returns-in-Channel-clause-holds
@@ -29,7 +29,7 @@ returns-in-Channel-clause-holds g c = λ p uuid limit k texts holds.
     let there : slice_get channels j ≡ Some q =
     there_of channels j q (subst (λ (s : FedSources). HasSource (counts_of s) (source.Channel j)) (sym c.self.view_is) (subst (λ (x : Source). HasSource (counts_of c.args.self.now) x) c.in-Channel.is c.requires))
     c.index_mut-channel.ensures.value in
-    subst (λ (x : Source). Holds p uuid limit k (ended x texts) (record { main = c.self.inside.main; channels = slice_set channels j c.end-in-Channel.new.self })) (sym c.in-Channel.is)
+    subst (λ (x : Source). Holds p uuid limit k (end_step x texts) (record { main = c.self.inside.main; channels = slice_set channels j c.end-in-Channel.new.self })) (sym c.in-Channel.is)
     (channel_steps p uuid limit k j over texts old c.end-in-Channel.new.self before
     (c.end-in-Channel.ensures.holds given k (get_or texts.channels j no_text) (zip_at (HoldsChannel given k) texts.channels channels j no_text q before.channels there)))
 

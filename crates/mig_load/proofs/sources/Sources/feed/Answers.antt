@@ -8,7 +8,7 @@ use Rattle.mig_load.specs.declared.source.Source.{Source}
 use Rattle.mig_load.specs.declared.source.Source.TheVariants as source
 use Rattle.mig_load.specs.Texts.{no_text, with_piece}
 use Rattle.mig_load.specs.Sources.{FedChannel, FedSources, counts_of, channel_count, main_count, Holds, HoldsChannel}
-use Rattle.mig_load.specs.Session.{fed, with_fed, HasSource}
+use Rattle.mig_load.specs.Session.{feed_step, with_fed, HasSource}
 use Rattle.mig_load.proofs.KeptSources.{main_steps, channel_steps, channel_counts_step, zip_at, there_of, on_ok}
 use Rattle.mig_load.proofs.sources.Sources.feed.Goals as goal
 
@@ -16,7 +16,7 @@ pub returns-in-Main-clause-ok : goal.returns-in-Main-clause-ok
 returns-in-Main-clause-ok g c = on_ok c.feed.result c.feed.ensures.ok (λ steps p uuid limit k texts size holds.
     let old : FedSources = record { main = c.self.inside.main; channels = c.self.inside.channels.items } in
     let before : Holds p uuid limit k texts old = subst (λ (s : FedSources). Holds p uuid limit k texts s) (sym c.self.view_is) holds in
-    subst (λ (x : Source). Holds p uuid limit k (fed x c.args.piece.now texts) (record { main = c.feed.new.self; channels = c.self.inside.channels.items })) (sym c.in-Main.is)
+    subst (λ (x : Source). Holds p uuid limit k (feed_step x c.args.piece.now texts) (record { main = c.feed.new.self; channels = c.self.inside.channels.items })) (sym c.in-Main.is)
     (main_steps p uuid limit k (with_piece c.args.piece.now) texts old c.feed.new.self before (steps (main_settings Main p limit) k texts.main size before.main)))
 
 pub returns-in-Channel-clause-ok : goal.returns-in-Channel-clause-ok
@@ -30,7 +30,7 @@ returns-in-Channel-clause-ok g c = on_ok c.feed-in-Channel.result c.feed-in-Chan
     let there : slice_get channels j ≡ Some q =
     there_of channels j q (subst (λ (s : FedSources). HasSource (counts_of s) (source.Channel j)) (sym c.self.view_is) (subst (λ (x : Source). HasSource (counts_of c.args.self.now) x) c.in-Channel.is c.requires.source))
     c.index_mut-channel.ensures.value in
-    subst (λ (x : Source). Holds p uuid limit k (fed x c.args.piece.now texts) (record { main = c.self.inside.main; channels = slice_set channels j c.feed-in-Channel.new.self })) (sym c.in-Channel.is)
+    subst (λ (x : Source). Holds p uuid limit k (feed_step x c.args.piece.now texts) (record { main = c.self.inside.main; channels = slice_set channels j c.feed-in-Channel.new.self })) (sym c.in-Channel.is)
     (channel_steps p uuid limit k j (with_piece c.args.piece.now) texts old c.feed-in-Channel.new.self before
     (steps given k (get_or texts.channels j no_text) size (zip_at (HoldsChannel given k) texts.channels channels j no_text q before.channels there))))
 

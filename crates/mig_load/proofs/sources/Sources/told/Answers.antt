@@ -4,7 +4,7 @@ use Rattle.mig_mem.specs.First.{first_some}
 use Rattle.mig_load.specs.declared.status.Status.{Status}
 use Rattle.mig_load.specs.MultiLoad.{main_standing, repeated_hello, verdicts_told}
 use Rattle.mig_load.specs.Relayed.{standings}
-use Rattle.mig_load.specs.Sources.{FedChannel, FedSources, TellsChannel, TellsHello, TellsAll}
+use Rattle.mig_load.specs.Sources.{FedChannel, FedSources, TellsChannelStatus, TellsHello, TellsAll}
 use Rattle.mig_load.proofs.KeptSources.{tells_all}
 use Rattle.mig_load.proofs.sources.Sources.told.Goals as goal
 
@@ -15,7 +15,7 @@ returns-clause-told g c =
     subst (λ (s : FedSources). TellsAll c.args.round s c.verdict_told.result) c.self.view_is
     (tells_all c.args.round (record { main = c.self.inside.main; channels = c.self.inside.channels.items }) c.status-main.result statuses hellos c.repeated_id.result c.verdict_told.result
     c.status-main.ensures
-    (subst (λ (l : List FedChannel). AllZip TellsChannel l statuses) c.deref.ensures.value c.look_at_statuses.ensures.told)
+    (subst (λ (l : List FedChannel). AllZip TellsChannelStatus l statuses) c.deref.ensures.value c.look_at_statuses.ensures.told)
     (subst (λ (l : List FedChannel). AllZip TellsHello l hellos) c.deref-2.ensures.value c.look_at_hellos.ensures.told)
     (c.repeated_id.ensures ∙ ap repeated_hello c.deref-4.ensures.value)
     (c.verdict_told.ensures

@@ -16,7 +16,7 @@ pub loop-i-preserved : goal.loop-i-preserved
 loop-i-preserved g c =
     let table = c.args.table.now in
     let v = c.in_ok-no_words.field-0 in
-    let len : c.div_ceil-len.result ≡ ((block table.blocks c.loop-i.i).pages + 63) / 64 = omega (arith, c.div_ceil-len.ensures, c.pages.ensures.value) in
+    let len : c.words_for-len.result ≡ ((block table.blocks c.loop-i.i).pages + 63) / 64 = omega (arith, c.words_for-len.ensures, c.pages.ensures.value) in
     let none : v.items ≡ no_row table c.loop-i.i = c.in_ok-no_words.ensures ∙ ap (λ (n : ℕ). replicate n 0) len in
     ap (λ (l : List (Vec ℕ g.row.A.Denot)). buffers_of l) c.in_ok-push.ensures.items
     ∙ map_push (λ (x : Vec ℕ g.row.A.Denot). x.items) c.loop-i.words.items v

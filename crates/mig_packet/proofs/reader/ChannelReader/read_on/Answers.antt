@@ -9,7 +9,7 @@ invariant_of-self g c = unfinished_behind c.self.inside.progress _ c.read.new.pr
 pub invariant_of-self-in-Err : goal.invariant_of-self-in-Err
 invariant_of-self-in-Err g c =
     let later = IsLater-front c.self.inside.progress c.read.new.progress c.in-Err.ensures.err.front c.in-Err.ensures.err.leads in
-    let back : c.undo.new.self ≡ c.self.inside.progress = c.undo.ensures.back c.self.inside.progress later.0 c.mark-mark.ensures later.1 in
+    let back : c.undo.new.self ≡ c.self.inside.progress = c.undo.ensures.back c.self.inside.progress later.0 c.checkpoint-checkpoint.ensures later.1 in
     let kept : c.truncate.new.self.items ≡ c.self.inside.pending.items =
     let len : c.len-len.result ≡ length c.self.inside.pending.items = search rules in
     subst (λ (n : ℕ). c.truncate.new.self.items ≡ take n c.read.new.pending.items) len c.truncate.ensures.items ∙ c.in-Err.ensures.kept in
@@ -18,7 +18,7 @@ invariant_of-self-in-Err g c =
 pub returns-in-Err-clause-err : goal.returns-in-Err-clause-err
 returns-in-Err-clause-err g c =
     let later = IsLater-front c.self.inside.progress c.read.new.progress c.in-Err.ensures.err.front c.in-Err.ensures.err.leads in
-    let back : c.undo.new.self ≡ c.self.inside.progress = c.undo.ensures.back c.self.inside.progress later.0 c.mark-mark.ensures later.1 in
+    let back : c.undo.new.self ≡ c.self.inside.progress = c.undo.ensures.back c.self.inside.progress later.0 c.checkpoint-checkpoint.ensures later.1 in
     let kept : c.truncate.new.self.items ≡ c.self.inside.pending.items =
     let len : c.len-len.result ≡ length c.self.inside.pending.items = search rules in
     subst (λ (n : ℕ). c.truncate.new.self.items ≡ take n c.read.new.pending.items) len c.truncate.ensures.items ∙ c.in-Err.ensures.kept in

@@ -1,0 +1,23 @@
+use Rattle.std.proofs.Common.{◌≡◌, ◌<◌, ◌∙◌, [], refl, arith}
+use Rattle.std.proofs.lemmas.List.{nil_from_length}
+use Rattle.mig_stream.specs.Reader.{waiting}
+use Rattle.mig_c.proofs.HeldBlocks.{no_pages, fed_none, lacks_none}
+use Rattle.mig_c.proofs.held.next_section.Goals as goal
+
+pub sections-preserved : goal.sections-preserved
+sections-preserved c =
+    let none : c.in-Some.section.records ≡ [] = nil_from_length c.in-Some.section.records (omega (arith, c.len.ensures, c.if-len-gt0.false)) in
+    let fewer : waiting c.take_section.new.self.reader < waiting c.sections.state.reader = c.in-Some.ensures.fewer refl in
+    let so_far = c.sections.invariant.fewer in
+    record {
+      fed = λ memory limit first text ended is before.
+          fed_none memory limit first c.take_section.new.self _ text ended is (no_pages c.in-Some.section none)
+          (c.in-Some.ensures.some memory limit first text ended (c.sections.invariant.fed memory limit first text ended is before));
+      table = c.take_section.ensures.table ∙ c.sections.invariant.table;
+      fewer = omega (arith, fewer, so_far);
+    }
+
+pub returns-clause-lacks : goal.returns-clause-lacks
+returns-clause-lacks c = λ memory limit first text ended is before.
+    lacks_none memory limit first c.take_section.new.self text ended is
+    (c.in_default.ensures.none memory limit first text ended (c.sections.invariant.fed memory limit first text ended is before))

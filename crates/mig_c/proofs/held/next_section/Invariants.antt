@@ -1,0 +1,16 @@
+use Rattle.std.proofs.Common.{ℕ, ◌≡◌, ◌≤◌, Bool, List}
+use Rattle.mig_mem.specs.Image.{Image, IsImage}
+use Rattle.mig_stream.specs.Reader.{waiting}
+use Rattle.mig_load.specs.InPlaceState.{FedWith}
+use Rattle.mig_c.proofs.held.next_section.Given as goal
+
+abbrev pub invariant-sections : goal.invariant-sections
+invariant-sections l = record {
+  fed : (memory : Image) (limit : ℕ) (first : Image) (text : List ℕ) (ended : Bool) → IsImage memory → FedWith memory limit first l.fn.state text ended
+      → FedWith memory limit first l.state text ended;
+  table : l.state.table ≡ l.fn.state.table;
+  fewer : waiting l.state.reader ≤ waiting l.fn.state.reader;
+}
+
+abbrev pub decreases-sections : goal.decreases-sections
+decreases-sections l = waiting l.state.reader

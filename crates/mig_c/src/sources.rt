@@ -1,0 +1,60 @@
+//! The sources of a session, as C names them, and what is fed to them.
+
+ghost use Rattle.std.specs.Prelude.{◌≡◌, ◌↔◌, IsTrue};
+ghost use Rattle.mig_load.specs.Session.{HasSource};
+ghost use Rattle.mig_c.specs.Sessions.{FeedsSource, EndsSource, source_of};
+
+use crate::status::{BAD_SOURCE, DONE, IS_OVER, NO_MEMORY, TOO_LONG};
+use mig_load::{Session, Source};
+use mig_mem::NoMemory;
+use std::alloc::Global;
+
+/// The source of a number.
+pub(crate) fn source_of(number: usize) -> Source
+    ensures { result ≡ source_of number }
+{
+    if number == 0 {
+        return Source::Main;
+    }
+    Source::Channel(number - 1)
+}
+
+// Whether a session has a source.
+fn has_source(session: &Session<Global>, source: Source) -> bool
+    ensures { IsTrue result ↔ HasSource session.now.counts source }
+{
+    match source {
+        Source::Main => true,
+        Source::Channel(j) => j < session.channels(),
+    }
+}
+
+/// Takes the next piece of a source's text.
+pub(crate) fn feed_source(session: &mut Session<Global>, source: Source, piece: &[u8]) -> u32
+    ensures { FeedsSource source piece.now result session.old session.new }
+{
+    if !has_source(session, source) {
+        return BAD_SOURCE;
+    }
+    if session.ended(source) {
+        return IS_OVER;
+    }
+    if session.fed(source) > u64::MAX - piece.len() as u64 {
+        return TOO_LONG;
+    }
+    match session.feed(source, piece) {
+        Ok(()) => DONE,
+        Err(NoMemory) => NO_MEMORY,
+    }
+}
+
+/// The text of a source is over.
+pub(crate) fn end_source(session: &mut Session<Global>, source: Source) -> u32
+    ensures { EndsSource source result session.old session.new }
+{
+    if !has_source(session, source) {
+        return BAD_SOURCE;
+    }
+    session.end(source);
+    DONE
+}

@@ -1,5 +1,0 @@
-use Rattle.mig_packet.proofs.Exists.{one_list_law}
-use Rattle.mig_packet.proofs.laws.text_has_one_list_of_pieces.Goals as goal
-
-pub returns : goal.returns
-returns c = one_list_law

@@ -1,0 +1,130 @@
+/* Loads a stream from standard input into blocks of its own, as a machine that is to run the guest, and prints what came of it.
+ *
+ *   in_place [-p PAGE_SIZE] [-c BYTES] [-o FILE] ID=PAGES ..
+ *
+ * Each ID=PAGES is a block of the machine, in the order of the stream's. Pages have 4096 bytes where -p says nothing else, and the stream is fed in
+ * pieces of 65536: -c sets another length. -o writes the blocks to a file, one after another. It prints `single BYTES sections S`, with status 0;
+ * `fault N round R` with status 1, and then too the blocks have the whole sections before it; or why it can't go on, with status 3.
+ */
+#define _DEFAULT_SOURCE
+#include "zimgasol.h"
+#include <stdio.h>
+#include <stdlib.h>
+#include <string.h>
+#include <sys/mman.h>
+
+enum { MOST = 256 };
+
+/* The machine's blocks, each mapped by itself. */
+typedef struct machine {
+    zimgasol_block blocks[MOST];
+    uint8_t *bytes[MOST];
+    size_t lengths[MOST];
+    size_t count;
+} machine;
+
+/* Adds a block of this name and so many pages. */
+static int add_block(machine *m, const char *word, uint64_t page_size) {
+    const char *equals = strchr(word, '=');
+    uint64_t pages = equals == NULL ? 0 : strtoull(equals + 1, NULL, 10);
+    if (pages == 0 || pages > (1ULL << 40) / page_size || equals - word > 255 || m->count == MOST) return 0;
+    zimgasol_block *block = &m->blocks[m->count];
+    memcpy(block->id, word, (size_t)(equals - word));
+    block->pages = pages;
+    size_t len = pages * page_size;
+    void *bytes = mmap(NULL, len, PROT_READ | PROT_WRITE, MAP_PRIVATE | MAP_ANONYMOUS | MAP_NORESERVE, -1, 0);
+    if (bytes == MAP_FAILED) return 0;
+    m->bytes[m->count] = bytes;
+    m->lengths[m->count++] = len;
+    return 1;
+}
+
+static void unmap(machine *m) {
+    for (size_t i = 0; i < m->count; i++) munmap(m->bytes[i], m->lengths[i]);
+}
+
+/* Puts all pages that are due into their blocks. */
+static int put_due(zimgasol_in_place *load, machine *m) {
+    size_t block;
+    while (zimgasol_in_place_next(load, &block) == ZIMGASOL_IS_DUE)
+        if (zimgasol_in_place_put(load, block, m->bytes[block], m->lengths[block]) != ZIMGASOL_DONE) return 0;
+    return 1;
+}
+
+/* Feeds all of standard input. Answers how many bytes that were, or -1 where it can't be read or there is no memory. */
+static long long feed_input(zimgasol_in_place *load, machine *m, size_t cut) {
+    uint8_t *piece = malloc(cut);
+    long long total = 0;
+    size_t len;
+    if (piece == NULL) return -1;
+    while ((len = fread(piece, 1, cut, stdin)) > 0) {
+        uint32_t status = zimgasol_in_place_feed(load, piece, len);
+        if (status != ZIMGASOL_DONE || !put_due(load, m)) {
+            fprintf(stderr, "a piece was refused: %u\n", status);
+            free(piece);
+            return -1;
+        }
+        total += (long long)len;
+    }
+    free(piece);
+    zimgasol_in_place_end(load);
+    return ferror(stdin) ? -1 : total;
+}
+
+static int write_blocks(const machine *m, const char *name) {
+    FILE *file = fopen(name, "wb");
+    int done = file != NULL;
+    for (size_t i = 0; done && i < m->count; i++) done = fwrite(m->bytes[i], 1, m->lengths[i], file) == m->lengths[i];
+    if (file != NULL && fclose(file) != 0) done = 0;
+    return done;
+}
+
+/* A load into the machine's blocks. */
+static uint32_t begin(zimgasol_in_place *load, const machine *m, uint64_t page_size) {
+    zimgasol_table table = {0};
+    size_t entry = 0;
+    uint32_t status = zimgasol_table_new(&table, page_size, m->blocks, m->count, &entry);
+    if (status != ZIMGASOL_DONE) return status;
+    status = zimgasol_in_place_new(load, &table, 1ULL << 40);
+    zimgasol_table_free(&table);
+    return status;
+}
+
+static int load_into(machine *m, uint64_t page_size, size_t cut, const char *output) {
+    zimgasol_in_place load = {0};
+    zimgasol_fault fault;
+    uint32_t status = begin(&load, m, page_size);
+    if (status != ZIMGASOL_DONE) {
+        fprintf(stderr, "no load: %u\n", status);
+        return 3;
+    }
+    long long bytes = feed_input(&load, m, cut);
+    status = bytes < 0 ? 3 : 0;
+    if (bytes >= 0 && zimgasol_in_place_fault(&load, &fault) != ZIMGASOL_DONE) {
+        printf("fault %u round %llu\n", fault.number, (unsigned long long)fault.round);
+        status = 1;
+    } else if (bytes >= 0) {
+        printf("single %lld sections %llu\n", bytes, (unsigned long long)zimgasol_in_place_rounds(&load));
+    }
+    if (bytes >= 0 && output != NULL && !write_blocks(m, output)) status = 3;
+    zimgasol_in_place_free(&load);
+    return (int)status;
+}
+
+int main(int count, char **words) {
+    static machine m;
+    uint64_t page_size = 4096;
+    size_t cut = 65536;
+    const char *output = NULL;
+    int i = 1, status = 3;
+    for (; i + 1 < count && words[i][0] == '-'; i += 2) {
+        if (strcmp(words[i], "-p") == 0) page_size = strtoull(words[i + 1], NULL, 10);
+        else if (strcmp(words[i], "-c") == 0) cut = strtoull(words[i + 1], NULL, 10);
+        else if (strcmp(words[i], "-o") == 0) output = words[i + 1];
+    }
+    for (; i < count && page_size > 0 && add_block(&m, words[i], page_size); i++) {}
+    if (i < count || m.count == 0 || cut == 0) fprintf(stderr, "in_place [-p PAGE_SIZE] [-c BYTES] [-o FILE] ID=PAGES ..\n");
+    else status = load_into(&m, page_size, cut, output);
+    unmap(&m);
+    return status;
+}
