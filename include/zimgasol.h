@@ -32,6 +32,9 @@
 extern "C" {
 #endif
 
+/* The version that this header is of (CHANGELOG.md). */
+#define ZIMGASOL_VERSION "0.2.0"
+
 enum {
     ZIMGASOL_DONE = 0,
     /* a table is refused (zimgasol_table_new) */
@@ -105,7 +108,7 @@ typedef struct zimgasol_sender { void *at; } zimgasol_sender;
 /* ---- a table: the page size of a guest, and its RAM blocks in their order */
 
 /* Makes a table of `count` blocks. Answers DONE, BAD_PAGE_SIZE, NO_MEMORY, or the first thing that is wrong with the blocks, 1 to 6; with 3, 4
- * and 5 *entry is the number of the block, from 0. The blocks stay the caller's. */
+ * and 5 *entry is the number of the block, from 0, and with 1, 2, 6 and NO_MEMORY it is 0. The blocks stay the caller's. */
 uint32_t zimgasol_table_new(zimgasol_table *table, uint64_t page_size, const zimgasol_block *blocks, size_t count, size_t *entry);
 
 /* Frees it. Senders and loads that were made of it keep their own copy. */
@@ -118,8 +121,9 @@ void zimgasol_table_free(zimgasol_table *table);
 uint32_t zimgasol_loader_new(zimgasol_loader *loader, uint64_t page_size, uint64_t limit);
 
 /* Takes the next piece of the stream, of any length, and puts the sections that it makes whole into the memory. The piece may go afterwards.
- * Answers DONE, also behind a fault or the end byte, where bytes are only counted; NO_MEMORY, where nothing has changed and the piece can be
- * fed again; WAITS, where it was taken and zimgasol_loader_settle tries again; IS_OVER after zimgasol_loader_end; TOO_LONG. */
+ * Answers DONE; NO_MEMORY, where nothing has changed and the piece can be fed again; WAITS, where it was taken, and sections wait for memory of
+ * the guest, which the next piece and zimgasol_loader_settle ask for again; IS_OVER after zimgasol_loader_end; TOO_LONG. Behind the end byte, or a
+ * fault of the stream's own (11 to 33), its bytes are only counted, and NO_MEMORY doesn't come. A verdict of 34 says only that more is needed. */
 uint32_t zimgasol_loader_feed(zimgasol_loader *loader, const uint8_t *piece, size_t len);
 
 /* Puts the sections that wait for a refused allocation into the memory. Answers DONE, also where none waits, or NO_MEMORY. */
@@ -130,7 +134,7 @@ void zimgasol_loader_end(zimgasol_loader *loader);
 
 /* The verdict on the stream so far, as if it were over: DONE where its end byte was read, else the number of its first fault, which is 34
  * where it is whole so far; NO_MEMORY where sections wait. *found has the same number, with where it is. */
-uint32_t zimgasol_loader_fault(zimgasol_loader *loader, zimgasol_fault *found);
+uint32_t zimgasol_loader_verdict(zimgasol_loader *loader, zimgasol_fault *found);
 
 /* How many sections are in the memory. START and END count, too. */
 uint64_t zimgasol_loader_rounds(zimgasol_loader *loader);
@@ -150,15 +154,16 @@ void zimgasol_loader_free(zimgasol_loader *loader);
 /* ---- a load of one stream into the caller's own blocks, as the memory of a machine that is to run the guest
  *
  * The caller has a buffer for each block of a table, with the block's pages one after another. The load is fed in pieces, and keeps the pages of
- * the sections that are whole: they are due until they are put, in the order of the stream, section by section. So each piece is followed by
+ * the sections that are whole: those of the first one are due until they are put, and then those of the next. So each piece is followed by
  *
  *     while (zimgasol_in_place_next(&load, &block) == ZIMGASOL_IS_DUE)
  *         if (zimgasol_in_place_put(&load, block, buffers[block], lengths[block]) != ZIMGASOL_DONE) return 1;
  *
  * and where no page is due the blocks have all whole sections, on top of what they held at first, and nothing else of the stream. That holds where
- * each block's bytes are handed in as the call before left them. Blocks share no byte with each other, and nobody reads or writes one while a call
- * has it: the guest doesn't run yet. A page is copied once, from what was kept into its block. A page of zeros is compared, and isn't written where
- * the block has zeros already, so that fresh pages of private anonymous memory take none of the system's.
+ * each block's bytes are handed in as the call before left them; into other bytes the same pages are written. Blocks share no byte with each
+ * other, and nobody reads or writes one while a call has it: the guest doesn't run yet. A page is copied twice, as it comes and into its block. One
+ * that the stream tells as zeros is compared, and isn't written where the block has zeros already, so that fresh pages of private anonymous memory
+ * take none of the system's.
  *
  * The stream is to have the table's blocks, the same in the same order: of another one no page is due, and the verdict is OTHER_TABLE. */
 
@@ -166,9 +171,9 @@ void zimgasol_loader_free(zimgasol_loader *loader);
  * so it is to be at least what the table's have, which nothing checks. Answers DONE, BAD_LIMIT or NO_MEMORY. */
 uint32_t zimgasol_in_place_new(zimgasol_in_place *in_place, zimgasol_table *table, uint64_t limit);
 
-/* Takes the next piece of the stream, of any length, also where pages are due: those of the sections that it makes whole are due behind them. Each
+/* Takes the next piece of the stream, of any length, also where pages are due: the sections that it makes whole wait behind theirs. Each
  * piece that is fed meanwhile takes memory until they are put. The piece may go afterwards. Answers DONE, also behind the end byte or a fault of the
- * stream's own (11 to 34), where bytes are only counted; NO_MEMORY, where nothing has changed and the piece can be fed again; IS_OVER after
+ * stream's own (11 to 33), where bytes are only counted; NO_MEMORY, where nothing has changed and the piece can be fed again; IS_OVER after
  * zimgasol_in_place_end; TOO_LONG. A stream of another table is read on and kept in part, so there is no use in feeding it any more. */
 uint32_t zimgasol_in_place_feed(zimgasol_in_place *in_place, const uint8_t *piece, size_t len);
 
@@ -187,7 +192,7 @@ void zimgasol_in_place_end(zimgasol_in_place *in_place);
 /* The verdict on the stream so far, as if it were over, whether zimgasol_in_place_end was called or not: DONE where its end byte was read, else the
  * number of its first fault, which is 34 where it is whole so far; IS_DUE while pages are due. *found has the same number, with where it is: all
  * zeros with DONE, and with IS_DUE the round that zimgasol_in_place_rounds answers. */
-uint32_t zimgasol_in_place_fault(zimgasol_in_place *in_place, zimgasol_fault *found);
+uint32_t zimgasol_in_place_verdict(zimgasol_in_place *in_place, zimgasol_fault *found);
 
 /* How many sections are whole in the blocks. START and END count, too. */
 uint64_t zimgasol_in_place_rounds(zimgasol_in_place *in_place);
@@ -257,8 +262,8 @@ uint32_t zimgasol_hello(const uint8_t *uuid, size_t uuid_len, uint8_t id, uint8_
 
 /* Writes one packet to the front of `out`: of a block's id, without its byte 0, of the offsets in bytes of its normal pages with their contents
  * one behind the other, and of the offsets of its pages of zeros. Answers DONE, BAD_PAGE_SIZE, TOO_MANY_PAGES, NO_MEMORY, or BAD_LENGTH: of the
- * contents (the normal pages' together), of the id (at most 255), or of `out`. Where all but `out` fits, *written is how many bytes the packet
- * has; else it stays. */
+ * contents (the normal pages' together), of the id (at most 255), or of `out`. With DONE, and where `out` alone is too short, *written is how many
+ * bytes the packet has; else it stays. */
 uint32_t zimgasol_put_packet(uint64_t page_size, uint64_t number, bool sync, const uint8_t *id, size_t id_len, const uint64_t *normal, size_t normal_len,
     const uint8_t *contents, size_t contents_len, const uint64_t *zero, size_t zero_len, uint8_t *out, size_t len, size_t *written);
 

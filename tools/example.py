@@ -275,7 +275,7 @@ class Asked:
     def answer(self, page_size):
         """What is told, and the blocks."""
         fault, table = Fault(), self.table()
-        self.call("fault" if self.kind == "loader" else "verdict", ctypes.byref(fault))
+        self.call("verdict", ctypes.byref(fault))
         told = f"{verdict_name(fault)}; rounds {self.call('rounds')}; {memory_name(self.pages(page_size)) if table else 'none'}"
         self.call("free")
         return told, table
@@ -318,7 +318,7 @@ def load_in_place(library, page_size, limit, named, text, cut):
             buffer = buffers[block.value]
             library.done("in_place_put", ctypes.byref(load), block, buffer, size(len(buffer)))
     library.call("in_place_end", ctypes.byref(load))
-    library.call("in_place_fault", ctypes.byref(load), ctypes.byref(fault))
+    library.call("in_place_verdict", ctypes.byref(load), ctypes.byref(fault))
     rounds = library.call("in_place_rounds", ctypes.byref(load))
     library.call("in_place_free", ctypes.byref(load))
     page = slice(page_size)

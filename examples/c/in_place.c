@@ -23,7 +23,7 @@ typedef struct machine {
     size_t count;
 } machine;
 
-/* Adds a block of this name and so many pages. */
+/* Adds a block of this name and so many pages. Answers 0 where the word isn't one, and -1 where the system has no memory for it. */
 static int add_block(machine *m, const char *word, uint64_t page_size) {
     const char *equals = strchr(word, '=');
     uint64_t pages = equals == NULL ? 0 : strtoull(equals + 1, NULL, 10);
@@ -33,7 +33,10 @@ static int add_block(machine *m, const char *word, uint64_t page_size) {
     block->pages = pages;
     size_t len = pages * page_size;
     void *bytes = mmap(NULL, len, PROT_READ | PROT_WRITE, MAP_PRIVATE | MAP_ANONYMOUS | MAP_NORESERVE, -1, 0);
-    if (bytes == MAP_FAILED) return 0;
+    if (bytes == MAP_FAILED) {
+        perror(word);
+        return -1;
+    }
     m->bytes[m->count] = bytes;
     m->lengths[m->count++] = len;
     return 1;
@@ -44,31 +47,31 @@ static void unmap(machine *m) {
 }
 
 /* Puts all pages that are due into their blocks. */
-static int put_due(zimgasol_in_place *load, machine *m) {
+static uint32_t put_due(zimgasol_in_place *load, machine *m) {
     size_t block;
-    while (zimgasol_in_place_next(load, &block) == ZIMGASOL_IS_DUE)
-        if (zimgasol_in_place_put(load, block, m->bytes[block], m->lengths[block]) != ZIMGASOL_DONE) return 0;
-    return 1;
+    uint32_t status = ZIMGASOL_DONE;
+    while (status == ZIMGASOL_DONE && zimgasol_in_place_next(load, &block) == ZIMGASOL_IS_DUE)
+        status = zimgasol_in_place_put(load, block, m->bytes[block], m->lengths[block]);
+    return status;
 }
 
-/* Feeds all of standard input. Answers how many bytes that were, or -1 where it can't be read or there is no memory. */
+/* Feeds all of standard input. Answers how many bytes that were; or -1, and tells why it can't go on. */
 static long long feed_input(zimgasol_in_place *load, machine *m, size_t cut) {
     uint8_t *piece = malloc(cut);
     long long total = 0;
     size_t len;
-    if (piece == NULL) return -1;
-    while ((len = fread(piece, 1, cut, stdin)) > 0) {
-        uint32_t status = zimgasol_in_place_feed(load, piece, len);
-        if (status != ZIMGASOL_DONE || !put_due(load, m)) {
-            fprintf(stderr, "a piece was refused: %u\n", status);
-            free(piece);
-            return -1;
-        }
+    uint32_t status = piece == NULL ? ZIMGASOL_NO_MEMORY : ZIMGASOL_DONE;
+    while (status == ZIMGASOL_DONE && (len = fread(piece, 1, cut, stdin)) > 0) {
+        status = zimgasol_in_place_feed(load, piece, len);
+        if (status == ZIMGASOL_DONE) status = put_due(load, m);
         total += (long long)len;
     }
     free(piece);
     zimgasol_in_place_end(load);
-    return ferror(stdin) ? -1 : total;
+    if (status != ZIMGASOL_DONE) fprintf(stderr, "a piece was refused: %u\n", status);
+    else if (ferror(stdin)) perror("standard input");
+    else return total;
+    return -1;
 }
 
 static int write_blocks(const machine *m, const char *name) {
@@ -76,6 +79,7 @@ static int write_blocks(const machine *m, const char *name) {
     int done = file != NULL;
     for (size_t i = 0; done && i < m->count; i++) done = fwrite(m->bytes[i], 1, m->lengths[i], file) == m->lengths[i];
     if (file != NULL && fclose(file) != 0) done = 0;
+    if (!done) perror(name);
     return done;
 }
 
@@ -100,11 +104,15 @@ static int load_into(machine *m, uint64_t page_size, size_t cut, const char *out
     }
     long long bytes = feed_input(&load, m, cut);
     status = bytes < 0 ? 3 : 0;
-    if (bytes >= 0 && zimgasol_in_place_fault(&load, &fault) != ZIMGASOL_DONE) {
+    if (bytes >= 0 && zimgasol_in_place_verdict(&load, &fault) != ZIMGASOL_DONE) {
         printf("fault %u round %llu\n", fault.number, (unsigned long long)fault.round);
         status = 1;
     } else if (bytes >= 0) {
         printf("single %lld sections %llu\n", bytes, (unsigned long long)zimgasol_in_place_rounds(&load));
+    }
+    if (fflush(stdout) != 0) {
+        perror("standard output");
+        status = 3;
     }
     if (bytes >= 0 && output != NULL && !write_blocks(m, output)) status = 3;
     zimgasol_in_place_free(&load);
@@ -116,15 +124,16 @@ int main(int count, char **words) {
     uint64_t page_size = 4096;
     size_t cut = 65536;
     const char *output = NULL;
-    int i = 1, status = 3;
+    int i = 1, added = 1, status = 3;
     for (; i + 1 < count && words[i][0] == '-'; i += 2) {
         if (strcmp(words[i], "-p") == 0) page_size = strtoull(words[i + 1], NULL, 10);
         else if (strcmp(words[i], "-c") == 0) cut = strtoull(words[i + 1], NULL, 10);
         else if (strcmp(words[i], "-o") == 0) output = words[i + 1];
+        else break;
     }
-    for (; i < count && page_size > 0 && add_block(&m, words[i], page_size); i++) {}
-    if (i < count || m.count == 0 || cut == 0) fprintf(stderr, "in_place [-p PAGE_SIZE] [-c BYTES] [-o FILE] ID=PAGES ..\n");
-    else status = load_into(&m, page_size, cut, output);
+    for (; i < count && added > 0; i++) added = page_size > 0 && words[i][0] != '-' ? add_block(&m, words[i], page_size) : 0;
+    if (added == 0 || m.count == 0 || cut == 0) fprintf(stderr, "in_place [-p PAGE_SIZE] [-c BYTES] [-o FILE] ID=PAGES ..\n");
+    else if (added > 0) status = load_into(&m, page_size, cut, output);
     unmap(&m);
     return status;
 }

@@ -85,7 +85,7 @@ int main(int count, char **words) {
     }
     long long bytes = feed_input(&loader, cut);
     status = bytes < 0 ? 3 : 0;
-    if (bytes >= 0 && zimgasol_loader_fault(&loader, &fault) != ZIMGASOL_DONE) {
+    if (bytes >= 0 && zimgasol_loader_verdict(&loader, &fault) != ZIMGASOL_DONE) {
         printf("fault %u round %llu\n", fault.number, (unsigned long long)fault.round);
         status = 1;
     } else if (bytes >= 0) {

@@ -1,5 +1,5 @@
 -- Pages that are put into the bytes of blocks, and blocks that lack no pages but those that are due.
-use Rattle.std.proofs.Common.{ℕ, ◌≡◌, ◌≢◌, ◌+◌, ◌-◌, ◌<◌, ◌≤◌, ◌*◌, List, [], ◌∷◌, ◌++◌, length, map, take, drop, set, Bool, true, false, Some, None, refl, sym, ap, ◌∙◌, subst, arith, Option, Bor}
+use Rattle.std.proofs.Common.{ℕ, ◌≡◌, ◌≢◌, ◌+◌, ◌-◌, ◌<◌, ◌≤◌, ◌*◌, ◌^◌, List, [], ◌∷◌, ◌++◌, length, map, take, drop, set, Bool, true, false, Some, None, refl, sym, ap, ◌∙◌, subst, arith, Option, Bor}
 use Rattle.std.specs.Prelude.{IfSome, IsSome, IsFalse, IsOk, Result, Ok, Err}
 use Rattle.std.specs.Option.{option_copied}
 use Rattle.std.specs.List.{All, prefix_len}
@@ -13,20 +13,23 @@ use borrow.Rule.Slice.PartMut.{put_mid}
 use Rattle.mig_mem.specs.RamTable.{RamTable}
 use Rattle.mig_mem.specs.Place.{IsPlace, place_at}
 use Rattle.mig_mem.specs.Image.{Page, Image, IsImage, with_page}
-use Rattle.mig_mem.specs.Round.{with_round}
+use Rattle.mig_mem.specs.PageSize.{IsPageSize}
+use Rattle.mig_mem.specs.Round.{with_round, with_rounds}
 use Rattle.mig_mem.specs.Parts.{part_at, ChangesPart}
 use Rattle.mig_mem.specs.Lent.{FitTable, bytes_of_block, lent_image}
 use Rattle.mig_mem.proofs.PartWrites.{changes_part}
 use Rattle.mig_mem.proofs.Lents.{lent_is_image, loan_written, room_in_block}
 use Rattle.mig_stream.specs.PageRecord.{PageRecord, page_of}
-use Rattle.mig_stream.specs.Reader.{IsSettled, waiting}
+use Rattle.mig_stream.specs.Reading.{StreamReading}
+use Rattle.mig_stream.specs.Reader.{IsSettled, HasRound, waiting}
 use Rattle.mig_stream.specs.Round.{RoundOfRecords, record_at}
 use Rattle.mig_assemble.specs.Target.{Fits, pages_of_round}
 use Rattle.mig_assemble.proofs.Putting.{put_none, put_after, put_page_more}
-use Rattle.mig_load.specs.InPlace.{settings_of}
-use Rattle.mig_load.specs.InPlaceState.{InPlaceState, FedWith, LoadsWith}
-use Rattle.mig_load.proofs.InPlaceStates.{fed_with}
-use Rattle.mig_c.specs.InPlace.{held_load, whole_rounds, LacksDue, Holds, is_of, front_of, behind, with_content, with_pages, Begins, FeedsInPlace, Puts, EndsInPlace, records_pages, due_pages, AreDue, LiesIn}
+use Rattle.mig_load.specs.InPlace.{settings_of, IsOfOwnTable}
+use Rattle.mig_load.specs.InPlaceState.{InPlaceState, first_sections, FedWith, LoadsWith}
+use Rattle.mig_load.proofs.Sections.{same_reading}
+use Rattle.mig_load.proofs.InPlaceStates.{fed_with, round_longer, sections_longer}
+use Rattle.mig_c.specs.InPlace.{held_load, whole_rounds, EndsSection, LacksPart, LacksDue, Holds, is_of, front_of, behind, with_content, with_pages, Begins, FeedsInPlace, Puts, EndsInPlace, records_pages, due_pages, AreDue, LiesIn}
 
 -- ---- a page is written
 
@@ -174,37 +177,105 @@ pages_put table b (x ∷ xs) blocks fit lt all =
       ap (λ (l : List (List ℕ)). lent_image table l) (sym e) ∙ rest.1 ∙ ap (λ (i : Image). with_round i xs) mid_is ∙ put_after m (x ∷ []) xs,
     )
 
--- The pages that are due first were put: the blocks lack those behind them.
-pub front_put : (table : RamTable) (b : ℕ) (before after : List ℕ) (due : List Page) (blocks : List (List ℕ)) → FitTable table blocks → b < length table.blocks
-    → bytes_of_block blocks b ≡ before → after ≡ with_pages table.page_size before (front_of b due) → All (IsPageOf table b) (front_of b due)
-    → FitTable table (set blocks b after) × (with_round (lent_image table blocks) due ≡ with_round (lent_image table (set blocks b after)) (behind b due))
-front_put table b before after due blocks fit lt was is all =
-    let m : Image = lent_image table blocks in
-    let same : after ≡ with_pages table.page_size (bytes_of_block blocks b) (front_of b due) =
-    is ∙ ap (λ (l : List ℕ). with_pages table.page_size l (front_of b due)) (sym was) in
-    let put = pages_put table b (front_of b due) blocks fit lt all in
-    let now : List (List ℕ) = set blocks b after in
-    let e : set blocks b (with_pages table.page_size (bytes_of_block blocks b) (front_of b due)) ≡ now = ap (λ (l : List ℕ). set blocks b l) (sym same) in
-    let image : lent_image table now ≡ with_round m (front_of b due) = ap (λ (l : List (List ℕ)). lent_image table l) (sym e) ∙ put.1 in (
-      subst (FitTable table) e put.0,
-      ap (λ (pages : List Page). with_round m pages) (sym (take-append-drop (prefix_len (is_of b) due) due))
-          ∙ sym (put_after m (front_of b due) (behind b due)) ∙ ap (λ (i : Image). with_round i (behind b due)) (sym image),
-    )
-
 -- ---- what the blocks lack
+
+-- The pages that are due first were put: those behind them are lacking.
+part_behind : (memory now : Image) (limit : ℕ) (first : Image) (s : InPlaceState) (b : ℕ) (due : List Page) (text : List ℕ) (ended : Bool) → now ≡ with_round memory (front_of b due)
+    → LacksPart memory limit first s due text ended → LacksPart now limit first s (behind b due) text ended
+part_behind memory now limit first s b due text ended is lacks =
+    let front : List Page = front_of b due in
+    let rest : List Page = behind b due in
+    let both : front ++ rest ≡ due = take-append-drop (prefix_len (is_of b) due) due in
+    let same : with_round memory due ≡ with_round now rest =
+    ap (λ (l : List Page). with_round memory l) (sym both) ∙ sym (put_after memory front rest) ∙ ap (λ (i : Image). with_round i rest) (sym is) in
+    record {
+      fed = subst (λ (m : Image). FedWith m limit first s text ended) same lacks.fed;
+      last = λ some.
+          let whole = lacks.last (λ none. some (ap (λ (l : List Page). behind b l) none)) in
+          record {
+            before = whole.before;
+            is_last = whole.is_last;
+            records = whole.records;
+            is_section = whole.is_section;
+            put = whole.put ++ front;
+            parts = whole.parts ∙ ap (λ (l : List Page). whole.put ++ l) (sym both) ∙ sym (append_assoc whole.put front rest);
+            memory_is = λ reading is_reading own.
+                is ∙ ap (λ (m : Image). with_round m front) (whole.memory_is reading is_reading own)
+                ∙ put_after (with_rounds first (first_sections first reading whole.before)) whole.put front;
+          };
+    }
+
+-- a piece more
+part_longer : (memory : Image) (limit : ℕ) (first : Image) (s read : InPlaceState) (due : List Page) (text piece : List ℕ) → read.rounds ≡ s.rounds
+    → ((m : Image) → FedWith m limit first s text false → FedWith m limit first read (text ++ piece) false) → LacksPart memory limit first s due text false
+    → LacksPart memory limit first read due (text ++ piece) false
+part_longer memory limit first s read due text piece same reads lacks =
+    let size : IsPageSize first.table.page_size = lacks.fed.fed.is_table.has_page_size in
+    record {
+      fed = reads (with_round memory due) lacks.fed;
+      last = λ some.
+          let whole = lacks.last some in
+          let few = whole.is_section.2 in
+          record {
+            before = whole.before;
+            is_last = same ∙ whole.is_last;
+            records = whole.records;
+            is_section = round_longer limit first text piece whole.before whole.records size whole.is_section;
+            put = whole.put;
+            parts = whole.parts;
+            memory_is = λ reading is_reading own.
+                let was = sections_longer limit first text piece whole.is_section.0 reading whole.before size whole.is_section.1 is_reading (omega (arith, few)) own in
+                whole.memory_is whole.is_section.0 whole.is_section.1 was.0
+                ∙ ap (λ (l : List (List Page)). with_round (with_rounds first l) whole.put) was.1;
+          };
+    }
+
+-- the end
+part_over : (memory : Image) (limit : ℕ) (first : Image) (s new : InPlaceState) (due : List Page) (text : List ℕ) (ended : Bool) → new.rounds ≡ s.rounds
+    → ((m : Image) → FedWith m limit first s text ended → FedWith m limit first new text true) → LacksPart memory limit first s due text ended
+    → LacksPart memory limit first new due text true
+part_over memory limit first s new due text ended same over lacks = record {
+  fed = over (with_round memory due) lacks.fed;
+  last = λ some. subst (λ (n : ℕ). EndsSection memory limit first n due text) (sym same) (lacks.last some);
+}
+
+-- a section was taken, and none of its pages is put
+pub part_taken : (memory : Image) (limit : ℕ) (first : Image) (s new : InPlaceState) (section : RoundOfRecords) (text : List ℕ) (ended : Bool) → IsImage memory → Fits s.table section
+    → FedWith memory limit first s text ended → FedWith (with_round memory (pages_of_round section)) limit first new text ended → new.rounds ≡ s.rounds + 1
+    → HasRound (settings_of first limit) text s.rounds section.records → LacksPart memory limit first new (pages_of_round section) text ended
+part_taken memory limit first s new section text ended is fits fed taken more has = record {
+  fed = taken;
+  last = λ _. record {
+    before = s.rounds;
+    is_last = more;
+    records = section.records;
+    is_section = has;
+    put = [];
+    parts = ap (λ (n : ℕ). map (page_of n) section.records) (ap (λ (t : RamTable). t.page_size) fed.same_table ∙ sym fits.has_page_size);
+    memory_is = λ reading is_reading own.
+        let p : ℕ = first.table.page_size in
+        let one : reading ≡ fed.fed.reading = same_reading p limit text reading fed.fed.reading fed.fed.is_table.has_page_size is_reading fed.fed.is_reading in
+        put_none memory is
+        ∙ ap (λ (m : Image). with_round m []) ((fed.fed.own (subst (λ (r : StreamReading). IsOfOwnTable first r) one own)).0
+        ∙ ap (λ (r : StreamReading). with_rounds first (first_sections first r s.rounds)) (sym one));
+  };
+}
 
 -- no page is due, and no section waits
 pub lacks_none : (memory : Image) (limit : ℕ) (first : Image) (s : InPlaceState) (text : List ℕ) (ended : Bool) → IsImage memory → LoadsWith memory limit first s text ended
     → LacksDue memory limit first s [] text ended
 lacks_none memory limit first s text ended is loads = record {
-  fed = subst (λ (m : Image). FedWith m limit first s text ended) (put_none memory is) (fed_with memory limit first s text ended loads);
+  part = record {
+    fed = subst (λ (m : Image). FedWith m limit first s text ended) (put_none memory is) (fed_with memory limit first s text ended loads);
+    last = λ some. absurd (some refl);
+  };
   all = λ _. loads;
 }
 
 -- some pages are
 pub lacks_some : (memory : Image) (limit : ℕ) (first : Image) (s : InPlaceState) (due : List Page) (text : List ℕ) (ended : Bool) → due ≢ []
-    → FedWith (with_round memory due) limit first s text ended → LacksDue memory limit first s due text ended
-lacks_some memory limit first s due text ended some fed = record { fed = fed; all = λ none. absurd (some none) }
+    → LacksPart memory limit first s due text ended → LacksDue memory limit first s due text ended
+lacks_some memory limit first s due text ended some part = record { part = part; all = λ none. absurd (some none) }
 
 -- a section without a page changes nothing
 pub fed_none : (memory : Image) (limit : ℕ) (first : Image) (s : InPlaceState) (pages : List Page) (text : List ℕ) (ended : Bool) → IsImage memory → pages ≡ []
@@ -265,16 +336,17 @@ begins table limit s same loads = record {
 
 pub feeds : (s read new : InPlaceState) (due now : List Page) (piece : List ℕ) → IsFalse s.reader.ended
     → ((memory : Image) (limit : ℕ) (first : Image) (text : List ℕ) → FedWith memory limit first s text false → FedWith memory limit first read (text ++ piece) false)
-    → read.table ≡ s.table → new.table ≡ read.table
-    → ((memory : Image) (limit : ℕ) (first : Image) (text : List ℕ) (ended : Bool) → IsImage memory → FedWith (with_round memory due) limit first read text ended
+    → read.table ≡ s.table → read.rounds ≡ s.rounds → new.table ≡ read.table
+    → ((memory : Image) (limit : ℕ) (first : Image) (text : List ℕ) (ended : Bool) → IsImage memory → LacksPart memory limit first read due text ended
     → LacksDue memory limit first new now text ended)
-    → (due ≢ [] → now ≡ due) → FeedsInPlace piece 0 (held_load s due) (held_load new now)
-feeds s read new due now piece goes_on reads same moved lacks stay = record {
+    → (due ≢ [] → now ≡ due) → s.reader.fed + length piece < 2 ^ 63 → FeedsInPlace piece 0 (held_load s due) (held_load new now)
+feeds s read new due now piece goes_on reads same count moved lacks stay room = record {
   is_named = refl;
   takes = λ _ limit first text blocks holds.
       let memory : Image = lent_image s.table blocks in
       holds_of limit first new s.table now (text ++ piece) false blocks (moved ∙ same) holds.fit
-      (lacks memory limit first (text ++ piece) false (lent_is_image s.table blocks holds.fit) (reads (with_round memory due) limit first text holds.lacks.fed));
+      (lacks memory limit first (text ++ piece) false (lent_is_image s.table blocks holds.fit)
+      (part_longer memory limit first s read due text piece count (λ m. reads m limit first text) holds.lacks.part));
   same_due = stay;
   same_table = moved ∙ same;
   same = λ other. absurd (other refl);
@@ -282,22 +354,24 @@ feeds s read new due now piece goes_on reads same moved lacks stay = record {
   over = grind arith;
   goes_on = λ _. goes_on;
   long = grind arith;
+  short = λ _ _. room;
 }
 
 -- a piece that wasn't taken for a refused allocation
 pub feeds_not : (s read : InPlaceState) (due : List Page) (piece : List ℕ) → IsFalse s.reader.ended → read ≡ s
     → ((memory : Image) (limit : ℕ) (first : Image) (text : List ℕ) → FedWith memory limit first s text false → IsSettled (settings_of first limit) text → ⊥)
-    → FeedsInPlace piece 60 (held_load s due) (held_load read due)
-feeds_not s read due piece goes_on same reads = record {
+    → s.reader.fed + length piece < 2 ^ 63 → FeedsInPlace piece 60 (held_load s due) (held_load read due)
+feeds_not s read due piece goes_on same reads room = record {
   is_named = refl;
   takes = grind arith;
   same_due = λ _. refl;
   same_table = ap (λ (x : InPlaceState). x.table) same;
   same = λ _. ap (λ (x : InPlaceState). held_load x due) same;
-  settled = λ _ limit first text blocks holds is_settled. reads (with_round (lent_image s.table blocks) due) limit first text holds.lacks.fed is_settled;
+  settled = λ _ limit first text blocks holds is_settled. reads (with_round (lent_image s.table blocks) due) limit first text holds.lacks.part.fed is_settled;
   over = grind arith;
   goes_on = λ _. goes_on;
   long = grind arith;
+  short = λ _ _. room;
 }
 
 -- a result that isn't Ok
@@ -314,7 +388,7 @@ ends old new due value loads fed = record {
   holds = λ limit first text ended blocks holds.
       let memory : Image = lent_image old.table blocks in
       holds_of limit first new old.table due text true blocks (ap (λ (s : InPlaceState). s.table) value) holds.fit (record {
-        fed = fed (with_round memory due) limit first text ended holds.lacks.fed;
+        part = part_over memory limit first old new due text ended (ap (λ (s : InPlaceState). s.rounds) value) (λ m. fed m limit first text ended) holds.lacks.part;
         all = λ none. loads memory limit first text ended (holds.lacks.all none);
       });
 }
@@ -325,7 +399,7 @@ puts : (s new : InPlaceState) (section : RoundOfRecords) (b : ℕ) (before after
     → All (λ x. (x.place.block ≡ b) × (length x.content ≡ section.page_size)) (front_of b (pages_of_round section)) → new.table ≡ s.table
     → (behind b (pages_of_round section) ≢ [] → held_load new now ≡ held_load s (behind b (pages_of_round section)))
     → (behind b (pages_of_round section) ≡ [] → now ≢ [] → waiting new.reader < waiting s.reader)
-    → ((memory : Image) (limit : ℕ) (first : Image) (text : List ℕ) (ended : Bool) → IsImage memory → FedWith (with_round memory (behind b (pages_of_round section))) limit first s text ended
+    → ((memory : Image) (limit : ℕ) (first : Image) (text : List ℕ) (ended : Bool) → IsImage memory → LacksPart memory limit first s (behind b (pages_of_round section)) text ended
     → LacksDue memory limit first new now text ended)
     → Puts b before after (held_load s (pages_of_round section)) (held_load new now)
 puts s new section b before after now are lt put pages same on over lacks =
@@ -337,11 +411,12 @@ puts s new section b before after now are lt put pages same on over lacks =
       goes_on = on;
       goes_over = over;
       same_table = same;
-      holds = λ limit first text ended blocks was holds.
-          let done = front_put table b before after due blocks holds.fit lt was writes (are_of table b section are.fits pages) in
-          let memory : Image = lent_image table (set blocks b after) in
-          holds_of limit first new table now text ended (set blocks b after) same done.0
-          (lacks memory limit first text ended (lent_is_image table (set blocks b after) done.0) (subst (λ (m : Image). FedWith m limit first s text ended) done.1 holds.lacks.fed));
+      holds = λ limit first text ended blocks holds.
+          let put = pages_put table b (front_of b due) blocks holds.fit lt (are_of table b section are.fits pages) in
+          let with_them : List (List ℕ) = set blocks b (with_pages table.page_size (bytes_of_block blocks b) (front_of b due)) in
+          let memory : Image = lent_image table with_them in
+          holds_of limit first new table now text ended with_them same put.0
+          (lacks memory limit first text ended (lent_is_image table with_them put.0) (part_behind (lent_image table blocks) memory limit first s b due text ended put.1 holds.lacks.part));
     }
 
 -- others of the section are due
@@ -353,7 +428,7 @@ puts_on s section rest b before after are lt put pages behind_is some =
     let due : List Page = pages_of_round section in
     let there : behind b due ≢ [] = λ none. some_pages rest some (behind_is ∙ none) in
     puts s s section b before after (pages_of_round rest) are lt put pages refl (λ _. ap (λ (l : List Page). held_load s l) behind_is) (λ none. absurd (there none))
-    (λ memory limit first text ended is fed. subst (λ (l : List Page). LacksDue memory limit first s l text ended) (sym behind_is) (lacks_some memory limit first s (behind b due) text ended there fed))
+    (λ memory limit first text ended is part. subst (λ (l : List Page). LacksDue memory limit first s l text ended) (sym behind_is) (lacks_some memory limit first s (behind b due) text ended there part))
 
 -- the next section's are, or none
 pub puts_over : (s new : InPlaceState) (section rest : RoundOfRecords) (b : ℕ) (before after : List ℕ) (next : Option RoundOfRecords) → AreDue s.table section → b < length s.table.blocks
@@ -367,4 +442,4 @@ puts_over s new section rest b before after next are lt put pages behind_is none
     let due : List Page = pages_of_round section in
     let gone : behind b due ≡ [] = sym behind_is ∙ no_pages rest none in
     puts s new section b before after (due_pages next) are lt put pages same (λ some. absurd (some gone)) (λ _ some. fewer (is_some_due next some))
-    (λ memory limit first text ended is fed. lacks memory limit first text ended is (fed_none memory limit first s (behind b due) text ended is gone fed))
+    (λ memory limit first text ended is part. lacks memory limit first text ended is (fed_none memory limit first s (behind b due) text ended is gone part.fed))

@@ -7,7 +7,7 @@ use Rattle.mig_send.specs.Sending.{HasSentDrained}
 use Rattle.mig_c.specs.declared.sender.Sender.{Sender}
 use Rattle.mig_c.specs.declared.sender.Sending.{Sending}
 use Rattle.mig_c.specs.declared.sender.Sending.TheVariants.{Idle, Round}
-use Rattle.mig_c.specs.Sending.{waiting, HasSentRounds, IsEnded, EndsRound, Drains, Refills, Hands}
+use Rattle.mig_c.specs.Sending.{waiting, HasSentRounds, HasPutPages, IsIdle, IsEnded, EndsRound, Drains, Refills, Hands}
 
 -- the round follows those sent before
 pub ends_round : (part : PartSoFar) (w : Writer) → w.table ≡ part.before.table
@@ -35,6 +35,8 @@ refills_idle old new w v was is le same drains = record {
       let before : HasSentRounds table given rounds (Idle w) = subst (λ (s : Sending). HasSentRounds table given rounds s) was
       (subst (λ (l : List ℕ). HasSentRounds table l rounds old.state) (none_waits given old le) sent) in
       subst (λ (s : Sending). HasSentRounds table (given ++ waiting new) rounds s) (sym is) (same ∙ before.0, drains given rounds before.1);
+  keeps_open = λ pages put. absurd (subst (λ (s : Sending). HasPutPages pages s) was put);
+  idle = λ _. subst (λ (s : Sending). IsIdle s) (sym is) tt;
   ended = λ e. absurd (subst (λ (s : Sending). IsEnded s) was e);
   all = λ e. absurd (subst (λ (s : Sending). IsEnded s) was e);
 }
@@ -63,6 +65,8 @@ drains count out old mid new refills hands = record {
       subst (λ (s : Sending). HasSentRounds table ((given ++ take count out) ++ waiting new) rounds s) (sym hands.same_state)
       (subst (λ (l : List ℕ). HasSentRounds table l rounds mid.state)
       (ap (λ (l : List ℕ). given ++ l) (sym hands.has_front) ∙ sym (append_assoc given (take count out) (waiting new))) (refills.keeps table given rounds sent));
+  keeps_open = λ pages put. subst (λ (s : Sending). HasPutPages pages s) (sym hands.same_state) (refills.keeps_open pages put);
+  idle = λ i. subst (λ (s : Sending). IsIdle s) (sym hands.same_state) (refills.idle i);
   ended = λ e. subst (λ (s : Sending). IsEnded s) (sym hands.same_state) (refills.ended e);
   all = λ e zero room. refills.all e (hands.none zero room);
 }

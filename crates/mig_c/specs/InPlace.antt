@@ -1,18 +1,19 @@
 -- A load of one stream into blocks of C: what it keeps between its calls, which are handed one block at a time, and what each call does, by its
 -- status.
-use Rattle.std.specs.Prelude.{◌≡◌, ◌≢◌, ◌≤◌, ◌<◌, ◌+◌, ◌-◌, ◌*◌, ◌^◌, ◌++◌, ◌==◌, ℕ, Bool, true, false, List, [], ◌∷◌, length, take, drop, slice_set, Option, None, Some, IsTrue, IsFalse, Result, ⊤}
+use Rattle.std.specs.Prelude.{◌≡◌, ◌≢◌, ◌≤◌, ◌<◌, ◌+◌, ◌-◌, ◌*◌, ◌^◌, ◌++◌, ◌==◌, ℕ, Bool, true, false, List, [], ◌∷◌, length, map, take, drop, slice_set, Option, None, Some, IsTrue, IsFalse, Result, ⊤}
 use Rattle.std.specs.List.{fold, prefix_len}
 use Rattle.mig_mem.specs.RamTable.{RamTable, block}
 use Rattle.mig_mem.specs.Image.{Page, Image}
-use Rattle.mig_mem.specs.Round.{with_round}
+use Rattle.mig_mem.specs.Round.{with_round, with_rounds}
 use Rattle.mig_mem.specs.Lent.{FitTable, lent_image, bytes_of_block}
-use Rattle.mig_stream.specs.PageRecord.{PageRecord}
-use Rattle.mig_stream.specs.Reader.{IsSettled, waiting}
+use Rattle.mig_stream.specs.PageRecord.{PageRecord, page_of}
+use Rattle.mig_stream.specs.Reading.{StreamReading, IsReading}
+use Rattle.mig_stream.specs.Reader.{IsSettled, HasRound, waiting}
 use Rattle.mig_stream.specs.Round.{RoundOfRecords}
 use Rattle.mig_assemble.specs.Target.{Fits, pages_of_round}
 use Rattle.mig_load.specs.declared.fault.LoadFault.{LoadFault}
-use Rattle.mig_load.specs.InPlace.{settings_of, HasVerdictOnto}
-use Rattle.mig_load.specs.InPlaceState.{InPlaceState, FedWith, LoadsWith}
+use Rattle.mig_load.specs.InPlace.{settings_of, IsOfOwnTable, HasVerdictOnto}
+use Rattle.mig_load.specs.InPlaceState.{InPlaceState, first_sections, FedWith, LoadsWith}
 use Rattle.mig_c.specs.declared.fault.FoundFault.{FoundFault}
 use Rattle.mig_c.specs.Status.{IsOneOf, done, no_memory, is_over, too_long, bad_limit, bad_length, no_page, out_of_turn, is_due}
 use Rattle.mig_c.specs.Found.{seen_of, has_due}
@@ -32,9 +33,25 @@ whole_rounds taken (x ∷ due) = taken - 1
 
 -- ---- C's blocks
 
--- With the pages that are due, this memory is the one that the state stands for. Where none is due, no section waits.
-pub record LacksDue (memory : Image) (limit : ℕ) (first : Image) (s : InPlaceState) (due : List Page) (text : List ℕ) (ended : Bool) : Type 0 where
+-- The pages that are due are the last ones of the section that was taken last. Those before them are in the memory, on top of the sections before it.
+pub record EndsSection (memory : Image) (limit : ℕ) (first : Image) (taken : ℕ) (due : List Page) (text : List ℕ) : Type 0 where
+  pub before : ℕ
+  pub is_last : taken ≡ before + 1
+  pub records : List PageRecord
+  pub is_section : HasRound (settings_of first limit) text before records
+  pub put : List Page
+  pub parts : map (page_of first.table.page_size) records ≡ put ++ due
+  pub memory_is : (reading : StreamReading) → IsReading (settings_of first limit) text reading → IsOfOwnTable first reading
+      → memory ≡ with_round (with_rounds first (first_sections first reading before)) put
+
+-- With the pages that are due, this memory is the one with all sections that were taken. Others may wait.
+pub record LacksPart (memory : Image) (limit : ℕ) (first : Image) (s : InPlaceState) (due : List Page) (text : List ℕ) (ended : Bool) : Type 0 where
   pub fed : FedWith (with_round memory due) limit first s text ended
+  pub last : due ≢ [] → EndsSection memory limit first s.rounds due text
+
+-- Where no page is due, no section waits either.
+pub record LacksDue (memory : Image) (limit : ℕ) (first : Image) (s : InPlaceState) (due : List Page) (text : List ℕ) (ended : Bool) : Type 0 where
+  pub part : LacksPart memory limit first s due text ended
   pub all : due ≡ [] → LoadsWith memory limit first s text ended
 
 -- C's blocks, each by its bytes, hold what the load has put: it was made with this limit, when they were the memory `first`, and fed this text,
@@ -99,6 +116,7 @@ pub record FeedsInPlace (piece : List ℕ) (status : ℕ) (old new : HeldLoad) :
   pub over : status ≡ is_over → IsTrue old.state.reader.ended
   pub goes_on : status ≢ is_over → IsFalse old.state.reader.ended
   pub long : status ≡ too_long → 2 ^ 63 ≤ old.state.reader.fed + length piece
+  pub short : status ≢ is_over → status ≢ too_long → old.state.reader.fed + length piece < 2 ^ 63
 
 -- What `next` tells: whether pages are due, and of which block the first ones are.
 pub record TellsNext (status before after : ℕ) (l : HeldLoad) : Type 0 where
@@ -117,14 +135,15 @@ pub record Answers (b len : ℕ) (table : RamTable) (due : List Page) (status : 
   pub unfit : status ≡ bad_length → len ≢ (block table.blocks b).pages * table.page_size
   pub fits : status ≡ done → len ≡ (block table.blocks b).pages * table.page_size
 
--- Pages of a block were put, as many as were due first: of the same section others are due then, or else those of a section that waited.
+-- Pages of a block were put, as many as were due first: of the same section others are due then, or else those of a section that waited. Whatever
+-- bytes the blocks should have had, with these pages put into them the load stands for the same text.
 pub record Puts (b : ℕ) (before after : List ℕ) (old new : HeldLoad) : Type 0 where
   pub writes : after ≡ with_pages old.state.table.page_size before (front_of b old.due)
   pub goes_on : behind b old.due ≢ [] → new ≡ held_load old.state (behind b old.due)
   pub goes_over : behind b old.due ≡ [] → new.due ≢ [] → waiting new.state.reader < waiting old.state.reader
   pub same_table : new.state.table ≡ old.state.table
-  pub holds : (limit : ℕ) (first : Image) (text : List ℕ) (ended : Bool) (blocks : List (List ℕ)) → bytes_of_block blocks b ≡ before
-      → Holds limit first old text ended blocks → Holds limit first new text ended (slice_set blocks b after)
+  pub holds : (limit : ℕ) (first : Image) (text : List ℕ) (ended : Bool) (blocks : List (List ℕ)) → Holds limit first old text ended blocks
+      → Holds limit first new text ended (slice_set blocks b (with_pages old.state.table.page_size (bytes_of_block blocks b) (front_of b old.due)))
 
 -- What `put` does with a block's bytes.
 pub record PutsBlock (b : ℕ) (before after : List ℕ) (status : ℕ) (old new : HeldLoad) : Type 0 where

@@ -3,6 +3,9 @@ use Rattle.std.specs.Prelude.{◌≡◌, ◌≢◌, ◌≤◌, ◌<◌, ◌+◌,
 use Rattle.mig_load.specs.declared.fault.LoadFault.{LoadFault}
 use Rattle.mig_load.specs.Loader.{Loader, Loads, HasAllSections, Waits, Judges}
 use Rattle.mig_mem.specs.PageSize.{IsPageSize}
+use Rattle.mig_stream.specs.Reading.{settings}
+use Rattle.mig_stream.specs.Reader.{IsSettled}
+use Rattle.mig_stream.specs.declared.item.Mode.TheVariants.{Single}
 use Rattle.mig_c.specs.declared.fault.FoundFault.{FoundFault}
 use Rattle.mig_c.specs.Status.{IsOneOf, done, waits, no_memory, is_over, too_long, bad_page_size, bad_limit}
 use Rattle.mig_c.specs.Found.{seen_of}
@@ -35,15 +38,18 @@ abbrev pub TakesAndWaits : List ℕ → Loader → Loader → Type 0
 TakesAndWaits piece old new = (page_size limit : ℕ) (text : List ℕ) → Loads page_size limit old text false
     → Loads page_size limit new (text ++ piece) false × Waits page_size limit new (text ++ piece)
 
--- What `feed` does.
+-- What `feed` does. Behind the end byte, or a fault of the stream's form, no memory is wanted for the text.
 pub record Feeds (piece : List ℕ) (status : ℕ) (old new : Loader) : Type 0 where
   pub is_named : IsOneOf (done ∷ waits ∷ no_memory ∷ is_over ∷ too_long ∷ []) status
   pub takes : status ≡ done → TakesPiece piece old new
   pub takes_and_waits : status ≡ waits → TakesAndWaits piece old new
   pub same : status ≢ done → status ≢ waits → new ≡ old
+  pub settled : status ≡ no_memory → (page_size limit : ℕ) (text : List ℕ) → Loads page_size limit old text false
+      → IsSettled (settings Single page_size limit) text → ⊥
   pub over : status ≡ is_over → IsTrue old.reader.ended
   pub goes_on : status ≢ is_over → IsFalse old.reader.ended
   pub long : status ≡ too_long → 2 ^ 63 ≤ old.reader.fed + length piece
+  pub short : status ≢ is_over → status ≢ too_long → old.reader.fed + length piece < 2 ^ 63
 
 -- What `settle` does.
 pub record Settles (status : ℕ) (old new : Loader) : Type 0 where

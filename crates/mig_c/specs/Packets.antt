@@ -11,13 +11,15 @@ pub record Greets (uuid : List ℕ) (id : ℕ) (status : ℕ) (old new : List �
   pub greets : status ≡ done → new ≡ written_hello uuid id
   pub same : status ≢ done → new ≡ old
   pub wrong : status ≡ bad_length → length uuid ≡ 16 → length old ≡ 64 → ⊥
+  pub fits : status ≡ done → (length uuid ≡ 16) × (length old ≡ 64)
 
 -- The contents are of so many pages, and the id is one of a block.
 abbrev pub IsPacketOf : ℕ → List ℕ → List ℕ → List ℕ → Type 0
 IsPacketOf page_size id normal contents = (length contents ≡ length normal * page_size) × (length id ≤ 255)
 
--- A packet, at the front of a buffer, and how many bytes it has.
-pub record PutsPacket (page_size number : ℕ) (sync : Bool) (id normal contents zero : List ℕ) (status : ℕ) (old new : List ℕ) (len : ℕ) : Type 0 where
+-- A packet, at the front of a buffer, and how many bytes it has: the first thing that is wrong is told. Where it is the buffer alone, that count is
+-- told too; else it stays as it was before.
+pub record PutsPacket (page_size number : ℕ) (sync : Bool) (id normal contents zero : List ℕ) (status : ℕ) (old new : List ℕ) (before len : ℕ) : Type 0 where
   pub is_named : IsOneOf (done ∷ no_memory ∷ bad_page_size ∷ bad_length ∷ too_many_pages ∷ []) status
   pub puts : status ≡ done → take len new ≡ written_packet page_size number sync id normal contents zero
   pub same : status ≢ done → new ≡ old
@@ -26,6 +28,8 @@ pub record PutsPacket (page_size number : ℕ) (sync : Bool) (id normal contents
   pub many : status ≡ too_many_pages → page_limit page_size < length normal + length zero
   pub few : status ≢ bad_page_size → status ≢ too_many_pages → length normal + length zero ≤ page_limit page_size
   pub long : status ≡ bad_length → IsPacketOf page_size id normal contents → (len ≡ length (written_packet page_size number sync id normal contents zero)) × (length old < len)
+  pub is_packet : status ≢ bad_page_size → status ≢ too_many_pages → status ≢ bad_length → IsPacketOf page_size id normal contents
+  pub stays : status ≢ done → (status ≡ bad_length → IsPacketOf page_size id normal contents → ⊥) → len ≡ before
   pub whole : status ≡ done → (len ≡ length (written_packet page_size number sync id normal contents zero)) × (len ≤ length old)
 
 -- Bytes at the front of a buffer, and how many they are.

@@ -16,11 +16,12 @@ place_at block page = record { block = block; page = page }
 abbrev pub block_count : Option Image → ℕ
 block_count memory = option_map_or (λ m. length m.table.blocks) memory 0
 
--- What is read of a page: its content, in a buffer of its length.
+-- What is read of a page: its content, in a buffer of its length. That there is no such page is told first.
 pub record GivesPage (p : Place) (status : ℕ) (old new : List ℕ) (memory : Option Image) : Type 0 where
   pub is_named : IsOneOf (done ∷ no_page ∷ bad_length ∷ []) status
   pub gives : status ≡ done → IfSome memory (λ m. content m p ≡ Some new)
-  pub there : status ≡ done → IsSome memory
+  pub there : status ≢ no_page → IsSome memory
+  pub has_page : status ≢ no_page → IfSome memory (λ m. IsPlace m.table p)
   pub missing : status ≡ no_page → IfSome memory (λ m. IsPlace m.table p → ⊥)
   pub has_other_length : status ≡ bad_length → IfSome memory (λ m. length old ≢ m.table.page_size)
   pub same : status ≢ done → new ≡ old

@@ -2,6 +2,7 @@
 use Rattle.std.specs.Prelude.{◌≡◌, ◌≢◌, ◌≤◌, ◌<◌, ◌++◌, ℕ, List, [], ◌∷◌, drop, take, length, Option, None, Some, ⊤}
 use Rattle.mig_mem.specs.RamTable.{RamTable}
 use Rattle.mig_mem.specs.declared.place.Place.{Place}
+use Rattle.mig_mem.specs.Place.{IsPlace}
 use Rattle.mig_mem.specs.Image.{Page}
 use Rattle.mig_stream.specs.Written.{single}
 use Rattle.mig_stream.specs.Writer.{PartSoFar, HasPut}
@@ -44,6 +45,12 @@ IsOpen (Idle w) = ⊥
 IsOpen (Round part) = ⊤
 IsOpen (Over text) = ⊥
 
+-- a round is open, and this is so of its table
+abbrev pub InRoundOf : (RamTable → Type 0) → Sending → Type 0
+InRoundOf IsSo (Idle w) = ⊥
+InRoundOf IsSo (Round part) = IsSo part.before.table
+InRoundOf IsSo (Over text) = ⊥
+
 -- no round is open, and the stream goes on
 abbrev pub IsIdle : Sending → Type 0
 IsIdle (Idle w) = ⊤
@@ -73,7 +80,7 @@ pub record Begins (status : ℕ) (old new : Sending) : Type 0 where
   pub wrong : status ≡ out_of_turn → IsIdle old → ⊥
   pub in_turn : status ≢ out_of_turn → IsIdle old
 
--- What `put_page` does.
+-- What `put_page` does: the first thing that is wrong is told.
 pub record Puts (p : Place) (bytes : List ℕ) (status : ℕ) (old new : Sending) : Type 0 where
   pub is_named : IsOneOf (done ∷ no_memory ∷ no_page ∷ bad_length ∷ out_of_turn ∷ []) status
   pub puts : status ≡ done → (pages : List Page) → HasPutPages pages old → HasPutPages (pages ++ record { place = p; content = bytes } ∷ []) new
@@ -81,6 +88,10 @@ pub record Puts (p : Place) (bytes : List ℕ) (status : ℕ) (old new : Sending
   pub same : status ≢ done → new ≡ old
   pub wrong : status ≡ out_of_turn → IsOpen old → ⊥
   pub in_turn : status ≢ out_of_turn → IsOpen old
+  pub foreign : status ≡ no_page → InRoundOf (λ table. IsPlace table p → ⊥) old
+  pub has_place : status ≢ out_of_turn → status ≢ no_page → InRoundOf (λ table. IsPlace table p) old
+  pub unfit : status ≡ bad_length → InRoundOf (λ table. length bytes ≢ table.page_size) old
+  pub fits : status ≢ out_of_turn → status ≢ no_page → status ≢ bad_length → InRoundOf (λ table. length bytes ≡ table.page_size) old
 
 -- what it does to the round that is open
 pub record Adds (p : Place) (bytes : List ℕ) (status : ℕ) (old new : PartSoFar) : Type 0 where
@@ -88,6 +99,10 @@ pub record Adds (p : Place) (bytes : List ℕ) (status : ℕ) (old new : PartSoF
   pub adds : status ≡ done → (pages : List Page) → HasPut old pages → HasPut new (pages ++ record { place = p; content = bytes } ∷ [])
   pub same_before : new.before ≡ old.before
   pub same : status ≢ done → new ≡ old
+  pub foreign : status ≡ no_page → IsPlace old.before.table p → ⊥
+  pub has_place : status ≢ no_page → IsPlace old.before.table p
+  pub unfit : status ≡ bad_length → length bytes ≢ old.before.table.page_size
+  pub fits : status ≢ no_page → status ≢ bad_length → length bytes ≡ old.before.table.page_size
 
 -- What `end_round` does.
 pub record EndsRound (status : ℕ) (old new : Sending) : Type 0 where
@@ -118,10 +133,12 @@ pub record Finishes (status : ℕ) (old new : Sending) : Type 0 where
   pub in_turn : status ≢ out_of_turn → IsIdle old
 
 -- What `drain` does: it hands out the next bytes, as many as it says, at the front of a buffer. Where it has none of a stream that is ended,
--- all of it was handed out.
+-- all of it was handed out. A round that is open stays open, with its pages.
 pub record Drains (count : ℕ) (out : List ℕ) (old new : Sender) : Type 0 where
   pub fits : count ≤ length out
   pub hands : (table : RamTable) (given : List ℕ) (rounds : List (List Page)) → Sends table given rounds old → Sends table (given ++ take count out) rounds new
+  pub keeps_open : (pages : List Page) → HasPutPages pages old.state → HasPutPages pages new.state
+  pub idle : IsIdle old.state → IsIdle new.state
   pub ended : IsEnded old.state → IsEnded new.state
   pub all : IsEnded old.state → count ≡ 0 → 0 < length out → (table : RamTable) (given : List ℕ) (rounds : List (List Page)) → Sends table given rounds old
       → given ≡ single table rounds
@@ -131,6 +148,8 @@ pub record Drains (count : ℕ) (out : List ℕ) (old new : Sender) : Type 0 whe
 -- Where no byte waits, those that were written since are drained.
 pub record Refills (old new : Sender) : Type 0 where
   pub keeps : (table : RamTable) (given : List ℕ) (rounds : List (List Page)) → Sends table given rounds old → Sends table given rounds new
+  pub keeps_open : (pages : List Page) → HasPutPages pages old.state → HasPutPages pages new.state
+  pub idle : IsIdle old.state → IsIdle new.state
   pub ended : IsEnded old.state → IsEnded new.state
   pub all : IsEnded old.state → waiting new ≡ [] → (table : RamTable) (given : List ℕ) (rounds : List (List Page)) → Sends table given rounds old
       → given ≡ single table rounds

@@ -25,6 +25,7 @@ pub record OpensSession (page_size : ℕ) (uuid : List ℕ) (channels limit : �
   pub no_number : status ≡ bad_channels → (channels ≡ 0) ⊎ (255 < channels)
   pub numbered : status ≢ bad_page_size → status ≢ bad_limit → status ≢ bad_channels → (1 ≤ channels) × (channels ≤ 255)
   pub short : status ≡ bad_length → length uuid ≢ 16
+  pub is_uuid : status ≢ bad_page_size → status ≢ bad_limit → status ≢ bad_channels → status ≢ bad_length → length uuid ≡ 16
 
 -- What `feed` does to a source.
 pub record FeedsSource (from : Source) (piece : List ℕ) (status : ℕ) (old new : LoadSession) : Type 0 where
@@ -39,6 +40,7 @@ pub record FeedsSource (from : Source) (piece : List ℕ) (status : ℕ) (old ne
   pub over : status ≡ is_over → IsTrue (count_of old.counts from).ended
   pub goes_on : status ≢ bad_source → status ≢ is_over → IsFalse (count_of old.counts from).ended
   pub long : status ≡ too_long → 2 ^ 64 ≤ (count_of old.counts from).fed + length piece
+  pub short : status ≢ bad_source → status ≢ is_over → status ≢ too_long → (count_of old.counts from).fed + length piece < 2 ^ 64
 
 -- What `end` does to a source.
 pub record EndsSource (from : Source) (status : ℕ) (old new : LoadSession) : Type 0 where

@@ -4,11 +4,10 @@ ghost use Rattle.std.specs.Prelude.{◌≡◌, ◌≢◌, ◌<◌, ◌≤◌, �
 ghost use Rattle.std.specs.Option.{option_copied};
 ghost use Rattle.mig_mem.specs.RamTable.{block as block_of};
 ghost use Rattle.mig_mem.specs.Image.{Image, IsImage};
-ghost use Rattle.mig_mem.specs.Round.{with_round};
 ghost use Rattle.mig_stream.specs.Reader.{waiting};
 ghost use Rattle.mig_assemble.specs.Target.{pages_of_round};
 ghost use Rattle.mig_load.specs.InPlaceState.{FedWith};
-ghost use Rattle.mig_c.specs.InPlace.{held_load, whole_rounds, due_block, due_pages, AreDue, LacksDue, Begins, FeedsInPlace, TellsNext, Answers, Puts, PutsBlock, EndsInPlace, TellsVerdict};
+ghost use Rattle.mig_c.specs.InPlace.{held_load, whole_rounds, due_block, due_pages, AreDue, LacksPart, LacksDue, Begins, FeedsInPlace, TellsNext, Answers, Puts, PutsBlock, EndsInPlace, TellsVerdict};
 
 use crate::fault::{FoundFault, due, of_verdict};
 use crate::putting::DueSection;
@@ -60,7 +59,7 @@ fn due_then(state: &mut InPlaceState<Global>, due: Option<DueSection>) -> Option
     requires due { IfSome due (λ section. AreDue state.old.table section) }
     ensures due { IfSome result (λ section. AreDue state.old.table section) }
     ensures lacks { (memory : Image) (limit : ℕ) (first : Image) (text : List ℕ) (ended : Bool) → IsImage memory
-        → FedWith (with_round memory (due_pages due)) limit first state.old text ended → LacksDue memory limit first state.new (due_pages result) text ended }
+        → LacksPart memory limit first state.old (due_pages due) text ended → LacksDue memory limit first state.new (due_pages result) text ended }
     ensures same { due_pages due ≢ [] → due_pages result ≡ due_pages due }
     ensures table { state.new.table ≡ state.old.table }
 {

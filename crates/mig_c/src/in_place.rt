@@ -175,7 +175,7 @@ fn fault(object: &Object) -> FoundFault
 
 /// The verdict on the text so far, as if it were over here; or that pages are to be put.
 #[unsafe(no_mangle)]
-pub extern "C" fn zimgasol_in_place_fault(
+pub extern "C" fn zimgasol_in_place_verdict(
     alloc: Global,
     in_place: &mut InPlaceHandle,
     found: &mut FoundFault,

@@ -172,7 +172,7 @@ fn fault(object: &Object) -> FoundFault
 
 /// The verdict on the text so far, as if it were over here.
 #[unsafe(no_mangle)]
-pub extern "C" fn zimgasol_loader_fault(
+pub extern "C" fn zimgasol_loader_verdict(
     alloc: Global,
     loader: &mut LoaderHandle,
     found: &mut FoundFault,

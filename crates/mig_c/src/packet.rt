@@ -76,7 +76,7 @@ pub extern "C" fn zimgasol_put_packet(
     out: &mut [u8],
     written: &mut usize,
 ) -> u32
-    ensures puts { PutsPacket page_size number sync id.now normal.now contents.now zero.now result out.old out.new written.new }
+    ensures puts { PutsPacket page_size number sync id.now normal.now contents.now zero.now result out.old out.new written.old written.new }
 {
     if !is_page_size(page_size) {
         return BAD_PAGE_SIZE;

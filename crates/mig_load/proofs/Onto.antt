@@ -27,7 +27,7 @@ use Rattle.mig_load.specs.declared.fault.LoadFault.{LoadFault}
 use Rattle.mig_load.specs.declared.fault.Fault.TheVariants.{OtherTable}
 use Rattle.mig_load.specs.SingleLoad.{at_main, verdict_of}
 use Rattle.mig_load.specs.Loader.{put_so_far, HasPutSections, HasPutAllSections}
-use Rattle.mig_load.specs.InPlace.{in_place, settings_of, IsOfOtherTable, IsOfOwnTable, HasSectionsOnto, LoadsOnto, HasVerdictOnto, SentIsLoadedInPlace, WasFedOnto, WasFedOntoSome, LoadsOntoSome, StandsAtAll}
+use Rattle.mig_load.specs.InPlace.{in_place, settings_of, IsOfOtherTable, IsOfOwnTable, HasSectionsOnto, LoadsOnto, HasVerdictOnto, HasVerdictBehind, SentIsLoadedInPlace, WasFedOnto, WasFedOntoSome, LoadsOntoSome, StandsAtAll}
 use Rattle.mig_load.proofs.Sections.{pages_in, same_reading, put_table, are_given, verdict_over, empty_ends, pages_sent, counted}
 
 -- ---- whose table a text has
@@ -38,7 +38,7 @@ apart first reading (inl none) other = absurd (let both : Some other.0 ≡ None 
 apart first reading (inr own) other = other.2 (let both : Some other.0 ≡ Some first.table = sym other.1 ∙ own in cc)
 
 -- of its own table it was before
-own_before : (first : Image) (before now : StreamReading) (o : Option RamTable) → before.table ≡ o → StaysRead before now → IsOfOwnTable first now → IsOfOwnTable first before
+pub own_before : (first : Image) (before now : StreamReading) (o : Option RamTable) → before.table ≡ o → StaysRead before now → IsOfOwnTable first now → IsOfOwnTable first before
 own_before first before now None is stays own = inl is
 own_before first before now (Some x) is stays (inl none) = absurd (let both : Some x ≡ None = sym (stays.same_table x is) ∙ none in cc)
 own_before first before now (Some x) is stays (inr own) = inr (is ∙ (sym (stays.same_table x is) ∙ own))
@@ -313,54 +313,69 @@ loads_other limit first r s t text ended table fed has differ stands =
 
 -- on a text of no other table
 pub judged_own : (limit : ℕ) (first : Image) (r : Reader) (t : LoadTarget) (text : List ℕ) (ended : Bool) (table : RamTable) (state : StreamState) (v : Result ⊤ LoadFault)
-    → LoadsOnto limit first (in_place r t) text ended → HasTable (settings_of first limit) text (Some table) → table ≡ t.memory.table
-    → HasState (settings_of first limit) text ended state → v ≡ verdict_of t.rounds state → HasVerdictOnto limit first text v
-judged_own limit first r t text ended table state v loads has same told is =
+    → WasFedOnto limit first (in_place r t) text ended → HasTable (settings_of first limit) text (Some table) → table ≡ t.memory.table
+    → HasState (settings_of first limit) text ended state → v ≡ verdict_of t.rounds state → HasVerdictBehind t.rounds limit first text v
+judged_own limit first r t text ended table state v fed has same told is =
     let p : ℕ = first.table.page_size in
-    let size : IsPageSize p = loads.is_table.has_page_size in
-    let reading : StreamReading = loads.has_sections.reading in
-    let is_reading = loads.has_sections.is_reading in
-    let one : has.0 ≡ reading = same_reading p limit text has.0 reading size has.1 is_reading in
-    let mine : reading.table ≡ Some first.table = sym (ap (λ (x : RamTable). Some x) (sym (same ∙ loads.has_sections.same_table)) ∙ has.2 ∙ ap (λ (x : StreamReading). x.table) one) in
-    let n : t.rounds ≡ length reading.rounds = (loads.has_sections.own (inr mine)).1 in
-    let other : told.0 ≡ reading = same_reading p limit text told.0 reading size told.1 is_reading in
+    let size : IsPageSize p = fed.is_table.has_page_size in
+    let reading : StreamReading = fed.reading in
+    let one : has.0 ≡ reading = same_reading p limit text has.0 reading size has.1 fed.is_reading in
+    let mine : reading.table ≡ Some first.table = sym (ap (λ (x : RamTable). Some x) (sym (same ∙ fed.same_table)) ∙ has.2 ∙ ap (λ (x : StreamReading). x.table) one) in
+    let other : told.0 ≡ reading = same_reading p limit text told.0 reading size told.1 fed.is_reading in
     let said : state ≡ state_at ended reading.state = told.2 ∙ ap (λ (x : StreamReading). state_at ended x.state) other in
     record {
       reading = reading;
-      is_reading = is_reading;
-      own = λ _. is ∙ ap (verdict_of t.rounds) said ∙ verdict_over ended t.rounds reading.state ∙ ap (λ (k : ℕ). verdict_of k reading.state) n;
+      is_reading = fed.is_reading;
+      own = λ _. is ∙ ap (verdict_of t.rounds) said ∙ verdict_over ended t.rounds reading.state;
       other = λ o. absurd (apart first reading (inr mine) o);
     }
 
 -- without a table
 pub judged_none : (limit : ℕ) (first : Image) (r : Reader) (t : LoadTarget) (text : List ℕ) (ended : Bool) (state : StreamState) (v : Result ⊤ LoadFault)
-    → LoadsOnto limit first (in_place r t) text ended → HasTable (settings_of first limit) text None
-    → HasState (settings_of first limit) text ended state → v ≡ verdict_of 0 state → HasVerdictOnto limit first text v
-judged_none limit first r t text ended state v loads has told is =
+    → WasFedOnto limit first (in_place r t) text ended → HasTable (settings_of first limit) text None
+    → HasState (settings_of first limit) text ended state → v ≡ verdict_of 0 state → HasVerdictBehind t.rounds limit first text v
+judged_none limit first r t text ended state v fed has told is =
     let p : ℕ = first.table.page_size in
-    let size : IsPageSize p = loads.is_table.has_page_size in
-    let reading : StreamReading = loads.has_sections.reading in
-    let is_reading = loads.has_sections.is_reading in
-    let one : has.0 ≡ reading = same_reading p limit text has.0 reading size has.1 is_reading in
+    let size : IsPageSize p = fed.is_table.has_page_size in
+    let reading : StreamReading = fed.reading in
+    let one : has.0 ≡ reading = same_reading p limit text has.0 reading size has.1 fed.is_reading in
     let none : reading.table ≡ None = sym (has.2 ∙ ap (λ (x : StreamReading). x.table) one) in
-    let n : 0 ≡ length reading.rounds = sym (ap (λ (l : List (List PageRecord)). length l) (no_rounds first limit text reading loads.is_table is_reading none)) in
-    let other : told.0 ≡ reading = same_reading p limit text told.0 reading size told.1 is_reading in
+    let few : fed.taken ≤ length reading.rounds = are_given p limit text ended r fed.taken reading size fed.is_reading fed.stands in
+    let len = ap (λ (l : List (List PageRecord)). length l) (no_rounds first limit text reading fed.is_table fed.is_reading none) in
+    let taken = (fed.own (inl none)).1 in
+    let n : 0 ≡ t.rounds = omega (arith, few, len, taken) in
+    let other : told.0 ≡ reading = same_reading p limit text told.0 reading size told.1 fed.is_reading in
     let said : state ≡ state_at ended reading.state = told.2 ∙ ap (λ (x : StreamReading). state_at ended x.state) other in
     record {
       reading = reading;
-      is_reading = is_reading;
+      is_reading = fed.is_reading;
       own = λ _. is ∙ ap (verdict_of 0) said ∙ verdict_over ended 0 reading.state ∙ ap (λ (k : ℕ). verdict_of k reading.state) n;
       other = λ o. absurd (apart first reading (inl none) o);
     }
 
 -- of another table
 pub judged_other : (limit : ℕ) (first : Image) (r : Reader) (t : LoadTarget) (text : List ℕ) (ended : Bool) (table : RamTable) (v : Result ⊤ LoadFault)
-    → LoadsOnto limit first (in_place r t) text ended → HasTable (settings_of first limit) text (Some table) → (table ≡ t.memory.table → ⊥)
-    → v ≡ at_main 0 OtherTable → HasVerdictOnto limit first text v
-judged_other limit first r t text ended table v loads has differ is =
-    let has_sections : HasSectionsOnto limit first text t = loads.has_sections in
-    let o : IsOfOtherTable first has_sections.reading = others limit first t text table has_sections.reading loads.is_table has_sections.same_table has_sections.is_reading has differ in
-    record { reading = has_sections.reading; is_reading = has_sections.is_reading; own = λ own. absurd (apart first has_sections.reading own o); other = λ _. is }
+    → WasFedOnto limit first (in_place r t) text ended → HasTable (settings_of first limit) text (Some table) → (table ≡ t.memory.table → ⊥)
+    → v ≡ at_main 0 OtherTable → HasVerdictBehind t.rounds limit first text v
+judged_other limit first r t text ended table v fed has differ is =
+    let o : IsOfOtherTable first fed.reading = others limit first t text table fed.reading fed.is_table fed.same_table fed.is_reading has differ in
+    record { reading = fed.reading; is_reading = fed.is_reading; own = λ own. absurd (apart first fed.reading own o); other = λ _. is }
+
+-- where no section waits it is the verdict on the text
+pub judged_all : (limit : ℕ) (first : Image) (r : Reader) (t : LoadTarget) (text : List ℕ) (ended : Bool) (v : Result ⊤ LoadFault) → LoadsOnto limit first (in_place r t) text ended
+    → HasVerdictBehind t.rounds limit first text v → HasVerdictOnto limit first text v
+judged_all limit first r t text ended v loads judged =
+    let has : HasSectionsOnto limit first text t = loads.has_sections in
+    let one : judged.reading ≡ has.reading =
+    same_reading first.table.page_size limit text judged.reading has.reading loads.is_table.has_page_size judged.is_reading has.is_reading in
+    record {
+      reading = judged.reading;
+      is_reading = judged.is_reading;
+      own = λ mine.
+          let n : t.rounds ≡ length has.reading.rounds = (has.own (subst (λ (x : StreamReading). IsOfOwnTable first x) one mine)).1 in
+          judged.own mine ∙ ap (λ (k : ℕ). verdict_of k judged.reading.state) (n ∙ ap (λ (x : StreamReading). length x.rounds) (sym one));
+      other = judged.other;
+    }
 
 -- ---- the text of a sender
 

@@ -59,6 +59,13 @@ pub record HasVerdictOnto (limit : ℕ) (first : Image) (text : List ℕ) (verdi
   pub own : IsOfOwnTable first reading → verdict ≡ verdict_of (length reading.rounds) reading.state
   pub other : IsOfOtherTable first reading → verdict ≡ at_main 0 OtherTable
 
+-- The verdict on a text as far as it is there, by a loader that has put so many sections of it, where others may wait.
+pub record HasVerdictBehind (n limit : ℕ) (first : Image) (text : List ℕ) (verdict : Result ⊤ LoadFault) : Type 0 where
+  pub reading : StreamReading
+  pub is_reading : IsReading (settings_of first limit) text reading
+  pub own : IsOfOwnTable first reading → verdict ≡ verdict_of n reading.state
+  pub other : IsOfOtherTable first reading → verdict ≡ at_main 0 OtherTable
+
 -- The text that a sender made of the memory's table and of rounds is loaded: these rounds are in the memory, and the verdict is Ok. START
 -- and END count as a section each.
 abbrev pub SentIsLoadedInPlace : Type 0

@@ -6,13 +6,13 @@ ghost use Rattle.mig_mem.specs.Image.{Image, IsImage};
 ghost use Rattle.mig_mem.specs.Round.{with_round};
 ghost use Rattle.mig_stream.specs.declared.item.Mode.TheVariants.{Single};
 ghost use Rattle.mig_stream.specs.Reading.{settings};
-ghost use Rattle.mig_stream.specs.Reader.{IsSettled, waiting};
+ghost use Rattle.mig_stream.specs.Reader.{IsSettled, HasRound, waiting};
 ghost use Rattle.mig_assemble.specs.Target.{Fits, pages_of_round};
 ghost use Rattle.mig_load.specs.declared.fault.Fault.TheVariants.{OtherTable};
 ghost use Rattle.mig_load.specs.declared.fault.InPlaceFault.TheVariants as in_place_fault;
 ghost use Rattle.mig_load.specs.SingleLoad.{at_main};
-ghost use Rattle.mig_load.specs.InPlace.{settings_of, HasVerdictOnto, StandsAtSome, StandsAtAll};
-ghost use Rattle.mig_load.specs.InPlaceState.{LoadsWith, FedWith, PutsAlike};
+ghost use Rattle.mig_load.specs.InPlace.{settings_of, HasVerdictOnto, HasVerdictBehind, StandsAtSome, StandsAtAll};
+ghost use Rattle.mig_load.specs.InPlaceState.{LoadsWith, FedWith, WhereFed, PutsAlike, ArePut, ArePutOf};
 
 use crate::settle::verdict_at;
 use crate::{Fault, InPlaceFault, LoadFault, Origin};
@@ -28,7 +28,7 @@ use std::marker::Model;
 ///
 /// Each piece is to be fed with the memory as the piece before left it. A memory of another table is refused. One of the same table with
 /// other contents can't be told, and the same sections are put into it. Memory that no `GuestTarget` stands for is written by its owner:
-/// `read_piece` and `take_section` are the two halves of `feed`.
+/// `read_piece` and `take_section` are the two halves of `feed`, which also puts the sections that wait since a `read_piece`.
 ///
 /// The stream is to have the memory's table, the same blocks in the same order: of another one nothing is put, and the verdict is
 /// `OtherTable`.
@@ -53,8 +53,8 @@ impl<A: Allocator> Model for InPlaceState<A> {
 
 // Takes each whole section that waits, and drops it.
 fn drop_sections<A: Allocator>(reader: &mut StreamReader<'_, A>)
-    ensures stands { (page_size limit : ℕ) (text : List ℕ) (ended : Bool) → IsPageSize page_size → StandsAtSome (settings Single page_size limit) text ended reader.old
-        → StandsAtAll (settings Single page_size limit) text ended reader.new }
+    ensures stands { (page_size limit : ℕ) (text : List ℕ) (ended : Bool) → IsPageSize page_size
+        → StandsAtSome (settings Single page_size limit) text ended reader.old → StandsAtAll (settings Single page_size limit) text ended reader.new }
     ensures fed { reader.new.fed ≡ reader.old.fed }
     ensures ended { reader.new.ended ≡ reader.old.ended }
 {
@@ -75,8 +75,7 @@ fn other_table() -> Result<(), LoadFault>
 // Takes the sections that wait, and puts them into a memory.
 fn put_sections<A: Allocator, M: GuestTarget>(state: &mut InPlaceState<A>, memory: &mut M)
     requires { (M.image memory.old).table ≡ state.old.table }
-    ensures alike { PutsAlike (M.image memory.old) (M.image memory.new) (λ kept now. (limit : ℕ) (first : Image) (text : List ℕ) (ended : Bool)
-        → FedWith kept limit first state.old text ended → LoadsWith now limit first state.new text ended) }
+    ensures alike { PutsAlike (M.image memory.old) (M.image memory.new) (ArePut state.old state.new) }
     ensures table { state.new.table ≡ state.old.table }
     ensures fed { state.new.reader.fed ≡ state.old.reader.fed }
     ensures ended { state.new.reader.ended ≡ state.old.reader.ended }
@@ -119,13 +118,12 @@ impl<A: Allocator + Copy> InPlaceState<A> {
     pub fn feed<M: GuestTarget>(&mut self, memory: &mut M, piece: &[u8]) -> Result<(), InPlaceFault>
         requires open { IsFalse self.old.reader.ended }
         requires room { self.old.reader.fed + length piece.now < 2 ^ 63 }
-        ensures ok { OnOk result ((limit : ℕ) (first : Image) (text : List ℕ) → LoadsWith (M.image memory.old) limit first self.old text false
+        ensures ok { OnOk result ((limit : ℕ) (first : Image) (text : List ℕ) → FedWith (M.image memory.old) limit first self.old text false
             → LoadsWith (M.image memory.new) limit first self.new (text ++ piece.now) false) }
-        ensures alike { OnOk result (PutsAlike (M.image memory.old) (M.image memory.new) (λ kept now. (limit : ℕ) (first : Image) (text : List ℕ)
-            → LoadsWith kept limit first self.old text false → LoadsWith now limit first self.new (text ++ piece.now) false)) }
+        ensures alike { OnOk result (PutsAlike (M.image memory.old) (M.image memory.new) (ArePutOf piece.now self.old self.new)) }
         ensures other { (result ≡ Err in_place_fault.OtherTable) ↔ ((M.image memory.old).table ≢ self.old.table) }
-        ensures settled { (kept : Image) (limit : ℕ) (first : Image) (text : List ℕ) → LoadsWith kept limit first self.old text false → IsSettled (settings_of first limit) text
-            → (M.image memory.old).table ≡ self.old.table → IsOk result }
+        ensures settled { (kept : Image) (limit : ℕ) (first : Image) (text : List ℕ) → FedWith kept limit first self.old text false
+            → IsSettled (settings_of first limit) text → (M.image memory.old).table ≡ self.old.table → IsOk result }
         ensures err { OnErr result ((self.new ≡ self.old) × (M.image memory.new ≡ M.image memory.old)) }
         ensures table { self.new.table ≡ self.old.table }
         ensures open { IsFalse self.new.reader.ended }
@@ -147,9 +145,10 @@ impl<A: Allocator + Copy> InPlaceState<A> {
         requires room { self.old.reader.fed + length piece.now < 2 ^ 63 }
         ensures ok { OnOk result ((memory : Image) (limit : ℕ) (first : Image) (text : List ℕ) → FedWith memory limit first self.old text false
             → FedWith memory limit first self.new (text ++ piece.now) false) }
-        ensures settled { (memory : Image) (limit : ℕ) (first : Image) (text : List ℕ) → FedWith memory limit first self.old text false → IsSettled (settings_of first limit) text
-            → IsOk result }
+        ensures settled { (memory : Image) (limit : ℕ) (first : Image) (text : List ℕ) → FedWith memory limit first self.old text false
+            → IsSettled (settings_of first limit) text → IsOk result }
         ensures err { OnErr result (self.new ≡ self.old) }
+        ensures rounds { self.new.rounds ≡ self.old.rounds }
         ensures table { self.new.table ≡ self.old.table }
         ensures open { IsFalse self.new.reader.ended }
         ensures fed { OnOk result (self.new.reader.fed ≡ self.old.reader.fed + length piece.now) }
@@ -164,10 +163,13 @@ impl<A: Allocator> InPlaceState<A> {
     /// page; None where no section waits. Those of another table are dropped. It allocates nothing.
     pub fn take_section(&mut self) -> Option<StreamRound<'static, A>>
         ensures fits { IfSome result (λ section. Fits self.old.table section) }
-        ensures some { IfSome result (λ section. (memory : Image) (limit : ℕ) (first : Image) (text : List ℕ) (ended : Bool) → FedWith memory limit first self.old text ended
-            → FedWith (with_round memory (pages_of_round section)) limit first self.new text ended) }
-        ensures none { IfNone result ((memory : Image) (limit : ℕ) (first : Image) (text : List ℕ) (ended : Bool) → FedWith memory limit first self.old text ended
-            → LoadsWith memory limit first self.new text ended) }
+        ensures round { IfSome result (λ section. WhereFed self.old (λ memory limit first text ended.
+            HasRound (settings_of first limit) text self.old.rounds section.records)) }
+        ensures rounds { IfSome result (λ section. self.new.rounds ≡ self.old.rounds + 1) }
+        ensures some { IfSome result (λ section. WhereFed self.old (λ memory limit first text ended.
+            FedWith (with_round memory (pages_of_round section)) limit first self.new text ended)) }
+        ensures none { IfNone result (WhereFed self.old (λ memory limit first text ended. LoadsWith memory limit first self.new text ended)) }
+        ensures none_more { IfNone result (self.new.rounds ≡ self.old.rounds) }
         ensures fewer { IsSome result → waiting self.new.reader < waiting self.old.reader }
         ensures table { self.new.table ≡ self.old.table }
         ensures fed { self.new.reader.fed ≡ self.old.reader.fed }
@@ -192,8 +194,7 @@ impl<A: Allocator> InPlaceState<A> {
         ensures value { self.new ≡ record self.old { reader = record self.old.reader { ended = true } } }
         ensures loads { (memory : Image) (limit : ℕ) (first : Image) (text : List ℕ) (ended : Bool) → LoadsWith memory limit first self.old text ended
             → LoadsWith memory limit first self.new text true }
-        ensures fed { (memory : Image) (limit : ℕ) (first : Image) (text : List ℕ) (ended : Bool) → FedWith memory limit first self.old text ended
-            → FedWith memory limit first self.new text true }
+        ensures fed { WhereFed self.old (λ memory limit first text ended. FedWith memory limit first self.new text true) }
     {
         self.reader.end();
     }
@@ -219,7 +220,7 @@ impl<A: Allocator> InPlaceState<A> {
         &self.table
     }
 
-    /// How many sections were put into the memory. START and END count, too.
+    /// How many sections were put into the memory, or taken. START and END count, too.
     pub fn rounds(&self) -> u64
         ensures { result ≡ self.now.rounds }
     {
@@ -227,10 +228,12 @@ impl<A: Allocator> InPlaceState<A> {
     }
 
     /// The verdict on the text so far, as if it were over here: Ok where the end byte was read, else its first fault, which is
-    /// `Truncated` where it is whole so far. Of another table than the memory's it is `OtherTable`, as soon as the size list is whole.
+    /// `Truncated` where it is whole so far. Of another table than the memory's it is `OtherTable`, as soon as the size list is whole. It counts
+    /// the sections that were put or taken, so that of a text of which some wait a fault is told with fewer rounds before it.
     pub fn verdict(&self) -> Result<(), LoadFault>
-        ensures { (memory : Image) (limit : ℕ) (first : Image) (text : List ℕ) (ended : Bool) → LoadsWith memory limit first self.now text ended
+        ensures loads { (memory : Image) (limit : ℕ) (first : Image) (text : List ℕ) (ended : Bool) → LoadsWith memory limit first self.now text ended
             → HasVerdictOnto limit first text result }
+        ensures fed { WhereFed self.now (λ memory limit first text ended. HasVerdictBehind self.now.rounds limit first text result) }
     {
         let Some(table) = self.reader.table() else {
             return verdict_at(0, self.reader.state());

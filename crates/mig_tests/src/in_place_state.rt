@@ -1,11 +1,12 @@
 //! The load in place whose memory is handed to each call: what it leaves of bytes that the caller keeps, however the stream is cut; which memory it
 //! takes; the sections that it gives one by one; and allocations refused in turn.
 
+use crate::building::{image_with, text_of};
 use crate::in_place::{
     Answer, SMALL, Wanted, both, fault_at, left, others, text_of_small, untouched,
 };
 use crate::parts::PIECE;
-use mig_fixtures::{at, table};
+use mig_fixtures::{at, has_byte, set, table};
 use mig_load::{Fault, InPlaceFault, InPlaceState};
 use mig_mem::{GuestTarget, LentMemoryMut, MAX_TOTAL, Memory, Place};
 use mig_refusing::Refusing;
@@ -134,6 +135,42 @@ fn another_memory(rt: HostRuntime) {
     assert!(rt; (state.rounds(), state.verdict()) == (4, Ok(())));
     assert!(rt; first_byte(&rt, &one, at(0, 1)) == 3 && first_byte(&rt, &one, at(1, 2)) == 0);
     assert!(rt; first_byte(&rt, &two, at(0, 1)) == 0 && first_byte(&rt, &two, at(1, 2)) != 0);
+}
+
+// Sections that wait since a piece was read are put by the next piece that is fed. Until then the verdict counts none of them.
+#[test]
+fn fed_behind_a_read_piece(rt: HostRuntime) {
+    let text = text_of_small(&rt);
+    let mut memory = zeros(&rt, &SMALL);
+    let mut state = new_state(&rt, &memory);
+    let (first, second) = (text.get(..66 + 4135 + 9), text.get(66 + 4135 + 9..));
+    assert!(rt; read_piece(&mut state, first.expect(&rt, "a front")).is_some());
+    let cut = fault_at(0, Fault::Stream(StreamFault::Truncated));
+    assert!(rt; (state.rounds(), state.verdict()) == cut);
+    let second = second.expect(&rt, "a rest");
+    assert!(rt; feed(&mut state, &mut memory, second) == Some(Ok(())));
+    assert!(rt; (state.rounds(), state.verdict()) == (4, Ok(())));
+    assert!(rt; first_byte(&rt, &memory, at(0, 1)) == 3 && first_byte(&rt, &memory, at(1, 2)) != 0);
+}
+
+// A page that is brought again is put again, also where the memory lost it meanwhile.
+#[test]
+fn page_brought_again(rt: HostRuntime) {
+    let guest = image_with(&rt, 0, 4096);
+    let text = text_of(&rt, &guest, &[&[at(0, 1)], &[at(0, 1)]]);
+    let mut memory = Memory::zeroed(rt.alloc(), guest.table()).expect(&rt, "a memory");
+    let mut state = new_state(&rt, &memory);
+    let mut is_lost = false;
+    for piece in text.chunks(64) {
+        assert!(rt; feed(&mut state, &mut memory, piece) == Some(Ok(())));
+        if state.rounds() == 2 && !is_lost {
+            assert!(rt; has_byte(&memory, at(0, 1), 0, 7));
+            assert!(rt; set(&mut memory, 0, 4096, 8));
+            is_lost = true;
+        }
+    }
+    assert!(rt; is_lost && (state.rounds(), state.verdict()) == (4, Ok(())));
+    assert!(rt; has_byte(&memory, at(0, 1), 0, 7));
 }
 
 // How many pages a section has, and the first of them.

@@ -93,7 +93,7 @@ static void load(size_t cut) {
         uint32_t status = zimgasol_loader_feed(&loader, text + at, len);
         if (status == ZIMGASOL_NO_MEMORY) status = zimgasol_loader_feed(&loader, text + at, len);
         if (status == ZIMGASOL_WAITS) {
-            WANT(zimgasol_loader_fault(&loader, &fault) == ZIMGASOL_NO_MEMORY && fault.source == ZIMGASOL_ROUND);
+            WANT(zimgasol_loader_verdict(&loader, &fault) == ZIMGASOL_NO_MEMORY && fault.source == ZIMGASOL_ROUND);
             WANT(zimgasol_loader_blocks(&loader) == 0);
             status = zimgasol_loader_settle(&loader);
         }
@@ -101,7 +101,7 @@ static void load(size_t cut) {
     }
     zimgasol_loader_end(&loader);
     WANT(zimgasol_loader_feed(&loader, text, 1) == ZIMGASOL_IS_OVER);
-    WANT(zimgasol_loader_fault(&loader, &fault) == ZIMGASOL_DONE && fault.number == 0);
+    WANT(zimgasol_loader_verdict(&loader, &fault) == ZIMGASOL_DONE && fault.number == 0);
     WANT(zimgasol_loader_rounds(&loader) == 4);
     WANT(zimgasol_loader_blocks(&loader) == 2);
     zimgasol_block block;
@@ -142,7 +142,7 @@ static void put_due(zimgasol_in_place *load) {
     while ((status = zimgasol_in_place_next(load, &block)) == ZIMGASOL_IS_DUE) {
         uint8_t *bytes = block == 0 ? first_block : second_block;
         size_t len = block == 0 ? sizeof first_block : sizeof second_block;
-        WANT(block < 2 && zimgasol_in_place_fault(load, &fault) == ZIMGASOL_IS_DUE && fault.round == zimgasol_in_place_rounds(load));
+        WANT(block < 2 && zimgasol_in_place_verdict(load, &fault) == ZIMGASOL_IS_DUE && fault.round == zimgasol_in_place_rounds(load));
         WANT(zimgasol_in_place_put(load, 2, bytes, len) == ZIMGASOL_NO_PAGE && zimgasol_in_place_put(load, 1 - block, bytes, len) == ZIMGASOL_OUT_OF_TURN);
         WANT(zimgasol_in_place_put(load, block, bytes, len - 1) == ZIMGASOL_BAD_LENGTH && zimgasol_in_place_put(load, block, bytes, 0) == ZIMGASOL_BAD_LENGTH);
         WANT(zimgasol_in_place_put(load, block, bytes, len) == ZIMGASOL_DONE);
@@ -168,7 +168,7 @@ static void load_in_place(size_t cut, int at_once) {
     feed_in_place(&load, cut, at_once);
     zimgasol_in_place_end(&load);
     WANT(zimgasol_in_place_feed(&load, text, 1) == ZIMGASOL_IS_OVER);
-    WANT(zimgasol_in_place_fault(&load, &fault) == ZIMGASOL_DONE && fault.number == 0 && zimgasol_in_place_rounds(&load) == 4);
+    WANT(zimgasol_in_place_verdict(&load, &fault) == ZIMGASOL_DONE && fault.number == 0 && zimgasol_in_place_rounds(&load) == 4);
     zimgasol_in_place_free(&load);
     WANT(load.at == NULL);
     WANT(is_filled(first_block, 2 * PAGE, 0xEE) && first_block[2 * PAGE] == 3 && is_filled(first_block + 2 * PAGE + 1, PAGE - 1, 7));

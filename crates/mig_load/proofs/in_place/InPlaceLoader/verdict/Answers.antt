@@ -8,4 +8,4 @@ pub returns : goal.returns
 returns g c = λ limit first text ended before.
     let memory : Image = g.M.GuestTarget.image c.self.inside.memory in
     let loads = subst (λ (l : InPlace). LoadsOnto limit first l text ended) (sym c.self.view_is) before in
-    c.verdict.ensures memory limit first text ended (with_memory memory limit first c.self.inside.state text ended c.self.invariant loads)
+    c.verdict.ensures.loads memory limit first text ended (with_memory memory limit first c.self.inside.state text ended c.self.invariant loads)

@@ -1,11 +1,13 @@
 use Rattle.std.proofs.Common.{◌≡◌, ◌∙◌, Some, subst, sym, true, arith, rules}
 use Rattle.std.specs.Prelude.{Ok}
 use Rattle.mig_stream.specs.declared.round.StreamRound.{StreamRound}
+use Rattle.mig_stream.specs.Reader.{HasRound}
+use Rattle.mig_load.specs.InPlace.{settings_of}
 use Rattle.mig_assemble.specs.Target.{Fits, pages_of_round}
 use Rattle.mig_mem.specs.Round.{with_round}
 use Rattle.mig_load.specs.InPlaceState.{InPlaceState, LoadsWith, FedWith}
 use Rattle.mig_load.proofs.Sections.{of_some, of_none}
-use Rattle.mig_load.proofs.InPlaceStates.{section_more, section_fits, section_few, none_without_table, none_of_another, none_left, of_some_text, some_text, fed_with}
+use Rattle.mig_load.proofs.InPlaceStates.{section_more, section_is, section_fits, section_few, none_without_table, none_of_another, none_left, of_some_text, some_text, fed_with}
 use Rattle.mig_load.proofs.in_place_state.InPlaceState.take_section.Goals as goal
 
 -- ---- no table
@@ -59,6 +61,14 @@ returns-clause-fits g c =
     subst (λ (s : InPlaceState). Fits s.table c.in-Ok-Some.section) c.self.view_is
     (section_fits c.self.inside.reader c.self.inside.table c.in-Some.streamed.now c.self.inside.rounds c.in-Ok-Some.section c.self.invariant c.in-Some.ensures
     (c.same.ensures.0 c.if-not-same.false) gives places)
+
+pub returns-clause-round : goal.returns-clause-round
+returns-clause-round g c = λ memory limit first text ended before.
+    let stood = subst (λ (s : InPlaceState). FedWith memory limit first s text ended) (sym c.self.view_is) before in
+    let gives = of_some _ c.in-Ok-Some.field-0 c.in-Ok-Some.section c.in-Ok-Some.field-0-is c.in-Ok-Some.ensures.round in
+    subst (λ (s : InPlaceState). HasRound (settings_of first limit) text s.rounds c.in-Ok-Some.section.records) c.self.view_is
+    (section_is memory limit first c.self.inside.reader c.self.inside.table c.in-Some.streamed.now c.self.inside.rounds c.in-Ok-Some.section text ended c.in-Some.ensures
+    (c.same.ensures.0 c.if-not-same.false) gives stood)
 
 pub returns-clause-some : goal.returns-clause-some
 returns-clause-some g c = λ memory limit first text ended before.
