@@ -2,7 +2,7 @@
 # Runs the tool on a scenario: tools/run.sh SCENARIO [WORD ..]
 #
 # Where the proved program was built and no source has changed since, that program runs. Else the tool runs from its source,
-# which proves nothing and takes half a minute: `make build` proves and builds it.
+# which proves nothing and takes up to a minute: `make build` proves and builds it.
 set -eu
 scenario=$(realpath "$1")
 shift
