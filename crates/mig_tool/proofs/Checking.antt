@@ -1,52 +1,65 @@
--- A scenario's stream, loaded again and compared.
-use Rattle.std.proofs.Common.{ℕ, ◌≡◌, ◌+◌, ◌≤◌, ◌^◌, List, ◌++◌, length, refl, arith, sym, ap, ap₂, ◌∙◌, append-nil, inl, inr, Option, Some, None, true, false, subst, bytes_eq}
-use Rattle.std.specs.Prelude.{◌⊎◌, IsTrue, IfSome, IsSomeAnd, Vec, Result, Ok, Err, ⊤, [], ◌∷◌, ◌==◌, not, nat_lt, find}
+-- A scenario's rounds, loaded again and compared.
+use Rattle.std.proofs.Common.{ℕ, ◌≡◌, ◌+◌, ◌-◌, ◌≤◌, ◌^◌, List, ◌++◌, length, refl, arith, sym, ap, ap₂, ◌∙◌, inl, inr, Option, Some, None, true, false, subst, bytes_eq, min}
+use Rattle.std.specs.Prelude.{◌⊎◌, IsTrue, IfSome, IsSomeAnd, MatchOption, Vec, Result, Ok, Err, ⊤, [], ◌∷◌, ◌==◌, not, nat_lt, find, sum_by}
 use Rattle.std.specs.List.{All}
 use Rattle.std.proofs.lemmas.Bool.{cases_Bool, le-ltb}
+use Rattle.std.proofs.lemmas.List.{length-map}
+use Rattle.std.proofs.lemmas.List.FromFn.{length-map-range_with_len}
+use Rattle.std.proofs.lemmas.List.Sorted.{IsPermutation-refl}
 use Rattle.std.proofs.lemmas.Slice.Eq.{bytes_eq-Decides}
 use Rattle.mig_mem.specs.RamTable.{RamTable, IsTable}
 use Rattle.mig_mem.specs.Image.{Page, Image, content_at, differs}
-use Rattle.mig_mem.specs.Round.{after, IsRound}
+use Rattle.mig_mem.specs.Round.{after}
 use Rattle.mig_mem.specs.declared.place.Place.{Place}
 use Rattle.mig_mem.specs.Place.{place_at, place_lt}
 use Rattle.mig_mem.specs.Difference.{differing}
 use Rattle.mig_mem.proofs.Sets.{where_none}
-use Rattle.mig_mem.specs.Tracking.{rounds_of}
+use Rattle.mig_mem.specs.Tracking.{Snapshot, rounds_of}
 use Rattle.mig_stream.specs.Text.{total_bytes}
 use Rattle.mig_stream.specs.Written.{single}
+use Rattle.mig_send.specs.DealtRounds.{DealtRound, IsSending, channel_text}
+use Rattle.mig_send.specs.MultiSending.{MultiSending, texts_of}
+use Rattle.mig_send.specs.declared.multi.Sent.{Sent}
 use Rattle.mig_load.specs.declared.loaded.Loaded.{Loaded}
 use Rattle.mig_load.specs.declared.fault.LoadFault.{LoadFault}
-use Rattle.mig_load.specs.SingleLoad.{IsSingleWithoutMemory, loaded}
+use Rattle.mig_load.specs.declared.verdict.Verdict.TheVariants.{Done, Failed}
+use Rattle.mig_load.specs.SingleLoad.{loaded, no_memory_at}
+use Rattle.mig_load.specs.MultiLoad.{Answer as LoadAnswer, answer_of, as_verdict, IsWithoutMemory, bytes_of}
+use Rattle.mig_load.specs.Texts.{ended_texts}
+use Rattle.mig_load.specs.Sent.{IsSentInAnyOrder, sent_answer}
 use Rattle.mig_tool.specs.declared.answer.Answer.{Answer}
 use Rattle.mig_tool.specs.declared.answer.Answer.TheVariants as answers
 use Rattle.mig_tool.specs.declared.answer.Answer.TheVariants.{Refused, Unloaded}
 use Rattle.mig_tool.specs.declared.answer.Checked.{Checked}
+use Rattle.mig_tool.specs.declared.answer.ChannelsChecked.{ChannelsChecked}
 use Rattle.mig_tool.specs.declared.answer.Comparison.{Comparison}
 use Rattle.mig_tool.specs.declared.answer.Comparison.TheVariants.{Same, Differs}
 use Rattle.mig_tool.specs.declared.fault.ScenarioFault.{ScenarioFault}
 use Rattle.mig_tool.specs.declared.fault.ScenarioFault.TheVariants as fault
+use Rattle.mig_tool.specs.declared.request.Layout.{Layout}
+use Rattle.mig_tool.specs.Request.{bytes_in}
 use Rattle.mig_tool.specs.Line.{ScenarioLine}
-use Rattle.mig_tool.specs.Scenario.{lines_of, table_of, refusal, is_within, unsent}
-use Rattle.mig_tool.specs.Guest.{ScenarioGuest, played, rounds_from}
-use Rattle.mig_tool.specs.Report.{refused, report_as, single_line, same_line}
-use Rattle.mig_tool.specs.Answer.{comparison_of, Compares, Answers, IsLoadOf, IsRoundTrip, answer_from, printed}
+use Rattle.mig_tool.specs.Scenario.{lines_of, refusal, is_within, unsent}
+use Rattle.mig_tool.specs.Guest.{ScenarioGuest, played}
+use Rattle.mig_tool.specs.Playing.{IsSentOf, IsNewSender}
+use Rattle.mig_tool.specs.Report.{Report, refused, checked, single_line, same_line, IsWantOfMemory}
+use Rattle.mig_tool.specs.Answer.{comparison_of, Compares, Answers, IsReport, IsTold, IsToldAs, IsLoadOf, IsLoadOfSent, BringsBack, IsRoundTrip, HasGone, HasChannels, printed, channels_lines, snapshots_in, table_in}
+use Rattle.uuid.specs.Parts.{zero_bytes}
 use Rattle.mig_tool.proofs.Faithful.{played_is_sent, played_are_rounds}
 
 -- ---- faults
 
-pub is_refused : (size : ℕ) (text : List ℕ) (f : ScenarioFault) → (f ≡ fault.NoMemory) ⊎ (refusal size text ≡ Some f) → Answers size text (Refused f)
-is_refused size text f (inl is) = rw is (record { text = refused fault.NoMemory; status = 1 }, refl, inr (refl, inl refl))
-is_refused size text f (inr is) = (record { text = refused f; status = 1 }, refl, inl (sym (ap (report_as size (lines_of text)) is)))
+pub is_refused : (layout : Layout) (text : List ℕ) (f : ScenarioFault) → (f ≡ fault.NoMemory) ⊎ (refusal (bytes_in layout.page_size) text ≡ Some f) → Answers layout text (Refused f)
+is_refused layout text f (inl is) = rw is (record { text = refused fault.NoMemory; status = 1 }, refl, inr (refl, inl refl))
+is_refused layout text f (inr is) =
+    let report : IsReport layout text (record { text = refused f; status = 1 }) = rw is refl in
+    (record { text = refused f; status = 1 }, refl, inl report)
 
 err_same : {T E : Type 0} (r : Result T E) (x y : E) → r ≡ Err x → r ≡ Err y → x ≡ y
 err_same r x y a b = cc
 
-pub is_unloaded : {A : Type 0} (size : ℕ) (text sent : List ℕ) (limit : ℕ) (table : RamTable) (rounds : List (List Page)) (a : Loaded A) (e : LoadFault)
-    → (a ≡ loaded table rounds) ⊎ IsSingleWithoutMemory size limit sent a → a.verdict ≡ Err e → Answers size text (Unloaded e)
-is_unloaded size text sent limit table rounds a e (inl is) bad = let good : a.verdict ≡ Ok _ = ap (λ (x : Loaded _). x.verdict) is in absurd cc
-is_unloaded size text sent limit table rounds a e (inr want) bad =
-    let same : e ≡ _ = err_same a.verdict e _ bad want.has_verdict in
-    rw same (_, refl, inr (refl, inr (a.rounds, refl)))
+ok_same : {T E : Type 0} (r : Result T E) (x y : T) → r ≡ Ok x → r ≡ Ok y → x ≡ y
+ok_same r x y a b = cc
 
 -- ---- comparing
 
@@ -84,107 +97,224 @@ same_pages m a b c is also h = is_same a b c (some_same a b (sym is ∙ also)) h
 
 -- ---- what is loaded of what was sent
 
--- where the verdict is Ok, the memory is the guest's
-pub is_loaded : {A : Type 0} (size : ℕ) (sent : List ℕ) (limit : ℕ) (table : RamTable) (rounds : List (List Page)) (a : Loaded A) (v : ⊤)
-    → (a ≡ loaded table rounds) ⊎ IsSingleWithoutMemory size limit sent a → a.verdict ≡ Ok v → a ≡ loaded table rounds
-is_loaded size sent limit table rounds a v (inl is) good = is
-is_loaded size sent limit table rounds a v (inr want) good = let bad = want.has_verdict in absurd cc
+-- a load gave this image, or an allocation was refused
+abbrev pub GivesBack : {A : Type 0} → Image → Loaded A → Type 0
+GivesBack image a = ((a.memory ≡ Some image) × (a.verdict ≡ Ok _)) ⊎ (a.verdict ≡ no_memory_at a.rounds)
+
+-- an answer that tells of a refused allocation
+abbrev pub IsWanting : Answer → Type 0
+IsWanting answer = (r : Report) × (printed answer ≡ Some r) × IsWantOfMemory r
+
+pub want_answers : (layout : Layout) (text : List ℕ) (answer : Answer) → IsWanting answer → Answers layout text answer
+want_answers layout text answer want = (want.0, want.1, inr want.2)
+
+-- what comes of comparing it with the image
+abbrev pub HasCompared : {A : Type 0} → Loaded A → Result (ℕ × Comparison) Answer → Type 0
+HasCompared a r = ((a.verdict ≡ Ok _) × (r ≡ Ok (a.rounds, Same))) ⊎ ((answer : Answer) × (r ≡ Err answer) × IsWanting answer)
+
+pub compared_back : {A : Type 0} (image : Image) (a : Loaded A) (r : Result (ℕ × Comparison) Answer) → GivesBack image a
+    → ((e : LoadFault) → a.verdict ≡ Err e → r ≡ Err (Unloaded e))
+    → ((v : ⊤) → a.verdict ≡ Ok v → a.memory ≡ Some image → (r ≡ Ok (a.rounds, Same)) ⊎ (r ≡ Err (Refused fault.NoMemory)))
+    → HasCompared a r
+compared_back image a r (inl back) faulty same = elim (same _ back.1 back.0) [
+  | inl is ↦ inl (back.1, is)
+  | inr is ↦ inr (Refused fault.NoMemory, is, (_, refl, (refl, inl refl)))
+]
+compared_back image a r (inr want) faulty same = inr (_, faulty _ want, (_, refl, (refl, inr (a.rounds, refl))))
+
+-- where the comparison is an error, it is of a refused allocation
+pub compared_err : {A : Type 0} (a : Loaded A) (r : Result (ℕ × Comparison) Answer) (answer : Answer) → HasCompared a r → r ≡ Err answer → IsWanting answer
+compared_err a r answer (inl all) bad = let good = all.1 in absurd cc
+compared_err a r answer (inr want) bad = subst IsWanting (err_same r want.0 answer want.1 bad) want.2
+
+pub compared_ok : {A : Type 0} (a : Loaded A) (r : Result (ℕ × Comparison) Answer) (p : ℕ × Comparison) → HasCompared a r → r ≡ Ok p
+    → (a.verdict ≡ Ok _) × (p.0 ≡ a.rounds) × (p.1 ≡ Same)
+compared_ok a r p (inl all) good =
+    let same : p ≡ (a.rounds, Same) = ok_same r p (a.rounds, Same) good all.1 in
+    (all.0, ap (λ (q : ℕ × Comparison). q.0) same, ap (λ (q : ℕ × Comparison). q.1) same)
+compared_ok a r p (inr want) good = let bad = want.1 in absurd cc
+
+-- ---- the single stream
+
+pub gives_back : {A : Type 0} (layout : Layout) (text sent : List ℕ) (image : Image) (a : Loaded A) → IsRoundTrip layout text image sent a → GivesBack image a
+gives_back layout text sent image a out = elim out.is_loaded [
+  | inl whole ↦ inl (ap (λ (x : Loaded _). x.memory) whole ∙ ap (λ (m : Image). let some : Option Image = Some m in some) (sym out.has_image), ap (λ (x : Loaded _). x.verdict) whole)
+  | inr want ↦ inr want.has_verdict
+]
+
+-- so it is where there is such a text
+pub text_back : {A B : Type 0} (layout : Layout) (text : List ℕ) (sent : Option (Vec ℕ B)) (image : Image) (a : Loaded A) → IsSomeAnd sent (λ t. IsRoundTrip layout text image t.items a)
+    → GivesBack image a
+text_back layout text None image a out = absurd out
+text_back layout text (Some t) image a out = gives_back layout text t.items image a out
+
+-- where the verdict is Ok, all that was sent is loaded
+is_whole : {A : Type 0} (layout : Layout) (text sent : List ℕ) (image : Image) (a : Loaded A) → IsRoundTrip layout text image sent a → a.verdict ≡ Ok _
+    → a ≡ loaded (table_in layout text) (rounds_of (snapshots_in layout text))
+is_whole layout text sent image a out good = elim out.is_loaded [ inl whole ↦ whole | inr want ↦ let bad = want.has_verdict in absurd cc ]
 
 -- what is known once a scenario was played and its stream was loaded
-pub outcome : {A : Type 0} (size : ℕ) (text : List ℕ) (table : RamTable) (ls : List ScenarioLine) (image : Image) (sent : List ℕ) (a : Loaded A)
-    → IsTable table → table ≡ table_of size (lines_of text) → ls ≡ lines_of text → All (λ l. IsTrue (is_within table l)) ls → unsent (lines_of text) ≡ None
-    → image ≡ (played table ls).image → sent ≡ single table (rounds_of (played table ls).snapshots)
-    → ((t : RamTable) (rounds : List (List Page)) → IsTable t → t.page_size ≡ size → total_bytes t ≤ 2 ^ 40 → All (IsRound t) rounds → sent ≡ single t rounds
-    → (a ≡ loaded t rounds) ⊎ IsSingleWithoutMemory size (2 ^ 40) sent a)
-    → IsRoundTrip size text image sent a
-outcome size text table ls image sent a is same_table same_lines within all_sent has_image has_text load =
+outcome : {A : Type 0} (layout : Layout) (text : List ℕ) (table : RamTable) (ls : List ScenarioLine) (image : Image) (sent : List ℕ) (a : Loaded A)
+    → IsTable table → table ≡ table_in layout text → ls ≡ lines_of text → All (λ l. IsTrue (is_within table l)) ls → unsent (lines_of text) ≡ None
+    → image ≡ (played table ls).image → sent ≡ single table (rounds_of (played table ls).snapshots) → IsLoadOf (bytes_in layout.page_size) sent a
+    → IsRoundTrip layout text image sent a
+outcome layout text table ls image sent a is same_table same_lines within all_sent has_image has_text load =
     let lines : List ScenarioLine = lines_of text in
-    let t : RamTable = table_of size lines in
+    let t : RamTable = table_in layout text in
     let is_t : IsTable t = subst IsTable same_table is in
     let within_t : All (λ l. IsTrue (is_within t l)) lines =
     subst (λ (x : List ScenarioLine). All (λ l. IsTrue (is_within t l)) x) same_lines (subst (λ x. All (λ l. IsTrue (is_within x l)) ls) same_table within) in
     let same : played table ls ≡ played t lines = ap (λ (x : RamTable). played x ls) same_table ∙ ap (λ (x : List ScenarioLine). played t x) same_lines in
-    let text_is : sent ≡ single t (rounds_from size lines) =
+    let text_is : sent ≡ single t (rounds_of (snapshots_in layout text)) =
     has_text ∙ ap (λ (x : RamTable). single x (rounds_of (played table ls).snapshots)) same_table ∙ ap (λ (g : ScenarioGuest). single t (rounds_of g.snapshots)) same in record {
+      is_table = is_t;
       is_sent = text_is;
       has_image = has_image ∙ ap (λ (g : ScenarioGuest). g.image) same ∙ sym (played_is_sent t lines is_t within_t all_sent);
-      is_loaded = load t (rounds_from size lines) is_t refl is_t.has_room (played_are_rounds t lines is_t within_t) text_is;
+      is_loaded = load t (rounds_of (snapshots_in layout text)) is_t refl is_t.has_room (played_are_rounds t lines is_t within_t) text_is;
     }
 
 -- the same of the text that was sent, where there is one
-pub outcomes : {A B : Type 0} (size : ℕ) (text : List ℕ) (table : RamTable) (ls : List ScenarioLine) (image : Image) (sent : Option (Vec ℕ B)) (a : Loaded A)
-    → IsTable table → table ≡ table_of size (lines_of text) → ls ≡ lines_of text → All (λ l. IsTrue (is_within table l)) ls → unsent (lines_of text) ≡ None
+pub outcomes : {A B : Type 0} (layout : Layout) (text : List ℕ) (table : RamTable) (ls : List ScenarioLine) (image : Image) (sent : Option (Vec ℕ B)) (a : Loaded A)
+    → IsTable table → table ≡ table_in layout text → ls ≡ lines_of text → All (λ l. IsTrue (is_within table l)) ls → unsent (lines_of text) ≡ None
     → image ≡ (played table ls).image → IsSomeAnd sent (λ t. t.items ≡ single table (rounds_of (played table ls).snapshots))
-    → IsSomeAnd sent (λ t. IsLoadOf size t.items a) → IsSomeAnd sent (λ t. IsRoundTrip size text image t.items a)
-outcomes size text table ls image None a is same_table same_lines within all_sent has_image has_text load = absurd has_text
-outcomes size text table ls image (Some t) a is same_table same_lines within all_sent has_image has_text load =
-    outcome size text table ls image t.items a is same_table same_lines within all_sent has_image has_text load
+    → IsSomeAnd sent (λ t. IsLoadOf (bytes_in layout.page_size) t.items a) → IsSomeAnd sent (λ t. IsRoundTrip layout text image t.items a)
+outcomes layout text table ls image None a is same_table same_lines within all_sent has_image has_text load = absurd has_text
+outcomes layout text table ls image (Some t) a is same_table same_lines within all_sent has_image has_text load =
+    outcome layout text table ls image t.items a is same_table same_lines within all_sent has_image has_text load
 
--- what a check of a single stream whose memory is the same prints
-printed_alone : (len sections : ℕ) → printed (answers.Checked (record { single = len; sections = sections; several = None; comparison = Same }))
-    ≡ Some (record { text = single_line len sections ++ same_line; status = 0 })
-printed_alone len sections = ap (λ (front : List ℕ). Some (record { text = front ++ same_line; status = 0 })) (append-nil (single_line len sections))
+-- ---- several channels
 
--- the report of a scenario that loaded to the guest's memory
-pub is_checked : {A : Type 0} (size : ℕ) (text sent : List ℕ) (image : Image) (len : ℕ) (a : Loaded A) (v : ⊤) → IsRoundTrip size text image sent a → refusal size text ≡ None
-    → a.verdict ≡ Ok v → len ≡ length sent → Answers size text (answers.Checked (record { single = len; sections = a.rounds; several = None; comparison = Same }))
-is_checked size text sent image len a v out none good len_is =
-    let ls : List ScenarioLine = lines_of text in
-    let t : RamTable = table_of size ls in
-    let whole : a ≡ loaded t (rounds_from size ls) = is_loaded size sent (2 ^ 40) t (rounds_from size ls) a v out.is_loaded good in
-    let sections : a.rounds ≡ length (rounds_from size ls) + 2 = ap (λ (x : Loaded _). x.rounds) whole in
-    let is_len : len ≡ length (single t (rounds_from size ls)) = len_is ∙ ap (λ (x : List ℕ). length x) out.is_sent in (
-      report_as size ls None,
-      printed_alone len a.rounds ∙ ap₂ (λ (m n : ℕ). Some (record { text = single_line m n ++ same_line; status = 0 })) is_len sections,
-      inl (sym (ap (report_as size ls) none)),
-    )
+-- what was sent on channels is a sending of the scenario's snapshots
+pub gone : {B : Type 0} (layout : Layout) (text : List ℕ) (table : RamTable) (ls : List ScenarioLine) (uuid : List ℕ) (s : Option MultiSending) (sent : Option (Sent B))
+    → table ≡ table_in layout text → ls ≡ lines_of text → uuid ≡ zero_bytes → MatchOption s (layout.channels ≡ 0) (λ x. IsNewSender table uuid layout x)
+    → MatchOption s (sent ≡ None) (λ x. IsSomeAnd sent (λ t. IsSentOf table x.uuid x.limit (length x.channels) (played table ls).snapshots t)) → HasGone layout text sent
+gone layout text table ls uuid None sent same_table same_lines nil new are = rw are new
+gone layout text table ls uuid (Some x) None same_table same_lines nil new are = absurd are
+gone layout text table ls uuid (Some x) (Some t) same_table same_lines nil new are =
+    let snapshots : (played table ls).snapshots ≡ snapshots_in layout text =
+    ap (λ (y : RamTable). (played y ls).snapshots) same_table ∙ ap (λ (y : List ScenarioLine). (played (table_in layout text) y).snapshots) same_lines in
+    let step-1 = subst (λ (l : List ℕ). IsSentOf table l x.limit (length x.channels) (played table ls).snapshots t) (new.has_uuid ∙ nil) are in
+    let step-2 = subst (λ (n : ℕ). IsSentOf table zero_bytes n (length x.channels) (played table ls).snapshots t) new.has_limit step-1 in
+    let step-3 = subst (λ (n : ℕ). IsSentOf table zero_bytes layout.batch n (played table ls).snapshots t) new.has_channels step-2 in
+    let step-4 = subst (λ (l : List Snapshot). IsSentOf table zero_bytes layout.batch layout.channels l t) snapshots step-3 in
+    subst (λ (y : RamTable). IsSentOf y zero_bytes layout.batch layout.channels (snapshots_in layout text) t) same_table step-4
 
--- the memory that was loaded is the guest's
-pub is_guest : {A : Type 0} (size : ℕ) (text sent : List ℕ) (image memory : Image) (a : Loaded A) (v : ⊤) → IsRoundTrip size text image sent a → a.verdict ≡ Ok v → a.memory ≡ Some memory
-    → memory ≡ image
-is_guest size text sent image memory a v out good is =
-    let ls : List ScenarioLine = lines_of text in
-    let whole : a ≡ loaded (table_of size ls) (rounds_from size ls) = is_loaded size sent (2 ^ 40) (table_of size ls) (rounds_from size ls) a v out.is_loaded good in
-    let some : Some memory ≡ Some (after (table_of size ls) (rounds_from size ls)) = sym is ∙ ap (λ (x : Loaded _). x.memory) whole in
-    some_same memory _ some ∙ sym out.has_image
+-- it has as many texts as channels
+texts_long : {B : Type 0} (table : RamTable) (uuid : List ℕ) (limit channels : ℕ) (snapshots : List Snapshot) (sent : Sent B) → IsSentOf table uuid limit channels snapshots sent
+    → length sent.channels.items ≡ channels
+texts_long table uuid limit channels snapshots sent is =
+    sym (length-map sent.channels.items (λ (t : Vec ℕ _). t.items)) ∙ ap (λ (l : List (List ℕ)). length l) is.2.has_texts
+    ∙ length-map-range_with_len (channel_text uuid is.0) 0 channels
 
-pub has_memory : {A : Type 0} (size : ℕ) (text sent : List ℕ) (image : Image) (a : Loaded A) (v : ⊤) → IsRoundTrip size text image sent a → a.verdict ≡ Ok v → a.memory ≡ None → ⊥
-has_memory size text sent image a v out good is =
-    let ls : List ScenarioLine = lines_of text in
-    let whole : a ≡ loaded (table_of size ls) (rounds_from size ls) = is_loaded size sent (2 ^ 40) (table_of size ls) (rounds_from size ls) a v out.is_loaded good in
-    let some : a.memory ≡ Some (after (table_of size ls) (rounds_from size ls)) = ap (λ (x : Loaded _). x.memory) whole in
-    absurd cc
+pub has_channels : {B : Type 0} (layout : Layout) (text : List ℕ) (sent : Option (Sent B)) → HasGone layout text sent → IfSome sent (λ t. HasChannels t)
+has_channels layout text None went = tt
+has_channels layout text (Some t) went =
+    let long : length t.channels.items ≡ layout.channels = texts_long (table_in layout text) zero_bytes layout.batch layout.channels (snapshots_in layout text) t went in
+    let few = went.2.is_set.has_channels in
+    (omega (arith, long, few.0), omega (arith, long, few.1))
 
--- the memory that was loaded is the guest's
-has_guest : {A : Type 0} (size : ℕ) (text sent : List ℕ) (image : Image) (a : Loaded A) (v : ⊤) → IsRoundTrip size text image sent a → a.verdict ≡ Ok v → a.memory ≡ Some image
-has_guest size text sent image a v out good =
-    let ls : List ScenarioLine = lines_of text in
-    let whole : a ≡ loaded (table_of size ls) (rounds_from size ls) = is_loaded size sent (2 ^ 40) (table_of size ls) (rounds_from size ls) a v out.is_loaded good in
-    ap (λ (x : Loaded _). x.memory) whole ∙ ap (λ (m : Image). Some m) (sym out.has_image)
+verdict_done : (v : Result ⊤ LoadFault) → as_verdict v ≡ Done → v ≡ Ok _
+verdict_done (Ok x) is = refl
+verdict_done (Err e) is = absurd cc
 
--- what comes of comparing what was loaded of a single stream
-abbrev pub alone_from : ℕ → Result (ℕ × Comparison) Answer → Result Checked Answer
-alone_from len (Ok p) = Ok (record { single = len; sections = p.0; several = None; comparison = p.1 })
-alone_from len (Err other) = Err other
+verdict_failed : (v : Result ⊤ LoadFault) (e : LoadFault) → as_verdict v ≡ Failed e → v ≡ Err e
+verdict_failed (Ok x) e is = absurd cc
+verdict_failed (Err f) e is = cc
 
--- A check of a single stream: a load's fault is told, and else the memories are compared and are the same.
-pub checked_alone : {A : Type 0} (size : ℕ) (text sent : List ℕ) (image : Image) (a : Loaded A) (r : Result (ℕ × Comparison) Answer) (len : ℕ)
-    → ((e : LoadFault) → a.verdict ≡ Err e → r ≡ Err (Unloaded e))
-    → ((v : ⊤) → a.verdict ≡ Ok v → a.memory ≡ Some image → (r ≡ Ok (a.rounds, Same)) ⊎ (r ≡ Err (Refused fault.NoMemory)))
-    → IsRoundTrip size text image sent a → refusal size text ≡ None → len ≡ length sent → Answers size text (answer_from (alone_from len r))
-checked_alone {A} size text sent image a r len faulty same out none is_len = go a.verdict refl
-  where
-    go : (w : Result ⊤ LoadFault) → a.verdict ≡ w → Answers size text (answer_from (alone_from len r))
-    go (Err e) bad = rw (faulty e bad) (is_unloaded size text sent (2 ^ 40) (table_of size (lines_of text)) (rounds_from size (lines_of text)) a e out.is_loaded bad)
-    go (Ok v) good = elim (same v good (has_guest size text sent image a v out good)) [
-      | inl is ↦ rw is (is_checked size text sent image len a v out none good is_len)
-      | inr is ↦ rw is (is_refused size text fault.NoMemory (inl refl))
+-- what loading it answers
+pub sent_back : {A B : Type 0} (page_size : ℕ) (sent : Sent B) (uuid main : List ℕ) (channels : List (Vec ℕ B)) (a : Loaded A) → uuid ≡ zero_bytes
+    → main ≡ sent.main.items → channels ≡ sent.channels.items
+    → ((table : RamTable) (rounds : List DealtRound) → IsSentInAnyOrder table uuid rounds main (bytes_of channels) → table.page_size ≡ page_size → total_bytes table ≤ 2 ^ 40
+    → (answer_of a ≡ sent_answer table rounds) ⊎ IsWithoutMemory page_size uuid (2 ^ 40) (ended_texts main (bytes_of channels)) (answer_of a))
+    → IsLoadOfSent page_size sent a
+sent_back page_size sent uuid main channels a nil same_main same_channels loads table limit count snapshots is size =
+    let rounds : List DealtRound = is.0 in
+    let texts : List (List ℕ) = texts_of sent.channels.items in
+    let many : length texts ≡ count = length-map sent.channels.items (λ (t : Vec ℕ _). t.items) ∙ texts_long table zero_bytes limit count snapshots sent is in
+    let whole : IsSending table zero_bytes limit (length texts) rounds sent.main.items texts =
+    subst (λ (n : ℕ). IsSending table zero_bytes limit n rounds sent.main.items texts) (sym many) is.2 in
+    let in_order : IsSentInAnyOrder table zero_bytes rounds sent.main.items texts =
+    record { batch_limit = limit; in_order = texts; is_sending = whole; is_permutation = IsPermutation-refl texts } in
+    let as_given : IsSentInAnyOrder table uuid rounds main (bytes_of channels) = rw (nil, same_main, same_channels) in_order in
+    elim (loads table rounds as_given size whole.is_set.has_table.has_room) [
+      | inl all ↦ inl (
+        ap (λ (x : LoadAnswer). x.memory) all ∙ ap (λ (l : List Snapshot). let some : Option Image = Some (after table (rounds_of l)) in some) is.1,
+        ap (λ (x : LoadAnswer). x.rounds) all ∙ sym (length-map rounds (λ (x : DealtRound). x.snapshot)) ∙ ap (λ (l : List Snapshot). length l) is.1,
+        verdict_done a.verdict (ap (λ (x : LoadAnswer). x.verdict) all),
+      )
+      | inr want ↦ inr (verdict_failed a.verdict _ want.has_verdict)
     ]
 
--- the same of the text that was sent, where there is one
-pub checked_texts : {A B : Type 0} (size : ℕ) (text : List ℕ) (sent : Option (Vec ℕ B)) (image : Image) (a : Loaded A) (r : Result (ℕ × Comparison) Answer) (len : ℕ)
-    → ((e : LoadFault) → a.verdict ≡ Err e → r ≡ Err (Unloaded e))
-    → ((v : ⊤) → a.verdict ≡ Ok v → a.memory ≡ Some image → (r ≡ Ok (a.rounds, Same)) ⊎ (r ≡ Err (Refused fault.NoMemory)))
-    → IsSomeAnd sent (λ t. IsRoundTrip size text image t.items a) → refusal size text ≡ None → IfSome sent (λ t. len ≡ length t.items) → Answers size text (answer_from (alone_from len r))
-checked_texts size text None image a r len faulty same out none is_len = absurd out
-checked_texts size text (Some t) image a r len faulty same out none is_len = checked_alone size text t.items image a r len faulty same out none is_len
+-- it is the guest's image
+pub channels_back : {A B : Type 0} (layout : Layout) (text : List ℕ) (image : Image) (sent : Sent B) (a : Loaded A) → HasGone layout text (Some sent)
+    → IsLoadOfSent (bytes_in layout.page_size) sent a → image ≡ after (table_in layout text) (rounds_of (snapshots_in layout text))
+    → GivesBack image a × (a.verdict ≡ Ok _ → a.rounds ≡ length (snapshots_in layout text))
+channels_back layout text image sent a went load is = go (load (table_in layout text) layout.batch layout.channels (snapshots_in layout text) went refl)
+  where
+    go : BringsBack (table_in layout text) (snapshots_in layout text) a → GivesBack image a × (a.verdict ≡ Ok _ → a.rounds ≡ length (snapshots_in layout text))
+    go (inl back) = (inl (back.0 ∙ ap (λ (m : Image). let some : Option Image = Some m in some) (sym is), back.2), λ good. back.1)
+    go (inr want) = (inr want, λ good. absurd cc)
+
+-- what is told of it
+pub told : {B : Type 0} (layout : Layout) (text : List ℕ) (sent : Sent B) (c : ChannelsChecked) → HasGone layout text (Some sent) → c.main ≡ length sent.main.items
+    → c.channels ≡ min (sum_by length (texts_of sent.channels.items)) (2 ^ 64 - 1) → c.rounds ≡ length (snapshots_in layout text) → IsTold (table_in layout text) layout (snapshots_in layout text) c
+told layout text sent c went main channels rounds = record {
+  rounds = went.0;
+  main = sent.main.items;
+  texts = texts_of sent.channels.items;
+  are_of = went.1;
+  is_sending = went.2;
+  has_main = main;
+  has_channels = channels;
+  has_rounds = rounds;
+}
+
+-- ---- all of it
+
+-- where nothing was sent on channels, there are none
+pub none_gone : {B : Type 0} (layout : Layout) (text : List ℕ) (several : Option (Sent B)) → HasGone layout text several → several ≡ None → layout.channels ≡ 0
+none_gone layout text None went is = went
+none_gone layout text (Some t) went is = absurd cc
+
+pub one_gone : {B : Type 0} (layout : Layout) (text : List ℕ) (several : Option (Sent B)) (sent : Sent B) → HasGone layout text several → several ≡ Some sent
+    → HasGone layout text (Some sent)
+one_gone layout text several sent went is = subst (λ (o : Option (Sent _)). HasGone layout text o) is went
+
+-- what is told of the channels, where there are any
+abbrev pub IsToldOf : Layout → List ℕ → Option ChannelsChecked → Type 0
+IsToldOf layout text several = MatchOption several (layout.channels ≡ 0) (λ c. IsTold (table_in layout text) layout (snapshots_in layout text) c)
+
+told_as : (layout : Layout) (text : List ℕ) (several : Option ChannelsChecked) → IsToldOf layout text several
+    → IsToldAs (table_in layout text) layout (snapshots_in layout text) (channels_lines several)
+told_as layout text None is = inl (is, refl)
+told_as layout text (Some c) is = inr (c, is, refl)
+
+-- the report of a scenario that loaded to the guest's memory
+is_checked : {A : Type 0} (layout : Layout) (text sent : List ℕ) (image : Image) (c : Checked) (a : Loaded A) → IsRoundTrip layout text image sent a
+    → refusal (bytes_in layout.page_size) text ≡ None → a.verdict ≡ Ok _ → c.single ≡ length sent → c.sections ≡ a.rounds → IsToldOf layout text c.several → c.comparison ≡ Same
+    → Answers layout text (answers.Checked c)
+is_checked layout text sent image c a out none good len sections said same =
+    let t : RamTable = table_in layout text in
+    let rounds : List (List Page) = rounds_of (snapshots_in layout text) in
+    let line : List ℕ = channels_lines c.several in
+    let whole : a ≡ loaded t rounds = is_whole layout text sent image a out good in
+    let of_len : c.single ≡ length (single t rounds) = len ∙ ap (λ (x : List ℕ). length x) out.is_sent in
+    let of_sections : c.sections ≡ length rounds + 2 = sections ∙ ap (λ (x : Loaded _). x.rounds) whole in
+    let r : Report = record { text = checked t rounds line; status = 0 } in
+    let is_report : IsReport layout text r = rw none (line, told_as layout text c.several said, refl) in
+    let is_printed : printed (answers.Checked c) ≡ Some r =
+    rw same (ap₂ (λ (m n : ℕ). let some : Option Report = Some (record { text = single_line m n ++ line ++ same_line; status = 0 }) in some) of_len of_sections) in
+    (r, is_printed, inl is_report)
+
+-- so it is where there is such a text
+pub are_checked : {A B : Type 0} (layout : Layout) (text : List ℕ) (sent : Option (Vec ℕ B)) (image : Image) (c : Checked) (a : Loaded A)
+    → IsSomeAnd sent (λ t. IsRoundTrip layout text image t.items a) → refusal (bytes_in layout.page_size) text ≡ None → a.verdict ≡ Ok _ → IfSome sent (λ t. c.single ≡ length t.items)
+    → c.sections ≡ a.rounds → IsToldOf layout text c.several → c.comparison ≡ Same → Answers layout text (answers.Checked c)
+are_checked layout text None image c a out none good len sections line same = absurd out
+are_checked layout text (Some t) image c a out none good len sections line same = is_checked layout text t.items image c a out none good len sections line same
+
+-- the image in the end is that after the rounds
+pub text_image : {A B : Type 0} (layout : Layout) (text : List ℕ) (sent : Option (Vec ℕ B)) (image : Image) (a : Loaded A) → IsSomeAnd sent (λ t. IsRoundTrip layout text image t.items a)
+    → image ≡ after (table_in layout text) (rounds_of (snapshots_in layout text))
+text_image layout text None image a out = absurd out
+text_image layout text (Some t) image a out = out.has_image

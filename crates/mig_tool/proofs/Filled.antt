@@ -1,5 +1,5 @@
 -- A page that is filled with one byte.
-use Rattle.std.proofs.Common.{ℕ, ◌≡◌, ◌≤◌, ◌∙◌, List, length, take, replicate, sym, ap, inl, inr, arith}
+use Rattle.std.proofs.Common.{ℕ, ◌≡◌, ◌≤◌, ◌∙◌, List, length, take, replicate, ap, inl, inr, arith}
 use Rattle.std.proofs.lemmas.List.{length-replicate, take-replicate}
 use Rattle.mig_mem.specs.PageSize.{IsPageSize}
 use Rattle.mig_mem.specs.RamTable.{RamTable, IsTable}

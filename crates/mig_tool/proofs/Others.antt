@@ -1,6 +1,6 @@
 -- What feeding one source leaves of the others.
-use Rattle.std.proofs.Common.{ℕ, ◌≡◌, List, length, get_or, refl, ap, ◌∙◌}
-use Rattle.std.specs.Prelude.{◌≢◌, Result, Ok, Err}
+use Rattle.std.proofs.Common.{ℕ, List, refl, ap, ◌∙◌}
+use Rattle.std.specs.Prelude.{Result, Ok, Err}
 use Rattle.std.proofs.lemmas.List.{length-set, get_or-set_other}
 use Rattle.mig_load.specs.declared.source.Source.{Source}
 use Rattle.mig_load.specs.declared.source.Source.TheVariants as source

@@ -1,20 +1,24 @@
--- How the tool's answers are printed.
-use Rattle.std.specs.Prelude.{◌≡◌, ◌⊎◌, ◌≤◌, ◌^◌, ℕ, All, List, [], ◌∷◌, ◌++◌, length, Option, None, Some, MatchOption, IsSomeAnd, IfSome, Result, Ok, Err, codes, decimal}
+-- What a check reports, and how the tool's answers are printed.
+use Rattle.std.specs.Prelude.{◌≡◌, ◌⊎◌, ◌≤◌, ◌^◌, ◌-◌, ℕ, min, sum_by, All, List, map, [], ◌∷◌, ◌++◌, length, Option, None, Some, MatchOption, IsSomeAnd, IfSome, Result, Ok, Err, codes, decimal}
 use Rattle.std.specs.Option.{option_map}
 use Rattle.std.specs.Io.KnownBytes.{Consumes, IsAtEnd, Appends}
+use Rattle.uuid.specs.Parts.{zero_bytes}
 use Rattle.mig_mem.specs.RamTable.{RamTable, IsTable}
 use Rattle.mig_mem.specs.declared.place.Place.{Place}
 use Rattle.mig_mem.specs.Image.{Page, Image}
 use Rattle.mig_mem.specs.Difference.{differing}
 use Rattle.mig_mem.specs.Round.{after, IsRound}
+use Rattle.mig_mem.specs.Tracking.{Snapshot, rounds_of}
 use Rattle.mig_stream.specs.Text.{total_bytes}
 use Rattle.mig_stream.specs.Written.{single}
+use Rattle.mig_send.specs.DealtRounds.{DealtRound, IsSending}
+use Rattle.mig_send.specs.declared.multi.Sent.{Sent}
 use Rattle.mig_load.specs.LoadFaultNumber.{fault_number}
 use Rattle.mig_load.specs.declared.fault.Fault.TheVariants as load_fault
 use Rattle.mig_load.specs.declared.verdict.Verdict.{Verdict}
 use Rattle.mig_load.specs.declared.verdict.Verdict.TheVariants.{Running, Done, Failed}
 use Rattle.mig_load.specs.declared.loaded.Loaded.{Loaded}
-use Rattle.mig_load.specs.SingleLoad.{IsSingleWithoutMemory, loaded}
+use Rattle.mig_load.specs.SingleLoad.{IsSingleWithoutMemory, loaded, no_memory_at}
 use Rattle.mig_load.specs.declared.fault.LoadFault.{LoadFault}
 use Rattle.mig_load.specs.declared.fault.Origin.{Origin}
 use Rattle.mig_load.specs.declared.fault.Origin.TheVariants as origin
@@ -27,9 +31,12 @@ use Rattle.mig_tool.specs.declared.answer.Comparison.TheVariants.{Same, Differs}
 use Rattle.mig_tool.specs.declared.guest.Played.{Played}
 use Rattle.mig_tool.specs.declared.fault.ToolFault.{ToolFault}
 use Rattle.mig_tool.specs.declared.fault.ToolFault.TheVariants as tool
-use Rattle.mig_tool.specs.Scenario.{lines_of, table_of}
-use Rattle.mig_tool.specs.Guest.{rounds_from}
-use Rattle.mig_tool.specs.Report.{Report, fault_line, refused, single_line, same_line, report, IsWantOfMemory}
+use Rattle.mig_tool.specs.declared.request.Layout.{Layout}
+use Rattle.mig_tool.specs.Request.{bytes_in}
+use Rattle.mig_tool.specs.Scenario.{lines_of, table_of, refusal}
+use Rattle.mig_tool.specs.Guest.{snapshots_from}
+use Rattle.mig_tool.specs.Playing.{IsSentOf}
+use Rattle.mig_tool.specs.Report.{Report, fault_line, refused, single_line, same_line, checked, IsWantOfMemory}
 
 -- what comes of comparing by the places that differ, in order: none does, or so many do, of which this is the first
 abbrev pub comparison_of : List Place → Comparison
@@ -134,41 +141,96 @@ abbrev pub answer_from : Result Checked Answer → Answer
 answer_from (Ok checked) = answers.Checked checked
 answer_from (Err other) = other
 
--- the answer on a text is printed as the report of it, or tells of a refused allocation
-abbrev pub Answers : ℕ → List ℕ → Answer → Type 0
-Answers page_size text answer = (r : Report) × (printed answer ≡ Some r) × ((r ≡ report page_size text) ⊎ IsWantOfMemory r)
+-- ---- a check
+
+-- What is told of a sending of these snapshots on several channels: the main stream's length, that of all channels' texts together, at most 2^64 - 1,
+-- and how many rounds there are.
+pub record IsTold (table : RamTable) (layout : Layout) (snapshots : List Snapshot) (c : ChannelsChecked) : Type 0 where
+  pub rounds : List DealtRound
+  pub main : List ℕ
+  pub texts : List (List ℕ)
+  pub are_of : map (λ round. round.snapshot) rounds ≡ snapshots
+  pub is_sending : IsSending table zero_bytes layout.batch layout.channels rounds main texts
+  pub has_main : c.main ≡ length main
+  pub has_channels : c.channels ≡ min (sum_by length texts) (2 ^ 64 - 1)
+  pub has_rounds : c.rounds ≡ length snapshots
+
+-- the line on channels; none where the layout has no channels
+abbrev pub IsToldAs : RamTable → Layout → List Snapshot → List ℕ → Type 0
+IsToldAs table layout snapshots line = ((layout.channels ≡ 0) × (line ≡ [])) ⊎ ((c : ChannelsChecked) × IsTold table layout snapshots c × (line ≡ channels_line c))
+
+-- the snapshots that a scenario sends in a layout
+abbrev pub snapshots_in : Layout → List ℕ → List Snapshot
+snapshots_in layout text = snapshots_from (bytes_in layout.page_size) (lines_of text)
+
+abbrev pub table_in : Layout → List ℕ → RamTable
+table_in layout text = table_of (bytes_in layout.page_size) (lines_of text)
+
+-- the report of a scenario that isn't refused: the line of its rounds' single stream, with channels one of a sending of them, and `same`
+abbrev pub IsReportOfRounds : Layout → List ℕ → Report → Type 0
+IsReportOfRounds layout text r = (line : List ℕ) × IsToldAs (table_in layout text) layout (snapshots_in layout text) line
+    × (r ≡ record { text = checked (table_in layout text) (rounds_of (snapshots_in layout text)) line; status = 0 })
+
+-- The report of a scenario in a layout: its refusal, or that of its rounds.
+abbrev pub IsReport : Layout → List ℕ → Report → Type 0
+IsReport layout text r = MatchOption (refusal (bytes_in layout.page_size) text) (IsReportOfRounds layout text r) (λ f. r ≡ record { text = refused f; status = 1 })
+
+-- the answer on a text is printed as a report of it, or tells of a refused allocation
+abbrev pub Answers : Layout → List ℕ → Answer → Type 0
+Answers layout text answer = (r : Report) × (printed answer ≡ Some r) × (IsReport layout text r ⊎ IsWantOfMemory r)
 
 -- what loading a text answers, where it is the stream of rounds of a table
 abbrev pub IsLoadOf : {A : Type 0} → ℕ → List ℕ → Loaded A → Type 0
 IsLoadOf page_size sent a = (table : RamTable) (rounds : List (List Page)) → IsTable table → table.page_size ≡ page_size → total_bytes table ≤ 2 ^ 40
     → All (IsRound table) rounds → sent ≡ single table rounds → (a ≡ loaded table rounds) ⊎ IsSingleWithoutMemory page_size (2 ^ 40) sent a
 
--- a guest's image in the end and the stream of its rounds, as a scenario makes them, and what loading that stream answers
-pub record IsRoundTrip {A : Type 0} (page_size : ℕ) (text : List ℕ) (image : Image) (sent : List ℕ) (a : Loaded A) : Type 0 where
-  pub is_sent : sent ≡ single (table_of page_size (lines_of text)) (rounds_from page_size (lines_of text))
-  pub has_image : image ≡ after (table_of page_size (lines_of text)) (rounds_from page_size (lines_of text))
-  pub is_loaded : (a ≡ loaded (table_of page_size (lines_of text)) (rounds_from page_size (lines_of text))) ⊎ IsSingleWithoutMemory page_size (2 ^ 40) sent a
+-- A scenario that was played, and what loading the single stream that was sent answers: the image in the end is that after the rounds.
+pub record IsRoundTrip {A : Type 0} (layout : Layout) (text : List ℕ) (image : Image) (sent : List ℕ) (a : Loaded A) : Type 0 where
+  pub is_table : IsTable (table_in layout text)
+  pub is_sent : sent ≡ single (table_in layout text) (rounds_of (snapshots_in layout text))
+  pub has_image : image ≡ after (table_in layout text) (rounds_of (snapshots_in layout text))
+  pub is_loaded : (a ≡ loaded (table_in layout text) (rounds_of (snapshots_in layout text))) ⊎ IsSingleWithoutMemory (bytes_in layout.page_size) (2 ^ 40) sent a
 
 -- so it is with the single stream that was sent
-abbrev pub HasRoundTrip : {A : Type 0} → ℕ → List ℕ → Played A → Loaded A → Type 0
-HasRoundTrip page_size text played a = IsSomeAnd played.texts.single (λ sent. IsRoundTrip page_size text played.image sent.items a)
+abbrev pub HasRoundTrip : {A : Type 0} → Layout → List ℕ → Played A → Loaded A → Type 0
+HasRoundTrip layout text played a = IsSomeAnd played.texts.single (λ sent. IsRoundTrip layout text played.image sent.items a)
 
--- A report is that of an input that was read to its end, with pages of 4096 bytes, where `input` was left before and `rest` is left after; or it tells
--- of a refused allocation.
-abbrev pub IsReportOf : Option (List ℕ) → Option (List ℕ) → Report → Type 0
-IsReportOf input rest r = ((text : List ℕ) × Consumes input rest text × IsAtEnd rest × (r ≡ report 4096 text)) ⊎ IsWantOfMemory r
+-- what was sent is a sending of the scenario's snapshots in this layout; where nothing was, it has no channels
+abbrev pub HasGone : {A : Type 0} → Layout → List ℕ → Option (Sent A) → Type 0
+HasGone layout text several = MatchOption several (layout.channels ≡ 0)
+    (λ sent. IsSentOf (table_in layout text) zero_bytes layout.batch layout.channels (snapshots_in layout text) sent)
+
+-- as many channels as a load takes
+abbrev pub HasChannels : {A : Type 0} → Sent A → Type 0
+HasChannels sent = (1 ≤ length sent.channels.items) × (length sent.channels.items ≤ 255)
+
+-- all rounds were loaded, with the memory after them; or an allocation was refused
+abbrev pub BringsBack : {A : Type 0} → RamTable → List Snapshot → Loaded A → Type 0
+BringsBack table snapshots a = ((a.memory ≡ Some (after table (rounds_of snapshots))) × (a.rounds ≡ length snapshots) × (a.verdict ≡ Ok _))
+    ⊎ (a.verdict ≡ no_memory_at a.rounds)
+
+-- the answer of a load of what was sent on channels under the nil UUID
+abbrev pub IsLoadOfSent : {A B : Type 0} → ℕ → Sent B → Loaded A → Type 0
+IsLoadOfSent page_size sent a = (table : RamTable) (limit channels : ℕ) (snapshots : List Snapshot) → IsSentOf table zero_bytes limit channels snapshots sent
+    → table.page_size ≡ page_size → BringsBack table snapshots a
+
+-- ---- the input
+
+-- A report is that of an input that was read to its end, where `input` was left before and `rest` is left after; or it tells of a refused allocation.
+abbrev pub IsReportOf : Layout → Option (List ℕ) → Option (List ℕ) → Report → Type 0
+IsReportOf layout input rest r = ((text : List ℕ) × Consumes input rest text × IsAtEnd rest × IsReport layout text r) ⊎ IsWantOfMemory r
 
 -- the answer was printed, with its status
 abbrev pub HasPrinted : Option (List ℕ) → Option (List ℕ) → Answer → ℕ → Type 0
 HasPrinted output written answer status = (status ≡ status_of answer) × IfSome (printed answer) (λ r. Appends output written r.text)
 
 -- the answer on an input
-abbrev pub AnswersInput : Option (List ℕ) → Option (List ℕ) → Answer → Type 0
-AnswersInput input rest answer = MatchOption (printed answer) (status_of answer ≡ 3) (IsReportOf input rest)
+abbrev pub AnswersInput : Layout → Option (List ℕ) → Option (List ℕ) → Answer → Type 0
+AnswersInput layout input rest answer = MatchOption (printed answer) (status_of answer ≡ 3) (IsReportOf layout input rest)
 
 -- such a report was written, and the status is its own
-pub record HasReported (input rest output written : Option (List ℕ)) (status : ℕ) : Type 0 where
+pub record HasReported (layout : Layout) (input rest output written : Option (List ℕ)) (status : ℕ) : Type 0 where
   pub report : Report
-  pub is_report : IsReportOf input rest report
+  pub is_report : IsReportOf layout input rest report
   pub is_written : Appends output written report.text
   pub has_status : status ≡ report.status

@@ -47,6 +47,9 @@ after_line g (BlockLine pages id) = g
 abbrev pub played : RamTable → List ScenarioLine → ScenarioGuest
 played table ls = fold after_line (new_guest table) ls
 
--- the rounds of a scenario
+-- what a scenario sends, and the rounds that are made of it
+abbrev pub snapshots_from : ℕ → List ScenarioLine → List Snapshot
+snapshots_from page_size ls = (played (table_of page_size ls) ls).snapshots
+
 abbrev pub rounds_from : ℕ → List ScenarioLine → List (List Page)
-rounds_from page_size ls = rounds_of (played (table_of page_size ls) ls).snapshots
+rounds_from page_size ls = rounds_of (snapshots_from page_size ls)

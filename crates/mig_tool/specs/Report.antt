@@ -1,14 +1,11 @@
 -- What the tool answers: the text that it writes, and its status.
-use Rattle.std.specs.Prelude.{◌≡◌, ◌⊎◌, ℕ, ◌+◌, List, [], ◌++◌, length, Option, None, Some, codes, decimal}
+use Rattle.std.specs.Prelude.{◌≡◌, ◌⊎◌, ℕ, ◌+◌, List, [], ◌++◌, length, codes, decimal}
 use Rattle.mig_mem.specs.Refusal.{no_memory_number, fault_number as table_fault_number}
 use Rattle.mig_mem.specs.RamTable.{RamTable}
 use Rattle.mig_mem.specs.Image.{Page}
 use Rattle.mig_stream.specs.Written.{single}
 use Rattle.mig_tool.specs.declared.fault.ScenarioFault.{ScenarioFault}
 use Rattle.mig_tool.specs.declared.fault.ScenarioFault.TheVariants as fault
-use Rattle.mig_tool.specs.Line.{ScenarioLine}
-use Rattle.mig_tool.specs.Scenario.{lines_of, table_of, refusal}
-use Rattle.mig_tool.specs.Guest.{rounds_from}
 
 pub record Report : Type 0 where
   pub text : List ℕ
@@ -48,17 +45,9 @@ single_line len sections = codes "single " ++ decimal len ++ codes " sections " 
 abbrev pub same_line : List ℕ
 same_line = codes "same\n"
 
--- what is written of the stream of some rounds
-abbrev pub checked : RamTable → List (List Page) → List ℕ
-checked table rounds = single_line (length (single table rounds)) (length rounds + 2) ++ same_line
-
-abbrev pub report_as : ℕ → List ScenarioLine → Option ScenarioFault → Report
-report_as page_size ls (Some f) = record { text = refused f; status = 1 }
-report_as page_size ls None = record { text = checked (table_of page_size ls) (rounds_from page_size ls); status = 0 }
-
--- The report of a scenario with pages of this size: its refusal, or the stream of its rounds, which loads to the last image.
-abbrev pub report : ℕ → List ℕ → Report
-report page_size text = report_as page_size (lines_of text) (refusal page_size text)
+-- the lines of a check of some rounds: their single stream's, what is written of them on channels, and `same`
+abbrev pub checked : RamTable → List (List Page) → List ℕ → List ℕ
+checked table rounds on_channels = single_line (length (single table rounds)) (length rounds + 2) ++ on_channels ++ same_line
 
 -- the answers where an allocation was refused: outside of a load, and in it, after so many rounds
 abbrev pub IsWantOfMemory : Report → Type 0

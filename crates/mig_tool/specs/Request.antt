@@ -1,5 +1,7 @@
 -- What the tool can be asked for.
-use Rattle.std.specs.Prelude.{ℕ}
+use Rattle.std.specs.Prelude.{ℕ, ◌<◌, ◌≤◌}
+use Rattle.mig_packet.specs.PageSize.{page_limit}
+use Rattle.mig_tool.specs.declared.request.Layout.{Layout}
 use Rattle.mig_tool.specs.declared.request.PageSize.{PageSize}
 use Rattle.mig_tool.specs.declared.request.PageSize.TheVariants.{Small, Large}
 
@@ -7,3 +9,7 @@ use Rattle.mig_tool.specs.declared.request.PageSize.TheVariants.{Small, Large}
 abbrev pub bytes_in : PageSize → ℕ
 bytes_in Small = 4096
 bytes_in Large = 8192
+
+-- a batch has a page, and at most as many as a packet has room for
+abbrev pub HasRoom : Layout → Type 0
+HasRoom layout = (0 < layout.batch) × (layout.batch ≤ page_limit (bytes_in layout.page_size))

@@ -1,15 +1,18 @@
--- The command line: what it is declared as, and which words ask for a check of a single stream.
-use Rattle.std.specs.Prelude.{ℕ, ◌≡◌, ◌≤◌, ◌^◌, ◌⊎◌, true, false, List, [], ◌∷◌, map, Some, codes, ⊤, String, string_bytes}
-use Rattle.clap.specs.Words.{App, Rule, Text, app_of, rule_of, new_app, new_rule, with_rule, with_subcommand}
+-- The command line: what it is declared as, and which words ask for a check.
+use Rattle.std.specs.Prelude.{ℕ, ◌≡◌, ◌≤◌, ◌^◌, ◌⊎◌, true, false, List, [], ◌∷◌, map, MatchOption, Some, codes, ⊤, String, string_bytes}
+use Rattle.std.specs.Str.Parse.{IsNumeral, digits_value, without_leading_plus}
+use Rattle.clap.specs.Words.{App, Row, Rule, Text, app_of, rule_of, new_app, new_rule, with_rule, with_subcommand, one_of, subcommand_of, takes}
 use Rattle.clap.specs.declared.builder.arg.Arg.{Arg}
 use Rattle.clap.specs.declared.builder.command.Command.{Command}
 use Rattle.clap.specs.declared.builder.command.Command.TheViews.{out-Command as fields_of}
 use Rattle.clap.specs.declared.builder.value_parser.ValueParser.TheVariants.{Unsigned}
 use Rattle.clap.specs.declared.builder.action.ArgAction.TheVariants.{SetTrue}
+use Rattle.mig_packet.specs.PageSize.{page_limit}
 use Rattle.mig_tool.specs.declared.request.PageSize.TheVariants.{Small}
 use Rattle.mig_tool.specs.declared.request.Layout.{Layout}
 use Rattle.mig_tool.specs.declared.request.Request.{Request}
 use Rattle.mig_tool.specs.declared.request.Request.TheVariants as request
+use Rattle.mig_tool.specs.Request.{bytes_in, HasRoom}
 
 -- ---- the command line
 
@@ -76,24 +79,44 @@ tool_app = with_subcommand (with_subcommand (with_subcommand (with_subcommand pr
 abbrev pub texts_of : {A : Type 0} → List (String A) → List Text
 texts_of words = map string_bytes words
 
+-- a single stream alone, with pages of 4096 bytes, and as many pages to a packet as it has room for
+abbrev pub plain_layout : Layout
+plain_layout = record { page_size = Small; channels = 0; batch = 128 }
+
+-- the number that an option's text says in decimal digits, or the one that it has where it isn't used
+abbrev pub Gives : List Row → Text → ℕ → ℕ → Type 0
+Gives rows option without number = MatchOption (one_of option rows) (number ≡ without)
+    (λ text. IsNumeral 10 (without_leading_plus text) × (number ≡ digits_value 10 (without_leading_plus text)))
+
+-- The options of `check` give this layout: pages of 4096 bytes, no channels, and batches as large as a packet has room for, where they don't say. A
+-- packet has room for such a batch.
+pub record GiveLayout (rows : List Row) (layout : Layout) : Type 0 where
+  pub gives_page : Gives rows (codes "page") 4096 (bytes_in layout.page_size)
+  pub gives_channels : Gives rows (codes "channels") 0 layout.channels
+  pub gives_batch : Gives rows (codes "batch") (page_limit (bytes_in layout.page_size)) layout.batch
+  pub few_channels : layout.channels ≤ 255
+  pub has_room : HasRoom layout
+
+-- The words ask for a check in a layout: there are none, and it is the plain one; or the command line takes them, the command is `check`, and its
+-- options give the layout.
+abbrev pub AskCheck : List Text → Layout → Type 0
+AskCheck words layout = ((words ≡ []) × (layout ≡ plain_layout))
+    ⊎ ((rows : List Row) × (takes tool_app words ≡ true) × (subcommand_of tool_app words ≡ Some (codes "check", rows)) × GiveLayout rows layout)
+
 -- No words, or `check` alone.
 abbrev pub AskPlainCheck : List Text → Type 0
 AskPlainCheck words = (words ≡ []) ⊎ (words ≡ codes "check" ∷ [])
 
--- a single stream alone, with pages of 4096 bytes
-pub record IsPlain (layout : Layout) : Type 0 where
-  pub has_small : layout.page_size ≡ Small
-  pub has_none : layout.channels ≡ 0
+-- where a check is asked for, P holds of its layout
+abbrev pub IfCheck : Request → (Layout → Type 0) → Type 0
+IfCheck (request.Check layout) P = P layout
+IfCheck (request.Send send) P = ⊤
+IfCheck (request.Load load) P = ⊤
+IfCheck (request.Compare compare) P = ⊤
 
-abbrev pub IsPlainCheck : Request → Type 0
-IsPlainCheck (request.Check layout) = IsPlain layout
-IsPlainCheck (request.Send send) = ⊥
-IsPlainCheck (request.Load load) = ⊥
-IsPlainCheck (request.Compare compare) = ⊥
-
--- what a load may make of a guest is within the largest table
-abbrev pub HasLimit : Request → Type 0
-HasLimit (request.Check layout) = ⊤
-HasLimit (request.Send send) = ⊤
-HasLimit (request.Load load) = load.limit ≤ 2 ^ 40
-HasLimit (request.Compare compare) = ⊤
+-- what is asked for is within limits: a packet has room for a batch, and what a load may make of a guest is no larger than the largest table
+abbrev pub KeepsLimits : Request → Type 0
+KeepsLimits (request.Check layout) = HasRoom layout
+KeepsLimits (request.Send send) = HasRoom send.layout
+KeepsLimits (request.Load load) = load.limit ≤ 2 ^ 40
+KeepsLimits (request.Compare compare) = ⊤

@@ -32,7 +32,7 @@ pub struct Checked {
     pub sections: u64,
     /// The same rounds on channels, where there are any.
     pub several: Option<ChannelsChecked>,
-    /// What was loaded, compared with the guest: of what was sent on channels where that differs, else of the single stream.
+    /// What was loaded, compared with the guest: of the single stream where that differs, else of what was sent on channels, if anything was.
     pub comparison: Comparison,
 }
 

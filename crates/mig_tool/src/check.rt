@@ -1,11 +1,12 @@
 //! The check of a scenario: its rounds become a stream, and on channels several texts; these are loaded and compared with the guest.
 
 ghost use Rattle.std.specs.Prelude.{ℕ, ◌≡◌, ◌⊎◌, ⊤, List, None, Some, Ok, Err, true, length, is_some, IfSome, IsSomeAnd, IfOk, IfErr, OnOk};
+ghost use Rattle.mig_send.specs.declared.multi.Sent.{Sent};
 ghost use Rattle.mig_load.specs.declared.fault.LoadFault.{LoadFault};
 ghost use Rattle.mig_mem.specs.PageSize.{IsPageSize};
 ghost use Rattle.mig_tool.specs.Scenario.{refusal};
-ghost use Rattle.mig_tool.specs.Request.{bytes_in};
-ghost use Rattle.mig_tool.specs.Answer.{Answers, answer_from, IsLoadOf, HasRoundTrip};
+ghost use Rattle.mig_tool.specs.Request.{bytes_in, HasRoom};
+ghost use Rattle.mig_tool.specs.Answer.{Answers, answer_from, IsLoadOf, IsLoadOfSent, HasRoundTrip, HasGone, HasChannels};
 
 use crate::answer::{Answer, ChannelsChecked, Checked, Comparison};
 use crate::comparison::compared;
@@ -31,8 +32,10 @@ fn round_trip<H: Threads + Sync, A: Allocator + Copy + Send + Sync>(
     text: &[u8],
     layout: Layout,
 ) -> Result<(Played<A>, Loaded<A>), ScenarioFault>
-    ensures ok { IfOk result (λ p. HasRoundTrip (bytes_in layout.page_size) text.now p.0 p.1) }
-    ensures one { IfOk result (λ p. layout.channels ≡ 0 → p.0.texts.several ≡ None) }
+    requires { HasRoom layout }
+    ensures ok { IfOk result (λ p. HasRoundTrip layout text.now p.0 p.1) }
+    ensures several { IfOk result (λ p. HasGone layout text.now p.0.texts.several) }
+    ensures channels { IfOk result (λ p. IfSome p.0.texts.several HasChannels) }
     ensures lawful { OnOk result (refusal (bytes_in layout.page_size) text.now ≡ None) }
     ensures err { IfErr result (λ e. (e ≡ ScenarioFault.NoMemory) ⊎ (refusal (bytes_in layout.page_size) text.now ≡ Some e)) }
 {
@@ -89,21 +92,17 @@ fn compare_loaded<H: Threads + Sync, A: Allocator + Copy + Send + Sync>(
 fn load_sent<H: Threads + Wait + Sync, A: Allocator + Copy + Send + Sync>(
     rt: &H,
     alloc: A,
-    layout: Layout,
+    page_size: u64,
     sent: &Sent<A>,
-) -> Loaded<A> {
-    let channels = sent.channels.len();
-    if channels == 0 || channels > 255 {
-        return Loaded {
-            memory: None,
-            rounds: 0,
-            verdict: Ok(()),
-        };
-    }
+) -> Loaded<A>
+    requires page_size { IsPageSize page_size }
+    requires channels { HasChannels sent.now }
+    ensures { IsLoadOfSent page_size sent.now result }
+{
     load_multi(
         rt,
         alloc,
-        layout.page_size.bytes(),
+        page_size,
         &Uuid::nil(),
         &sent.main,
         &sent.channels,
@@ -130,8 +129,9 @@ fn check_texts<H: Threads + Wait + Sync, A: Allocator + Copy + Send + Sync>(
     played: &Played<A>,
     loaded: &Loaded<A>,
 ) -> Result<Checked, Answer>
-    ensures { (page_size : ℕ) (text : List ℕ) → HasRoundTrip page_size text played.now loaded.now → refusal page_size text ≡ None
-        → played.now.texts.several ≡ None → Answers page_size text (answer_from result) }
+    requires { IfSome played.now.texts.several HasChannels }
+    ensures { (text : List ℕ) → HasRoundTrip layout text played.now loaded.now → refusal (bytes_in layout.page_size) text ≡ None
+        → HasGone layout text played.now.texts.several → Answers layout text (answer_from result) }
 {
     let single = single_len(&played.texts);
     let (sections, of_single) = match compare_loaded(rt, alloc, loaded, &played.image) {
@@ -146,8 +146,11 @@ fn check_texts<H: Threads + Wait + Sync, A: Allocator + Copy + Send + Sync>(
             comparison: of_single,
         });
     };
-    let loaded = load_sent(rt, alloc, layout, sent);
-    let (rounds, of_several) = compare_loaded(rt, alloc, &loaded, &played.image)?;
+    let loaded = load_sent(rt, alloc, layout.page_size.bytes(), sent);
+    let (rounds, of_several) = match compare_loaded(rt, alloc, &loaded, &played.image) {
+        Ok(pair) => pair,
+        Err(answer) => return Err(answer),
+    };
     Ok(Checked {
         single,
         sections,
@@ -170,7 +173,8 @@ pub(crate) fn check<H: Threads + Wait + Sync, A: Allocator + Copy + Send + Sync>
     text: &[u8],
     layout: Layout,
 ) -> Answer
-    ensures { layout.channels ≡ 0 → Answers (bytes_in layout.page_size) text.now result }
+    requires { HasRoom layout }
+    ensures { Answers layout text.now result }
 {
     let (played, loaded) = match round_trip(rt, alloc, text, layout) {
         Ok(pair) => pair,

@@ -4,7 +4,6 @@ ghost use Rattle.std.specs.Prelude.{◌≡◌, map, replicate, [], None, All, Is
 ghost use Rattle.mig_mem.specs.Place.{place_at, IsPlace};
 ghost use Rattle.mig_mem.specs.Image.{with_page};
 ghost use Rattle.mig_mem.specs.PlaceSet.{with_place};
-ghost use Rattle.mig_mem.specs.Tracking.{rounds_of};
 ghost use Rattle.mig_tool.specs.Scenario.{is_step_within, is_within};
 ghost use Rattle.mig_tool.specs.Guest.{ScenarioGuest, new_guest, after_step, played};
 ghost use Rattle.mig_tool.specs.declared.line.Step.TheVariants.{Round};
@@ -134,7 +133,7 @@ pub(crate) fn play<H: Threads + Sync, A: Allocator + Copy + Send + Sync>(
     requires fresh { HaveSent senders [] }
     ensures table { IfOk result (λ p. p.image.table ≡ table.now) }
     ensures image { IfOk result (λ p. p.image ≡ (played table.now (map seen lines.now)).image) }
-    ensures texts { IfOk result (λ p. AreTexts table.now senders (rounds_of (played table.now (map seen lines.now)).snapshots) p.texts) }
+    ensures texts { IfOk result (λ p. AreTexts table.now senders (played table.now (map seen lines.now)).snapshots p.texts) }
 {
     let mut guest = Guest::new(alloc, table, senders)?;
     for line in lines {

@@ -2,6 +2,7 @@
 
 ghost use Rattle.std.specs.Prelude.{◌≡◌};
 ghost use Rattle.mig_mem.specs.PageSize.{IsPageSize};
+ghost use Rattle.mig_packet.specs.PageSize.{page_limit};
 ghost use Rattle.mig_tool.specs.Request.{bytes_in};
 
 use mig_mem::{PAGE_SIZE_4K, PAGE_SIZE_8K};
@@ -30,7 +31,9 @@ impl PageSize {
     }
 
     /// How many pages a packet has room for.
-    pub(crate) fn pages_of_a_packet(self) -> usize {
+    pub(crate) fn pages_of_a_packet(self) -> usize
+        ensures { result ≡ page_limit (bytes_in self) }
+    {
         page_limit(self.bytes())
     }
 }

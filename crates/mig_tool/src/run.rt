@@ -1,8 +1,10 @@
 //! The tool as a function, which `main` and the tests call: its words, its input and its output, and the status that it ends with.
 
 ghost use Rattle.std.specs.Prelude.{◌≡◌, ◌≢◌, ◌≤◌, ◌⊎◌, [], map};
+ghost use Rattle.mig_tool.specs.declared.request.Layout.{Layout as Asked};
+ghost use Rattle.mig_tool.specs.Request.{HasRoom};
 ghost use Rattle.mig_tool.specs.Answer.{AnswersInput, HasPrinted, HasReported, status_of};
-ghost use Rattle.mig_tool.specs.Words.{AskPlainCheck, IsPlain, IsPlainCheck, HasLimit, texts_of};
+ghost use Rattle.mig_tool.specs.Words.{AskCheck, AskPlainCheck, IfCheck, KeepsLimits, plain_layout, texts_of};
 
 use crate::answer::Answer;
 use crate::check::check;
@@ -23,16 +25,19 @@ use std::thread::Threads;
 const OUTPUT_FAILED: u8 = 3;
 
 /// Runs the tool: does what the words ask for, prints what came of it, and gives the status. The words are those behind the
-/// program's name. Without words, and with `check` alone, it reads a scenario from the input, writes its rounds as a single stream,
-/// loads it, and compares the memory with the guest's. Where the output fails the status is 3, and no text is promised.
+/// program's name. Without words, and with `check`, it reads a scenario from the input, sends its rounds on a single stream, and with
+/// channels on these too, loads all, and compares the memory with the guest's. Where the output fails the status is 3, and no text is
+/// promised.
 pub fn run<
     H: AllocGlobal + Files + Threads + Wait + Sync,
     A: Allocator + Copy + Send + Sync,
     R: Read,
     W: Write,
 >(rt: &H, alloc: A, words: &[String], input: &mut R, output: &mut W) -> u8
-    ensures report { AskPlainCheck (texts_of words.now) → result ≢ 3
-        → HasReported (R.remaining input.old) (R.remaining input.new) (W.contents output.old) (W.contents output.new) result }
+    ensures check { (layout : Asked) → AskCheck (texts_of words.now) layout → result ≢ 3
+        → HasReported layout (R.remaining input.old) (R.remaining input.new) (W.contents output.old) (W.contents output.new) result }
+    ensures plain { AskPlainCheck (texts_of words.now) → result ≢ 3
+        → HasReported plain_layout (R.remaining input.old) (R.remaining input.new) (W.contents output.old) (W.contents output.new) result }
     ensures status { result ≤ 4 }
 {
     let answer = match asked(rt.alloc(), words) {
@@ -60,8 +65,8 @@ fn answer_to<H: Files + Threads + Wait + Sync, A: Allocator + Copy + Send + Sync
     request: &Request,
     input: &mut R,
 ) -> Answer
-    requires { HasLimit request.now }
-    ensures { IsPlainCheck request.now → AnswersInput (R.remaining input.old) (R.remaining input.new) result }
+    requires { KeepsLimits request.now }
+    ensures { IfCheck request.now (λ layout. AnswersInput layout (R.remaining input.old) (R.remaining input.new) result) }
 {
     let answer = match request {
         Request::Check(layout) => return check_input(rt, alloc, *layout, input),
@@ -81,7 +86,8 @@ fn check_input<H: Threads + Wait + Sync, A: Allocator + Copy + Send + Sync, R: R
     layout: Layout,
     input: &mut R,
 ) -> Answer
-    ensures { IsPlain layout → AnswersInput (R.remaining input.old) (R.remaining input.new) result }
+    requires { HasRoom layout }
+    ensures { AnswersInput layout (R.remaining input.old) (R.remaining input.new) result }
 {
     match read_whole(alloc, input, 0) {
         Ok(text) => check(rt, alloc, &text, layout),

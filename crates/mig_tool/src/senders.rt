@@ -1,11 +1,11 @@
 //! The senders that a scenario's rounds go to.
 
-ghost use Rattle.std.specs.Prelude.{◌≡◌, ◌≢◌, ◌++◌, ◌∷◌, [], List, Err, None, Some, true, is_some, IfSome, IsSomeAnd, IfOk, IfErr, OnOk, IsOk};
+ghost use Rattle.std.specs.Prelude.{◌≡◌, ◌≢◌, ◌<◌, ◌≤◌, ◌++◌, ◌∷◌, [], List, Err, None, true, is_some, MatchOption, IfOk, IfErr, OnOk, IsOk};
 ghost use Rattle.mig_mem.specs.RamTable.{RamTable};
-ghost use Rattle.mig_mem.specs.Image.{Page};
-ghost use Rattle.mig_mem.specs.Round.{round_of};
-ghost use Rattle.mig_send.specs.Sending.{HasSent, IsRoundFault};
-ghost use Rattle.mig_tool.specs.Playing.{AreSendersOf, HaveSent, AreLike, AreTexts};
+ghost use Rattle.mig_mem.specs.Tracking.{Snapshot};
+ghost use Rattle.mig_packet.specs.PageSize.{page_limit};
+ghost use Rattle.mig_send.specs.Sending.{IsRoundFault};
+ghost use Rattle.mig_tool.specs.Playing.{IsNewSender, AreSendersOf, HaveSent, AreLike, AreTexts};
 
 use crate::request::Layout;
 use mig_mem::{Dirty, Memory, NoMemory, Table};
@@ -36,8 +36,8 @@ fn several<A: Allocator + Copy>(
     layout: Layout,
     uuid: Uuid,
 ) -> Result<Option<MultiSender<A>>, NoMemory>
-    ensures table { IfOk result (λ o. IfSome o (λ s. s.main.table ≡ table.now)) }
-    ensures none { IfOk result (λ o. layout.channels ≡ 0 → o ≡ None) }
+    requires room { (0 < layout.batch) × (layout.batch ≤ page_limit table.now.page_size) }
+    ensures { IfOk result (λ o. MatchOption o (layout.channels ≡ 0) (IsNewSender table.now uuid layout)) }
 {
     let channels = usize::from(layout.channels);
     if channels == 0 {
@@ -45,7 +45,8 @@ fn several<A: Allocator + Copy>(
     }
     match MultiSender::new(alloc, table, uuid, channels, layout.batch) {
         Ok(sender) => Ok(Some(sender)),
-        Err(_) => Err(NoMemory),
+        Err(SendFault::NoMemory) => Err(NoMemory),
+        Err(SendFault::Channels | SendFault::Limit | SendFault::OtherTable) => unreachable!(),
     }
 }
 
@@ -67,6 +68,7 @@ impl<A: Allocator + Copy> Senders<A> {
         layout: Layout,
         uuid: Uuid,
     ) -> Result<Senders<A>, NoMemory>
+        requires room { (0 < layout.batch) × (layout.batch ≤ page_limit table.now.page_size) }
         ensures table { IfOk result (AreSendersOf table.now) }
         ensures fresh { IfOk result (λ s. HaveSent s []) }
     {
@@ -85,10 +87,11 @@ impl<A: Allocator + Copy> Senders<A> {
         layout: Layout,
         uuid: Uuid,
     ) -> Result<Senders<A>, NoMemory>
+        requires room { (0 < layout.batch) × (layout.batch ≤ page_limit table.now.page_size) }
         ensures table { IfOk result (AreSendersOf table.now) }
         ensures fresh { IfOk result (λ s. HaveSent s []) }
         ensures single { IfOk result (λ s. is_some s.single ≡ true) }
-        ensures none { IfOk result (λ s. layout.channels ≡ 0 → s.several ≡ None) }
+        ensures several { IfOk result (λ s. MatchOption s.several (layout.channels ≡ 0) (IsNewSender table.now uuid layout)) }
     {
         Ok(Senders {
             single: Some(SingleSender::new(alloc, table)?),
@@ -109,7 +112,8 @@ impl<A: Allocator + Copy + Send + Sync> Senders<A> {
         requires dirty { dirty.now.table ≡ image.now.table }
         ensures senders { AreSendersOf image.now.table self.new }
         ensures kinds { AreLike self.old self.new }
-        ensures ok { OnOk result ((rounds : List (List Page)) → HaveSent self.old rounds → HaveSent self.new (rounds ++ round_of image.now dirty.now.marked ∷ [])) }
+        ensures ok { OnOk result ((snapshots : List Snapshot) → HaveSent self.old snapshots
+            → HaveSent self.new (snapshots ++ record { image = image.now; dirty = dirty.now.marked } ∷ [])) }
     {
         if let Some(single) = &mut self.single {
             was_sent(single.round(image, dirty))?;
@@ -137,7 +141,8 @@ fn was_sent(answer: Result<(), SendFault>) -> Result<(), NoMemory>
 impl<A: Allocator> Senders<A> {
     /// Ends the texts.
     pub(crate) fn finish(self) -> Result<Texts<A>, NoMemory>
-        ensures { IfOk result (λ texts. (table : RamTable) (rounds : List (List Page)) → AreSendersOf table self → HaveSent self rounds → AreTexts table self rounds texts) }
+        ensures { IfOk result (λ texts. (table : RamTable) (snapshots : List Snapshot) → AreSendersOf table self → HaveSent self snapshots
+            → AreTexts table self snapshots texts) }
     {
         let Senders { single, several } = self;
         let single = match single {

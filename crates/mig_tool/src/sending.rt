@@ -1,5 +1,9 @@
 //! The sending of a scenario's file into files.
 
+ghost use Rattle.std.specs.Prelude.{◌≡◌, ◌^◌, ◌-◌, min, sum_by, length};
+ghost use Rattle.mig_send.specs.MultiSending.{texts_of};
+ghost use Rattle.mig_tool.specs.Request.{HasRoom};
+
 use crate::answer::Answer;
 use crate::files::{channel_name, read_file, write_file};
 use crate::guest::{Played, play};
@@ -11,8 +15,10 @@ use std::alloc::Allocator;
 use std::fs::Files;
 use std::thread::Threads;
 
-/// How many bytes the channels' texts have together.
-pub(crate) fn total_len<A: Allocator>(channels: &[Vec<u8, A>]) -> u64 {
+/// How many bytes the channels' texts have together, as far as 64 bits count.
+pub(crate) fn total_len<A: Allocator>(channels: &[Vec<u8, A>]) -> u64
+    ensures { result ≡ min (sum_by length (texts_of channels.now)) (2 ^ 64 - 1) }
+{
     let mut total = 0u64;
     for text in channels {
         total = total.saturating_add(text.len() as u64);
@@ -40,7 +46,9 @@ pub(crate) fn send<H: Files + Threads + Sync, A: Allocator + Copy + Send + Sync>
     rt: &H,
     alloc: A,
     request: &SendRequest,
-) -> Result<Answer, Answer> {
+) -> Result<Answer, Answer>
+    requires { HasRoom request.now.layout }
+{
     let text = read_file(rt, alloc, request.scenario)?;
     let scenario = judge(alloc, request.layout.page_size.bytes(), &text)?;
     let senders = Senders::one(alloc, &scenario.table, request.layout, request.uuid)?;

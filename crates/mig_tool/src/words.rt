@@ -1,9 +1,13 @@
 //! The command line: what its words ask for.
 
-ghost use Rattle.std.specs.Prelude.{◌≡◌, ◌≤◌, ◌^◌, [], None, Ok, codes, IfOk, IfErr, IsOk, IsOkAnd};
+ghost use Rattle.std.specs.Prelude.{ℕ, ◌≡◌, ◌<◌, ◌≤◌, ◌^◌, None, Ok, codes, IfOk, IfErr};
 ghost use Rattle.clap.specs.Words.{found_of, kind_of, one_text, rows_of};
+ghost use Rattle.mig_packet.specs.PageSize.{page_limit};
 ghost use Rattle.mig_tool.specs.Words.{IsArg, IsCommand, number_rule, file_rule, channels_rule, batch_rule, uuid_rule, limit_rule, feed_rule, page_rule, check_app, send_app, load_app, compare_app, tool_app};
-ghost use Rattle.mig_tool.specs.Words.{AskPlainCheck, IsPlain, IsPlainCheck, HasLimit, texts_of};
+ghost use Rattle.mig_tool.specs.Words.{Gives, GiveLayout, AskCheck, KeepsLimits, texts_of};
+ghost use Rattle.mig_tool.specs.Request.{bytes_in, HasRoom};
+ghost use Rattle.mig_tool.specs.declared.request.PageSize.{PageSize as Size};
+ghost use Rattle.mig_tool.specs.declared.request.Layout.{Layout as Asked};
 
 use crate::answer::Answer;
 use crate::fault::{ScenarioFault, ToolFault};
@@ -146,20 +150,21 @@ fn unread(error: &Error) -> Answer
     }
 }
 
-#[tactic(auto, using(crate::proofs::CommandLine::no_text))]
 fn page_size_in<'a>(matches: &ArgMatches<'a>) -> Result<PageSize, ToolFault>
-    ensures { rows_of (found_of matches.now) ≡ [] → result ≡ Ok PageSize.Small }
+    ensures { (size : Size) → Gives (rows_of (found_of matches.now)) (codes "page") 4096 (bytes_in size) → result ≡ Ok size }
 {
-    match matches.get_one::<u64>("page").unwrap_or(PAGE_SIZE_4K) {
-        PAGE_SIZE_4K => Ok(PageSize::Small),
-        PAGE_SIZE_8K => Ok(PageSize::Large),
-        _ => Err(ToolFault::Words),
+    let bytes = matches.get_one::<u64>("page").unwrap_or(PAGE_SIZE_4K);
+    if bytes == PAGE_SIZE_4K {
+        return Ok(PageSize::Small);
     }
+    if bytes == PAGE_SIZE_8K {
+        return Ok(PageSize::Large);
+    }
+    Err(ToolFault::Words)
 }
 
-#[tactic(auto, using(crate::proofs::CommandLine::no_text))]
 fn channels_in<'a>(matches: &ArgMatches<'a>) -> u8
-    ensures { rows_of (found_of matches.now) ≡ [] → result ≡ 0 }
+    ensures { (channels : ℕ) → channels ≤ 255 → Gives (rows_of (found_of matches.now)) (codes "channels") 0 channels → result ≡ channels }
 {
     matches.get_one::<u8>("channels").unwrap_or(0)
 }
@@ -175,20 +180,22 @@ fn uuid_in<'a>(matches: &ArgMatches<'a>) -> Result<Uuid, ToolFault> {
 }
 
 // How many pages a packet has at most: as many as there is room for, where the words don't say.
-#[tactic(auto, using(crate::proofs::CommandLine::no_text))]
 fn batch_in<'a>(matches: &ArgMatches<'a>, page_size: PageSize) -> Result<usize, ToolFault>
-    ensures { rows_of (found_of matches.now) ≡ [] → IsOk result }
+    ensures given { (batch : ℕ) → 0 < batch → batch ≤ page_limit (bytes_in page_size) → Gives (rows_of (found_of matches.now)) (codes "batch") (page_limit (bytes_in page_size)) batch
+        → result ≡ Ok batch }
+    ensures room { IfOk result (λ batch. (0 < batch) × (batch ≤ page_limit (bytes_in page_size))) }
 {
     let room = page_size.pages_of_a_packet();
     let batch = matches.get_one::<usize>("batch").unwrap_or(room);
-    if batch > room {
+    if batch == 0 || batch > room {
         return Err(ToolFault::Batch);
     }
     Ok(batch)
 }
 
 fn check_in<'a>(matches: &ArgMatches<'a>) -> Result<Layout, ToolFault>
-    ensures { rows_of (found_of matches.now) ≡ [] → IsOkAnd result IsPlain }
+    ensures given { (layout : Asked) → GiveLayout (rows_of (found_of matches.now)) layout → result ≡ Ok layout }
+    ensures room { IfOk result HasRoom }
 {
     let page_size = page_size_in(matches)?;
     Ok(Layout {
@@ -203,7 +210,9 @@ fn file_in<'a>(matches: &ArgMatches<'a>, name: &str) -> Result<&'a str, ToolFaul
     matches.get_str(name).ok_or(ToolFault::Words)
 }
 
-fn send_in<'a>(matches: &ArgMatches<'a>) -> Result<SendRequest<'a>, ToolFault> {
+fn send_in<'a>(matches: &ArgMatches<'a>) -> Result<SendRequest<'a>, ToolFault>
+    ensures { IfOk result (λ request. HasRoom request.layout) }
+{
     let page_size = page_size_in(matches)?;
     let uuid = uuid_in(matches)?;
     Ok(SendRequest {
@@ -254,8 +263,8 @@ fn compare_in<'a>(matches: &ArgMatches<'a>) -> Result<CompareRequest<'a>, ToolFa
 
 // What a command that was met asks for.
 fn request_in<'a>(name: &str, matches: &ArgMatches<'a>) -> Result<Request<'a>, ToolFault>
-    ensures check { name.now ≡ codes "check" → rows_of (found_of matches.now) ≡ [] → IsOkAnd result IsPlainCheck }
-    ensures limit { IfOk result HasLimit }
+    ensures check { (layout : Asked) → name.now ≡ codes "check" → GiveLayout (rows_of (found_of matches.now)) layout → result ≡ Ok (Request.Check layout) }
+    ensures limits { IfOk result KeepsLimits }
 {
     match name {
         "check" => match check_in(matches) {
@@ -287,9 +296,9 @@ pub(crate) const PLAIN_CHECK: Layout = Layout {
 
 /// What words ask for, or the answer where they ask for nothing that the tool does.
 pub(crate) fn asked<'a>(alloc: Global, words: &'a [String]) -> Result<Request<'a>, Answer>
-    ensures ok { IfOk result (λ request. AskPlainCheck (texts_of words.entry.now) → IsPlainCheck request) }
-    ensures err { IfErr result (λ answer. AskPlainCheck (texts_of words.entry.now) → answer ≡ Answer.Refused ScenarioFault.NoMemory) }
-    ensures limit { IfOk result HasLimit }
+    ensures ok { IfOk result (λ request. (layout : Asked) → AskCheck (texts_of words.entry.now) layout → request ≡ Request.Check layout) }
+    ensures err { IfErr result (λ answer. (layout : Asked) → AskCheck (texts_of words.entry.now) layout → answer ≡ Answer.Refused ScenarioFault.NoMemory) }
+    ensures limits { IfOk result KeepsLimits }
 {
     if words.is_empty() {
         return Ok(Request::Check(PLAIN_CHECK));

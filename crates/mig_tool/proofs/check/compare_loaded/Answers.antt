@@ -1,5 +1,4 @@
 use Rattle.std.proofs.Common.{◌≡◌, inl, refl}
-use Rattle.mig_tool.specs.declared.answer.Comparison.{Comparison}
 use Rattle.mig_tool.specs.declared.answer.Comparison.TheVariants.{Same}
 use Rattle.mig_tool.proofs.Checking.{same_pages}
 use Rattle.mig_tool.proofs.check.compare_loaded.Goals as goal

@@ -1,4 +1,4 @@
-use Rattle.std.proofs.Common.{ℕ, ◌≡◌, ◌≤◌, ◌∙◌, ap, sym, refl}
+use Rattle.std.proofs.Common.{◌≡◌, ◌≤◌, ◌∙◌, ap, sym, refl}
 use Rattle.mig_mem.specs.RamTable.{RamTable}
 use Rattle.mig_tool.proofs.Filled.{page_bound, front_len, page_filled}
 use Rattle.mig_tool.proofs.guest.fill_page.Goals as goal

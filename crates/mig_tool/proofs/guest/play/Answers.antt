@@ -4,7 +4,6 @@ use Rattle.std.proofs.lemmas.List.{take_more, take_all, map-append, get_or-map, 
 use Rattle.std.proofs.lemmas.List.Elements.{All-get_or}
 use Rattle.std.proofs.lemmas.List.Sums.{fold_push}
 use Rattle.mig_mem.specs.RamTable.{RamTable}
-use Rattle.mig_mem.specs.Tracking.{rounds_of}
 use Rattle.mig_tool.specs.declared.line.Step.{Step}
 use Rattle.mig_tool.specs.declared.line.Line.{Line}
 use Rattle.mig_tool.specs.declared.line.Line.TheVariants as kept
@@ -68,5 +67,5 @@ returns-clause-texts g c =
     let all : take i ls ≡ ls = take_all i ls c.loop-line-test.false in
     let h : Holds c.loop-line.guest (played table (map seen ls)) = rw all at c.loop-line.invariant.holds in
     let of : AreSendersOf table c.loop-line.guest.senders = subst (λ (t : RamTable). AreSendersOf t c.loop-line.guest.senders) c.loop-line.invariant.table h.one_table.same_senders in
-    texts_like table c.args.senders c.loop-line.guest.senders (rounds_of (played table (map seen ls)).snapshots) _ c.loop-line.invariant.like
-    (c.in_ok-finish.ensures table (rounds_of (played table (map seen ls)).snapshots) of h.has_sent)
+    texts_like table c.args.senders c.loop-line.guest.senders (played table (map seen ls)).snapshots _ c.loop-line.invariant.like
+    (c.in_ok-finish.ensures table (played table (map seen ls)).snapshots of h.has_sent)
