@@ -12,7 +12,7 @@ SCENARIO ?= crates/mig_tool/stdin
 WORDS ?=
 PREFIX ?= /usr/local
 
-.PHONY: run build lib header install example test edits gate
+.PHONY: run build lib header install example documents test edits gate
 
 run:
 	@tools/run.sh "$(SCENARIO)" $(WORDS)
@@ -34,14 +34,16 @@ example: lib
 	@tools/example.py
 
 # (the header is compared with the library's exports, the lists of cases in docs/EXAMPLES.md with the data, and README's quotations with the code)
-test:
+documents:
 	@tools/header.py
 	@tools/case_lists.py --check
 	@tools/quotes.py
+
+test: documents
 	@tools/gate.py test
 
 edits:
 	@tools/gate.py edits
 
-gate:
+gate: documents
 	@tools/gate.py gate

@@ -108,7 +108,7 @@ typedef struct zimgasol_sender { void *at; } zimgasol_sender;
 /* ---- a table: the page size of a guest, and its RAM blocks in their order */
 
 /* Makes a table of `count` blocks. Answers DONE, BAD_PAGE_SIZE, NO_MEMORY, or the first thing that is wrong with the blocks, 1 to 6; with 3, 4
- * and 5 *entry is the number of the block, from 0, and with 1, 2, 6 and NO_MEMORY it is 0. The blocks stay the caller's. */
+ * and 5 *entry is the number of the block, from 0, and with 1, 2, 6 and NO_MEMORY it is 0; else it stays. The blocks stay the caller's. */
 uint32_t zimgasol_table_new(zimgasol_table *table, uint64_t page_size, const zimgasol_block *blocks, size_t count, size_t *entry);
 
 /* Frees it. Senders and loads that were made of it keep their own copy. */
@@ -249,7 +249,8 @@ uint32_t zimgasol_sender_cancel_round(zimgasol_sender *sender);
 uint32_t zimgasol_sender_finish(zimgasol_sender *sender);
 
 /* Copies the next bytes of the stream to `out`, at most `len`, and answers how many: 0 where none waits. What it gives, piece after piece, is
- * the stream: all of it, where it answers 0 to a buffer with room after zimgasol_sender_finish. A round's bytes come once it is ended. */
+ * the stream: all of it, where it answers 0 to a buffer with room after zimgasol_sender_finish. A round's bytes come once it is ended; while
+ * one is open it may answer 0 though bytes of the rounds before wait, which come once that one is ended or cancelled. */
 size_t zimgasol_sender_drain(zimgasol_sender *sender, uint8_t *out, size_t len);
 
 /* Frees it, with what wasn't drained. */
@@ -260,7 +261,7 @@ void zimgasol_sender_free(zimgasol_sender *sender);
 /* Writes the hello of channel `id`, of a UUID of 16 bytes, into a buffer of 64. Answers DONE or BAD_LENGTH. */
 uint32_t zimgasol_hello(const uint8_t *uuid, size_t uuid_len, uint8_t id, uint8_t *out, size_t len);
 
-/* Writes one packet to the front of `out`: of a block's id, without its byte 0, of the offsets in bytes of its normal pages with their contents
+/* Writes one packet to the front of `out`: of a block's id, which has no byte 0 (a reader takes it up to the first one), of the offsets in bytes of its normal pages with their contents
  * one behind the other, and of the offsets of its pages of zeros. Answers DONE, BAD_PAGE_SIZE, TOO_MANY_PAGES, NO_MEMORY, or BAD_LENGTH: of the
  * contents (the normal pages' together), of the id (at most 255), or of `out`. With DONE, and where `out` alone is too short, *written is how many
  * bytes the packet has; else it stays. */

@@ -3,8 +3,8 @@
  *   load [-p PAGE_SIZE] [-l LIMIT] [-c BYTES] [-o FILE]
  *
  * Pages have 4096 bytes where -p says nothing else, the guest may have 2^30 bytes, and the stream is fed in pieces of 65536: -c sets another
- * length. -o writes the memory to a file, block after block. It prints `single BYTES sections S`, with status 0; `fault N round R` with
- * status 1; or why it can't begin, with status 3.
+ * length. -o writes the memory to a file, block after block. It prints `single BYTES sections S`, with status 0, or `fault N round R` with
+ * status 1; or why it can't begin or go on, with status 3, which is also that of an output or a file that can't be written.
  */
 #include "zimgasol.h"
 #include <stdio.h>
@@ -16,7 +16,10 @@ static long long feed_input(zimgasol_loader *loader, size_t cut) {
     uint8_t *piece = malloc(cut);
     long long total = 0;
     size_t len;
-    if (piece == NULL) return -1;
+    if (piece == NULL) {
+        perror("a piece");
+        return -1;
+    }
     while ((len = fread(piece, 1, cut, stdin)) > 0) {
         uint32_t status = zimgasol_loader_feed(loader, piece, len);
         if (status != ZIMGASOL_DONE) {
@@ -28,7 +31,9 @@ static long long feed_input(zimgasol_loader *loader, size_t cut) {
     }
     free(piece);
     zimgasol_loader_end(loader);
-    return ferror(stdin) ? -1 : total;
+    if (!ferror(stdin)) return total;
+    perror("standard input");
+    return -1;
 }
 
 /* Copies the guest's memory into a buffer of its own, block after block. */
@@ -85,12 +90,20 @@ int main(int count, char **words) {
     }
     long long bytes = feed_input(&loader, cut);
     status = bytes < 0 ? 3 : 0;
-    if (bytes >= 0 && zimgasol_loader_verdict(&loader, &fault) != ZIMGASOL_DONE) {
+    int is_loaded = bytes >= 0 && zimgasol_loader_verdict(&loader, &fault) == ZIMGASOL_DONE;
+    if (is_loaded) {
+        printf("single %lld sections %llu\n", bytes, (unsigned long long)zimgasol_loader_rounds(&loader));
+    } else if (bytes >= 0) {
         printf("fault %u round %llu\n", fault.number, (unsigned long long)fault.round);
         status = 1;
-    } else if (bytes >= 0) {
-        printf("single %lld sections %llu\n", bytes, (unsigned long long)zimgasol_loader_rounds(&loader));
-        if (output != NULL && !write_memory(&loader, page_size, output)) status = 3;
+    }
+    if (fflush(stdout) != 0) {
+        perror("standard output");
+        status = 3;
+    }
+    if (is_loaded && output != NULL && !write_memory(&loader, page_size, output)) {
+        perror(output);
+        status = 3;
     }
     zimgasol_loader_free(&loader);
     return (int)status;

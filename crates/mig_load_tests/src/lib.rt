@@ -12,11 +12,15 @@ mod load_texts;
 #[cfg(test)]
 mod loads;
 #[cfg(test)]
+mod meeting;
+#[cfg(test)]
 mod one_thread;
 #[cfg(test)]
 mod pieces;
 #[cfg(test)]
 mod refused;
+#[cfg(test)]
+mod relayed;
 #[cfg(test)]
 mod texts;
 #[cfg(test)]

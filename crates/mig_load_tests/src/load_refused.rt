@@ -32,9 +32,9 @@ fn load_in<'a, R: AllocGlobal + Abort + Threads + Wait + Sync>(
     )
 }
 
-// Asserts what a refused load tells: the memory is that after the rounds counted, where `bytes` has what fills the only page after
-// each number of rounds. Before the first round there may be none.
-fn assert_no_memory(rt: &impl Abort, loaded: &Loaded<&Refusing>, bytes: &[u8]) {
+/// Asserts what a refused load tells: the memory is that after the rounds counted, where `bytes` has what fills the only page after
+/// each number of rounds. Before the first round there may be none.
+pub(crate) fn assert_no_memory(rt: &impl Abort, loaded: &Loaded<&Refusing>, bytes: &[u8]) {
     let rounds = loaded.rounds;
     assert_failed(rt, loaded, rounds, Origin::Round, Fault::NoMemory);
     if rounds == 0 && loaded.memory.is_none() {

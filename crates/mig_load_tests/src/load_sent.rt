@@ -1,9 +1,10 @@
 //! What the sender on several channels wrote is loaded to what the single stream of the same rounds is loaded to.
 
+use crate::meeting::Meeting;
 use mig_fixtures::{at, places_of, set, zeroed};
 use mig_load::{Loaded, load_multi, load_single};
 use mig_mem::{Dirty, Memory, first_difference};
-use mig_packet::OpenGate;
+use mig_packet::{Gate, OpenGate};
 use mig_send::{MultiSender, Sent, SingleSender};
 use std::alloc::AllocGlobal;
 use std::process::Abort;
@@ -100,19 +101,20 @@ fn single_of(rt: &(impl AllocGlobal + Abort), rounds: &[Round]) -> Vec<u8> {
     text
 }
 
-// The texts of the rounds on so many channels, with at most `limit` pages to a packet.
-fn sent_of<R: AllocGlobal + Abort + Threads + Sync>(
+// The texts of the rounds on so many channels, with at most `limit` pages to a packet, whose workers pass a gate.
+fn sent_behind<R: AllocGlobal + Abort + Threads + Sync, G: Gate + Sync>(
     rt: &R,
     rounds: &[Round],
     channels: usize,
     limit: usize,
+    gate: &G,
 ) -> Sent {
     let first = rounds.first().expect(rt, "a round");
     let table = first.memory.table();
     let made = MultiSender::new(rt.alloc(), table, Uuid::nil(), channels, limit);
     let mut sender = made.expect(rt, "a sender");
     for round in rounds {
-        let run = sender.round(rt, &round.memory, &round.dirty, &OpenGate);
+        let run = sender.round(rt, &round.memory, &round.dirty, gate);
         assert!(rt; run == Ok(()));
     }
     let Ok(sent) = sender.finish() else {
@@ -131,13 +133,22 @@ fn assert_loaded(rt: &impl Abort, loaded: &Loaded, rounds: u64, wanted: &Memory)
     assert!(rt; first_difference(memory, wanted).is_none());
 }
 
-// Asserts that the sending on so many channels is loaded to what the single stream is loaded to, and that to the guest's memory. Of
-// a single stream START and END count as rounds too.
-fn assert_same<R: AllocGlobal + Abort + Threads + Wait + Sync>(
+// The same with a gate that is open.
+fn sent_of<R: AllocGlobal + Abort + Threads + Sync>(
     rt: &R,
     rounds: &[Round],
     channels: usize,
     limit: usize,
+) -> Sent {
+    sent_behind(rt, rounds, channels, limit, &OpenGate)
+}
+
+// Asserts that what was sent is loaded to what the single stream is loaded to, and that to the guest's memory. Of a single stream START and
+// END count as rounds too.
+fn assert_same<R: AllocGlobal + Abort + Threads + Wait + Sync>(
+    rt: &R,
+    rounds: &[Round],
+    sent: &Sent,
 ) {
     let count = rounds.len() as u64;
     let last = rounds.last().expect(rt, "a round");
@@ -146,9 +157,8 @@ fn assert_same<R: AllocGlobal + Abort + Threads + Wait + Sync>(
     let Some(wanted) = &single.memory else {
         panic!(rt; "a memory")
     };
-    let sent = sent_of(rt, rounds, channels, limit);
     let texts = sent.channels.as_slice();
-    assert!(rt; 1 <= texts.len() && texts.len() <= 255 && texts.len() == channels);
+    assert!(rt; 1 <= texts.len() && texts.len() <= 255);
     let loaded = load_multi(
         rt,
         rt.alloc(),
@@ -167,7 +177,9 @@ fn three_rounds_on_few_and_many_channels(rt: HostRuntime) {
     let rounds = rounds_of_two_blocks(&rt);
     for channels in [1usize, 2, 3, 255] {
         for limit in [1usize, 2, 128] {
-            assert_same(&rt, &rounds, channels, limit);
+            let sent = sent_of(&rt, &rounds, channels, limit);
+            assert!(rt; sent.channels.len() == channels);
+            assert_same(&rt, &rounds, &sent);
         }
     }
 }
@@ -183,5 +195,15 @@ fn sevens_on_two_channels(rt: HostRuntime) {
         panic!(rt; "two texts")
     };
     assert!(rt; first.len().wrapping_add(second.len()) == 533_888);
-    assert_same(&rt, &rounds, 2, 128);
+    assert_same(&rt, &rounds, &sent);
+}
+
+// Neither worker goes on with the first number that it drew before the other has drawn one.
+#[test]
+fn sevens_by_two_workers_at_once(rt: HostRuntime) {
+    let rounds = round_of_sevens(&rt);
+    let gate = Meeting::new();
+    let sent = sent_behind(&rt, &rounds, 2, 128, &gate);
+    gate.assert_met(&rt);
+    assert_same(&rt, &rounds, &sent);
 }

@@ -11,7 +11,8 @@ use std::sync::Wait;
 use std::thread::Threads;
 use uuid::Uuid;
 
-const LIMIT: u64 = 1 << 40;
+/// The limit of the blocks' bytes.
+pub(crate) const LIMIT: u64 = 1 << 40;
 
 // ---- the main stream
 

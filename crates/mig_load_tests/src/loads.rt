@@ -4,6 +4,7 @@ use crate::load_texts::{
     assert_done, assert_failed, assert_full, assert_page_and_zeros, cut, load, load_behind,
     main_of, one, page_and_zeros, put_sevens, put_zeros, sevens_then_zeros, syncs_of, two,
 };
+use crate::meeting::{Meeting, reaches};
 use crate::texts::{hello_of, put_pages, put_sync, put_text, syncs, two_channels};
 use mig_assemble::RoundFault;
 use mig_load::{Fault, Origin};
@@ -13,7 +14,7 @@ use std::alloc::AllocGlobal;
 use std::process::Abort;
 use std::sync::Wait;
 use std::sync::atomic::{AtomicU64, Ordering};
-use std::thread::{Threads, yield_now};
+use std::thread::Threads;
 
 // ---- whole texts
 
@@ -238,51 +239,14 @@ fn channel_with_many_rounds_more(rt: HostRuntime) {
     assert!(rt; gate.pushed.load(Ordering::SeqCst) == 102);
 }
 
-// Waits until a word has all these bits, and says whether it has; it gives up after a while.
-fn reaches(word: &AtomicU64, bits: u64) -> bool {
-    for turn in 0..100_000_000u64 {
-        if word.load(Ordering::SeqCst) & bits == bits {
-            return true;
-        }
-        if turn % 16 == 0 {
-            yield_now();
-        }
-    }
-    false
-}
-
-// A gate of two channels: each waits with its first item until the other has found its own.
-#[derive(Drop)]
-struct Meeting {
-    come: AtomicU64,
-    given_up: AtomicU64,
-}
-
-impl Gate for Meeting {
-    fn pass(&self, channel: usize, step: Step) {
-        if step != Step::Found(0) {
-            return;
-        }
-        let bit = if channel == 0 { 1 } else { 2 };
-        self.come.fetch_or(bit, Ordering::SeqCst);
-        if !reaches(&self.come, 3) {
-            self.given_up.fetch_add(1, Ordering::SeqCst);
-        }
-    }
-}
-
 // Workers that run in turn don't get through.
 #[test]
 fn two_workers_at_once(rt: HostRuntime) {
-    let gate = Meeting {
-        come: AtomicU64::new(0),
-        given_up: AtomicU64::new(0),
-    };
+    let gate = Meeting::new();
     let loaded = load_behind(&rt, &main_of(&rt, 129, 1), &two_channels(&rt), &gate);
     assert_done(&rt, &loaded, 1);
     assert_full(&rt, &loaded, 129, 7);
-    assert!(rt; gate.come.load(Ordering::SeqCst) == 3);
-    assert!(rt; gate.given_up.load(Ordering::SeqCst) == 0);
+    gate.assert_met(&rt);
 }
 
 // A gate of two channels: channel 0 waits with its first item until channel 1 has pushed its item 2.

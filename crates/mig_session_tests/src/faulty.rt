@@ -5,6 +5,7 @@ use crate::feeding::{feed_text, source_at, text_of};
 use crate::telling::assert_as_loaded;
 use crate::texts::{main_of, page_and_zeros, set_byte, sevens_then_zeros, syncs_on_two};
 use mig_assemble::RoundFault;
+use mig_fixtures::at;
 use mig_load::{Fault, LoadFault, Loaded, Origin, load_multi};
 use mig_packet::OpenGate;
 use mig_send::Sent;
@@ -96,12 +97,21 @@ fn main_stream_of_fewer_and_of_more_rounds(rt: HostRuntime) {
     }
 }
 
-// The SYNC packet, which starts at byte 5504, has number 2 in place of 1.
+// One byte of the channel is another: of the SYNC packet's number, of the block's id, and of the offsets of both pages.
 #[test]
-fn gap_in_the_packet_numbers(rt: HostRuntime) {
-    let mut texts = page_and_zeros(&rt);
-    let channel = texts.channels.get_mut(0).expect(&rt, "a channel");
-    set_byte(&rt, channel, 5535, 2);
-    let fault = Fault::Round(RoundFault::Missing(1));
-    assert_fault(&rt, texts, 0, Origin::Round, fault);
+fn round_that_is_not_lawful(rt: HostRuntime) {
+    let rows = [
+        (5535usize, 0u8, RoundFault::Doubled(0)),
+        (5535, 2, RoundFault::Missing(1)),
+        (128, b'b', RoundFault::UnknownBlock(0)),
+        (390, 0x20, RoundFault::Offset(0, 0)),
+        (399, 1, RoundFault::Offset(0, 1)),
+        (390, 0, RoundFault::DoublePage(at(0, 0))),
+    ];
+    for (at, byte, fault) in rows {
+        let mut texts = page_and_zeros(&rt);
+        let channel = texts.channels.get_mut(0).expect(&rt, "a channel");
+        set_byte(&rt, channel, at, byte);
+        assert_fault(&rt, texts, 0, Origin::Round, Fault::Round(fault));
+    }
 }

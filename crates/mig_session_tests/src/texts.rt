@@ -102,6 +102,25 @@ pub(crate) fn sevens_then_zeros_on_two(rt: &(impl AllocGlobal + Abort)) -> Sent 
     two(rt, main_of(rt, 1, 2), first, second)
 }
 
+/// One round of 129 pages, each filled with 7, on two channels: the one has 128 of them, the other the last. The main stream's round is whole
+/// with byte 69.
+pub(crate) fn sevens_on_two(rt: &(impl AllocGlobal + Abort)) -> Sent {
+    let mut offsets = Vec::new(rt.alloc());
+    for page in 0..128u64 {
+        assert!(rt; offsets.push(page * 4096).is_ok());
+    }
+    let mut pages = Vec::new(rt.alloc());
+    assert!(rt; pages.resize(128 * 4096, 7u8).is_ok());
+    assert!(rt; offsets.len() == 128 && pages.len() == 128 * 4096);
+    let mut first = hello_of(rt, 0);
+    assert!(rt; put_packet(4096, &mut first, 0, false, b"a", &offsets, &pages, &[]).is_ok());
+    put_sync(rt, &mut first, 2);
+    let mut second = hello_of(rt, 1);
+    put_page(rt, &mut second, 1, 128, 7);
+    put_sync(rt, &mut second, 3);
+    two(rt, main_of(rt, 129, 1), first, second)
+}
+
 /// One round without pages on two channels.
 pub(crate) fn syncs_on_two(rt: &(impl AllocGlobal + Abort)) -> Sent {
     let mut first = hello_of(rt, 0);

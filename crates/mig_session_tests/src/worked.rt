@@ -3,9 +3,11 @@
 use crate::checked::CheckedSession;
 use crate::feeding::{feed_text, source_at, text_of};
 use crate::telling::{assert_full, assert_page_and_zeros, assert_tells, failed};
-use crate::texts::{page_and_zeros, set_byte, syncs_on_two};
+use crate::texts::{page_and_zeros, set_byte, sevens_on_two};
 use mig_load::{Fault, Origin, Source, Verdict};
+use mig_packet::ChannelFault;
 use mig_stream::StreamFault;
+use std::alloc::AllocGlobal;
 use std::process::Abort;
 
 // Asserts what the session tells behind so many bytes of main, and the whole channel or too little of it.
@@ -84,44 +86,59 @@ fn main_and_then_the_channel(rt: HostRuntime) {
     assert_tells(&rt, &session, 1, Verdict::Done);
 }
 
-// Ends the sources in this order, and asserts that it is the main stream's end that settles the load.
-fn assert_cut_main(rt: &impl Abort, mut session: CheckedSession, order: &[usize]) {
-    for number in order {
-        assert_tells(rt, &session, 0, Verdict::Running);
-        session.end(rt, source_at(*number));
-        if *number == 0 {
-            break;
-        }
+// A session that was fed the texts of 129 pages in pieces of so many bytes, the main stream first; channel 1's hello is of another UUID, and
+// the main stream is cut behind so many bytes.
+fn fed_of_another_uuid(rt: &(impl AllocGlobal + Abort), main: usize, len: usize) -> CheckedSession {
+    let mut texts = sevens_on_two(rt);
+    texts.main.truncate(main);
+    let second = texts.channels.get_mut(1).expect(rt, "a channel");
+    set_byte(rt, second, 8, 1);
+    let made = CheckedSession::new(rt, rt.alloc(), 4096, 2);
+    let mut session = made.expect(rt, "a session");
+    for number in 0..3usize {
+        let source = source_at(number);
+        feed_text(rt, &mut session, source, text_of(rt, &texts, source), len);
     }
-    for number in order {
-        session.end(rt, source_at(*number));
-        let truncated = Fault::Stream(StreamFault::Truncated);
-        assert_tells(rt, &session, 0, failed(0, Origin::Main, truncated));
-        assert_full(rt, &session, 1, 0);
+    session
+}
+
+// Asserts what settles the load: nothing does before, and nothing changes it.
+fn assert_failed(rt: &impl Abort, session: &CheckedSession, source: Origin, fault: Fault) {
+    assert_tells(rt, session, 0, failed(0, source, fault));
+    assert_full(rt, session, 129, 0);
+}
+
+// The main stream is cut inside its round: nothing is told of the channel as long as the main stream may go on, and then that one's fault
+// comes first.
+#[test]
+fn bad_channel_beside_a_main_stream_that_is_cut(rt: HostRuntime) {
+    let truncated = Fault::Stream(StreamFault::Truncated);
+    for order in [[0usize, 1, 2], [1, 2, 0], [2, 0, 1]] {
+        let mut session = fed_of_another_uuid(&rt, 68, 1000);
+        let mut is_over = false;
+        for number in order {
+            if !is_over {
+                assert_tells(&rt, &session, 0, Verdict::Running);
+            }
+            session.end(&rt, source_at(number));
+            is_over = is_over || number == 0;
+            if is_over {
+                assert_failed(&rt, &session, Origin::Main, truncated);
+            }
+        }
     }
 }
 
-// A channel's hello is of another UUID, and the main stream is cut inside its round: nothing is told of the one as long as the other may go
-// on, and then the main stream's fault comes first.
+// The main stream has its round, and so has channel 0: nothing more is needed to tell that the other is bad.
 #[test]
-fn bad_channel_beside_a_main_stream_that_is_cut(rt: HostRuntime) {
-    let mut texts = syncs_on_two(&rt);
-    texts.main.truncate(68);
-    let second = texts.channels.get_mut(1).expect(&rt, "a channel");
-    set_byte(&rt, second, 8, 1);
-    for order in [[0usize, 1, 2], [1, 2, 0], [2, 0, 1]] {
-        let made = CheckedSession::new(&rt, rt.alloc(), 4096, 2);
-        let mut session = made.expect(&rt, "a session");
+fn bad_channel_beside_a_main_stream_that_has_the_round(rt: HostRuntime) {
+    let other_uuid = Fault::Channel(ChannelFault::HelloUuid);
+    for main in [100usize, 101] {
+        let mut session = fed_of_another_uuid(&rt, main, 7);
+        assert_failed(&rt, &session, Origin::Channel(1), other_uuid);
         for number in 0..3usize {
-            let source = source_at(number);
-            feed_text(
-                &rt,
-                &mut session,
-                source,
-                text_of(&rt, &texts, source),
-                1000,
-            );
+            session.end(&rt, source_at(number));
+            assert_failed(&rt, &session, Origin::Channel(1), other_uuid);
         }
-        assert_cut_main(&rt, session, &order);
     }
 }

@@ -116,6 +116,7 @@ impl<'a, A: Allocator> Records<'a, A> {
         content_at(&self.items, i)
     }
 
+    /// The place and the content together; of a page of zeros, whose item says both, in one look.
     #[inline(always)]
     pub(crate) fn get(&self, i: usize) -> (Place, Option<&[u8]>)
         requires { i < length self.now }

@@ -16,20 +16,19 @@ mod tests;
 
 /// Whether no byte is other than 0, for any number of bytes; of none it is true.
 ///
-/// It works as QEMU's `buffer_is_zero` does (`util/bufferiszero.c`): first a few bytes, which tell most pages that
-/// aren't zero, then whole blocks of 256 bytes in vectors, and then the bytes that are left one at a time.
+/// It reads from front to back, as a processor fetches ahead: first a few bytes of the first cache line, which tell most
+/// pages that aren't zero, then whole blocks of 256 bytes in vectors, and then the bytes that are left one at a time.
 pub fn is_zero(bytes: &[u8]) -> bool
     ensures { IsTrue result ↔ IsZero bytes.now }
 {
-    if !has_zero_samples(bytes) {
+    if !has_zero_samples(&bytes[..bytes.len().min(64)]) {
         return false;
     }
     let (blocks, rest) = bytes.as_chunks::<256>();
     are_zero_blocks(blocks) && is_zero_plain(rest)
 }
 
-// Whether the first, the last and the middle byte are 0. They lie in three cache lines of a page, so each is read only
-// where those before it are 0.
+// Whether the first, the last and the middle byte are 0.
 fn has_zero_samples(bytes: &[u8]) -> bool
     ensures { let samples = 0 ∷ (length bytes.now - 1) ∷ (length bytes.now / 2) ∷ [] in
         IsTrue result ↔ All (λ at. slice_index bytes.now at ≡ 0) samples }

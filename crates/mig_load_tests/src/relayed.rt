@@ -1,0 +1,109 @@
+//! Loads from a relay of one channel, on one thread: of a relay from which nothing, some items or all were taken before, of one that has more
+//! rounds than the main stream, and with each allocation refused in turn.
+
+use crate::load_refused::assert_no_memory;
+use crate::load_texts::{
+    LIMIT, assert_done, assert_failed, assert_full, assert_page_and_zeros, main_of, one,
+    page_and_zeros, sevens_then_zeros,
+};
+use crate::pieces::{Seen, assert_over, assert_received, feed, take};
+use mig_load::{ChannelEnd, Collector, Fault, Origin, Relay, load_relayed};
+use mig_packet::OpenGate;
+use mig_refusing::Refusing;
+use std::alloc::Allocator;
+use std::process::Abort;
+use std::sync::Wait;
+use uuid::Uuid;
+
+// The items of `page_and_zeros`.
+const ONE_ROUND: [Seen; 4] = [
+    Seen::Hello(0),
+    Seen::Page(0),
+    Seen::Sync(1),
+    Seen::Stop(ChannelEnd::Clean),
+];
+
+// The items of `sevens_then_zeros`.
+const TWO_ROUNDS: [Seen; 6] = [
+    Seen::Hello(0),
+    Seen::Page(0),
+    Seen::Sync(1),
+    Seen::Page(2),
+    Seen::Sync(3),
+    Seen::Stop(ChannelEnd::Clean),
+];
+
+// What a relay of one text brings, whose feeder has pushed all of it.
+fn relayed<'a, R: Wait + Abort, A: Allocator + Copy>(
+    rt: &R,
+    alloc: A,
+    texts: &'a [Vec<u8>],
+) -> Collector<'a, A> {
+    assert!(rt; texts.len() == 1);
+    let made = Relay::start(alloc, 4096, &Uuid::nil(), texts, 64);
+    let (feeders, collector) = made.expect(rt, "a relay");
+    for feeder in feeders {
+        feed(rt, feeder, &OpenGate);
+    }
+    collector
+}
+
+#[test]
+fn items_that_were_taken_before(rt: HostRuntime) {
+    let texts = one(&rt, page_and_zeros(&rt));
+    let main = main_of(&rt, 2, 1);
+    for taken in 0..=ONE_ROUND.len() {
+        let mut collector = relayed(&rt, rt.alloc(), &texts);
+        take(&rt, &mut collector, 0, taken);
+        let loaded = load_relayed(&rt, rt.alloc(), &mut collector, &main, LIMIT);
+        assert_done(&rt, &loaded, 1);
+        assert_page_and_zeros(&rt, &loaded);
+        assert_received(&rt, &collector, 0, &ONE_ROUND);
+        assert_over(&rt, &mut collector, 0);
+    }
+}
+
+// The load takes the round that is counted at least; what it left is still to be taken.
+#[test]
+fn round_that_the_main_stream_lacks(rt: HostRuntime) {
+    let texts = one(&rt, sevens_then_zeros(&rt));
+    let mut collector = relayed(&rt, rt.alloc(), &texts);
+    let main = main_of(&rt, 1, 1);
+    let loaded = load_relayed(&rt, rt.alloc(), &mut collector, &main, LIMIT);
+    assert_failed(&rt, &loaded, 1, Origin::Channel(0), Fault::Extra);
+    assert_full(&rt, &loaded, 1, 7);
+    assert!(rt; collector.len() == 1);
+    let taken = collector.received(0).len();
+    assert!(rt; 3 <= taken && taken <= TWO_ROUNDS.len());
+    assert_received(&rt, &collector, 0, &TWO_ROUNDS[..taken]);
+    take(&rt, &mut collector, 0, TWO_ROUNDS.len() - taken);
+    assert_received(&rt, &collector, 0, &TWO_ROUNDS);
+    assert_over(&rt, &mut collector, 0);
+}
+
+// A later load of the same relay begins with what the refused one took.
+#[test]
+fn each_allocation_refused(rt: HostRuntime) {
+    let texts = one(&rt, sevens_then_zeros(&rt));
+    let main = main_of(&rt, 1, 2);
+    let heap = Refusing::new(rt.alloc(), 0);
+    for nth in 1..1000u64 {
+        let mut collector = relayed(&rt, &heap, &texts);
+        heap.refuse(nth);
+        let loaded = load_relayed(&rt, &heap, &mut collector, &main, LIMIT);
+        let is_waiting = heap.is_waiting();
+        heap.refuse(0);
+        if is_waiting {
+            assert!(rt; nth > 1);
+            assert_done(&rt, &loaded, 2);
+            assert_full(&rt, &loaded, 1, 0);
+            return;
+        }
+        assert_no_memory(&rt, &loaded, &[0, 7, 0]);
+        let again = load_relayed(&rt, &heap, &mut collector, &main, LIMIT);
+        assert_done(&rt, &again, 2);
+        assert_full(&rt, &again, 1, 0);
+        assert_received(&rt, &collector, 0, &TWO_ROUNDS);
+    }
+    panic!(rt; "each run had a refusal");
+}
