@@ -4,7 +4,7 @@
 # `make lib` proves the library for callers in C and builds it: out/libzimgasol.a, whose header is include/zimgasol.h; `make install PREFIX=DIR`
 # puts both and a pkg-config file below DIR. `make example` builds the programs of examples/c against it and runs them, and `make header` compares
 # the header with the library's exports.
-# `make test` is the gate: every proof that hasn't passed on this machine, the tests and the programs, and the planted bugs that are new or whose crates
+# `make test` is the gate: every proof that hasn't passed on this machine, the tests and the programs, and the planted bugs that are new or whose texts
 # changed since they were tried. `make edits` tries those alone and records them; `make gate` is the
 # gate with all of them, and records them.
 

@@ -6,12 +6,25 @@
     tools/gate.py gate             `rt ci --anew`, with all edits; where it passes, the record vouches for all
     tools/gate.py stale            counts the edits that `test` would try, by crates
 
-An edit plants a bug in a crate, and the prover has to refuse it. What it says depends on the edit, on the crate's own text, on what the
-crates below it show (their specs, and their sources without the bodies of functions, of which a caller knows the contract alone), and on the
-toolchain. Lines that are comments say nothing to it. The file must-fail.record has a line for each edit that was refused: its crate and
-name, and a hash of just that, in which the toolchain stands by its logic (the second part of `rt version`): by what can be proved in
-it, that is, and not by the kit that brings it. So an edit that is left out was refused with the very same text before it, in the same logic;
-whatever else changed, `rt ci` tries it again, and `make gate` tries all, as after a change of the kit.
+An edit plants a bug in a crate, and the prover has to refuse it. The file must-fail.record has a line for each edit that was refused: its
+crate and name, and its key, a hash of all that the refusal depends on. So an edit that is left out was refused with the very same text
+before it, in the same logic; whatever else changed, `rt ci` tries it again, and `make gate` tries all, as after a change of the kit.
+
+No function sees another's body: a caller knows its contract alone (a source where this may be otherwise counts as if it had no bodies). So
+an edit of bodies alone is refused in the files that it edits, and any other in files of its crate that reach these. A key holds
+
+- the edit, and the files that it edits, as it leaves them;
+- of an edit not of bodies alone, the files of its crate that reach these;
+- what all these reach: of sources of their own crate all but the bodies of functions, and of those of a crate below also no function that isn't
+  `pub`, both without the imports and constants that only these use; specs in full; and the proofs of their own crate alone;
+- to which files the imports of each lead;
+- what crates.txt says that the crate uses, and the toolchain by its logic (the second part of `rt version`): by what can be proved in it,
+  that is, and not by the kit that brings it.
+
+A file reaches those to which its imports and paths lead, its crate's root, the sources with an `impl` of a type or trait that it declares, and
+what all these reach. A source in which an edit may be refused reaches the proofs of its functions too. An import that leads to no file
+reaches all of its crate. Comments say nothing to the prover, and what a root lists of modules and their names only where these are: both
+are left out.
 """
 import hashlib
 import os
@@ -22,14 +35,32 @@ import sys
 import tempfile
 from concurrent.futures import ThreadPoolExecutor
 from contextlib import contextmanager
+from functools import cache
 from pathlib import Path
 
 TOP = Path(__file__).resolve().parent.parent
+CRATES = TOP / "crates"
 RECORD = TOP / "must-fail.record"
 OWN = ("src", "specs", "proofs")
 PUBLIC = ("src", "specs")
 # The first line of a function.
 FUNCTION = re.compile(r'( *)(?:pub(?:\([a-z]+\))? )?(?:const )?(?:unsafe )?(?:extern "C" )?fn \w')
+# Functions that aren't `pub`, without their bodies: among the items of a file, and in an `impl` of no trait.
+HIDDEN = r'^%s(?:#\[.*\n%s)*(?:pub\([a-z]+\) )?(?:const )?(?:unsafe )?(?:extern "C" )?fn .*\n(?:%s(?:    |\)|where|\{).*\n)*'
+HIDDEN_ITEM, HIDDEN_METHOD = (re.compile(HIDDEN.replace("%s", indent), re.M) for indent in ("", "    "))
+IMPL_OF_NO_TRAIT = re.compile(r"^(?:unsafe )?impl(?!.* for ).* \{\n(?:(?!\}).*\n)*", re.M)
+# What a root lists: its modules, and the names that it passes on.
+LISTS = re.compile(r"(?<!\]\n)^(?:#\[cfg\(test\)\]\n)?(?:(?:pub(?:\([a-z]+\))? )?mod \w+|pub use (?![^;]* as )[^;]+);\n", re.M)
+INNER_MODULE = re.compile(r"^(?:pub(?:\([a-z]+\))? )?mod \w+ \{\n.*?^\}", re.M | re.S)
+ITEM = re.compile(r'^(?:pub(?:\([a-z]+\))? )?(?:const |unsafe |extern "C" )*(?:fn|struct|enum|union|trait|type|const|static|macro_rules!) (\w+)', re.M)
+IMPL = re.compile(r"^ *(?:unsafe )?impl\b([^{;]*)", re.M)
+ARGUMENTS = re.compile("<(?:[^<>]|<(?:[^<>]|<[^<>]*>)*>)*>")
+USE = re.compile(r"use (?<!\wuse )(?<!ghost use )([^;]+);")
+OWN_USE = re.compile(r"^use ([^;]+);\n", re.M)
+OWN_CONST = re.compile(r"^const (\w+): .*;\n", re.M)
+GHOST_USE = re.compile(r"^ghost use (Rattle[\w.]*)\.\{([^{}]*)\};\n", re.M)
+PATH = re.compile(r"\b\w+(?:::\w+)+")
+GHOST_PATH = re.compile(r"Rattle\.([^\s(){};,]+)")
 # An edit's check takes one processor and up to 4 GB.
 MEMORY = 4 << 30
 
@@ -54,7 +85,7 @@ def below(name, known):
 
 
 def files_of(name, parts):
-    return sorted(file for part in parts for file in (TOP / "crates" / name / part).rglob("*") if file.is_file())
+    return sorted(file for part in parts for file in (CRATES / name / part).rglob("*") if file.is_file())
 
 
 def logic():
@@ -63,17 +94,15 @@ def logic():
     return " ".join(said[said.index("logic"):][:2])
 
 
-def lines_of(file):
-    """The lines of a file that aren't comments."""
-    return [line for line in file.read_text().splitlines() if not line.lstrip().startswith(("//", "--"))]
+def lines_of(text):
+    """The lines that aren't comments."""
+    return [line for line in text.splitlines() if not line.lstrip().startswith(("//", "--"))]
 
 
-def shown_by(file):
-    """What a crate above sees of a file: of a source, as `rt fmt` sets it, all but the bodies of functions."""
-    if file.suffix != ".rt":
-        return lines_of(file)
+def shown_by(lines):
+    """What the other files of a crate see of a source, as `rt fmt` sets it: all but the bodies of functions."""
     found, indent, is_body = [], None, False
-    for line in lines_of(file):
+    for line in lines:
         if is_body:
             is_body = line != indent + "}"
             continue
@@ -84,27 +113,209 @@ def shown_by(file):
     return found
 
 
-def text_of(name, known, toolchain):
-    """A hash of what the edits of a crate depend on beside themselves."""
-    seen = [(file, lines_of(file)) for file in files_of(name, OWN)]
-    seen += [(file, shown_by(file)) for it in sorted(below(name, known)) for file in files_of(it, PUBLIC)]
-    total = hashlib.sha256(f"{toolchain}\n{name}: {' '.join(known[name])}\n".encode())
-    for file, lines in seen:
-        total.update("\n".join([f"== {file.relative_to(TOP)}", *lines, ""]).encode())
-    return total.hexdigest()
+def shown_above(lines):
+    """What the crates above see of a source: of that, no function that isn't `pub`, unless it is of a trait."""
+    text = HIDDEN_ITEM.sub("", "\n".join([*shown_by(lines), ""]))
+    return [line for line in IMPL_OF_NO_TRAIT.sub(lambda it: HIDDEN_METHOD.sub("", it[0]), text).splitlines() if line]
+
+
+def ends_in(line):
+    """The braces of a line that have no partner in it, and the ends of comments."""
+    return re.findall(r"[{}]|/\*|\*/", re.sub(r"\{(?:[^{}]|\{[^{}]*\})*\}", "", line))
+
+
+def has_seen_bodies(text):
+    """Whether a source's bodies may be seen elsewhere: a macro may write them, and functions of a cycle are proved together."""
+    return "macro_rules!" in text or "#[cycle(" in text
+
+
+def is_of_bodies(before, after):
+    """Whether two texts of a source differ in bodies of functions alone, and these begin and end where they did."""
+    changed = [pair for pair in zip(before.splitlines(), after.splitlines()) if pair[0] != pair[1]]
+    if has_seen_bodies(before + after) or any(ends_in(old) != ends_in(new) for old, new in changed):
+        return False
+    return shown_by(lines_of(before)) == shown_by(lines_of(after))
+
+
+def paths_in(pattern, text):
+    """The paths of imports, each by itself."""
+    before, paths = "", ",".join(pattern.findall(text))
+    while before != paths:
+        before = paths
+        paths = re.sub(r"([\w:]*)\{([^{}]*)\}", lambda it: ",".join(it[1] + name.strip() for name in it[2].split(",") if name.strip()), paths)
+    return [path.strip().removesuffix("::self") for path in paths.split(",") if path.strip()]
+
+
+def name_of(path):
+    return re.split("::| ", path)[-1]
+
+
+def is_said(name, text):
+    """Whether a text says a name, or each part of an operator's."""
+    return all((f" {part} " if re.match(r"\W", part) and "[" not in part else part) in text for part in name.split(" as ")[-1].split("◌") if part)
+
+
+def without_unused(lines):
+    """A source's lines with only those imports that the others use, and of its own constants those that they name."""
+    text = "\n".join([*lines, ""])
+    others = GHOST_USE.sub("", OWN_USE.sub("", text))
+    others = OWN_CONST.sub(lambda it: it[0] if len(re.findall(rf"\b{it[1]}\b", others)) > 1 else "", others)
+    used, said = {"*", *re.findall(r"\w+", others)}, others.replace("\n", " ")
+    ghosts = [(path, [name for name in map(str.strip, names.split(",")) if is_said(name, said)]) for path, names in GHOST_USE.findall(text)]
+    imports = [f"use {path};" for path in paths_in(OWN_USE, text) if name_of(path) in used]
+    return [*sorted(imports + [f"ghost use {path}.{{{', '.join(names)}}};" for path, names in ghosts if names]), *others.splitlines()]
+
+
+class Tree:
+    """The files of all crates as they stand now, each by its path below crates/, and what they reach.
+
+    A file is seen in a form: `list`, which is all its lines, `shown_by` or `shown_above`.
+    """
+
+    def __init__(self):
+        self.crates = crates()
+        self.scopes = {it: {it} | below(it, self.crates) for it in self.crates}
+        self.texts = {str(file.relative_to(CRATES)): file.read_text() for it in self.crates for file in files_of(it, OWN)}
+        self.plain = {file: "\n".join([*lines_of(text), ""]) for file, text in self.texts.items()}
+        self.roots = {it: f"{it}/src/{'lib' if f'{it}/src/lib.rt' in self.texts else 'main'}.rt" for it in self.crates}
+        self.passed = {it: {name_of(path): path for path in paths_in(USE, self.plain[root])} for it, root in self.roots.items()}
+        self.plain |= {root: LISTS.sub("", self.plain[root]) for root in self.roots.values()}
+        self.items = {it: set(ITEM.findall(text)) for it, text in self.plain.items() if it.endswith(".rt")}
+        # the traits and types of a source's `impl`s, and where none of them is ours their arguments too
+        self.impls, ours = {it: set() for it in self.items}, set().union(*self.items.values())
+        for it in self.items:
+            for head in IMPL.findall(self.plain[it]):
+                words = set(re.findall(r"\w+", ARGUMENTS.sub("", head)))
+                self.impls[it] |= words if words & ours else set(re.findall(r"\w+", head))
+
+    @cache
+    def under(self, folder):
+        return tuple(file for file in self.texts if file.startswith(folder + "/"))
+
+    def in_full(self, crate):
+        return {(file, list) for file in self.under(crate)}
+
+    @cache
+    def by_path(self, crate, path):
+        """The files to which a path leads in a source of this crate, or all of a crate."""
+        first, *names = path.partition(" as ")[0].split("::")
+        if first in self.crates:
+            crate = first
+        elif f"{crate}/src/{first}.rt" in self.texts:
+            names = [first, *names]
+        elif first not in ("crate", "self", "super"):
+            return []
+        name = "" if first in ("self", "super") else "".join(names[:1])
+        if name in ("specs", "proofs"):
+            return self.by_name("", ".".join([crate, *names]))
+        module, there = f"{crate}/src/{name}", self.passed[crate].get(name, name)
+        found = [module + ".rt", *self.under(module)] if module + ".rt" in self.texts else []
+        found += [self.roots[crate]] if name in self.items[self.roots[crate]] else []
+        found += self.by_path(crate, there) if name != "*" and there.split("::")[0] != name else []
+        return found or [crate + "/"]
+
+    @cache
+    def by_name(self, folder, name):
+        """The files to which a name of specs or proofs leads in a file of this folder, or all of a crate."""
+        crate, part, *names = f"{name}.".split(".")
+        names = [it for it in names if it]
+        if crate not in self.crates:
+            return []
+        # (these are made from the sources)
+        if names[:1] in (["declared"], ["contracts"]):
+            return self.by_path(crate, "::".join(["crate", *names[1:]]))
+        found = next((it for n in range(len(names), 0, -1) if (it := "/".join([crate, part, *names[:n]])) + ".antt" in self.texts), None)
+        if found and (part == "specs" or found.count("/") == 2 or os.path.dirname(found) == folder):
+            return [found + ".antt", *self.under(found)]
+        # (so are the goals of a function, and its own proofs have it with them)
+        return [] if folder == "/".join([crate, part, *names[:-1]]) else [crate + "/"]
+
+    @cache
+    def beside(self, file, is_proved):
+        """What a source reaches without a name: modules that it is in, `impl`s, and the proofs that are of its functions or may be."""
+        crate = file.split("/")[0]
+        sources, proofs = self.under(f"{crate}/src"), self.under(f"{crate}/proofs") if is_proved else ()
+        # (the proofs of methods stand by the module of their type)
+        modules = [it for it in sources if it == file or self.items[it] & self.impls[file]]
+        folders = tuple(f"{crate}/proofs/" + ("" if it == self.roots[crate] else "/".join(it[:-3].split("/")[2:]) + "/") for it in modules)
+        return {
+            self.roots[crate],
+            *(it for it in sources if file.startswith(it[:-3] + "/")),
+            *(it for it in self.impls if self.impls[it] & self.items[file] and crate in self.scopes[it.split("/")[0]]),
+            *(it for it in proofs if it.startswith(folders) or "/+" in it or crate + "/" in self.node(it, list)[1]),
+        }
+
+    @cache
+    def node(self, file, form, edited=None):
+        """A hash of a file in a form with where it leads, and the files that it reaches at once."""
+        lines = (edited or self.plain[file]).splitlines()
+        if file in self.items and form is not list and not has_seen_bodies(self.plain[file]):
+            lines = without_unused(form(lines))
+        text, found = "\n".join(lines), set()
+        leads = {it: self.by_name(os.path.dirname(file), it) for it in GHOST_PATH.findall(text)}
+        if file in self.items:
+            # (in an inner module that is the file itself)
+            outer = INNER_MODULE.sub(lambda it: it[0].replace("use super::*;", ""), text)
+            paths = paths_in(USE, outer) + PATH.findall("\n".join(line for line in lines if "::" in line))
+            leads |= {it: self.by_path(file.split("/")[0], it) for it in paths}
+            found = self.beside(file, form is list)
+        said = "\n".join([f"== {file}", text, *sorted(f"{name} {' '.join(files)}" for name, files in leads.items())])
+        return hashlib.sha256(said.encode()).digest(), frozenset(found.union(*leads.values()))
+
+    @cache
+    def seen(self, own, files):
+        """Files in the forms in which those of a crate see them."""
+        found = set()
+        for file in files:
+            crate, part = file.split("/")[:2]
+            if crate == own:
+                found |= {(file, shown_by)} if part else self.in_full(own)
+            elif crate in self.scopes[own] and part in ("", *PUBLIC):
+                found |= {(file, shown_above)} if part else self.seen(own, self.under(crate))
+        return found
+
+    @cache
+    def reached(self, own, nodes):
+        """These files of a crate and all that they reach, in their forms."""
+        found, new = set(), set(nodes)
+        while new:
+            found |= new
+            new = set().union(*(self.seen(own, self.node(*it)[1]) for it in new)) - found
+        return found
+
+    def edited(self, crate, edit):
+        """The texts that an edit makes, by files. It is read as `rt must-fail` reads it."""
+        found, file, old = {}, "", ""
+        for word, rest in re.findall(r"^(file: |old: |new:)(.*)", edit.read_text(), re.M):
+            if word == "file: ":
+                file = f"{crate}/{rest.strip()}"
+            elif word == "old: ":
+                old = rest
+            elif file in self.texts and old:
+                found[file] = found.get(file, self.texts[file]).replace(old, rest.removeprefix(" "))
+        return found
+
+    def key(self, crate, edit, toolchain):
+        """A hash of what an edit's refusal depends on."""
+        after, nodes = self.edited(crate, edit), set()
+        total = hashlib.sha256(f"{toolchain}\n{crate}: {' '.join(self.crates[crate])}\n".encode() + edit.read_bytes())
+        # (where an `impl` comes or goes, other files may reach it)
+        is_anywhere = not after or any(IMPL.findall(text) != IMPL.findall(self.texts[it]) for it, text in after.items())
+        if is_anywhere or not all(it in self.items and is_of_bodies(self.texts[it], text) for it, text in after.items()):
+            nodes = {it for it in self.in_full(crate) if is_anywhere or after.keys() & {file for file, _ in self.reached(crate, frozenset([it]))}}
+        for file, text in after.items():
+            digest, files = self.node(file, list, "\n".join(lines_of(text)))
+            total.update(digest)
+            nodes |= self.seen(crate, files)
+        for digest in sorted(self.node(*it)[0] for it in self.reached(crate, frozenset(nodes))):
+            total.update(digest)
+        return total.hexdigest()[:32]
 
 
 def keys():
     """The key of each edit, by CRATE/NAME."""
-    known = crates()
-    toolchain = logic()
-    found = {}
-    for it in known:
-        edits = files_of(it, ["must-fail"])
-        text = text_of(it, known, toolchain) if edits else ""
-        for edit in edits:
-            found[f"{it}/{edit.stem}"] = hashlib.sha256(text.encode() + edit.read_bytes()).hexdigest()[:32]
-    return found
+    tree, toolchain = Tree(), logic()
+    return {f"{it}/{edit.stem}": tree.key(it, edit, toolchain) for it in tree.crates for edit in files_of(it, ["must-fail"])}
 
 
 def record():

@@ -89,6 +89,7 @@ fn report_small<R: Clock + Print + Files + AllocGlobal>(rt: &R, meter: Meter) ->
         "zeros that name blocks",
         naming_text(meter.alloc),
     )?;
+    report_load_of(rt, meter, "the same, cut", cut(naming_text(meter.alloc)))?;
     report_both(rt, meter, "zeros with CONTINUE", zeros_text(meter.alloc))
 }
 
@@ -102,7 +103,13 @@ fn report_large<R: Clock + Print + Files + AllocGlobal>(rt: &R, meter: Meter) ->
         "rounds of one record",
         small_rounds_text(meter.alloc),
     )?;
-    report_both(rt, meter, "a plain guest", plain_text(meter.alloc))
+    report_both(rt, meter, "a plain guest", plain_text(meter.alloc))?;
+    report_load_of(
+        rt,
+        meter,
+        "a plain guest, cut",
+        cut(plain_text(meter.alloc)),
+    )
 }
 
 // Reads a main text, if there is one.
@@ -189,13 +196,9 @@ fn take_items(reader: &mut StreamReader, most: usize) -> usize {
     items
 }
 
-// How many rounds a load of a stream puts into memory; 0 where it fails.
+// How many rounds a load of a text puts into memory, whether or not the text has a fault behind them.
 fn rounds_loaded(alloc: Global, text: &[u8]) -> usize {
-    let loaded = load_single(alloc, PAGE_SIZE_4K, text, MAX_TOTAL);
-    match loaded.verdict {
-        Ok(()) => loaded.rounds as usize,
-        Err(_) => 0,
-    }
+    load_single(alloc, PAGE_SIZE_4K, text, MAX_TOTAL).rounds as usize
 }
 
 // Measures a work on a text of so many bytes, and prints what a byte costs.
@@ -249,6 +252,13 @@ fn put_memory(rt: &impl Print, meter: Meter, len: u64, peak: u64) -> io::Result<
         Ratio::of(taken, len),
         Ratio::of(taken, 1_000_000)
     )
+}
+
+// A text without its last byte: a fault that shows when all else was read.
+fn cut(text: Option<Vec<u8>>) -> Option<Vec<u8>> {
+    let mut text = text?;
+    text.truncate(text.len().saturating_sub(1));
+    Some(text)
 }
 
 // The stream of one round of a guest whose pages are full of ones.

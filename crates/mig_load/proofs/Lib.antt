@@ -42,3 +42,4 @@ pub mod KeptSources
 pub mod Advances
 pub mod Sessions
 pub mod Pumped
+pub mod LoadedAtOnce

@@ -9,6 +9,7 @@
 //! and its place in the one `Collector`. What an item is says `mig_packet`; what the two ends promise says `specs/Relay.antt`.
 #![tactic(auto)]
 
+mod at_once;
 mod channel;
 mod channel_source;
 mod counts;

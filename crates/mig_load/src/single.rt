@@ -10,12 +10,14 @@ ghost use Rattle.mig_stream.specs.Written.{single};
 ghost use Rattle.mig_load.specs.SingleLoad.{IsSingleAnswer, IsSingleWithoutMemory, loaded};
 
 use crate::Loaded;
+use crate::at_once::load_at_once;
 use crate::settle::{answer, settle, without_memory};
 use mig_stream::{Mode, StreamReader};
 use std::alloc::Allocator;
 
 /// Loads a guest from the text of a single stream whose pages have this size, and whose blocks may have `limit` bytes together.
-/// What follows the end byte is not looked at.
+/// What follows the end byte is not looked at. A text without a fault is gone through once; any other is read a second time, and its
+/// memory begun anew.
 pub fn load_single<A: Allocator + Copy>(
     alloc: A,
     page_size: u64,
@@ -28,10 +30,14 @@ pub fn load_single<A: Allocator + Copy>(
     ensures sent { (table : RamTable) (rounds : List (List Page)) → IsTable table → table.page_size ≡ page_size → total_bytes table ≤ limit
         → All (IsRound table) rounds → text.now ≡ single table rounds → (result ≡ loaded table rounds) ⊎ IsSingleWithoutMemory page_size limit text.now result }
 {
-    load(alloc, page_size, text, limit)
+    match load_at_once(alloc, page_size, text, limit) {
+        Ok(Some(loaded)) => loaded,
+        Ok(None) => load(alloc, page_size, text, limit),
+        Err(_) => without_memory(),
+    }
 }
 
-// Reads the text, and puts its sections into memory.
+// Reads the text, and puts its sections into memory, each when it is whole.
 fn load<A: Allocator + Copy>(alloc: A, page_size: u64, text: &[u8], limit: u64) -> Loaded<A>
     requires page_size { IsPageSize page_size }
     requires limit { limit ≤ 2 ^ 40 }

@@ -116,7 +116,7 @@ faulty None = inl refl
 faulty (Some fault) = inr (fault, refl)
 
 -- however far a text has been read, it can be read on, since each item is a step forward
-read_on : (fuel : ℕ) (from c : StreamProgress) (text front rest : List ℕ) → 0 < c.page_size → 2 * length rest + work c.due < fuel → text ≡ front ++ rest → Front from front c → SomeReading from text
+pub read_on : (fuel : ℕ) (from c : StreamProgress) (text front rest : List ℕ) → 0 < c.page_size → 2 * length rest + work c.due < fuel → text ≡ front ++ rest → Front from front c → SomeReading from text
 read_on zero from c text front rest some few e so_far = absurd (omega arith)
 read_on (suc fuel) from c text front rest some few e so_far =
     elim (is_nothing c.due) [

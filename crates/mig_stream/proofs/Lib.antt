@@ -38,3 +38,6 @@ pub mod Keeping
 pub mod Limits
 pub mod Longer
 pub mod ZeroRecords
+pub mod Between
+pub mod Giver
+pub mod Waiting

@@ -125,6 +125,20 @@ placed_all : (c : StreamProgress) (items : List (List ℕ)) → Placed c → Are
 placed_all c [] v free = v
 placed_all c (item ∷ items) v free = placed_all (after c item) items (placed_item c c.due item v v.due free.1) free.2
 
+-- Each page record that was read has its page in the blocks that were read by then, and in those behind them.
+pub placed_so_far : (m : Mode) (p limit : ℕ) (bytes : List ℕ) (to : StreamProgress) (more : List Block) (table : RamTable) → Front (start m p limit) bytes to → table.blocks ≡ to.blocks ++ more
+    → All (λ rs. All (λ r. IsPlace table r.place) rs) to.rounds × All (λ r. IsPlace table r.place) to.records
+placed_so_far m p limit bytes to more table f same =
+    let first : Placed (start m p limit) = record { due = tt; records = All-nil (λ r. HasPage [] r.place); rounds = All-nil (AreIn []) } in
+    let last : Placed to = subst Placed (sym f.leads_to) (placed_all (start m p limit) f.items first f.are_faultless) in
+    let there : (place : Place) → HasPage to.blocks place → IsPlace table place =
+    λ place has.
+    let h : HasPage table.blocks place = subst (λ (b : List Block). HasPage b place) (sym same) (more_blocks to.blocks more place has) in
+    record { has_block = h.has_block; has_page = h.has_page } in (
+      (λ i rs lt j r within. there (get_or (get_or to.rounds i rs) j r).place (last.rounds i rs lt j r within)),
+      (λ j r within. there (get_or to.records j r).place (last.records j r within)),
+    )
+
 -- Each page record of a whole round has its page in the blocks that were read.
 pub placed_front : (m : Mode) (p limit : ℕ) (bytes : List ℕ) (to : StreamProgress) (table : RamTable) → Front (start m p limit) bytes to → table.blocks ≡ to.blocks → All (λ rs. All (λ r. IsPlace table r.place) rs) to.rounds
 placed_front m p limit bytes to table f same =

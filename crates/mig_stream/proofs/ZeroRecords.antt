@@ -5,7 +5,7 @@ use Rattle.std.specs.Int.{w64, from_be_bytes}
 use Rattle.std.proofs.Math.Seq.{take-add}
 use Rattle.std.proofs.Math.Nat.{add-sub_cancel_left}
 use Rattle.std.proofs.lemmas.Bool.{lt-ltb}
-use Rattle.std.proofs.lemmas.List.{length-take, length-drop, take_all, take-append-drop, get_or-drop, get_or-take}
+use Rattle.std.proofs.lemmas.List.{length-take, length-drop, take-take, take_all, take-append-drop, get_or-drop, get_or-take}
 use Rattle.mig_mem.specs.Place.{place_at}
 use Rattle.mig_mem.specs.RamTable.{block, block_of}
 use Rattle.mig_mem.specs.First.{first_of}
@@ -107,6 +107,25 @@ pub records_same : (old mid new : StreamProgress) (bytes rest : List ℕ) (n k :
     → HasTakenRecords old bytes n new
 records_same old mid new bytes rest n k a is b none =
     subst (λ (m : ℕ). HasTakenRecords old bytes m new) (omega arith) (records_more old mid new bytes rest n k a is b)
+
+-- the bytes that are near, and those behind them
+pub records_within : (old new : StreamProgress) (bytes : List ℕ) (n at : ℕ) → HasTakenRecords old (take n bytes) at new → HasTakenRecords old bytes at new
+records_within old new bytes n at h = record {
+  fits = omega (arith, h.fits, length-take n bytes);
+  leads = subst (λ (x : List ℕ). Front old x new) (take-take at n bytes (omega (arith, h.fits, length-take n bytes))) h.leads;
+  is_due = h.is_due;
+  same_left = h.same_left;
+  same_blocks = h.same_blocks;
+  same_page_size = h.same_page_size;
+}
+
+pub taken_within : (old new : StreamProgress) (bytes : List ℕ) (n : ℕ) → HasTaken old (take n bytes) new → HasTaken old bytes new
+taken_within old new bytes n h = record {
+  front = h.front;
+  rest = h.rest ++ drop n bytes;
+  has_bytes = sym (take-append-drop n bytes) ∙ ap (λ (x : List ℕ). x ++ drop n bytes) h.has_bytes ∙ append_assoc h.front h.rest (drop n bytes);
+  leads = h.leads;
+}
 
 -- the bytes from a place on
 pub tail_from : (bytes : List ℕ) (n : ℕ) → take (length bytes - n) (drop n bytes) ≡ drop n bytes

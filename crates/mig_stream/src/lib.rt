@@ -1,9 +1,10 @@
 //! The migration stream: the RAM section of QEMU's stream version 3, alone or as the main stream of multifd.
 //!
-//! The definitions stand in `specs/`, apart from the code of both directions: what a text of a stream is (`Text`), how any
-//! bytes are read, item by item, with every fault by name (`Items`, `Reading`), and the one text that a writer makes
-//! (`Written`). The laws between them are in `laws`. `StreamWriter` writes, and `StreamReader` reads. What travels on
-//! the channels beside a main stream, and what becomes of the pages, is for other crates.
+//! The definitions stand in `specs/`, apart from the code of both directions: what a text of a stream is (`Text`), how any bytes
+//! are read, item by item, with every fault by name (`Items`, `Reading`), and the one text that a writer makes (`Written`). The
+//! laws between them are in `laws`. `StreamWriter` writes, and `StreamReader` reads; `RecordReader` reads a single stream that is
+//! there whole, and gives its page records before their section is whole. What travels on the channels beside a main stream, and
+//! what becomes of the pages, is for other crates.
 #![tactic(auto)]
 
 mod bytes;
@@ -11,6 +12,7 @@ mod entries;
 mod fault;
 mod fields;
 mod format;
+mod giving;
 mod item;
 mod items;
 mod laws;
@@ -25,6 +27,7 @@ mod writer;
 mod zeros;
 
 pub use fault::StreamFault;
+pub use giving::{Given, RecordReader};
 pub use item::{Mode, StreamState};
 pub use laws::{
     bytes_have_one_text, closed_is_text, longer_texts_stay, read_is_spelled, readings_keep_limits,

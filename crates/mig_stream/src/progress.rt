@@ -1,13 +1,13 @@
 //! How far a stream has been read, and the loop over its items. `StreamReader` keeps one.
 
-ghost use Rattle.std.specs.Prelude.{◌≡◌, ◌≢◌, ◌≤◌, ◌^◌, OnErr, IfOk, IfSome, IfNone, [], ◌∷◌, IsTrue, IsFalse};
+ghost use Rattle.std.specs.Prelude.{◌≡◌, ◌≢◌, ◌<◌, ◌≤◌, ◌^◌, false, length, OnErr, IfOk, IfSome, IfNone, [], ◌∷◌, IsTrue, IsFalse, IsSome};
 ghost use Rattle.std.specs.Option.{option_copied};
 ghost use Rattle.mig_mem.specs.PageSize.{IsPageSize};
 ghost use Rattle.mig_stream.specs.declared.item.Due.TheVariants as due;
 ghost use Rattle.mig_stream.specs.Progress.{StreamProgress, start, whole_table};
 ghost use Rattle.mig_stream.specs.Items.{size};
-ghost use Rattle.mig_stream.specs.Reading.{IsItem, Reads};
-ghost use Rattle.mig_stream.specs.Taking.{TakesAs, HasTaken};
+ghost use Rattle.mig_stream.specs.Reading.{IsItem, Ends, Reads};
+ghost use Rattle.mig_stream.specs.Taking.{TakesAs, HasTaken, HasTakenTo};
 ghost use Rattle.mig_stream.specs.Entries.{AreListed};
 ghost use Rattle.mig_stream.specs.Kept.{bytes_of, HasShortPlace};
 ghost use Rattle.mig_stream.specs.Later.{checkpoint_of, IsLater, WasSaved};
@@ -23,6 +23,9 @@ use std::alloc::Allocator;
 use std::collections::VecDeque;
 use std::marker::Model;
 use std::mem;
+
+/// How many records are many: they are given before others are read.
+const MANY: usize = 1 << 10;
 
 /// How far a stream has been read.
 #[derive(Drop)]
@@ -134,21 +137,45 @@ impl<'a, A: Allocator + Copy> Progress<'a, A> {
         ensures ok { IfOk result (λ r. Reads self.old (bytes_of text.entry) self.new (bytes_of r.0) r.1) }
         ensures err { OnErr result (HasTaken self.old (bytes_of text.entry) self.new) }
     {
+        match self.run_on(text, false)? {
+            (rest, Some(found)) => Ok((rest, found)),
+            (_, None) => unreachable!(),
+        }
+    }
+
+    /// The same, and where pauses are asked for, it may pause after any item: how the bytes that are left stand isn't told then.
+    pub(crate) fn run_on<'b>(
+        &mut self,
+        text: Piece<'a, 'b>,
+        pauses: bool,
+    ) -> Result<(Piece<'a, 'b>, Option<StreamState>), NoMemory>
+        ensures taken { IfOk result (λ r. HasTakenTo self.old (bytes_of text.entry) (bytes_of r.0) self.new) }
+        ensures stands { IfOk result (λ r. IfSome r.1 (λ found. Ends self.new (bytes_of r.0) found)) }
+        ensures told { pauses ≡ false → IfOk result (λ r. IsSome r.1) }
+        ensures moves { IfOk result (λ r. IfNone r.1 (length (bytes_of r.0) < length (bytes_of text.entry))) }
+        ensures err { OnErr result (HasTaken self.old (bytes_of text.entry) self.new) }
+    {
         let mut rest = text;
         'items: while !self.is_closed() {
             let bytes = rest.bytes();
             let size = self.size(bytes);
             if bytes.len() < size {
-                return Ok((rest, StreamState::Reading));
+                return Ok((rest, Some(StreamState::Reading)));
             }
+            let pause = pauses && size > 0 && self.ends_piece();
             let (item, behind) = rest.split_at(size);
             match self.take(item) {
-                Ok(()) => rest = self.pass_zeros(behind)?,
-                Err(Stop::Fault(fault)) => return Ok((rest, StreamState::Bad(fault))),
+                Ok(()) => {
+                    if pause {
+                        return Ok((behind, None));
+                    }
+                    rest = self.pass_zeros(behind)?;
+                }
+                Err(Stop::Fault(fault)) => return Ok((rest, Some(StreamState::Bad(fault)))),
                 Err(Stop::Memory) => return Err(NoMemory),
             }
         }
-        Ok((rest, StreamState::Closed))
+        Ok((rest, Some(StreamState::Closed)))
     }
 }
 
@@ -175,6 +202,15 @@ impl<'a, A: Allocator> Progress<'a, A> {
             Due::Content(Filling::Normal, _) => page_size,
             Due::Footer => 5,
             Due::Nothing => 0,
+        }
+    }
+
+    // Whether it is time to give the records so far, behind the item that is due: it is a page, whose bytes were just read and lead
+    // to the head that follows them, or the end of a section, or the records are many.
+    fn ends_piece(&self) -> bool {
+        match self.due {
+            Due::Content(Filling::Normal, _) | Due::Footer => true,
+            _ => self.records.len() >= MANY,
         }
     }
 
@@ -206,6 +242,15 @@ impl<'a, A: Allocator> Progress<'a, A> {
             Some(records) => Some(StreamRound::new(self.entries.page_size(), records)),
             None => None,
         }
+    }
+
+    /// Gives the records of the round that isn't whole yet, in place of those that were there.
+    pub(crate) fn give_records(&mut self, given: &mut StreamRound<'a, A>)
+        ensures given { given.new ≡ record { page_size = self.old.page_size; records = self.old.records } }
+        ensures same { self.new ≡ record self.old { records = [] } }
+    {
+        given.fill(self.entries.page_size(), &mut self.records);
+        self.filling = 0;
     }
 
     /// The mark of this place.

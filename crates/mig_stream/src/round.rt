@@ -10,6 +10,7 @@ use crate::record::{Record, content_at, next_buffer, place_of, put_behind};
 use mig_mem::{NoMemory, Place};
 use std::alloc::{Allocator, Global};
 use std::marker::Model;
+use std::mem;
 
 // Makes room for one more record: as much again as there is, and at first for one, since a text may have many rounds of few
 // records.
@@ -214,6 +215,17 @@ impl<'a, A: Allocator> StreamRound<'a, A> {
         ensures { result ≡ record { page_size = page_size; records = records.entry } }
     {
         StreamRound { page_size, records }
+    }
+
+    /// Takes these records, of pages of this size, in place of its own.
+    pub(crate) fn fill(&mut self, page_size: u64, records: &mut Records<'a, A>)
+        requires { AreWhole page_size records.old }
+        ensures filled { self.new ≡ record { page_size = page_size; records = records.old } }
+        ensures taken { records.new ≡ [] }
+    {
+        self.page_size = page_size;
+        self.records.truncate(0);
+        mem::swap(&mut self.records, records);
     }
 
     /// The number of page records. It may be 0.

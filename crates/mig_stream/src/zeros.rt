@@ -26,9 +26,12 @@ const HEAD_LEN: usize = 8;
 /// How many bytes a zero page's record has that leaves its block's id out: its head, and the fill byte.
 const CONTINUED_LEN: usize = 9;
 
+/// How many bytes are looked at in one go: more would leave more records to be given at once than caches hold.
+const NEAR: usize = 1 << 14;
+
 impl<'a, A: Allocator> Progress<'a, A> {
     /// Takes the records of zero pages at the front of the bytes, as far as they are whole and without a fault, where a record is
-    /// due. Gives the bytes behind them. After an `Err` some were taken.
+    /// due, or the first of very many. Gives the bytes behind them. After an `Err` some were taken.
     #[tactic(auto, using(crate::proofs::ZeroRecords::none_taken))]
     #[inline(always)]
     pub(crate) fn pass_zeros<'b>(&mut self, text: Piece<'a, 'b>) -> Result<Piece<'a, 'b>, NoMemory>
@@ -53,9 +56,10 @@ impl<'a, A: Allocator> Progress<'a, A> {
         ensures err { OnErr result (HasTaken self.old (bytes_of text.entry) self.new) }
     {
         let bytes = text.bytes();
+        let near = &bytes[..bytes.len().min(NEAR)];
         let mut at = 0;
-        'runs: while at < bytes.len() {
-            let len = self.zero_run(&bytes[at..])?;
+        'runs: while at < near.len() {
+            let len = self.zero_run(&near[at..])?;
             if len == 0 {
                 break;
             }

@@ -12,7 +12,7 @@ use mig_mem::{MAX_TOTAL, Memory, NoMemory, PAGE_SIZE_4K, Place, Table};
 use mig_packet::Packet;
 use mig_refusing::{Refusing, with_each_allocation_refused};
 use mig_send::SingleSender;
-use mig_stream::StreamRound;
+use mig_stream::{StreamFault, StreamRound};
 use std::alloc::{AllocGlobal, Allocator};
 use std::process::Abort;
 use std::test::Fail;
@@ -163,36 +163,69 @@ fn load_or_fault<'a>(heap: &'a Refusing, text: &[u8]) -> Result<Loaded<&'a Refus
     Ok(loaded)
 }
 
+// What is wrong with the text of two rounds where its last byte is missing.
+const CUT: LoadFault = LoadFault {
+    round: 4,
+    source: Origin::Main,
+    fault: Fault::Stream(StreamFault::Truncated),
+};
+
 /// Asserts that a load has the text of two rounds.
 pub(crate) fn assert_two_rounds<A: Allocator>(rt: &impl Abort, loaded: &Loaded<A>) {
     assert!(rt; loaded.verdict == Ok(()));
+    assert_both_rounds(rt, loaded);
+}
+
+// Asserts that a load has the sections of that text.
+fn assert_both_rounds<A: Allocator>(rt: &impl Abort, loaded: &Loaded<A>) {
     assert!(rt; loaded.rounds == 4);
     let memory = loaded.memory.as_ref().expect(rt, "a memory");
     assert!(rt; has_byte(memory, at(0, 1), 0, 7));
     assert!(rt; is_full(memory, at(1, 64), 0));
 }
 
-// Loads that text with allocation `nth` refused.
-fn run_of_load(rt: &impl Abort, heap: &Refusing, text: &[u8], nth: u64) -> Run {
+// Loads that text after refused allocations.
+fn assert_loaded(
+    rt: &(impl AllocGlobal + Abort),
+    heap: &Refusing,
+    text: &[u8],
+) -> Result<(), Fail> {
+    with_each_allocation_refused!(rt, heap, load_or_fault(heap, text), loaded => {
+        assert_two_rounds(rt, &loaded);
+    });
+}
+
+#[test]
+fn loads(rt: HostRuntime) -> Result<(), Fail> {
+    let heap = Refusing::new(rt.alloc(), 0);
+    assert_loaded(&rt, &heap, &two_rounds(&rt))
+}
+
+// Loads that text, cut short, with allocation `nth` refused.
+fn run_of_cut(rt: &impl Abort, heap: &Refusing, text: &[u8], nth: u64) -> Run {
     heap.refuse(nth);
     let answer = load_or_fault(heap, text);
     let run = run_of(rt, answer.is_ok(), heap.is_waiting());
     heap.refuse(0);
     match answer {
-        Ok(loaded) => assert_two_rounds(rt, &loaded),
+        Ok(loaded) => {
+            assert!(rt; loaded.verdict == Err(CUT));
+            assert_both_rounds(rt, &loaded);
+        }
         Err(fault) => assert_eq!(rt; fault.number(), 60),
     }
     run
 }
 
-// A load lives with one refusal: that of a smaller block for the list of three records.
+// A text with a fault is read a second time. That lives with one refusal: of a smaller block for the list of three records.
 #[test]
-fn loads(rt: HostRuntime) {
+fn cut_loads(rt: HostRuntime) {
     let heap = Refusing::new(rt.alloc(), 0);
-    let text = two_rounds(&rt);
+    let mut text = two_rounds(&rt);
+    text.truncate(text.len().saturating_sub(1));
     let mut survived = 0u64;
     for nth in 1..1000u64 {
-        match run_of_load(&rt, &heap, &text, nth) {
+        match run_of_cut(&rt, &heap, &text, nth) {
             Run::Refused => {}
             Run::Survived => survived = survived.saturating_add(1),
             Run::Whole => {

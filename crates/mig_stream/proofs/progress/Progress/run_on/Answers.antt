@@ -6,14 +6,14 @@ use Rattle.mig_stream.specs.declared.stop.Stop.TheVariants.{Fault}
 use Rattle.mig_stream.specs.Progress.{StreamProgress}
 use Rattle.mig_stream.specs.Items.{size, after_item}
 use Rattle.mig_stream.specs.Kept.{bytes_of}
-use Rattle.mig_stream.specs.Reading.{Reads}
+use Rattle.mig_stream.specs.Reading.{Ends}
 use Rattle.mig_stream.specs.Taking.{TakesAs, HasTakenTo}
 use Rattle.mig_mem.proofs.PageSizes.{page_size_some}
-use Rattle.mig_stream.proofs.Fronts.{work, split_item, goes_on, stops_at}
+use Rattle.mig_stream.proofs.Fronts.{work, split_item, goes_on}
 use Rattle.mig_stream.proofs.Exists.{work_falls}
 use Rattle.mig_stream.proofs.Writing.{on_err}
 use Rattle.mig_stream.proofs.ZeroRecords.{goes_on_to, stops_within}
-use Rattle.mig_stream.proofs.progress.Progress.run.Goals as goal
+use Rattle.mig_stream.proofs.progress.Progress.run_on.Goals as goal
 
 pub items-preserved : goal.items-preserved
 items-preserved g c =
@@ -51,8 +51,17 @@ returns-in_err-rest-in-Ok-clause-err g c =
     parts.0 parts.1 c.in-Ok.ensures.0 c.in-Ok.ensures.1 c.items.invariant in
     on_err c.from_residual.result _ (stops_within c.args.self.now c.take.new.self c.pass_zeros.new.self (bytes_of c.args.text) (bytes_of c.split_at.result.1) taken c.in_err-rest-in-Ok.ensures.err)
 
-pub returns-in-Err-Fault-clause-ok : goal.returns-in-Err-Fault-clause-ok
-returns-in-Err-Fault-clause-ok g c =
+pub returns-then-pause-clause-taken : goal.returns-then-pause-clause-taken
+returns-then-pause-clause-taken g c =
+    let d = c.items.self in
+    let parts = split_item d.page_size d.due (bytes_of c.items.rest) (bytes_of c.split_at.result.0) (bytes_of c.split_at.result.1) c.size-size.result
+    (c.items-test.ensures.open refl) (subst (λ (x : List ℕ). c.size-size.result ≡ size d.page_size d.due x) c.bytes-bytes.ensures c.size-size.ensures.size)
+    (subst (λ (x : List ℕ). c.size-size.result ≤ length x) c.bytes-bytes.ensures c.if-bytes-size.false) c.split_at.ensures.front c.split_at.ensures.back in
+    goes_on c.args.self.now d c.take.new.self (bytes_of c.args.text) (bytes_of c.items.rest) (bytes_of c.split_at.result.0) (bytes_of c.split_at.result.1)
+    parts.0 parts.1 c.in-Ok.ensures.0 c.in-Ok.ensures.1 c.items.invariant
+
+pub returns-in-Err-Fault-clause-stands : goal.returns-in-Err-Fault-clause-stands
+returns-in-Err-Fault-clause-stands g c =
     let d = c.items.self in
     let item : List ℕ = bytes_of c.split_at.result.0 in
     let rest : List ℕ = bytes_of c.items.rest in
@@ -61,7 +70,6 @@ returns-in-Err-Fault-clause-ok g c =
     (subst (λ (x : List ℕ). c.size-size.result ≤ length x) c.bytes-bytes.ensures c.if-bytes-size.false) c.split_at.ensures.front c.split_at.ensures.back in
     let taken : TakesAs d d.due item c.take.new.self (Err (Fault c.in-Err-Fault.fault)) =
     subst (λ (x : Stop). TakesAs d d.due item c.take.new.self (Err x)) c.in-Err-Fault.field-0-is c.in-Err-Fault.ensures in
-    let read : Reads c.args.self.now (bytes_of c.args.text) c.take.new.self rest (Bad c.in-Err-Fault.fault) =
-    subst (λ (x : StreamProgress). Reads c.args.self.now (bytes_of c.args.text) x rest (Bad c.in-Err-Fault.fault)) (sym taken.1)
-    (stops_at c.args.self.now d (bytes_of c.args.text) rest item (bytes_of c.split_at.result.1) c.in-Err-Fault.fault parts.0 parts.1 taken.0 c.items.invariant) in
-    subst (λ (x : StreamFault). Reads c.args.self.now (bytes_of c.args.text) c.take.new.self rest (Bad x)) (sym c.in-Err-Fault.fault-is) read
+    let here : Ends d rest (Bad c.in-Err-Fault.fault) = (item, bytes_of c.split_at.result.1, parts.1, parts.0, taken.0) in
+    let there : Ends c.take.new.self rest (Bad c.in-Err-Fault.fault) = subst (λ (x : StreamProgress). Ends x rest (Bad c.in-Err-Fault.fault)) (sym taken.1) here in
+    subst (λ (x : StreamFault). Ends c.take.new.self rest (Bad x)) (sym c.in-Err-Fault.fault-is) there

@@ -1,0 +1,87 @@
+-- Between two sections of a single stream no record waits: the footer ended the round of those before it.
+use Rattle.std.proofs.Common.{◌≡◌, ℕ, ◌-◌, ◌==◌, eqb, List, [], ◌∷◌, Option, Some, None, refl, sym, ap, subst, ◌∙◌}
+use Rattle.std.specs.Prelude.{slice_index, ⊤}
+use Rattle.std.specs.Option.{unwrap_or}
+use Rattle.std.proofs.lemmas.Bool.{cond_both}
+use Rattle.mig_stream.specs.declared.item.Mode.{Mode}
+use Rattle.mig_stream.specs.declared.item.Mode.TheVariants.{Single}
+use Rattle.mig_stream.specs.declared.item.Filling.TheVariants.{Zero, Normal}
+use Rattle.mig_stream.specs.declared.item.Due.{Due}
+use Rattle.mig_stream.specs.declared.item.Due.TheVariants.{FileHeader, TypeByte, ConfigLength, ConfigName, StartHead, SectionHead, RecordHead, ListEntry, BlockName, Content, Footer, Nothing}
+use Rattle.mig_stream.specs.declared.item.RecordKind.{RecordKind}
+use Rattle.mig_stream.specs.declared.item.RecordKind.TheVariants.{SizeList, Named, Continued, EndOfSection, Flush}
+use Rattle.mig_stream.specs.Fields.{be32_at}
+use Rattle.mig_stream.specs.PageRecord.{PageRecord}
+use Rattle.mig_stream.specs.Progress.{StreamProgress, start}
+use Rattle.mig_stream.specs.Items.{length_in, after_type, after_kind, after_head, open_records, after_item, after}
+use Rattle.mig_stream.specs.Reading.{AreFaultless, after_all, Front}
+use Rattle.mig_stream.proofs.Feeding.{front_item}
+use Rattle.mig_stream.proofs.Steps.{IsLater-front}
+
+-- where no section is open, no record waits
+abbrev IsEmpty : Due → List PageRecord → Type 0
+IsEmpty RecordHead records = ⊤
+IsEmpty ListEntry records = ⊤
+IsEmpty (BlockName f page) records = ⊤
+IsEmpty (Content f place) records = ⊤
+IsEmpty Footer records = ⊤
+IsEmpty d records = records ≡ []
+
+no_records : (d : Due) → IsEmpty d []
+no_records FileHeader = refl
+no_records (TypeByte before) = refl
+no_records ConfigLength = refl
+no_records (ConfigName n) = refl
+no_records StartHead = refl
+no_records SectionHead = refl
+no_records RecordHead = tt
+no_records ListEntry = tt
+no_records (BlockName f page) = tt
+no_records (Content f place) = tt
+no_records Footer = tt
+no_records Nothing = refl
+
+abbrev StaysEmpty : StreamProgress → Type 0
+StaysEmpty c = IsEmpty c.due c.records
+
+type_empty : (c : StreamProgress) (b : ℕ) → c.records ≡ [] → StaysEmpty (after_type c b)
+type_empty c b e =
+    cond_both (eqb b 7) _ _ StaysEmpty (λ _. e) (λ _.
+    cond_both (eqb b 1) _ _ StaysEmpty (λ _. e) (λ _.
+    cond_both (eqb b 2) _ _ StaysEmpty (λ _. e) (λ _.
+    cond_both (eqb b 3) _ _ StaysEmpty (λ _. e) (λ _. e))))
+
+head_empty : (c : StreamProgress) (k : Option RecordKind) (page : ℕ) → StaysEmpty c → StaysEmpty (after_head c k page)
+head_empty c None page e = e
+head_empty c (Some SizeList) page e = tt
+head_empty c (Some (Named f)) page e = tt
+head_empty c (Some (Continued f)) page e = tt
+head_empty c (Some EndOfSection) page e = tt
+head_empty c (Some Flush) page e = no_records c.due
+
+item_empty : (c : StreamProgress) (d : Due) (item : List ℕ) → c.mode ≡ Single → StaysEmpty c → IsEmpty d c.records → StaysEmpty (after_item c d item)
+item_empty c FileHeader item single e h = h
+item_empty c (TypeByte before) item single e h = type_empty c (slice_index item 0) h
+item_empty c ConfigLength item single e h = cond_both (eqb (be32_at 0 item) 0) _ _ (λ (d : Due). IsEmpty d c.records) (λ _. h) (λ _. h)
+item_empty c (ConfigName n) item single e h = h
+item_empty c StartHead item single e h = tt
+item_empty c SectionHead item single e h = tt
+item_empty c RecordHead item single e h = head_empty c _ _ e
+item_empty c ListEntry item single e h = cond_both (unwrap_or c.left 0 - length_in item == 0) RecordHead ListEntry (λ (d : Due). IsEmpty d c.records) (λ _. tt) (λ _. tt)
+item_empty c (BlockName f page) item single e h = tt
+item_empty c (Content Zero place) item single e h = tt
+item_empty c (Content Normal place) item single e h = tt
+item_empty c Footer item single e h = ap (λ (m : Mode). open_records m c.records) single
+item_empty c Nothing item single e h = e
+
+all_empty : (c : StreamProgress) (items : List (List ℕ)) → c.mode ≡ Single → StaysEmpty c → AreFaultless c items → StaysEmpty (after_all c items)
+all_empty c [] single e free = e
+all_empty c (item ∷ items) single e free =
+    let there = (IsLater-front c (after c item) item (front_item c item free.0 free.1)).same_mode ∙ single in
+    all_empty (after c item) items there (item_empty c c.due item single e e) free.2
+
+-- Behind the end byte no record waits.
+pub closed_is_empty : (m : Mode) (p limit : ℕ) (bytes : List ℕ) (to : StreamProgress) → m ≡ Single → Front (start m p limit) bytes to → to.due ≡ Nothing → to.records ≡ []
+closed_is_empty m p limit bytes to single f closed =
+    let last : StaysEmpty to = subst StaysEmpty (sym f.leads_to) (all_empty (start m p limit) f.items single refl f.are_faultless) in
+    subst (λ (d : Due). IsEmpty d to.records) closed last

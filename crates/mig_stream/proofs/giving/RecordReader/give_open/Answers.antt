@@ -1,0 +1,40 @@
+use Rattle.std.proofs.Common.{◌≡◌, length, List, [], ◌∷◌, sym, ap, subst, refl, ◌∙◌}
+use Rattle.std.specs.Prelude.{Some}
+use Rattle.std.proofs.lemmas.List.{nil_from_length}
+use Rattle.mig_stream.specs.declared.giving.Given.{Given}
+use Rattle.mig_stream.specs.PageRecord.{PageRecord}
+use Rattle.mig_stream.specs.Round.{RoundOfRecords}
+use Rattle.mig_stream.specs.Giving.{Giver, EndsSo}
+use Rattle.mig_stream.proofs.Giver.{gives_more, more_places, same_page_size, ends_so}
+use Rattle.mig_stream.proofs.giving.RecordReader.give_open.Goals as goal
+use Rattle.mig_stream.proofs.giving.RecordReader.give_open.Goals.{in-Some, in-None}
+
+pub returns-then-len-ne0-clause-gives : goal.returns-then-len-ne0-clause-gives
+returns-then-len-ne0-clause-gives g c given text so_far h =
+    let are : c.give_records.new.given.records ≡ c.args.self.now.progress.records = ap (λ (r : RoundOfRecords). r.records) c.give_records.ensures.given ∙ ap (λ (x : Giver). x.progress.records) c.self.view_is in
+    gives_more given text so_far c.args.self.now _ c.give_records.new.given.records are c.requires
+    (c.give_records.ensures.same ∙ ap (λ (x : Giver). record x.progress { records = [] }) c.self.view_is) (ap (λ (x : Giver). x.rest) c.self.view_is) (ap (λ (x : Giver). x.found) c.self.view_is) h
+
+pub returns-then-len-ne0-clause-page_size : goal.returns-then-len-ne0-clause-page_size
+returns-then-len-ne0-clause-page_size g c given text so_far h =
+    ap (λ (r : RoundOfRecords). r.page_size) c.give_records.ensures.given ∙ ap (λ (x : Giver). x.progress.page_size) c.self.view_is ∙ same_page_size given text so_far c.args.self.now h
+
+pub returns-then-len-ne0-clause-places : goal.returns-then-len-ne0-clause-places
+returns-then-len-ne0-clause-places g c given text so_far h table has =
+    let are : c.give_records.new.given.records ≡ c.args.self.now.progress.records = ap (λ (r : RoundOfRecords). r.records) c.give_records.ensures.given ∙ ap (λ (x : Giver). x.progress.records) c.self.view_is in
+    more_places given text so_far c.args.self.now c.give_records.new.given.records table are c.requires h has
+
+pub returns-clause-page_size : goal.returns-clause-page_size
+returns-clause-page_size g c given text so_far h =
+    ap (λ (r : RoundOfRecords). r.page_size) c.give_records.ensures.given ∙ ap (λ (x : Giver). x.progress.page_size) c.self.view_is ∙ same_page_size given text so_far c.args.self.now h
+
+pub returns-clause-end : goal.returns-clause-end
+returns-clause-end g c given text so_far h =
+    let are : c.give_records.new.given.records ≡ c.args.self.now.progress.records = ap (λ (r : RoundOfRecords). r.records) c.give_records.ensures.given ∙ ap (λ (x : Giver). x.progress.records) c.self.view_is in
+    let nothing : c.args.self.now.progress.records ≡ [] = nil_from_length c.args.self.now.progress.records (ap (λ (x : List PageRecord). length x) (sym are) ∙ sym c.len.ensures ∙ c.if-len-ne0.false) in
+    elim c.match-self.branch [
+      | in-Some w ↦
+          let found : c.args.self.now.found ≡ Some w.in-Some.found = ap (λ (x : Giver). x.found) (sym c.self.view_is) ∙ w.in-Some.is in
+          subst (λ (x : Given). EndsSo x given text so_far) (sym w.result-is) (ends_so given text so_far c.args.self.now w.in-Some.found c.requires nothing found h)
+      | in-None w ↦ subst (λ (x : Given). EndsSo x given text so_far) (sym w.result-is) tt
+    ]

@@ -1,0 +1,116 @@
+-- A reader that gives the page records of a single stream as they come, before their section is whole, and what it stands for.
+use Rattle.std.specs.Prelude.{◌≡◌, ◌<◌, ℕ, ◌+◌, ◌*◌, List, [], ◌∷◌, ◌++◌, length, Option, None, Some, IfSome, ⊤}
+use Rattle.mig_mem.specs.PageSize.{IsPageSize}
+use Rattle.mig_stream.specs.declared.item.Mode.TheVariants.{Single}
+use Rattle.mig_stream.specs.declared.item.StreamState.{StreamState}
+use Rattle.mig_stream.specs.declared.item.StreamState.TheVariants.{Closed}
+use Rattle.mig_stream.specs.declared.giving.Given.{Given}
+use Rattle.mig_stream.specs.declared.giving.Given.TheVariants.{Records, Section, End}
+use Rattle.mig_stream.specs.PageRecord.{PageRecord}
+use Rattle.mig_stream.specs.Progress.{StreamProgress, start}
+use Rattle.mig_stream.specs.Reading.{Settings, Front, Ends, StreamReading, IsReading}
+use Rattle.mig_stream.specs.Reader.{with_taken}
+use Rattle.mig_stream.specs.Round.{RoundOfRecords}
+
+-- what such a reader holds
+pub record Giver : Type 0 where
+  -- how far it has read; its records and rounds are those that were not given yet
+  pub progress : StreamProgress
+  -- the bytes after it
+  pub rest : List ℕ
+  -- how these stand, once it reads no further
+  pub found : Option StreamState
+  -- what it gave last
+  pub given : RoundOfRecords
+
+-- the records that were given so far: those of each section that is whole, and those of the one that is open
+pub record GivenSoFar : Type 0 where
+  pub sections : List (List PageRecord)
+  pub open_section : List PageRecord
+
+abbrev pub none_given : GivenSoFar
+none_given = record { sections = []; open_section = [] }
+
+-- more records of the open section
+abbrev pub with_more : List PageRecord → GivenSoFar → GivenSoFar
+with_more records so_far = record so_far { open_section = so_far.open_section ++ records }
+
+-- the last records of the open section
+abbrev pub with_last : List PageRecord → GivenSoFar → GivenSoFar
+with_last records so_far = record { sections = so_far.sections ++ (so_far.open_section ++ records) ∷ []; open_section = [] }
+
+-- what giving these records adds
+abbrev pub with_given : Given → List PageRecord → GivenSoFar → GivenSoFar
+with_given Records records so_far = with_more records so_far
+with_given Section records so_far = with_last records so_far
+with_given (End found) records so_far = so_far
+
+-- ---- what was given, before what was not
+
+-- records before those of the round that came first, which is the open one where none is whole
+abbrev pub rounds_behind : List PageRecord → List (List PageRecord) → List (List PageRecord)
+rounds_behind before [] = []
+rounds_behind before (round ∷ rounds) = (before ++ round) ∷ rounds
+
+abbrev pub records_behind : List PageRecord → List (List PageRecord) → List PageRecord → List PageRecord
+records_behind before [] records = before ++ records
+records_behind before (round ∷ rounds) records = records
+
+abbrev pub with_open : List PageRecord → StreamProgress → StreamProgress
+with_open before c = record c { records = records_behind before c.rounds c.records; rounds = rounds_behind before c.rounds }
+
+-- how far a text has been read, with all records
+abbrev pub all_read : GivenSoFar → StreamProgress → StreamProgress
+all_read so_far c = with_taken so_far.sections (with_open so_far.open_section c)
+
+-- ---- what the reader stands for
+
+-- The reader was made with these settings and this text, and gave this so far.
+pub record Gives (given : Settings) (text : List ℕ) (so_far : GivenSoFar) (r : Giver) : Type 0 where
+  pub is_single : given.mode ≡ Single
+  pub is_page_size : IsPageSize given.page_size
+  pub front : List ℕ
+  pub has_text : text ≡ front ++ r.rest
+  pub leads : Front (start given.mode given.page_size given.limit) front (all_read so_far r.progress)
+  pub ends : IfSome r.found (λ found. Ends (all_read so_far r.progress) r.rest found)
+
+-- A call takes this step: whatever the reader gave before it, it has given that with the step done.
+abbrev pub GivesOn : (GivenSoFar → GivenSoFar) → Giver → Giver → Type 0
+GivesOn step old new = (given : Settings) (text : List ℕ) (so_far : GivenSoFar) → Gives given text so_far old → Gives given text (step so_far) new
+
+-- ---- how much is left
+
+-- how many records and rounds wait to be given
+abbrev pub waiting_in : StreamProgress → ℕ
+waiting_in c = length c.records + length c.rounds
+
+abbrev pub to_go : Option StreamState → ℕ
+to_go None = 1
+to_go (Some found) = 0
+
+-- no more calls than so many give something before the end
+abbrev pub left : Giver → ℕ
+left r = 2 * length r.rest + waiting_in r.progress + to_go r.found
+
+-- a call that doesn't give the end leaves less to be given
+abbrev pub LeavesLess : Given → Giver → Giver → Type 0
+LeavesLess (End found) old new = ⊤
+LeavesLess other old new = left new < left old
+
+-- ---- what it tells
+
+-- what is said of a reader by what it stands for alone
+abbrev pub GiverTells : Giver → (Settings → List ℕ → GivenSoFar → Type 0) → Type 0
+GiverTells r says = (given : Settings) (text : List ℕ) (so_far : GivenSoFar) → Gives given text so_far r → says given text so_far
+
+-- Where it gives no more, this is the reading of the text: its rounds are the sections that were given. A closed text leaves none open.
+pub record HasReading (given : Settings) (text : List ℕ) (so_far : GivenSoFar) (found : StreamState) : Type 0 where
+  pub reading : StreamReading
+  pub is_reading : IsReading given text reading
+  pub has_sections : reading.rounds ≡ so_far.sections
+  pub has_state : reading.state ≡ found
+  pub has_none_open : found ≡ Closed → so_far.open_section ≡ []
+
+abbrev pub EndsSo : Given → Settings → List ℕ → GivenSoFar → Type 0
+EndsSo (End found) given text so_far = HasReading given text so_far found
+EndsSo other given text so_far = ⊤

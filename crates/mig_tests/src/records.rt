@@ -1,0 +1,167 @@
+//! The reader that gives page records as they come, beside the one that keeps those of a section: they have the same records in the same
+//! sections, also where each call has its first allocation refused, where records of zero pages are many, and where a text is cut.
+
+use crate::building::{finished, part, two_rounds};
+use mig_fixtures::{at, places_of, set, zeroed};
+use mig_load::load_single;
+use mig_mem::{MAX_TOTAL, Memory, NoMemory, PAGE_SIZE_4K, Place, first_difference};
+use mig_refusing::Refusing;
+use mig_stream::{Given, Mode, RecordReader, StreamReader, StreamRound, StreamWriter};
+use std::alloc::{AllocGlobal, Allocator};
+use std::process::Abort;
+
+/// A block of many pages.
+const MANY: [(&str, u64); 1] = [("pc.ram", 3000)];
+
+// Reads on with the first allocation refused, and then with memory.
+fn read_on(rt: &impl Abort, heap: &Refusing, reader: &mut RecordReader<&Refusing>) -> Given {
+    heap.refuse(1);
+    let answer = reader.read_on();
+    let is_waiting = heap.is_waiting();
+    heap.refuse(0);
+    match answer {
+        Ok(gave) => gave,
+        Err(NoMemory) => {
+            assert!(rt; !is_waiting);
+            reader.read_on().expect(rt, "what was refused")
+        }
+    }
+}
+
+// Whether what was given are the records of a section from one on.
+fn has_records<A: Allocator, B: Allocator>(
+    section: &StreamRound<A>,
+    from: usize,
+    given: &StreamRound<B>,
+) -> bool {
+    for i in 0..given.len() {
+        let k = from.saturating_add(i);
+        if k >= section.len() {
+            return false;
+        }
+        if section.place(k) != given.place(i) || section.content(k) != given.content(i) {
+            return false;
+        }
+    }
+    true
+}
+
+// Asserts that a reader gives a section next. Tells in how many calls.
+fn assert_section<A: Allocator>(
+    rt: &impl Abort,
+    heap: &Refusing,
+    reader: &mut RecordReader<&Refusing>,
+    section: &StreamRound<A>,
+) -> u64 {
+    let mut count = 0usize;
+    for calls in 1..1000u64 {
+        let gave = read_on(rt, heap, reader);
+        assert!(rt; has_records(section, count, reader.given()));
+        count = count.saturating_add(reader.given().len());
+        if gave == Given::Section {
+            assert_eq!(rt; count, section.len());
+            return calls;
+        }
+        assert!(rt; gave == Given::Records);
+    }
+    panic!(rt; "the section never ends");
+}
+
+// Asserts that a reader gives the sections that another has, and then none. Tells in how many calls it gave the last but one.
+fn assert_sections<A: Allocator + Copy>(
+    rt: &impl Abort,
+    heap: &Refusing,
+    reader: &mut RecordReader<&Refusing>,
+    kept: &mut StreamReader<A>,
+    sections: u64,
+) -> u64 {
+    let mut last = 0u64;
+    let mut before = 0u64;
+    for _ in 0..sections {
+        let Ok(Some(section)) = kept.take_round() else {
+            panic!(rt; "no section");
+        };
+        before = last;
+        last = assert_section(rt, heap, reader, &section);
+    }
+    let Ok(None) = kept.take_round() else {
+        panic!(rt; "a section more");
+    };
+    before
+}
+
+// The same of the two readers of a text, which stands as the other says. A cut text leaves records of a section without its end.
+fn assert_given(rt: &(impl AllocGlobal + Abort), text: &[u8], sections: u64) -> u64 {
+    let heap = Refusing::new(rt.alloc(), 0);
+    let kept = StreamReader::of_text(rt.alloc(), Mode::Single, PAGE_SIZE_4K, MAX_TOTAL, text);
+    let mut kept = kept.expect(rt, "a reader");
+    let mut reader = RecordReader::new(&heap, PAGE_SIZE_4K, MAX_TOTAL, text);
+    assert!(rt; reader.given().len() == 0 && reader.table().is_none());
+    let calls = assert_sections(rt, &heap, &mut reader, &mut kept, sections);
+    assert!(rt; reader.table().is_some() == kept.table().is_some());
+    for _ in 0..3 {
+        if read_on(rt, &heap, &mut reader) == Given::End(kept.state()) {
+            assert!(rt; read_on(rt, &heap, &mut reader) == Given::End(kept.state()));
+            return calls;
+        }
+    }
+    panic!(rt; "the text never ends");
+}
+
+#[test]
+fn two_rounds_given(rt: HostRuntime) {
+    assert_given(&rt, &two_rounds(&rt), 4);
+}
+
+// Without its end byte, without that of END, and without the footer of the second PART.
+#[test]
+fn cut_text_given(rt: HostRuntime) {
+    let text = two_rounds(&rt);
+    for (cut, sections) in [(1usize, 4u64), (2, 3), (20, 2)] {
+        let len = text.len().saturating_sub(cut);
+        assert_given(&rt, text.get(..len).expect(&rt, "a front"), sections);
+    }
+}
+
+// All pages of the large block.
+fn all_places(rt: &(impl AllocGlobal + Abort)) -> Vec<Place> {
+    let mut places = Vec::new(rt.alloc());
+    for page in 0..3000u64 {
+        assert!(rt; places.push(at(0, page)).is_ok());
+    }
+    places
+}
+
+// The text of a round of all its pages.
+fn text_of_all(rt: &(impl AllocGlobal + Abort), image: &Memory) -> Vec<u8> {
+    let places = all_places(rt);
+    let dirty = places_of(rt.alloc(), image.table(), &places).expect(rt, "a set");
+    let mut writer = StreamWriter::new(rt.alloc(), image.table()).expect(rt, "a writer");
+    assert!(rt; part(rt, &mut writer, image, &dirty) == Ok(()));
+    finished(rt, writer)
+}
+
+// The large block with a byte in its last page.
+fn large(rt: &(impl AllocGlobal + Abort)) -> Memory {
+    let mut image = zeroed(rt.alloc(), &MANY).expect(rt, "a memory");
+    assert!(rt; set(&mut image, 0, 3000 * 4096 - 1, 7));
+    image
+}
+
+// Records of many zero pages don't wait for each other.
+#[test]
+fn many_zero_pages_given(rt: HostRuntime) {
+    let text = text_of_all(&rt, &large(&rt));
+    assert!(rt; assert_given(&rt, &text, 3) > 2);
+}
+
+#[test]
+fn many_zero_pages_loaded(rt: HostRuntime) {
+    let image = large(&rt);
+    let text = text_of_all(&rt, &image);
+    let loaded = load_single(rt.alloc(), PAGE_SIZE_4K, &text, MAX_TOTAL);
+    assert!(rt; loaded.verdict == Ok(()) && loaded.rounds == 3);
+    let memory = loaded.memory.expect(&rt, "a memory");
+    assert!(rt; memory.table().same(image.table()));
+    assert!(rt; first_difference(&memory, &image) == None);
+}
