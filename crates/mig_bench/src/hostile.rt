@@ -90,6 +90,7 @@ fn report_small<R: Clock + Print + Files + AllocGlobal>(rt: &R, meter: Meter) ->
         naming_text(meter.alloc),
     )?;
     report_load_of(rt, meter, "the same, cut", cut(naming_text(meter.alloc)))?;
+    report_both(rt, meter, "zeros, mirrored ids", mirrored_text(meter.alloc))?;
     report_both(rt, meter, "zeros with CONTINUE", zeros_text(meter.alloc))
 }
 
@@ -305,6 +306,15 @@ fn naming_text(alloc: Global) -> Option<Vec<u8>> {
     with_part(alloc, &table, &records)
 }
 
+// A PART of zero records of blocks in turn. Their ids differ in the first two bytes alone, and in the
+// last two, which mirror them. If a table's key of an id lets its last bytes cancel the first ones,
+// all these ids share a key, and each record takes a long search.
+fn mirrored_text(alloc: Global) -> Option<Vec<u8>> {
+    let table = mirrored_table(alloc)?;
+    let records = mirrored_records(alloc)?;
+    with_part(alloc, &table, &records)
+}
+
 // A PART of FLUSH records, which end rounds without pages.
 fn flushes_text(alloc: Global) -> Option<Vec<u8>> {
     let table = table_of_blocks(alloc, 1)?;
@@ -342,7 +352,36 @@ fn id_of(block: usize) -> [u8; 3] {
     [b'r', DIGITS[block / 16 % 16], DIGITS[block % 16]]
 }
 
-// Zero page records of the first pages of the blocks of that table in turn, each with the id.
+// The table of as many blocks as there may be, of a page each, with mirrored ids.
+fn mirrored_table(alloc: Global) -> Option<Table> {
+    let mut list = Vec::new(alloc);
+    for block in 0..BLOCKS {
+        let id = Vec::from_slice(alloc, &mirrored_id(block)).ok()?;
+        list.push((id, 1)).ok()?;
+    }
+    Table::new(alloc, PAGE_SIZE_4K, list).ok()
+}
+
+// The id of a block of that table.
+fn mirrored_id(block: usize) -> [u8; 10] {
+    let (a, b) = (DIGITS[block / 16 % 16], DIGITS[block % 16]);
+    [b, a, b'x', b'x', b'x', b'x', b'x', b'x', a, b]
+}
+
+// Zero page records of the first pages of the blocks with mirrored ids in turn, each with the id.
+fn mirrored_records(alloc: Global) -> Option<Vec<u8>> {
+    let mut records = Vec::new(alloc);
+    for i in 0..NAMING_RECORDS {
+        records
+            .extend_from_slice(&[0, 0, 0, 0, 0, 0, 0, 0x02, 10])
+            .ok()?;
+        records.extend_from_slice(&mirrored_id(i)).ok()?;
+        records.push(0).ok()?;
+    }
+    Some(records)
+}
+
+// Zero page records of the first pages of the blocks with short ids in turn, each with the id.
 fn naming_records(alloc: Global) -> Option<Vec<u8>> {
     let mut records = Vec::new(alloc);
     for i in 0..NAMING_RECORDS {

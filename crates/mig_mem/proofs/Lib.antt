@@ -20,3 +20,4 @@ pub mod Sets
 pub mod Counts
 pub mod Differing
 pub mod Walks
+pub mod BytePuts

@@ -17,3 +17,4 @@ pub mod Leaves
 pub mod BlockPages
 pub mod Buffers
 pub mod Marks
+pub mod Puts

@@ -1,12 +1,16 @@
 //! What a sender asks of a guest's memory (`GuestPages`) and a loader (`GuestTarget`), whoever keeps it. Callers may implement both.
 
-ghost use Rattle.std.specs.Prelude.{◌≡◌, ◌↔◌, length, IfSome, IsSome};
+ghost use Rattle.std.specs.Prelude.{◌≡◌, ◌↔◌, ◌<◌, All, map, length, IfSome, IsSome};
 ghost use Rattle.std.specs.Option.{option_copied};
-ghost use Rattle.mig_mem.specs.Place.{IsPlace};
+ghost use Rattle.std.specs.Thread.{IsSync};
 ghost use Rattle.mig_mem.specs.Image.{Image, IsImage, content, zero_page, with_page};
+ghost use Rattle.mig_mem.specs.Place.{IsPlace};
+ghost use Rattle.mig_mem.specs.Puts.{round_page, HasPageSize};
+ghost use Rattle.mig_mem.specs.Round.{with_round};
 
-use crate::{Memory, Place, Table};
+use crate::{Memory, Place, RoundPage, Table};
 use std::alloc::Allocator;
+use std::thread::Threads;
 
 /// The memory of a guest that is read page by page: a `Memory`, or a `LentMemory` of bytes that another owns. It is one image
 /// as long as it is borrowed.
@@ -86,4 +90,17 @@ impl<A: Allocator> GuestTarget for Memory<A> {
     fn put_zero_page(&mut self, place: Place) {
         Memory::put_zero_page(self, place);
     }
+}
+
+/// The memory of a guest into which one call puts all pages of a round, by several threads.
+pub trait ThreadedTarget: GuestTarget {
+    /// Writes the pages of a round by at most `threads` threads, the caller's thread among them. All
+    /// others have ended when the call returns. If a page comes more than once, the last one counts.
+    /// `Table::holds` is the test of each place.
+    fn put_pages<R: Threads + Sync>(&mut self, rt: &R, threads: u64, pages: &[RoundPage<'_>])
+        requires sync { IsSync R.row }
+        requires threads { 0 < threads }
+        requires places { All (λ x. IsPlace (Self.image self.old).table x.place) pages.now }
+        requires sizes { All (HasPageSize (Self.image self.old).table.page_size) pages.now }
+        ensures { Self.image self.new ≡ with_round (Self.image self.old) (map (round_page (Self.image self.old).table.page_size) pages.now) };
 }

@@ -1,16 +1,17 @@
 //! A guest's memory in bytes that another owns, lent for writing: callers of `InPlaceLoader` and `Target::over` load into one.
 
-ghost use Rattle.std.specs.Prelude.{◌≡◌, ◌↔◌, ◌+◌, ◌*◌, ◌≤◌, length, IfOk, IfErr, IsOk, IsTrue};
-ghost use Rattle.mig_mem.specs.PageSize.{IsPageSize};
-ghost use Rattle.mig_mem.specs.Image.{zero_page};
-ghost use Rattle.mig_mem.specs.Parts.{ChangesPart};
+ghost use Rattle.std.specs.Prelude.{◌≡◌, ◌↔◌, ◌*◌, ◌<◌, length, map, All, IfOk, IfErr, IsOk, IsTrue};
 ghost use Rattle.mig_mem.specs.Lent.{mut_lent_bytes, lent_image, FitTable};
+ghost use Rattle.mig_mem.specs.Puts.{round_page, HasPageSize};
+ghost use Rattle.mig_mem.specs.Round.{with_round};
 
-use crate::pages::zeros;
-use crate::parts::{part_of, write_part};
-use crate::{GuestTarget, Place, Table};
+use crate::pages::clear_part;
+use crate::parts::write_part;
+use crate::putting::put_blocks;
+use crate::{GuestTarget, Place, RoundPage, Table, ThreadedTarget};
 use std::alloc::{Allocator, Global};
 use std::marker::Model;
+use std::thread::Threads;
 
 /// The memory of a guest in the caller's own bytes, so that a guest is loaded where it is to run: one slice for each block, in the
 /// table's order, each with the block's pages one after another. Nothing is copied and no memory is taken. What the bytes hold at
@@ -47,17 +48,6 @@ fn fit<A: Allocator>(table: &Table<A>, blocks: &[&mut [u8]]) -> bool
     true
 }
 
-// Makes a page of a block's bytes zeros. A page that is zeros isn't written.
-fn clear_part(bytes: &mut [u8], size: u64, page: u64)
-    requires size { IsPageSize size }
-    requires room { page * size + size ≤ length bytes.old }
-    ensures { ChangesPart size bytes.old bytes.new page (zero_page size) }
-{
-    if part_of(bytes, size, page) != zeros(size) {
-        write_part(bytes, size, page, zeros(size));
-    }
-}
-
 impl<'a, 'b, A: Allocator> LentMemoryMut<'a, 'b, A> {
     /// The memory that these bytes are; or, exactly where they don't fit the table, the slices back as they were.
     pub fn new(
@@ -72,6 +62,27 @@ impl<'a, 'b, A: Allocator> LentMemoryMut<'a, 'b, A> {
             return Err(blocks);
         }
         Ok(LentMemoryMut { table, blocks })
+    }
+
+    /// Writes the pages of a round by at most `threads` threads, the caller's thread among them. All
+    /// others have ended when the call returns.
+    ///
+    /// If a page comes more than once, the last one counts. A page whose place is outside the table
+    /// isn't written.
+    ///
+    /// The blocks are written one after another. A thread has about 1,024 pages of a block or more,
+    /// and no more threads are used than the round has pages for. So a round or a block of fewer
+    /// than 2,048 pages is written by the caller's thread alone. Each thread goes through all pages
+    /// of the round, once for each block.
+    pub fn put_pages<R: Threads + Sync>(&mut self, rt: &R, threads: u64, pages: &[RoundPage<'_>])
+        requires threads { 0 < threads }
+        requires sizes { All (HasPageSize self.old.table.page_size) pages.now }
+        ensures { self.new ≡ with_round self.old (map (round_page self.old.table.page_size) pages.now) }
+    {
+        // for what `len` tells of the table (`IsTable`): its page size is one of the two
+        let _len = self.table.len();
+        let size = self.table.page_size();
+        put_blocks(rt, self.blocks, size, threads, pages);
     }
 
     /// Gives slices whose bytes are the memory. They are those handed to `new`, each in its place, which no contract says.
@@ -102,5 +113,11 @@ impl<'a, 'b, A: Allocator> GuestTarget for LentMemoryMut<'a, 'b, A> {
         let _len = self.table.len();
         let size = self.table.page_size();
         clear_part(self.blocks[place.block], size, place.page);
+    }
+}
+
+impl<'a, 'b, A: Allocator> ThreadedTarget for LentMemoryMut<'a, 'b, A> {
+    fn put_pages<R: Threads + Sync>(&mut self, rt: &R, threads: u64, pages: &[RoundPage<'_>]) {
+        LentMemoryMut::put_pages(self, rt, threads, pages);
     }
 }

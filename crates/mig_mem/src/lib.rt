@@ -19,6 +19,7 @@ mod page_size;
 mod pages;
 mod parts;
 mod place;
+mod putting;
 mod refusal;
 mod slots;
 mod table;
@@ -27,7 +28,7 @@ pub use comparing::differences;
 pub use difference::first_difference;
 pub use dirty::Dirty;
 pub use fault::{NoMemory, TableFault};
-pub use guest::{GuestPages, GuestTarget};
+pub use guest::{GuestPages, GuestTarget, ThreadedTarget};
 pub use laws::{
     all_pages_make_memory, images_make_rounds, lent_pages_are_parts, one_page_more, one_round_more,
     rounds_begin_with_zeros, rounds_go_onto, rounds_make_memory, table_is_lawful,
@@ -38,5 +39,6 @@ pub use lent_mut::LentMemoryMut;
 pub use memory::Memory;
 pub use page_size::{PAGE_SIZE_4K, PAGE_SIZE_8K, is_page_size};
 pub use place::Place;
+pub use putting::RoundPage;
 pub use refusal::is_id;
 pub use table::{MAX_BLOCKS, MAX_ID_LEN, MAX_TOTAL, Table};

@@ -1,9 +1,10 @@
 //! The pages of a block, of which only those have bytes that were written. `Memory` keeps one such value for each block.
 
-ghost use Rattle.std.specs.Prelude.{◌≡◌, ◌*◌, ◌^◌, ◌<◌, ◌≤◌, length, replicate, slice_set, IfOk, IsTrue, vec_capacity};
+ghost use Rattle.std.specs.Prelude.{◌≡◌, ◌+◌, ◌*◌, ◌^◌, ◌<◌, ◌≤◌, length, replicate, slice_set, IfOk, IsTrue, vec_capacity};
 ghost use Rattle.mig_mem.specs.PageSize.{IsPageSize};
 ghost use Rattle.mig_mem.specs.Image.{zero_page};
 ghost use Rattle.mig_mem.specs.BlockPages.{page_at, with_content};
+ghost use Rattle.mig_mem.specs.Parts.{ChangesPart};
 
 use crate::NoMemory;
 use crate::parts::{append, append_with, part_of, write_in_part, write_part};
@@ -52,6 +53,17 @@ fn front(zeros: &[u8], len: u64) -> &[u8]
     ensures { result.now ≡ replicate len 0 }
 {
     &zeros[..len as usize]
+}
+
+/// Makes a page of a block's bytes zeros. A page that is zeros isn't written.
+pub(crate) fn clear_part(bytes: &mut [u8], size: u64, page: u64)
+    requires size { IsPageSize size }
+    requires room { page * size + size ≤ length bytes.old }
+    ensures { ChangesPart size bytes.old bytes.new page (zero_page size) }
+{
+    if part_of(bytes, size, page) != zeros(size) {
+        write_part(bytes, size, page, zeros(size));
+    }
 }
 
 impl<A: Allocator + Copy> Pages<A> {

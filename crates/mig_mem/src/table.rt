@@ -21,8 +21,9 @@ pub const MAX_ID_LEN: usize = 255;
 /// The most bytes that all blocks have together.
 pub const MAX_TOTAL: u64 = 1 << 40;
 
-// What a key is multiplied by for each eight bytes: an odd number with bits of all places.
-const KEY_FACTOR: u64 = 0x9E37_79B9_7F4A_7C15;
+// What each word of a key is multiplied by: an odd number with bits of all places. It has no factor
+// in common with 2^64 - 1, which a word of one byte repeated has nearly all factors of.
+const KEY_FACTOR: u64 = 0xBF58_476D_1CE4_E5B9;
 
 // Where a block's id lies in the buffer of all ids, and how many pages the block has.
 #[derive(Clone, Copy)]
@@ -72,18 +73,28 @@ fn id_of<'a>(ids: &'a [u8], spans: &[Span], i: usize) -> &'a [u8] {
     rest.get(..span.len).unwrap_or_default()
 }
 
-// A number made of all bytes of an id. Ids of fewer than eight bytes have keys of their own, since no id has a zero byte; of longer
-// ones it takes intent to have the same key.
+// A number made of all bytes of an id. Ids of fewer than eight bytes have keys of their own: no id
+// has a zero byte, and the factor is odd. The bytes behind the last whole word are multiplied too
+// before a word meets them, so no plain choice of bytes cancels others: it takes a search to find
+// two ids that share a key.
 fn key_of(id: &[u8]) -> u64 {
     let (words, rest) = id.as_chunks::<8>();
-    let mut key = 0;
+    let mut tail = 0;
     for byte in rest {
-        key = key << 8 | u64::from(*byte);
+        tail = tail << 8 | u64::from(*byte);
     }
+    let mut key = tail.wrapping_mul(KEY_FACTOR);
     for word in words {
-        key = (key ^ u64::from_le_bytes(*word)).wrapping_mul(KEY_FACTOR);
+        key = folded(key ^ u64::from_le_bytes(*word));
     }
     key
+}
+
+// The halves of a number's product with the factor, one folded into the other: each bit changes
+// bits above it and below it.
+fn folded(number: u64) -> u64 {
+    let high = (u128::from(number) * u128::from(KEY_FACTOR)) >> 64;
+    high as u64 ^ number.wrapping_mul(KEY_FACTOR)
 }
 
 // The order of a block's id and of another id: that of their keys, and where these are equal that of the ids.

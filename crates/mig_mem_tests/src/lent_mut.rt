@@ -35,8 +35,8 @@ fn counting_page(rt: &(impl AllocGlobal + Abort), size: u64) -> Vec<u8> {
     page
 }
 
-// Some bytes one after another.
-fn joined(rt: &(impl AllocGlobal + Abort), parts: &[&[u8]]) -> Vec<u8> {
+/// Some bytes one after another.
+pub(crate) fn joined(rt: &(impl AllocGlobal + Abort), parts: &[&[u8]]) -> Vec<u8> {
     let mut bytes = Vec::new(rt.alloc());
     for part in parts {
         assert!(rt; bytes.extend_from_slice(part).is_ok());
@@ -92,8 +92,8 @@ fn assert_given_back(rt: &impl Abort, blocks: &mut [&mut [u8]], first: &[u8], se
     assert!(rt; is_same(blocks[1], second));
 }
 
-// Two values as an array.
-fn both<T: Drop>(one: T, other: T) -> [T; 2] {
+/// Two values as an array.
+pub(crate) fn both<T: Drop>(one: T, other: T) -> [T; 2] {
     [one, other]
 }
 

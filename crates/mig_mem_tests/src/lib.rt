@@ -9,3 +9,5 @@ mod compared;
 mod lent_mut;
 #[cfg(test)]
 mod refused;
+#[cfg(test)]
+mod threaded;

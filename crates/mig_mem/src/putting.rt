@@ -1,0 +1,121 @@
+//! Writes the pages of a round into lent blocks by several threads. Each thread has a part of a
+//! block for itself.
+//!
+//! Each thread goes through all pages of the round, in their order, and writes those that lie in
+//! its part. So the pages need no sorting and no memory, and of a page that comes twice the last
+//! one counts.
+
+ghost use Rattle.std.specs.Prelude.{ℕ, [], ◌∷◌, ◌≡◌, ◌/◌, ◌<◌, ◌≤◌, ◌^◌, length, map, All};
+ghost use Rattle.mig_mem.specs.Lent.{mut_lent_bytes, bytes_of_block, lent_image, FitTable};
+ghost use Rattle.mig_mem.specs.PageSize.{IsPageSize};
+ghost use Rattle.mig_mem.specs.Puts.{round_page, HasPageSize, PutsAll};
+ghost use Rattle.mig_mem.specs.RamTable.{RamTable};
+ghost use Rattle.mig_mem.specs.Round.{with_round};
+
+use crate::Place;
+use crate::pages::clear_part;
+use crate::parts::write_part;
+use std::thread;
+use std::thread::Threads;
+
+// To start a thread for fewer pages than these takes longer than to write them.
+const FEWEST: u64 = 1024;
+
+/// A page of a round, as `LentMemoryMut::put_pages` takes it.
+#[derive(Clone, Copy)]
+pub struct RoundPage<'a> {
+    /// Where the page is written.
+    pub place: Place,
+    /// The bytes of the page, as many as the page size. `None` is a page of zeros.
+    pub content: Option<&'a [u8]>,
+}
+
+// Returns how many pages of a block each thread has: of a block of `pages` pages, for a round of
+// `round` pages.
+fn pages_each(pages: u64, round: u64, threads: u64) -> u64
+    requires { 0 < threads }
+    ensures { (0 < result) × (result ≤ 2 ^ 40) }
+{
+    let useful = (pages.min(round) / FEWEST).max(1).min(threads);
+    pages.div_ceil(useful).max(1).min(1 << 40)
+}
+
+// Writes a page where it lies in a part of a block. The part begins at page `first` of the block.
+fn put_one(part: &mut [u8], size: u64, block: usize, first: u64, page: &RoundPage<'_>)
+    requires size { IsPageSize size }
+    requires len { HasPageSize size page.now }
+    ensures { PutsAll size block first part.old part.new (page.now ∷ []) }
+{
+    let count = part.len() as u64 / size;
+    let place = page.place;
+    if place.block == block && first <= place.page && place.page - first < count {
+        let i = place.page - first;
+        match page.content {
+            Some(bytes) => write_part(part, size, i, bytes),
+            None => clear_part(part, size, i),
+        }
+    }
+}
+
+// Writes the pages that lie in a part of a block. The part begins at page `first` of the block.
+fn put_within(part: &mut [u8], size: u64, block: usize, first: u64, pages: &[RoundPage<'_>])
+    requires size { IsPageSize size }
+    requires sizes { All (HasPageSize size) pages.now }
+    ensures { PutsAll size block first part.old part.new pages.now }
+{
+    for page in pages {
+        put_one(part, size, block, first, page);
+    }
+}
+
+// Writes the pages that lie in block `at`, by a thread for each `count` pages of the block.
+fn put_block<R: Threads + Sync>(
+    rt: &R,
+    block: &mut [u8],
+    at: usize,
+    size: u64,
+    count: u64,
+    pages: &[RoundPage<'_>],
+)
+    requires size { IsPageSize size }
+    requires count { (0 < count) × (count ≤ 2 ^ 40) }
+    requires sizes { All (HasPageSize size) pages.now }
+    ensures { PutsAll size at 0 block.old block.new pages.now }
+{
+    let chunk = (count * size) as usize;
+    thread::for_each_chunk_mut(
+        rt,
+        block,
+        chunk,
+        &|start: usize, part: &mut [u8]|
+            requires size { IsPageSize size }
+            requires sizes { All (HasPageSize size) pages.now }
+            ensures { PutsAll size at (start / size) part.entry.now part.exit.now pages.entry.now }
+        { put_within(part, size, at, start as u64 / size, pages) },
+    );
+}
+
+/// Writes the pages that lie in the blocks, one block after another, each by at most `threads`
+/// threads.
+pub(crate) fn put_blocks<R: Threads + Sync>(
+    rt: &R,
+    blocks: &mut [&mut [u8]],
+    size: u64,
+    threads: u64,
+    pages: &[RoundPage<'_>],
+)
+    requires size { IsPageSize size }
+    requires threads { 0 < threads }
+    requires sizes { All (HasPageSize size) pages.now }
+    ensures len { length blocks.new ≡ length blocks.old }
+    ensures puts { (k : ℕ) → k < length blocks.old
+        → PutsAll size k 0 (bytes_of_block (mut_lent_bytes blocks.old) k) (bytes_of_block (mut_lent_bytes blocks.new) k) pages.now }
+    ensures image { (table : RamTable) → FitTable table (mut_lent_bytes blocks.old) → table.page_size ≡ size
+        → lent_image table (mut_lent_bytes blocks.new) ≡ with_round (lent_image table (mut_lent_bytes blocks.old)) (map (round_page size) pages.now) }
+{
+    let round = pages.len() as u64;
+    for b in 0..blocks.len() {
+        let count = pages_each(blocks[b].len() as u64 / size, round, threads);
+        put_block(rt, blocks[b], b, size, count, pages);
+    }
+}
