@@ -1,10 +1,12 @@
 -- What the rule says of the history of draws.
-use Rattle.std.proofs.Common.{ℕ, ◌+◌, eqb, sym, ◌∙◌, arith}
+use Rattle.std.proofs.Common.{ℕ, suc, ◌+◌, ◌≤◌, List, [], ◌∷◌, leb, eqb, sym, ◌∙◌, arith}
+use Rattle.std.proofs.lemmas.Bool.Decides.{nat_tests}
 use Rattle.mig_deal.specs.declared.rule.Holding.{Holding}
+use Rattle.mig_deal.specs.declared.rule.Terms.{Terms}
 use Rattle.mig_deal.specs.Deal.{times}
-use Rattle.mig_deal.specs.Rule.{numbers_of}
-use Rattle.mig_deal.specs.History.{EachNumberOnce, EachNumberHasOneSeat, WordStaysBelow}
-use Rattle.mig_deal.proofs.Counts.{count_by-flat_map, each_once, one_alone}
+use Rattle.mig_deal.specs.Rule.{numbers_of, last_count, IsWorkButNewest}
+use Rattle.mig_deal.specs.History.{EachNumberOnce, EachNumberHasOneSeat, WordStaysBelow, SeatsStopAtLast}
+use Rattle.mig_deal.proofs.Counts.{count_by-flat_map, count_by-cons, each_once, one_alone}
 use Rattle.mig_deal.proofs.Steps.{stays_below}
 
 pub each_number_once : EachNumberOnce
@@ -23,3 +25,18 @@ each_number_has_one_seat terms word dealt i below =
 
 pub word_stays_below : WordStaysBelow
 word_stays_below = stays_below
+
+one_last : (terms : Terms) (drawn : List ℕ) → IsWorkButNewest terms drawn → last_count terms drawn ≤ 1
+one_last terms [] stops = omega arith
+one_last terms (x ∷ []) stops = let s = count_by-cons (λ y. leb (terms.base + terms.batches) y) x [] in grind (arith, nat_tests)
+one_last terms (x ∷ y ∷ ys) stops =
+    let s = count_by-cons (λ z. leb (terms.base + terms.batches) z) x (y ∷ ys) in
+    let is_work = stops 0 (omega arith) in
+    let rest = one_last terms (y ∷ ys) (λ place before. stops (suc place) (omega arith)) in
+    grind (arith, nat_tests)
+
+pub seats_stop_at_last : SeatsStopAtLast
+seats_stop_at_last terms word dealt place seat at = let stops = (dealt.lawful place seat at).stops in record {
+  one_last = one_last terms seat.drawn stops;
+  nothing_after = stops;
+}

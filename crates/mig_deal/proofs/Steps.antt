@@ -1,17 +1,18 @@
 -- Each step of a deal keeps its rule, and what a seat that stands for all seats knows at the end.
-use Rattle.std.proofs.Common.{◌≡◌, ℕ, ◌+◌, ◌-◌, ◌%◌, ◌^◌, ◌<◌, ◌≤◌, Bool, true, cond, leb, ⊎_elim, List, [], ◌∷◌, ◌++◌, All, get_or, set, sym, refl, ap, ◌∙◌, subst, arith, append_assoc, append-nil, length-set, get_or-set_same}
+use Rattle.std.proofs.Common.{◌≡◌, ℕ, ◌+◌, ◌-◌, ◌%◌, ◌^◌, ◌<◌, ◌≤◌, Bool, true, cond, leb, ⊎_elim, List, [], ◌∷◌, ◌++◌, All, get_or, set, sym, refl, ap, ◌∙◌, subst, arith, append_assoc, append-nil, length, length-append, length-set, get_or-set_same}
 use Rattle.std.specs.Prelude.{count_by, sum_by, flat_map}
 use Rattle.std.specs.List.{range_with_len}
 use Rattle.std.proofs.lemmas.List.Sums.{sum_by_push}
+use Rattle.std.proofs.lemmas.List.{set-get_or, get_or_append_left}
 use Rattle.std.proofs.lemmas.Bool.Decides.{nat_tests}
 use mathlib.Core.Option.{none, some, some-ne-none}
 use lib.ListN.{get_elem?}
 use Rattle.atomic_table.specs.Table.{Me, step, keeps, stepped, opening, Allows, Splits, Joins, Final, Seen}
-use Rattle.atomic_table.proofs.Lists.{at_set, at_snoc}
+use Rattle.atomic_table.proofs.Lists.{at_set, at_snoc, set_again}
 use Rattle.mig_deal.specs.declared.rule.Holding.{Holding}
 use Rattle.mig_deal.specs.declared.rule.Terms.{Terms}
-use Rattle.mig_deal.specs.Deal.{SeatView, all_drawn, HasEachOnce, IsNext, IsWithinLimits}
-use Rattle.mig_deal.specs.Rule.{Word, holding, numbers_of, last_count, numbers_between, HasSameNumbers, IsLawfulSeat, IsDealt, TellsNumber, without_one_seat, one_new_seat, together, nothing_held, IsSeatWithLasts}
+use Rattle.mig_deal.specs.Deal.{DealView, SeatView, all_drawn, HasEachOnce, IsNext, IsWithinLimits}
+use Rattle.mig_deal.specs.Rule.{Word, holding, numbers_of, last_count, numbers_between, HasSameNumbers, IsWorkButNewest, IsLawfulSeat, IsDealt, TellsNumber, TellsEnd, HasAllUpTo, without_one_seat, one_new_seat, together, nothing_held, terms_of, IsSeatWithLasts}
 use Rattle.mig_deal.proofs.Counts.{sum_by_set, le_sum_by, sum_by_le, sum_by_alone, count_by-flat_map, count_by-append, count_by_push, numbers_push, range_from, range_length, count_each, none_pass, each_once, found_at}
 
 -- how many of a seat's numbers pass a test
@@ -57,6 +58,11 @@ lawful_with : (terms : Terms) (seats : List Holding) (added : Holding) → ((j :
     → (j : ℕ) (seat : Holding) → get_elem? (seats ++ added ∷ []) j ≡ some seat → IsLawfulSeat terms seat
 lawful_with terms seats added all here j seat at = ⊎_elim (λ e. all j seat e) (λ e. subst (IsLawfulSeat terms) e here) (at_snoc seats added seat j at)
 
+-- a number drawn after work alone is the newest
+stops_push : (terms : Terms) (drawn : List ℕ) (n : ℕ) → last_count terms drawn ≡ 0 → IsWorkButNewest terms (drawn ++ n ∷ [])
+stops_push terms drawn n none_last place before = let len = length-append drawn (n ∷ []) in let at : place < length drawn = omega arith in
+    subst (λ k. k < terms.base + terms.batches) (sym (get_or_append_left drawn (n ∷ []) 0 place at)) (none_pass (terms.base + terms.batches) drawn none_last place 0 at)
+
 -- the word after a draw of the number n
 module _ (terms : Terms) (word : Word) (dealt : IsDealt terms word) (id : ℕ) (seat : Holding) (at : get_elem? word.views id ≡ some seat) where
   abbrev n : ℕ
@@ -80,6 +86,7 @@ module _ (terms : Terms) (word : Word) (dealt : IsDealt terms word) (id : ℕ) (
         let e = sum_by_set (held test) word.views id seat grown at in let g = held_by_grown test in let a = held_in_all terms word dealt test in let m = numbers_push test terms.base n b in omega arith));
     lawful = lawful_after terms word.views id grown dealt.lawful record {
       few_lasts = let g = held_by_grown (λ x. leb (terms.base + terms.batches) x) in grind (arith, nat_tests);
+      stops = let both = count_by-append (λ x. leb (terms.base + terms.batches) x) seat.drawn seat.joined in stops_push terms seat.drawn n (omega arith);
       idle = λ none_left. absurd (omega arith);
     };
   }
@@ -90,6 +97,14 @@ module _ (terms : Terms) (word : Word) (dealt : IsDealt terms word) (id : ℕ) (
 
 pub lasts_alone : (terms : Terms) (seat : Holding) → seat.joined ≡ [] → last_count terms (numbers_of seat) ≡ last_count terms seat.drawn
 lasts_alone terms seat e = ap (λ xs. last_count terms (seat.drawn ++ xs)) e ∙ ap (last_count terms) (append-nil seat.drawn)
+
+-- what a spent seat holds
+abbrev pub held_by : SeatView → Holding
+held_by seat = holding (terms_of seat.deal) 1 seat.drawn []
+
+-- it has one last number
+pub spent_last : (deal : DealView) (seat : SeatView) → seat.deal ≡ deal → last_count (terms_of seat.deal) seat.drawn ≡ 1 → last_count (terms_of deal) (numbers_of (held_by seat)) ≡ 1
+spent_last deal seat e h = lasts_alone (terms_of deal) (held_by seat) refl ∙ subst (λ (g : DealView). last_count (terms_of g) seat.drawn ≡ 1) e h
 
 -- a draw
 pub draws : (slots id : ℕ) (terms : Terms) (stepper : Me (Unit {0}) Holding) → stepper.0.terms ≡ terms → IsSeatWithLasts 0 stepper.0 → IsWithinLimits terms.base terms.batches terms.seats
@@ -125,8 +140,12 @@ splits terms id seat some_seat empty word dealt at = let left : Holding = withou
   whole = same_numbers terms (rest ++ right ∷ []) (get_or word.words 0 0) (λ test. let e = sum_by_set (held test) word.views id seat left at in let a = sum_by_push (held test) rest right in
       let all = held_in_all terms word dealt test in let z : held test right ≡ 0 = refl in let same : held test left ≡ held test seat = refl in omega arith);
   lawful = lawful_with terms rest right
-      (lawful_after terms word.views id left dealt.lawful record { few_lasts = let z : last_count terms (numbers_of left) ≡ 0 = ap (last_count terms) empty in omega arith; idle = λ _. empty })
-      record { few_lasts = omega arith; idle = λ none_left. absurd (omega arith) };
+      (lawful_after terms word.views id left dealt.lawful record {
+        few_lasts = let z : last_count terms (numbers_of left) ≡ 0 = ap (last_count terms) empty in omega arith;
+        stops = (dealt.lawful id seat at).stops;
+        idle = λ _. empty;
+      })
+      record { few_lasts = omega arith; stops = λ place before. absurd (omega arith); idle = λ none_left. absurd (omega arith) };
 }
 
 pub held_together : (seat other : Holding) (test : ℕ → Bool) → held test (together seat other) ≡ held test seat + held test other
@@ -154,10 +173,11 @@ joins terms id seat given other word dealt at two at' = let all : Holding = toge
           lawful_after terms rest given nothing_held
           (lawful_after terms word.views id all dealt.lawful record {
             few_lasts = let a = mine.few_lasts in let b = theirs.few_lasts in let j = sum (λ x. leb (terms.base + terms.batches) x) in omega arith;
+            stops = mine.stops;
             idle = λ none_left. let a : numbers_of seat ≡ [] = mine.idle (omega arith) in let b : numbers_of other ≡ [] = theirs.idle (omega arith) in
                 sym (append_assoc seat.drawn seat.joined (numbers_of other)) ∙ (ap (λ xs. xs ++ numbers_of other) a ∙ b);
           })
-          record { few_lasts = omega arith; idle = λ _. refl };
+          record { few_lasts = omega arith; stops = λ place before. absurd (omega arith); idle = λ _. refl };
     }
 
 -- the making: one seat that stands for all, and nothing drawn
@@ -167,7 +187,7 @@ opens terms = record {
   begun = omega arith;
   seats = omega arith;
   whole = λ test. let e : 0 ≡ terms.base - terms.base = omega arith in ap (λ k. count_by test (range_with_len terms.base k)) e;
-  lawful = λ id seat at. ⊎_elim (λ e. absurd (some-ne-none seat (sym e))) (λ e. subst (IsLawfulSeat terms) e record { few_lasts = omega arith; idle = λ _. refl })
+  lawful = λ id seat at. ⊎_elim (λ e. absurd (some-ne-none seat (sym e))) (λ e. subst (IsLawfulSeat terms) e record { few_lasts = omega arith; stops = λ place before. absurd (omega arith); idle = λ _. refl })
       (at_snoc [] (holding terms terms.seats [] []) seat id at);
 }
 
@@ -189,3 +209,16 @@ pub finishes : (terms : Terms) (id : ℕ) (seat : Holding) (words : List ℕ) (h
 finishes terms id seat words homes next numbers (word, seen, is_words, _, _) at whole_deal all_last some_seat same =
     let is_next : get_or word.words 0 0 ≡ next = ap (λ (l : List ℕ). get_or l 0 0) is_words ∙ found_at words 0 next 0 at in
     let e = ends terms id seat word numbers next seen whole_deal is_next same in (e.0, e.1 all_last some_seat)
+
+-- a seat that stands for all reads the word
+pub finds_end : (slots id : ℕ) (terms : Terms) (stepper : Me (Unit {0}) Holding) → stepper.0.terms ≡ terms
+    → Allows (IsDealt terms) slots id stepper 0 (λ n. n) (TellsEnd (step slots 0 0 0 none) stepper)
+finds_end slots id terms stepper of word dealt _ at small = let seat : Holding = stepper.0 in let k : ℕ = get_or word.words 0 0 in (
+  seat,
+  keeps,
+  tt,
+  subst (λ (ws : List ℕ). IsDealt terms (record { words = ws; homes = word.homes; views = set word.views id seat })) (sym (set-get_or word.words 0 0))
+      (subst (λ (vs : List Holding). IsDealt terms (record { words = word.words; homes = word.homes; views = vs })) (sym (set_again word.views id seat at)) dealt),
+  subst (λ (u : Terms). HasAllUpTo u seat k) (sym of)
+      (λ whole all_last some_seat numbers same. let e = ends terms id seat word numbers k (dealt, at) whole refl same in (e.0, e.1 all_last some_seat)),
+)

@@ -1,11 +1,11 @@
 -- The history of a deal's draws between any two steps, as it is read from the word and the seats' numbers.
-use Rattle.std.specs.Prelude.{◌≡◌, ℕ, ◌+◌, ◌<◌, ◌≤◌, flat_map}
+use Rattle.std.specs.Prelude.{◌≡◌, ℕ, ◌+◌, ◌<◌, ◌≤◌, List, flat_map}
 use mathlib.Core.Option.{some}
 use lib.ListN.{get_elem?}
 use Rattle.mig_deal.specs.declared.rule.Holding.{Holding}
 use Rattle.mig_deal.specs.declared.rule.Terms.{Terms}
 use Rattle.mig_deal.specs.Deal.{HasEachOnce, times}
-use Rattle.mig_deal.specs.Rule.{Word, IsDealt, next_number, numbers_of}
+use Rattle.mig_deal.specs.Rule.{Word, IsDealt, next_number, numbers_of, last_count, IsWorkButNewest}
 
 -- the lists of all seats together hold each number from the base up to the word exactly once, and no other
 abbrev pub EachNumberOnce : Type 0
@@ -27,3 +27,11 @@ EachNumberHasOneSeat = (terms : Terms) (word : Word) → IsDealt terms word → 
 -- no more numbers are drawn than there are batches and seats
 abbrev pub WordStaysBelow : Type 0
 WordStaysBelow = (terms : Terms) (word : Word) → IsDealt terms word → next_number word ≤ terms.base + terms.batches + terms.seats
+
+-- the seat drew at most one last number, and nothing after it
+pub record StopsAtLast (terms : Terms) (drawn : List ℕ) : Type 0 where
+  pub one_last : last_count terms drawn ≤ 1
+  pub nothing_after : IsWorkButNewest terms drawn
+
+abbrev pub SeatsStopAtLast : Type 0
+SeatsStopAtLast = (terms : Terms) (word : Word) → IsDealt terms word → (place : ℕ) (seat : Holding) → get_elem? word.views place ≡ some seat → StopsAtLast terms seat.drawn

@@ -7,7 +7,7 @@ use Rattle.atomic_table.specs.Seated.{TableId}
 use Rattle.atomic_table.specs.Table.{State, Me, Step}
 use Rattle.mig_deal.specs.declared.rule.Holding.{Holding}
 use Rattle.mig_deal.specs.declared.rule.Terms.{Terms}
-use Rattle.mig_deal.specs.Deal.{DealView, SeatView, IsNext}
+use Rattle.mig_deal.specs.Deal.{DealView, SeatView, IsNext, HasEachOnce}
 
 -- a deal's word with what all its seats hold
 abbrev pub Word : Type 0
@@ -37,9 +37,15 @@ numbers_between from to = range_with_len from (to - from)
 abbrev pub HasSameNumbers : List ℕ → List ℕ → Type 0
 HasSameNumbers numbers others = (test : ℕ → Bool) → count_by test numbers ≡ count_by test others
 
--- what holds of one seat: it holds at most one last number for each of the deal's seats that it stands for, and no number where it stands for none
+-- each number but the newest claims a batch, so nothing was drawn after a last number
+abbrev pub IsWorkButNewest : Terms → List ℕ → Type 0
+IsWorkButNewest terms drawn = (place : ℕ) → place + 1 < length drawn → slice_index drawn place < terms.base + terms.batches
+
+-- what holds of one seat: it holds at most one last number for each of the deal's seats that it stands for, it drew nothing after a last
+-- number, and it holds no number where it stands for no seat
 pub record IsLawfulSeat (terms : Terms) (seat : Holding) : Type 0 where
   pub few_lasts : last_count terms (numbers_of seat) ≤ seat.seats
+  pub stops : IsWorkButNewest terms seat.drawn
   pub idle : seat.seats ≡ 0 → numbers_of seat ≡ []
 
 -- the rule: the seats stand for all of the deal's, and together they hold each number from the base up to the next one once
@@ -58,6 +64,16 @@ pub record HasNumber (before : Holding) (number : ℕ) (after : Holding) : Type 
 
 abbrev pub TellsNumber : Step (Unit {0}) → Me (Unit {0}) Holding → ℕ → Me (Unit {0}) Holding → Type 0
 TellsNumber _ before number after = HasNumber before.0 number after.0 × (after.1 ≡ before.1)
+
+-- a seat that stands for all of the deal's seats, each of which drew its last number, holds each number from the base up to the next one
+-- once, and the next one is the deal's end
+abbrev pub HasAllUpTo : Terms → Holding → ℕ → Type 0
+HasAllUpTo terms seat next = seat.seats ≡ terms.seats → last_count terms (numbers_of seat) ≡ terms.seats → 0 < terms.seats → (numbers : List ℕ) → HasSameNumbers (numbers_of seat) numbers
+    → HasEachOnce terms.base next numbers × (next ≡ terms.base + terms.batches + terms.seats)
+
+-- a read of the word tells this of the number that it finds
+abbrev pub TellsEnd : Step (Unit {0}) → Me (Unit {0}) Holding → ℕ → Me (Unit {0}) Holding → Type 0
+TellsEnd _ before number after = HasAllUpTo before.0.terms before.0 number
 
 -- what is left of a seat that one is split off
 abbrev pub without_one_seat : Holding → Holding

@@ -6,14 +6,17 @@ ghost use Rattle.mig_deal.specs.Drawn.{IsDraw};
 ghost use Rattle.mig_deal.specs.Rule.{holding, deal_view};
 
 use crate::fault::NoMemory;
-use crate::rule::{DealRule, DrawNumber, Holding, JoinSeats, SplitSeat, Terms};
+use crate::rule::{DealRule, DrawNumber, FindEnd, Holding, JoinSeats, SplitSeat, Terms};
 use crate::seat::{Drawn, Seat, Spent};
 use atomic_table::{Seat as TableSeat, Table};
 use std::alloc::{AllocFailed, Allocator, Global};
 use std::marker::Model;
 
-/// One shared word that numbers packets and claims batches. Threads share it by reference, each with a seat of its own. It
-/// can't be dropped: `close` ends it.
+/// One shared word that numbers packets and claims batches. Threads share it by reference or in an
+/// `Arc`, each with a seat of its own. When all seats are spent, `close` ends the deal, and
+/// `end_number` answers for a deal that is still shared. A deal may also be dropped: its memory is
+/// freed, and the numbers that are left are never drawn.
+#[derive(Drop)]
 pub struct Deal<A: Allocator = Global> {
     table: Table<(), Holding, Terms, DealRule, A>,
     terms: Terms,
@@ -116,8 +119,33 @@ impl<A: Allocator> Deal<A> {
         }
     }
 
-    /// Ends the deal, and answers the number after all that were drawn. It is handed as many spent seats of this deal as it has
-    /// seats, which are all of them, since none can be copied. It allocates nothing.
+    /// Returns the number after all that were drawn, as `close` does, without ending the deal. It is
+    /// for a deal in an `Arc`, which doesn't give the deal by value. It takes a spent seat for each of
+    /// the deal's seats and uses them up: so nothing is drawn any more, and the deal is dropped
+    /// afterwards, not closed. It reads the word once, waits for nobody and allocates nothing.
+    pub fn end_number<B: Allocator>(&self, mut spents: Vec<Spent, B>) -> u64
+        requires all { vec_len spents ≡ self.now.seats }
+        requires own { All (λ spent. spent.deal ≡ self.now) spents.items }
+        ensures next { result ≡ end_of_deal self.now }
+        ensures once { HasEachOnce self.now.base result (all_drawn spents.items) }
+    {
+        // Shows the prover that the deal has a seat.
+        let _base = self.terms.base;
+        let Some(last) = spents.pop() else {
+            unreachable!()
+        };
+        let mut all = last.into_inner();
+        while let Some(next) = spents.pop() {
+            let given = next.into_inner();
+            self.table.shared.join_seat::<JoinSeats>(&mut all, given);
+        }
+        spents.destroy_empty();
+        self.table.shared.load::<FindEnd>(&mut all, 0)
+    }
+
+    /// Ends the deal, frees its memory, and returns the number after all that were drawn. It takes a
+    /// spent seat for each of the deal's seats: these are all, since none can be copied. It allocates
+    /// nothing.
     pub fn close<B: Allocator>(self, mut spents: Vec<Spent, B>) -> u64
         requires all { vec_len spents ≡ self.seats }
         requires own { All (λ spent. spent.deal ≡ self) spents.items }

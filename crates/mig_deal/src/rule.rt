@@ -2,7 +2,7 @@
 //!
 //! Nothing here runs. `atomic_table` asks at each step that it keeps the rule, whatever the word and all seats are by then, and
 //! answers what the step tells. The steps are: the making of the word with one seat, that one seat is split in two, a draw,
-//! that one seat is joined into another, and the end.
+//! that one seat is joined into another, a read by the seat that all others were joined into, and the end.
 
 use atomic_table::{Join, Play, Split, TableRule};
 use std::collections::LinkedList;
@@ -69,4 +69,13 @@ impl Join<Holding> for JoinSeats {
     ghost both = { together };
 
     ghost spent = { nothing_held };
+}
+
+/// The step by which a seat that stands for all reads the word.
+pub struct FindEnd;
+
+impl Play<(), Holding> for FindEnd {
+    ghost use Rattle.mig_deal.specs.Rule.{TellsEnd};
+
+    ghost then = { TellsEnd };
 }

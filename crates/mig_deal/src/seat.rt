@@ -7,8 +7,10 @@ use crate::rule::Holding;
 use atomic_table::Seat as TableSeat;
 use std::marker::Model;
 
-/// One worker's right to draw. It has no bytes, and it can be neither copied nor dropped: its worker draws until the last
-/// number.
+/// One worker's right to draw. It has no bytes, and it can't be copied. Its worker draws until the
+/// last number. If a seat is dropped before, no spent seat is left of it: then its deal can only be
+/// dropped too, since `close` and `end_number` take one for each seat.
+#[derive(Drop)]
 pub struct Seat {
     pub(crate) inner: TableSeat<(), Holding>,
 }
@@ -26,8 +28,10 @@ impl Model for Seat {
     ghost invariant = { λ s. (s.inner.me.1 ≡ []) × IsSeatWithLasts 0 s.inner.me.0 };
 }
 
-/// What is left of a seat that has drawn its last number: `close` takes one for each seat of the deal. It can be neither copied
-/// nor dropped.
+/// What is left of a seat that has drawn its last number. It can't be copied. `Deal::close` and
+/// `Deal::end_number` take one for each seat of the deal, so where one is dropped, neither can be
+/// called.
+#[derive(Drop)]
 pub struct Spent {
     pub(crate) inner: TableSeat<(), Holding>,
 }

@@ -1,12 +1,14 @@
-//! The deal: numbers drawn in turn by one thread, by 255 threads at once, and its allocations refused.
+//! The deal: numbers drawn in turn by one thread, by 255 threads at once, and by threads that share it in an `Arc`; and its allocations
+//! refused.
 
-ghost use Rattle.std.specs.Prelude.{◌≡◌, ◌≤◌, [], All, vec_len, vec_capacity};
+ghost use Rattle.std.specs.Prelude.{◌≡◌, ◌+◌, ◌<◌, ◌≤◌, [], All, vec_len, vec_capacity};
 
 use crate::workers::{Hall, gather, put, seat_all, work_all};
 use mig_deal::{Deal, Drawn, NoMemory, Seat, Spent};
 use mig_refusing::Refusing;
 use std::alloc::{AllocGlobal, Allocator};
 use std::process::Abort;
+use std::sync::Arc;
 use std::sync::atomic::{AtomicU64, Ordering};
 use std::test::Fail;
 use std::thread::Threads;
@@ -50,14 +52,16 @@ fn draw_last<A: Allocator>(rt: &impl Abort, deal: &Deal<A>, seat: Seat, number: 
     }
 }
 
-// Seat a draws 5 as work, seat b draws 6 as its last number, and seat a 7. Answers what comes next.
+// Seat a draws 5 as work, seat b draws 6 as its last number, and seat a 7.
 fn play<A: Allocator>(
     rt: &(impl AllocGlobal + Abort),
-    deal: Deal<A>,
+    deal: &Deal<A>,
     mut seats: Vec<Seat, A>,
-) -> u64
-    requires own { All (λ seat. seat.deal ≡ deal) seats.items }
-    requires both { (vec_len seats ≡ 2) × (deal.seats ≡ 2) }
+) -> Vec<Spent>
+    requires own { All (λ seat. seat.deal ≡ deal.now) seats.items }
+    requires both { vec_len seats ≡ 2 }
+    ensures own { All (λ spent. spent.deal ≡ deal.now) result.items }
+    ensures both { vec_len result ≡ 2 }
 {
     let Some(b) = seats.pop() else {
         panic!(rt; "a seat")
@@ -67,10 +71,10 @@ fn play<A: Allocator>(
     };
     seats.destroy_empty();
     let mut spents = room(rt, 2);
-    let a = draw_work(rt, &deal, a, 5);
-    put(&mut spents, draw_last(rt, &deal, b, 6));
-    put(&mut spents, draw_last(rt, &deal, a, 7));
-    deal.close(spents)
+    let a = draw_work(rt, deal, a, 5);
+    put(&mut spents, draw_last(rt, deal, b, 6));
+    put(&mut spents, draw_last(rt, deal, a, 7));
+    spents
 }
 
 #[test]
@@ -79,7 +83,8 @@ fn two_seats_and_one_batch(rt: HostRuntime) {
         panic!(rt; "memory")
     };
     assert_eq!(rt; deal.base(), 5);
-    let next = play(&rt, deal, seats);
+    let spents = play(&rt, &deal, seats);
+    let next = deal.close(spents);
     assert_eq!(rt; next, 8);
 }
 
@@ -113,30 +118,80 @@ fn wrong(times: &[AtomicU64]) -> usize {
     times.len() - times.iter().filter(once).count()
 }
 
-// Runs 255 workers at once, on 1000 batches from number 7 on. Answers what comes next.
-fn draw_on_threads<R: AllocGlobal + Abort + Threads + Sync>(rt: &R, hall: &Hall) -> u64
-    requires { vec_len hall.now.times ≡ 1255 }
+// Runs a worker for each seat of a deal, all at once.
+fn draw_on_threads<R: AllocGlobal + Abort + Threads + Sync>(
+    rt: &R,
+    deal: &Deal,
+    seats: Vec<Seat>,
+    hall: &Hall,
+) -> Vec<Spent>
+    requires some { 0 < vec_len seats }
+    requires own { All (λ seat. seat.deal ≡ deal.now) seats.items }
+    requires places { vec_len hall.now.times ≡ deal.now.batches + deal.now.seats }
+    ensures own { All (λ spent. spent.deal ≡ deal.now) result.items }
+    ensures count { vec_len result ≡ vec_len seats }
 {
-    let Ok(mut slots) = Vec::with_capacity(rt.alloc(), 255) else {
+    let count = seats.len();
+    let Ok(mut slots) = Vec::with_capacity(rt.alloc(), count) else {
         panic!(rt; "memory")
     };
-    let Ok((deal, seats)) = Deal::new(rt.alloc(), 7, 1000, 255) else {
-        panic!(rt; "memory")
-    };
-    seat_all(&deal, seats, &mut slots);
-    work_all(rt, &deal, hall, slots.as_mut_slice());
-    let mut spents = room(rt, 255);
-    gather(&deal, slots, &mut spents);
-    deal.close(spents)
+    seat_all(deal, seats, &mut slots);
+    work_all(rt, deal, hall, slots.as_mut_slice());
+    let mut spents = room(rt, count);
+    gather(deal, slots, &mut spents);
+    spents
+}
+
+// Asserts that all workers drew at once, and each number was drawn once.
+fn assert_drawn(rt: &impl Abort, hall: &Hall) {
+    assert_eq!(rt; hall.alone.load(Ordering::SeqCst), 0);
+    assert_eq!(rt; wrong(&hall.times), 0);
 }
 
 #[test]
 fn many_seats_on_threads(rt: HostRuntime) -> Result<(), Fail> {
     let hall = Hall::new(rt.alloc(), 1255)?;
-    let next = draw_on_threads(&rt, &hall);
+    let Ok((deal, seats)) = Deal::new(rt.alloc(), 7, 1000, 255) else {
+        panic!(rt; "memory")
+    };
+    let spents = draw_on_threads(&rt, &deal, seats, &hall);
+    let next = deal.close(spents);
     assert_eq!(rt; next, 1262);
-    assert_eq!(rt; hall.alone.load(Ordering::SeqCst), 0);
-    assert_eq!(rt; wrong(&hall.times), 0);
+    assert_drawn(&rt, &hall);
+    Ok(())
+}
+
+// Gives the deal two owners: the workers draw by the first, and the second is asked for the end.
+fn end_in_an_arc<R: AllocGlobal + Abort + Threads + Sync>(
+    rt: &R,
+    deal: Deal,
+    seats: Vec<Seat>,
+    hall: &Hall,
+) -> u64
+    requires some { (0 < vec_len seats) × (vec_len seats ≡ deal.seats) }
+    requires own { All (λ seat. seat.deal ≡ deal) seats.items }
+    requires places { vec_len hall.now.times ≡ deal.batches + deal.seats }
+{
+    let Ok(deal) = Arc::new(rt.alloc(), deal) else {
+        panic!(rt; "memory")
+    };
+    let Ok(other) = Arc::try_clone(&deal) else {
+        panic!(rt; "an owner more")
+    };
+    let spents = draw_on_threads(rt, &deal, seats, hall);
+    other.end_number(spents)
+}
+
+// The end is the number that `close` gives in `many_seats_on_threads`.
+#[test]
+fn end_of_a_deal_in_an_arc(rt: HostRuntime) -> Result<(), Fail> {
+    let hall = Hall::new(rt.alloc(), 1255)?;
+    let Ok((deal, seats)) = Deal::new(rt.alloc(), 7, 1000, 255) else {
+        panic!(rt; "memory")
+    };
+    let next = end_in_an_arc(&rt, deal, seats, &hall);
+    assert_eq!(rt; next, 1262);
+    assert_drawn(&rt, &hall);
     Ok(())
 }
 
@@ -151,7 +206,8 @@ fn allocations_refused(rt: HostRuntime) {
             Err(NoMemory) => assert!(rt; !heap.is_waiting()),
             Ok((deal, seats)) => {
                 assert_eq!(rt; nth, 4);
-                let next = play(&rt, deal, seats);
+                let spents = play(&rt, &deal, seats);
+                let next = deal.close(spents);
                 assert_eq!(rt; next, 8);
                 assert!(rt; heap.is_waiting());
                 return;

@@ -17,7 +17,9 @@ use mig_packet::{Gate, Step};
 use std::alloc::{Allocator, Global};
 
 /// What a worker answers: its packets in the order of their numbers, or `NoMemory`; its last number, which claims no batch;
-/// and what is left of its seat, which the deal's end takes.
+/// and what is left of its seat. `Deal::close` and `Deal::end_number` take that of each worker, so where one is dropped, neither
+/// can be called.
+#[derive(Drop)]
 pub struct Worked<A: Allocator = Global> {
     pub packets: Result<Vec<Packed<A>, A>, NoMemory>,
     pub last: u64,

@@ -1,4 +1,4 @@
-use Rattle.mig_deal.proofs.History.{each_number_once, each_number_has_one_seat, word_stays_below}
+use Rattle.mig_deal.proofs.History.{each_number_once, each_number_has_one_seat, word_stays_below, seats_stop_at_last}
 use Rattle.mig_deal.proofs.laws.numbers_between_steps.Goals as goal
 
 pub returns-clause-once : goal.returns-clause-once
@@ -9,3 +9,6 @@ returns-clause-one_seat c = each_number_has_one_seat
 
 pub returns-clause-bounded : goal.returns-clause-bounded
 returns-clause-bounded c = word_stays_below
+
+pub returns-clause-stops : goal.returns-clause-stops
+returns-clause-stops c = seats_stop_at_last

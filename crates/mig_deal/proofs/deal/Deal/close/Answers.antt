@@ -6,21 +6,14 @@ use Rattle.atomic_table.specs.Table.{Me, Final, Seen}
 use Rattle.mig_deal.specs.declared.rule.Terms.{Terms}
 use Rattle.mig_deal.specs.declared.rule.Holding.{Holding}
 use Rattle.mig_deal.specs.Deal.{DealView, SeatView, HasEachOnce, all_drawn, end_of_deal}
-use Rattle.mig_deal.specs.Rule.{holding, numbers_of, last_count, terms_of, together, IsDealt}
+use Rattle.mig_deal.specs.Rule.{numbers_of, last_count, terms_of, together, IsDealt}
 use Rattle.mig_deal.proofs.Counts.{all_last, all_front}
-use Rattle.mig_deal.proofs.Steps.{lasts_alone, held_alone, held_together, count_all_drawn, joins, finishes}
+use Rattle.mig_deal.proofs.Steps.{held_by, spent_last, held_alone, held_together, count_all_drawn, joins, finishes}
 use Rattle.mig_deal.proofs.deal.Deal.close.Goals as goal
 use Rattle.mig_deal.proofs.deal.Deal.close.Given.{Over}
 
 abbrev IsOf : DealView → SeatView → Type 0
 IsOf deal seat = seat.deal ≡ deal
-
--- what a spent seat holds
-abbrev held_by : SeatView → Holding
-held_by seat = holding (terms_of seat.deal) 1 seat.drawn []
-
-one_last : (deal : DealView) (seat : SeatView) → seat.deal ≡ deal → last_count (terms_of seat.deal) seat.drawn ≡ 1 → last_count (terms_of deal) (numbers_of (held_by seat)) ≡ 1
-one_last deal seat e h = lasts_alone (terms_of deal) (held_by seat) refl ∙ subst (λ (g : DealView). last_count (terms_of g) seat.drawn ≡ 1) e h
 
 pub loop-next-init : goal.loop-next-init
 loop-next-init g c =
@@ -35,7 +28,7 @@ loop-next-init g c =
       free = ap (λ (m : Me (Unit {0}) Holding). m.1) is;
       own = all_front (IsOf c.args.self) _ _ own;
       seats = rw is (omega arith);
-      lasts = rw is (one_last c.args.self seat mine c.into_inner-all.ensures.last);
+      lasts = rw is (spent_last c.args.self seat mine c.into_inner-all.ensures.last);
       numbers = λ test. rw is (let a = held_alone (held_by seat) refl test in let b = count_all_drawn test c.pop.new.self.items seat in let e = ap (λ ds. count_by test (all_drawn ds)) whole in omega arith);
     }
 
@@ -66,7 +59,7 @@ loop-next-preserved g c =
       free = ap (λ (m : Me (Unit {0}) Holding). m.1) is ∙ before.free;
       own = all_front (IsOf c.args.self) _ _ own;
       seats = rw is (let a = before.seats in omega arith);
-      lasts = rw is (let a = before.lasts in let b = one_last c.args.self seat mine c.into_inner-given.ensures.last in let e = sum (λ x. leb (c.args.self.base + c.args.self.batches) x) in omega arith);
+      lasts = rw is (let a = before.lasts in let b = spent_last c.args.self seat mine c.into_inner-given.ensures.last in let e = sum (λ x. leb (c.args.self.base + c.args.self.batches) x) in omega arith);
       numbers = λ test. rw is (let a = held_alone (held_by seat) refl test in let b = count_all_drawn test c.pop-in-loop-next.new.self.items seat in let e = ap (λ ds. count_by test (all_drawn ds)) whole in
           let f = before.numbers test in let g = sum test in omega arith);
     }
