@@ -1,7 +1,7 @@
 //! A file of cases, as `mig_rows` reads it, and the named lines that several of them share.
 //!
-//! `text NAME` begins lines with a name, `case NAME` a case, and `from NAME` stands for the lines of an earlier name. Empty
-//! lines, and those that begin with `#`, say nothing.
+//! `text NAME` begins lines with a name, `case NAME` a case, and `from NAME` stands for the lines
+//! of an earlier name. Empty lines, and those that begin with `#`, say nothing.
 
 use crate::trouble::{Done, Trouble};
 use std::alloc::Global;

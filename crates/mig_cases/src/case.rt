@@ -16,6 +16,8 @@ pub struct Case {
     pub limit: u64,
     pub uuid: Uuid,
     pub channels: usize,
+    /// Whether a stream is read as that of a whole machine, and else as RAM's sections alone.
+    pub is_machine: bool,
     /// Whether texts are over when they were fed.
     pub is_over: bool,
     /// In pieces of which lengths a text is fed, one length after another; 0 is all at once.
@@ -34,6 +36,7 @@ impl Case {
             limit: MAX_TOTAL,
             uuid: Uuid::nil(),
             channels: 1,
+            is_machine: false,
             is_over: true,
             pieces: Vec::from_slice(alloc, &[0, 1, 63, 1000])?,
             blocks: Vec::new(alloc),
@@ -67,6 +70,7 @@ impl Case {
             "limit" => self.limit = words.number()?,
             "uuid" => self.uuid = Uuid::parse_str(words.word()?).ok().ok_or(Trouble::Line)?,
             "channels" => self.channels = words.size()?,
+            "machine" => self.is_machine = true,
             "open" => self.is_over = false,
             "pieces" => self.set_pieces(words)?,
             _ => return Ok(false),

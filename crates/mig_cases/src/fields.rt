@@ -19,7 +19,8 @@ pub(crate) struct Fields {
 }
 
 impl Fields {
-    /// `NUMBER`, and then any of `sync`, `id ID`, `normal OFFSETS`, `zero OFFSETS`, `first BYTE` and `fill BYTE`
+    /// `NUMBER`, and then any of `sync`, `id ID`, `normal OFFSETS`, `zero OFFSETS`, `first BYTE`
+    /// and `fill BYTE`
     pub fn read(alloc: Global, page_size: u64, words: &mut Words) -> Result<Fields, Trouble> {
         let mut packet = Fields {
             number: words.number()?,

@@ -30,7 +30,8 @@ impl Guest {
         self.dirty.mark(place).ok()
     }
 
-    /// Takes the mark of a page away, and says how many marks are left; None where the table lacks the page.
+    /// Takes the mark of a page away, and says how many marks are left; None where the table lacks
+    /// the page.
     pub fn unmark(&mut self, place: Place) -> Option<u64> {
         if !self.dirty.table().holds(place) {
             return None;

@@ -1,9 +1,10 @@
-//! Worked examples as data: what a case is. A file of cases and its words; the guest and the texts that a case's lines build; and
-//! the questions that guest memory and packets answer.
+//! Worked examples as data: what a case is. A file of cases and its words; the guest and the texts
+//! that a case's lines build; and the questions that guest memory and packets answer.
 //!
-//! `mig_rows` runs such files: it adds rounds, streams and loads, and compares the answers. `docs/EXAMPLES.md` has all the lines. The
-//! two are crates of their own because this one stands on guest memory and packets alone, and is proved beside the stream. It
-//! is no part of the product, and no function here has a contract.
+//! `mig_rows` runs such files: it adds rounds, streams and loads, and compares the answers.
+//! `docs/EXAMPLES.md` has all the lines. The two are crates of their own because this one stands on
+//! guest memory and packets alone, and is proved beside the stream. It is no part of the product,
+//! and no function here has a contract.
 #![tactic(auto)]
 
 mod book;

@@ -110,7 +110,8 @@ fn dirty(out: &mut String, case: &mut Case) -> Done {
     Ok(())
 }
 
-/// `same`, whether two cases have one table, or `difference`, where their guests' memories differ first.
+/// `same`, whether two cases have one table, or `difference`, where their guests' memories differ
+/// first.
 pub fn difference(out: &mut String, case: &mut Case, other: &mut Case, name: &str) -> Done {
     if name == "same" {
         let (Ok(one), Ok(other)) = (case.table()?, other.table()?) else {

@@ -1,4 +1,5 @@
-//! Questions about the last text as bytes, as a hello, a packet or a channel, as `mig_rows` asks them.
+//! Questions about the last text as bytes, as a hello, a packet or a channel, as `mig_rows` asks
+//! them.
 
 use crate::case::Case;
 use crate::show::{put_bytes, put_channel_fault, put_channel_state, put_number, put_packet};

@@ -20,7 +20,8 @@ fn put_hex(out: &mut String, byte: u8) -> Done {
     Ok(())
 }
 
-/// Bytes as runs of one byte, `09,00*4095`, or as the beginning of their SHA-1 sum in hexadecimal digits.
+/// Bytes as runs of one byte, `09,00*4095`, or as the beginning of their SHA-1 sum in hexadecimal
+/// digits.
 pub(crate) fn put_bytes(out: &mut String, bytes: &[u8]) -> Done {
     let mut runs = String::new(*out.allocator());
     let mut rest = bytes;
@@ -68,8 +69,8 @@ fn put_id(out: &mut String, id: &[u8]) -> Done {
     }
 }
 
-/// A list of pages. Those that follow one another with one content are one entry, `0-127=07*4096`, and so is one page that comes
-/// again and again with one content, `2 of 0=zero`.
+/// A list of pages. Those that follow one another with one content are one entry, `0-127=07*4096`,
+/// and so is one page that comes again and again with one content, `2 of 0=zero`.
 #[derive(Drop)]
 pub struct Pages {
     before: String,

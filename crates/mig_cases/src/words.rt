@@ -94,7 +94,8 @@ fn add_bytes(alloc: Global, bytes: &mut Vec<u8>, word: &str) -> Done {
     Ok(())
 }
 
-/// The bytes of hexadecimal digits with spaces anywhere between bytes, some of them repeated: `01 61 00*4095`.
+/// The bytes of hexadecimal digits with spaces anywhere between bytes, some of them repeated: `01
+/// 61 00*4095`.
 pub fn bytes_of(alloc: Global, text: &str) -> Result<Vec<u8>, Trouble> {
     let mut bytes = Vec::new(alloc);
     for word in text.split(' ') {

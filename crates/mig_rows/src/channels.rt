@@ -1,8 +1,9 @@
 //! The rounds of a case, sent on its channels, each with a worker on a thread of its own.
 //!
-//! Which packets a channel has is settled by the threads, and so another in each run. What is answered is the same in all of
-//! them: lengths, counts, and the packets of all channels in the order of their numbers. What each channel has to keep to,
-//! whatever its packets, is looked at on the way: it is told where a channel doesn't.
+//! Which packets a channel has is settled by the threads, and so another in each run. What is
+//! answered is the same in all of them: lengths, counts, and the packets of all channels in the
+//! order of their numbers. What each channel has to keep to, whatever its packets, is looked at on
+//! the way: it is told where a channel doesn't.
 
 use crate::rounds::Rounds;
 use mig_cases::{Case, Done, Guest, Trouble, Words, put_packet, reader_of_channel};
@@ -97,7 +98,8 @@ fn put_sender(out: &mut String, case: &Case, count: usize, sender: MultiSender) 
     Ok(())
 }
 
-// The rounds of each channel. It tells of a channel whose text isn't whole, hasn't its hello, or hasn't so many rounds.
+// The rounds of each channel. It tells of a channel whose text isn't whole, hasn't its hello, or
+// hasn't so many rounds.
 fn rounds_of_each(
     out: &mut String,
     case: &Case,
@@ -132,7 +134,8 @@ fn rounds_of(alloc: Global, reader: &mut ChannelReader) -> Result<Vec<PacketRoun
     Err(Trouble::Line)
 }
 
-// The packets that all channels have in a round, in the order of their numbers. It tells of a channel whose own order is another.
+// The packets that all channels have in a round, in the order of their numbers. It tells of a
+// channel whose own order is another.
 fn put_round(out: &mut String, channels: &[Vec<PacketRound>], round: usize) -> Done {
     let mut packets = Vec::new(*out.allocator());
     for (channel, rounds) in channels.iter().enumerate() {
@@ -163,7 +166,8 @@ fn is_in_order(packets: &[Packet<'_>]) -> bool {
     is_over
 }
 
-// Packets in a row. SYNC packets without pages, whose numbers follow one another, are one entry, `#2-4 sync`.
+// Packets in a row. SYNC packets without pages, whose numbers follow one another, are one entry,
+// `#2-4 sync`.
 fn put_packets(out: &mut String, packets: &[Packet<'_>]) -> Done {
     let mut run = None;
     for packet in packets {

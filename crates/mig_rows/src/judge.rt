@@ -11,7 +11,8 @@ use mig_packet::{Packet, PacketRead, read_packet};
 use mig_stream::{Mode, StreamReader, StreamRound};
 use std::alloc::Global;
 
-/// Up to so many packets are put in in every order; more of them in the order of the text and in reverse.
+/// Up to so many packets are put in in every order; more of them in the order of the text and in
+/// reverse.
 const MOST_IN_EVERY_ORDER: usize = 5;
 
 // How many orders there are of so many packets.
@@ -23,7 +24,8 @@ fn orders(count: usize) -> usize {
     orders
 }
 
-// The packets in the order of a number: 0 is the order of the text, and the last number is the reverse.
+// The packets in the order of a number: 0 is the order of the text, and the last number is the
+// reverse.
 fn in_order<'a>(
     alloc: Global,
     packets: &[Packet<'a>],
@@ -107,8 +109,8 @@ fn put_round(
     Ok(target.round(round, &gathered))
 }
 
-/// The texts of rounds, read: text 0 is a single stream, and each further text the packets of a round. A round's page records
-/// are those of the PART of its number, where there is one.
+/// The texts of rounds, read: text 0 is a single stream, and each further text the packets of a
+/// round. A round's page records are those of the PART of its number, where there is one.
 #[derive(Drop)]
 struct Rounds<'a> {
     records: Vec<StreamRound<'static>>,
@@ -211,7 +213,8 @@ fn reader_of_single(case: &Case, text: &[u8]) -> Result<StreamReader<'static>, T
     Ok(reader)
 }
 
-/// What comes of the sections of the last text, put one after another into a memory of the guest's table.
+/// What comes of the sections of the last text, put one after another into a memory of the guest's
+/// table.
 pub fn sections(out: &mut String, case: &mut Case) -> Done {
     let sections = sections_of(case)?;
     put_sections(out, case.guest()?.image.table(), &sections)

@@ -1,11 +1,12 @@
-//! Worked examples as data: it reads files of cases, makes the texts that they describe, asks the calls, and says where an
-//! answer isn't the one that stands beside it.
+//! Worked examples as data: it reads files of cases, makes the texts that they describe, asks the
+//! calls, and says where an answer isn't the one that stands beside it.
 //!
-//! Its words are the files' names; without words it reads its input. A case is some lines (`docs/EXAMPLES.md` has them all): what
-//! builds a guest and texts, and questions, each with ` = ` and its answer. A question that has no answer beside it has its
-//! answer printed, one a line, so that another implementation can be compared with this one over many cases in one run.
-//! It ends with the number of cases and answers, and with status 1 where an answer was wrong. What guest memory and packets
-//! answer, and what a case is, `mig_cases` has. It is no part of the product.
+//! Its words are the files' names; without words it reads its input. A case is some lines
+//! (`docs/EXAMPLES.md` has them all): what builds a guest and texts, and questions, each with ` = `
+//! and its answer. A question that has no answer beside it has its answer printed, one a line, so
+//! that another implementation can be compared with this one over many cases in one run. It ends
+//! with the number of cases and answers, and with status 1 where an answer was wrong. What guest
+//! memory and packets answer, and what a case is, `mig_cases` has. It is no part of the product.
 #![tactic(auto)]
 
 mod channels;

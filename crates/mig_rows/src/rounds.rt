@@ -124,7 +124,8 @@ impl Rounds {
         Ok(())
     }
 
-    // `pack LIMIT NUMBER`: the packets of the marked pages, in batches of at most so many, numbered from there on
+    // `pack LIMIT NUMBER`: the packets of the marked pages, in batches of at most so many, numbered
+    // from there on
     fn pack(&mut self, mut words: Words) -> Done {
         let limit = words.size()?;
         let number = words.number()?;
@@ -168,7 +169,8 @@ fn batches_of(
     Ok(cut(alloc, table, dirty, limit)?)
 }
 
-// Appends the packets of a guest's marked pages, in batches of at most so many, numbered from there on.
+// Appends the packets of a guest's marked pages, in batches of at most so many, numbered from there
+// on.
 fn put_packets(text: &mut Vec<u8>, guest: &Guest, limit: usize, first: u64) -> Done {
     let alloc = *text.allocator();
     let mut number = first;

@@ -1,4 +1,5 @@
-//! The cases of a file, one after another: each question is asked, and its answer compared with the one that stands beside it.
+//! The cases of a file, one after another: each question is asked, and its answer compared with the
+//! one that stands beside it.
 
 use crate::judge::{judge, sections};
 use crate::rounds::Rounds;
@@ -193,7 +194,8 @@ fn ask<R: Files + Threads + Wait + Sync>(
     Ok(())
 }
 
-// Writes down what a question about the last text is answered; false where it is no such question, or there is no text.
+// Writes down what a question about the last text is answered; false where it is no such question,
+// or there is no text.
 fn ask_text(out: &mut String, case: &Case, name: &str) -> Result<bool, Trouble> {
     Ok(!case.texts.is_empty() && (ask_packets(out, case, name)? || ask_stream(out, case, name)?))
 }
@@ -268,8 +270,8 @@ fn put_other_bytes(out: &mut String, text: &[u8], wanted: &[u8]) -> Done {
     Ok(())
 }
 
-// `each FIRST LAST QUESTION`: asked of the prefixes of the text with so many bytes. The first answer that is another than
-// expected is told, or else the last one.
+// `each FIRST LAST QUESTION`: asked of the prefixes of the text with so many bytes. The first
+// answer that is another than expected is told, or else the last one.
 fn each(out: &mut String, case: &mut Case, mut words: Words, wanted: Option<&str>) -> Done {
     let first = words.size()?;
     let last = words.size()?;

@@ -8,7 +8,8 @@ use mig_packet::OpenGate;
 use std::sync::Wait;
 use std::thread::Threads;
 
-/// Writes down what loading the texts is answered: the first is the main stream, and each further one a channel's.
+/// Writes down what loading the texts is answered: the first is the main stream, and each further
+/// one a channel's.
 pub fn load_several<R: Threads + Wait + Sync>(out: &mut String, rt: &R, case: &Case) -> Done {
     let Some((main, channels)) = case.texts.split_first() else {
         return Err(Trouble::Line);

@@ -4,7 +4,7 @@ use crate::show::{put_loaded, put_records, put_stream_state};
 use mig_cases::{Case, Done, Trouble, agree, put_fed, put_table};
 use mig_load::load_single;
 use mig_mem::{MAX_TOTAL, is_page_size};
-use mig_stream::{Mode, StreamReader, StreamRound};
+use mig_stream::{Frame, Mode, StreamReader, StreamRound, StreamState};
 use std::alloc::Global;
 
 /// Writes down what such a question is answered; false where it is none of them.
@@ -28,12 +28,22 @@ fn load(out: &mut String, case: &Case, text: &[u8]) -> Done {
     put_loaded(out, &loaded)
 }
 
+// What a stream is read as.
+fn frame_of(case: &Case) -> Frame {
+    if case.is_machine {
+        Frame::Machine
+    } else {
+        Frame::Ram
+    }
+}
+
 /// A reader, as the case tells it.
 pub fn reader_of(case: &Case, mode: Mode) -> Result<StreamReader<'static>, Trouble> {
     if !is_page_size(case.page_size) || case.limit > MAX_TOTAL {
         return Err(Trouble::Line);
     }
-    Ok(StreamReader::new(case.alloc, mode, case.page_size, case.limit))
+    let frame = frame_of(case);
+    Ok(StreamReader::new_in(case.alloc, frame, mode, case.page_size, case.limit))
 }
 
 /// Feeds a piece, where the text isn't over or too long.
@@ -85,7 +95,15 @@ fn read_of_text(out: &mut String, case: &Case, mode: Mode, text: &[u8]) -> Done 
     if !is_page_size(case.page_size) || case.limit > MAX_TOTAL {
         return Err(Trouble::Line);
     }
-    let mut reader = StreamReader::of_text(case.alloc, mode, case.page_size, case.limit, text)?;
+    let frame = frame_of(case);
+    let mut reader = StreamReader::of_text_in(
+        case.alloc,
+        frame,
+        mode,
+        case.page_size,
+        case.limit,
+        text,
+    )?;
     put_reader(out, case, &mut reader, text)
 }
 
@@ -103,14 +121,26 @@ fn put_reader(out: &mut String, case: &Case, reader: &mut StreamReader, text: &[
     if case.is_over {
         reader.end();
     }
+    put_stream_state(out, reader.state())?;
+    put_closed_at(out, reader, text)?;
+    out.push_str(";")?;
     put_stream(out, reader)?;
     put_fed(out, reader.fed(), text)
 }
 
-// What a reader of a stream has found.
+// Where a reader closed a text, unless that is behind its last byte.
+fn put_closed_at(out: &mut String, reader: &StreamReader, text: &[u8]) -> Done {
+    let is_closed = reader.state() == StreamState::Closed;
+    match reader.closed_at() {
+        Some(at) if is_closed && at == text.len() as u64 => Ok(()),
+        Some(at) => Ok(write!(out, " at {at}")?),
+        None if is_closed => Ok(out.push_str(" nowhere")?),
+        None => Ok(()),
+    }
+}
+
+// The table and the rounds that a reader of a stream has found.
 fn put_stream(out: &mut String, reader: &mut StreamReader) -> Done {
-    put_stream_state(out, reader.state())?;
-    out.push_str(";")?;
     match reader.table() {
         Some(table) => put_table(out, table)?,
         None => out.push_str(" no table")?,

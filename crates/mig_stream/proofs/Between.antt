@@ -6,14 +6,16 @@ use Rattle.std.proofs.lemmas.Bool.{cond_both}
 use Rattle.mig_stream.specs.declared.item.Mode.{Mode}
 use Rattle.mig_stream.specs.declared.item.Mode.TheVariants.{Single}
 use Rattle.mig_stream.specs.declared.item.Filling.TheVariants.{Zero, Normal}
+use Rattle.mig_stream.specs.declared.item.Before.{Before}
+use Rattle.mig_stream.specs.declared.item.Frame.{Frame}
 use Rattle.mig_stream.specs.declared.item.Due.{Due}
-use Rattle.mig_stream.specs.declared.item.Due.TheVariants.{FileHeader, TypeByte, ConfigLength, ConfigName, StartHead, SectionHead, RecordHead, ListEntry, BlockName, Content, Footer, Nothing}
+use Rattle.mig_stream.specs.declared.item.Due.TheVariants.{FileHeader, TypeByte, ConfigLength, ConfigName, StartHead, SectionHead, RecordHead, ListEntry, BlockName, Content, Footer, Passed, Nothing}
 use Rattle.mig_stream.specs.declared.item.RecordKind.{RecordKind}
 use Rattle.mig_stream.specs.declared.item.RecordKind.TheVariants.{SizeList, Named, Continued, EndOfSection, Flush}
 use Rattle.mig_stream.specs.Fields.{be32_at}
 use Rattle.mig_stream.specs.PageRecord.{PageRecord}
 use Rattle.mig_stream.specs.Progress.{StreamProgress, start}
-use Rattle.mig_stream.specs.Items.{length_in, after_type, after_kind, after_head, open_records, after_item, after}
+use Rattle.mig_stream.specs.Items.{length_in, is_passed, behind_passed, end_section, after_type, after_type_byte, after_head, open_records, after_item, after}
 use Rattle.mig_stream.specs.Reading.{AreFaultless, after_all, Front}
 use Rattle.mig_stream.proofs.Feeding.{front_item}
 use Rattle.mig_stream.proofs.Steps.{IsLater-front}
@@ -39,6 +41,7 @@ no_records ListEntry = tt
 no_records (BlockName f page) = tt
 no_records (Content f place) = tt
 no_records Footer = tt
+no_records (Passed passed) = refl
 no_records Nothing = refl
 
 abbrev StaysEmpty : StreamProgress → Type 0
@@ -51,6 +54,13 @@ type_empty c b e =
     cond_both (eqb b 2) _ _ StaysEmpty (λ _. e) (λ _.
     cond_both (eqb b 3) _ _ StaysEmpty (λ _. e) (λ _. e))))
 
+type_byte_empty : (c : StreamProgress) (before : Before) (b : ℕ) → c.records ≡ [] → StaysEmpty (after_type_byte c before b)
+type_byte_empty c before b e = cond_both (is_passed c.frame before b) _ _ StaysEmpty (λ _. e) (λ _. type_empty c b e)
+
+-- where no record waits, no item but those of a section wants any
+empty_due : (d : Due) (records : List PageRecord) → records ≡ [] → IsEmpty d records
+empty_due d records e = subst (IsEmpty d) (sym e) (no_records d)
+
 head_empty : (c : StreamProgress) (k : Option RecordKind) (page : ℕ) → StaysEmpty c → StaysEmpty (after_head c k page)
 head_empty c None page e = e
 head_empty c (Some SizeList) page e = tt
@@ -61,7 +71,7 @@ head_empty c (Some Flush) page e = no_records c.due
 
 item_empty : (c : StreamProgress) (d : Due) (item : List ℕ) → c.mode ≡ Single → StaysEmpty c → IsEmpty d c.records → StaysEmpty (after_item c d item)
 item_empty c FileHeader item single e h = h
-item_empty c (TypeByte before) item single e h = type_empty c (slice_index item 0) h
+item_empty c (TypeByte before) item single e h = type_byte_empty c before (slice_index item 0) h
 item_empty c ConfigLength item single e h = cond_both (eqb (be32_at 0 item) 0) _ _ (λ (d : Due). IsEmpty d c.records) (λ _. h) (λ _. h)
 item_empty c (ConfigName n) item single e h = h
 item_empty c StartHead item single e h = tt
@@ -71,7 +81,8 @@ item_empty c ListEntry item single e h = cond_both (unwrap_or c.left 0 - length_
 item_empty c (BlockName f page) item single e h = tt
 item_empty c (Content Zero place) item single e h = tt
 item_empty c (Content Normal place) item single e h = tt
-item_empty c Footer item single e h = ap (λ (m : Mode). open_records m c.records) single
+item_empty c Footer item single e h = empty_due (end_section c).due (end_section c).records (ap (λ (m : Mode). open_records m c.records) single)
+item_empty c (Passed passed) item single e h = empty_due (behind_passed passed item) c.records h
 item_empty c Nothing item single e h = e
 
 all_empty : (c : StreamProgress) (items : List (List ℕ)) → c.mode ≡ Single → StaysEmpty c → AreFaultless c items → StaysEmpty (after_all c items)
@@ -81,7 +92,7 @@ all_empty c (item ∷ items) single e free =
     all_empty (after c item) items there (item_empty c c.due item single e e) free.2
 
 -- Behind the end byte no record waits.
-pub closed_is_empty : (m : Mode) (p limit : ℕ) (bytes : List ℕ) (to : StreamProgress) → m ≡ Single → Front (start m p limit) bytes to → to.due ≡ Nothing → to.records ≡ []
-closed_is_empty m p limit bytes to single f closed =
-    let last : StaysEmpty to = subst StaysEmpty (sym f.leads_to) (all_empty (start m p limit) f.items single refl f.are_faultless) in
+pub closed_is_empty : (frame : Frame) (m : Mode) (p limit : ℕ) (bytes : List ℕ) (to : StreamProgress) → m ≡ Single → Front (start frame m p limit) bytes to → to.due ≡ Nothing → to.records ≡ []
+closed_is_empty frame m p limit bytes to single f closed =
+    let last : StaysEmpty to = subst StaysEmpty (sym f.leads_to) (all_empty (start frame m p limit) f.items single refl f.are_faultless) in
     subst (λ (d : Due). IsEmpty d to.records) closed last

@@ -1,18 +1,26 @@
 -- Worked examples of the definitions: what a writer spells, and how items are judged.
-use Rattle.std.proofs.Common.{◌≡◌, ℕ, ◌^◌, List, [], ◌∷◌, ◌++◌, replicate, Some, None, refl}
+use Rattle.std.proofs.Common.{◌≡◌, flat_map, ℕ, ◌^◌, List, [], ◌∷◌, ◌++◌, replicate, Some, None, refl}
 use Rattle.mig_mem.specs.Image.{Page}
 use Rattle.mig_mem.specs.RamTable.{RamTable, is_id}
 use Rattle.mig_stream.specs.declared.fault.StreamFault.TheVariants as fault
+use Rattle.mig_stream.specs.declared.item.Frame.TheVariants.{Ram, Machine}
 use Rattle.mig_stream.specs.declared.item.Mode.{Mode}
 use Rattle.mig_stream.specs.declared.item.Mode.TheVariants.{Single, Main}
 use Rattle.mig_stream.specs.declared.item.Section.TheVariants as section
 use Rattle.mig_stream.specs.declared.item.Before.TheVariants as before
 use Rattle.mig_stream.specs.declared.item.Filling.TheVariants.{Zero}
-use Rattle.mig_stream.specs.declared.item.Due.TheVariants.{TypeByte, RecordHead, ListEntry, BlockName, Content}
-use Rattle.mig_stream.specs.Fields.{be64, be64_at}
+use Rattle.mig_stream.specs.declared.item.Subsection.TheVariants as kinds
+use Rattle.mig_stream.specs.declared.item.PassedItem.TheVariants as pass
+use Rattle.mig_stream.specs.declared.item.Due.TheVariants.{TypeByte, RecordHead, ListEntry, BlockName, Content, Footer, Passed, Nothing}
+use Rattle.mig_stream.specs.Fields.{be32, be64, counted, be32_at, be64_at}
+use Rattle.mig_stream.specs.Format.{subsection_name, layout_capabilities}
 use Rattle.mig_stream.specs.Progress.{StreamProgress, start}
 use Rattle.mig_stream.specs.Items.{first_fault}
-use Rattle.mig_stream.specs.Text.{file_header, size_list}
+use Rattle.mig_stream.specs.Reading.{settings, in_frame, after_all, Front}
+use Rattle.mig_stream.specs.Text.{file_header, size_list, start_head, body, footer, section as spelled_section}
+use Rattle.mig_stream.specs.Machine.{Command, command_bytes, command, Uuid, configured, subsection_head, subsection, CommandOf, part_or_command}
+use Rattle.mig_stream.specs.Reader.{IsClosedAt}
+use Rattle.mig_stream.proofs.Closing.{closed_by}
 use Rattle.mig_stream.specs.Written.{RoundPart, FlushPart, written, written_parts, opening, closing}
 
 -- ---- what a writer spells
@@ -54,11 +62,11 @@ carried_on = refl
 
 -- START's head was read, and the limit on the table's total is one page of 4,096 bytes
 abbrev in_start : Mode → StreamProgress
-in_start mode = record (start mode 4096 4096) { due = RecordHead; section_id = 1 }
+in_start mode = record (start Ram mode 4096 4096) { due = RecordHead; section_id = 1 }
 
 -- the head of a PART was read; the table has one page, and no block was named yet
 abbrev in_part : Mode → ℕ → StreamProgress
-in_part mode page_size = record (start mode page_size (2 ^ 40)) {
+in_part mode page_size = record (start Ram mode page_size (2 ^ 40)) {
   due = RecordHead;
   section = section.Part;
   section_id = 1;
@@ -119,3 +127,101 @@ with_open_record = record (in_part Main 4096) { due = TypeByte before.LastFooter
 
 end_behind_record : first_fault with_open_record (0x00 ∷ []) ≡ Some fault.Tail
 end_behind_record = refl
+
+-- ---- a machine's stream
+
+-- what a reader of a machine's stream is made with
+abbrev machine : Mode → StreamProgress
+machine mode = start Machine mode 4096 (2 ^ 40)
+
+-- The text of one block of one page and no round, as QEMU writes it: SWITCHOVER_START stands before END, and no end byte behind its footer.
+abbrev empty_machine : List ℕ
+empty_machine =
+    0x51 ∷ 0x45 ∷ 0x56 ∷ 0x4D ∷ 0 ∷ 0 ∷ 0 ∷ 3
+    ∷ 0x01 ∷ 0 ∷ 0 ∷ 0 ∷ 1 ∷ 3 ∷ 0x72 ∷ 0x61 ∷ 0x6D ∷ 0 ∷ 0 ∷ 0 ∷ 0 ∷ 0 ∷ 0 ∷ 0 ∷ 4
+    ∷ 0 ∷ 0 ∷ 0 ∷ 0 ∷ 0 ∷ 0 ∷ 0x10 ∷ 4 ∷ 1 ∷ 0x61 ∷ 0 ∷ 0 ∷ 0 ∷ 0 ∷ 0 ∷ 0 ∷ 0x10 ∷ 0
+    ∷ 0 ∷ 0 ∷ 0 ∷ 0 ∷ 0 ∷ 0 ∷ 0 ∷ 0x10 ∷ 0x7E ∷ 0 ∷ 0 ∷ 0 ∷ 1
+    ∷ 0x08 ∷ 0 ∷ 0x0B ∷ 0 ∷ 0
+    ∷ 0x03 ∷ 0 ∷ 0 ∷ 0 ∷ 1 ∷ 0 ∷ 0 ∷ 0 ∷ 0 ∷ 0 ∷ 0 ∷ 0 ∷ 0x10 ∷ 0x7E ∷ 0 ∷ 0 ∷ 0 ∷ 1 ∷ []
+
+abbrev switchover : Command
+switchover = record { number = 11; carried = [] }
+
+-- it is spelled so
+empty_spelled : file_header ++ configured None ++ flat_map command [] ++ start_head 1 ++ size_list (table 4096 1) ++ body (table 4096 1) 1 []
+    ++ flat_map (part_or_command (table 4096 1) 1) (CommandOf switchover ∷ []) ++ spelled_section (table 4096 1) section.End 1 [] ≡ empty_machine
+unfolding file_header size_list
+empty_spelled = refl
+
+-- it is read so, item by item, to the footer of END
+empty_front : Front (machine Single) empty_machine (record (machine Single) { due = Nothing; section = section.End; section_id = 1; left = Some 0; blocks = (table 4096 1).blocks; rounds = [] ∷ [] ∷ [] })
+unfolding be32_at be64_at is_id
+empty_front = record {
+  items = (0x51 ∷ 0x45 ∷ 0x56 ∷ 0x4D ∷ 0 ∷ 0 ∷ 0 ∷ 3 ∷ []) ∷ (0x01 ∷ []) ∷ (0 ∷ 0 ∷ 0 ∷ 1 ∷ 3 ∷ 0x72 ∷ 0x61 ∷ 0x6D ∷ 0 ∷ 0 ∷ 0 ∷ 0 ∷ 0 ∷ 0 ∷ 0 ∷ 4 ∷ [])
+      ∷ (0 ∷ 0 ∷ 0 ∷ 0 ∷ 0 ∷ 0 ∷ 0x10 ∷ 4 ∷ []) ∷ (1 ∷ 0x61 ∷ 0 ∷ 0 ∷ 0 ∷ 0 ∷ 0 ∷ 0 ∷ 0x10 ∷ 0 ∷ []) ∷ (0 ∷ 0 ∷ 0 ∷ 0 ∷ 0 ∷ 0 ∷ 0 ∷ 0x10 ∷ []) ∷ (0x7E ∷ 0 ∷ 0 ∷ 0 ∷ 1 ∷ [])
+      ∷ (0x08 ∷ []) ∷ (0 ∷ 0x0B ∷ 0 ∷ 0 ∷ [])
+      ∷ (0x03 ∷ []) ∷ (0 ∷ 0 ∷ 0 ∷ 1 ∷ []) ∷ (0 ∷ 0 ∷ 0 ∷ 0 ∷ 0 ∷ 0 ∷ 0 ∷ 0x10 ∷ []) ∷ (0x7E ∷ 0 ∷ 0 ∷ 0 ∷ 1 ∷ []) ∷ [];
+  has_bytes = refl;
+  are_faultless = (record { is_due = λ e. absurd cc; is_whole = refl }, refl, (record { is_due = λ e. absurd cc; is_whole = refl }, refl, (record { is_due = λ e. absurd cc; is_whole = refl }, refl, (record { is_due = λ e. absurd cc; is_whole = refl }, refl, (record { is_due = λ e. absurd cc; is_whole = refl }, refl, (record { is_due = λ e. absurd cc; is_whole = refl }, refl, (record { is_due = λ e. absurd cc; is_whole = refl }, refl, (record { is_due = λ e. absurd cc; is_whole = refl }, refl, (record { is_due = λ e. absurd cc; is_whole = refl }, refl, (record { is_due = λ e. absurd cc; is_whole = refl }, refl, (record { is_due = λ e. absurd cc; is_whole = refl }, refl, (record { is_due = λ e. absurd cc; is_whole = refl }, refl, (record { is_due = λ e. absurd cc; is_whole = refl }, refl, tt)))))))))))));
+  leads_to = refl;
+}
+
+-- What stands behind it, the section of a device, is left: the text is closed by its first 79 bytes.
+abbrev device : List ℕ
+device = 0x04 ∷ 0 ∷ 0 ∷ 0 ∷ 2 ∷ 5 ∷ 0x74 ∷ 0x69 ∷ 0x6D ∷ 0x65 ∷ 0x72 ∷ 0 ∷ []
+
+device_left : IsClosedAt (in_frame Machine (settings Single 4096 (2 ^ 40))) (empty_machine ++ device) 79
+device_left = closed_by (in_frame Machine (settings Single 4096 (2 ^ 40))) (empty_machine ++ device) _ device 79 (record { front = empty_machine; has_text = refl; leads = empty_front; ends = refl }) refl
+
+-- Without the frame the COMMAND is refused.
+command_refused : first_fault (record (in_part Single 4096) { due = TypeByte before.Footer }) (0x08 ∷ []) ≡ Some fault.SectionType
+command_refused = refl
+
+-- A UUID behind the configuration: a subsection of 42 bytes, which is passed over.
+uuid_spelled : subsection (Uuid (replicate 16 0x11)) ≡
+    0x05 ∷ 18 ∷ 0x63 ∷ 0x6F ∷ 0x6E ∷ 0x66 ∷ 0x69 ∷ 0x67 ∷ 0x75 ∷ 0x72 ∷ 0x61 ∷ 0x74 ∷ 0x69 ∷ 0x6F ∷ 0x6E ∷ 0x2F ∷ 0x75 ∷ 0x75 ∷ 0x69 ∷ 0x64 ∷ 0 ∷ 0 ∷ 0 ∷ 1 ∷ replicate 16 0x11
+unfolding subsection_name
+uuid_spelled = refl
+
+uuid_passed : after_all (record (machine Single) { due = TypeByte before.Configuration }) ((0x05 ∷ []) ∷ subsection_head kinds.Uuid ∷ replicate 16 0x11 ∷ []) ≡ record (machine Single) { due = TypeByte before.Configuration }
+unfolding subsection_name
+uuid_passed = refl
+
+-- One of another name is refused, and so is one of another version.
+other_subsection : first_fault (record (machine Single) { due = Passed pass.SubsectionHead }) (counted (0x78 ∷ []) ++ be32 1) ≡ Some fault.Subsection
+unfolding subsection_name be32_at
+other_subsection = refl
+
+other_version : first_fault (record (machine Single) { due = Passed pass.SubsectionHead }) (counted (subsection_name kinds.Uuid) ++ be32 2) ≡ Some fault.Subsection
+unfolding subsection_name be32_at
+other_version = refl
+
+-- A subsection stands behind the configuration alone, and the section of a device before END nowhere.
+late_subsection : first_fault (record (machine Single) { due = TypeByte before.Command }) (0x05 ∷ []) ≡ Some fault.SectionType
+late_subsection = refl
+
+early_device : first_fault (record (machine Single) { due = TypeByte before.Configuration }) (0x04 ∷ []) ≡ Some fault.SectionType
+early_device = refl
+
+-- A capability with which RAM's section has another layout is refused.
+ignore_shared : first_fault (record (machine Single) { due = Passed (pass.Capability 0) }) (counted (0x78 ∷ 0x2D ∷ 0x69 ∷ 0x67 ∷ 0x6E ∷ 0x6F ∷ 0x72 ∷ 0x65 ∷ 0x2D ∷ 0x73 ∷ 0x68 ∷ 0x61 ∷ 0x72 ∷ 0x65 ∷ 0x64 ∷ [])) ≡ Some fault.Capability
+unfolding layout_capabilities
+ignore_shared = refl
+
+-- Page bits of another page size are refused, and those of 4,096 bytes are passed over.
+other_page_bits : first_fault (record (machine Single) { due = Passed (pass.SubsectionBody kinds.PageBits) }) (be32 13) ≡ Some fault.PageBits
+unfolding be32_at
+other_page_bits = refl
+
+own_page_bits : first_fault (record (machine Single) { due = Passed (pass.SubsectionBody kinds.PageBits) }) (be32 12) ≡ None
+unfolding be32_at
+own_page_bits = refl
+
+-- A COMMAND that wraps another stream is refused, once it is whole.
+packaged_refused : first_fault (record (machine Single) { due = Passed (pass.Command before.Footer) }) (command_bytes (record { number = 7; carried = 0 ∷ 0 ∷ 0 ∷ 4 ∷ [] })) ≡ Some fault.Command
+packaged_refused = refl
+
+-- A main stream of a machine may not be closed after a page record that no FLUSH follows.
+closed_behind_record : first_fault (record with_open_record { frame = Machine; due = Footer; section = section.End }) (footer 1) ≡ Some fault.Tail
+unfolding be32_at
+closed_behind_record = refl

@@ -8,14 +8,18 @@ use Rattle.mig_mem.proofs.PageSizes.{page_size_some}
 use Rattle.mig_stream.specs.declared.item.Filling.TheVariants.{Zero, Normal}
 use Rattle.mig_stream.specs.declared.item.RecordKind.{RecordKind}
 use Rattle.mig_stream.specs.declared.item.RecordKind.TheVariants.{SizeList, Named, Continued, EndOfSection, Flush}
+use Rattle.mig_stream.specs.declared.item.Before.{Before}
+use Rattle.mig_stream.specs.declared.item.PassedItem.{PassedItem}
+use Rattle.mig_stream.specs.declared.item.PassedItem.TheVariants.{Command, SubsectionHead, SubsectionBody, Capability}
+use Rattle.mig_stream.specs.declared.item.Subsection.TheVariants.{PageBits, Uuid, Capabilities}
 use Rattle.mig_stream.specs.declared.item.Due.{Due}
-use Rattle.mig_stream.specs.declared.item.Due.TheVariants.{FileHeader, TypeByte, ConfigLength, ConfigName, StartHead, SectionHead, RecordHead, ListEntry, BlockName, Content, Footer, Nothing}
+use Rattle.mig_stream.specs.declared.item.Due.TheVariants.{FileHeader, TypeByte, ConfigLength, ConfigName, StartHead, SectionHead, RecordHead, ListEntry, BlockName, Content, Footer, Passed, Nothing}
 use Rattle.mig_stream.specs.declared.item.StreamState.{StreamState}
 use Rattle.mig_stream.specs.declared.item.StreamState.TheVariants.{Reading, Closed, Bad}
 use Rattle.mig_stream.specs.declared.fault.StreamFault.{StreamFault}
 use Rattle.mig_stream.specs.PageRecord.{PageRecord}
 use Rattle.mig_stream.specs.Progress.{StreamProgress, start, whole_table}
-use Rattle.mig_stream.specs.Items.{size, first_fault, after_type, after_head, after_item, after}
+use Rattle.mig_stream.specs.Items.{passed_size, is_passed, behind_passed, end_section, after_type_byte, size, first_fault, after_type, after_head, after_item, after}
 use Rattle.mig_stream.specs.Reading.{IsItem, Front, Reads, StreamReading}
 use Rattle.mig_stream.specs.Law.{HasOneReading}
 use Rattle.mig_stream.proofs.Fronts.{Front-none, Front-push, work, no_item, item_at}
@@ -31,6 +35,9 @@ type_size c byte =
     cond_both (eqb byte 2) _ _ (λ (x : StreamProgress). x.page_size ≡ c.page_size) (λ _. refl) (λ _.
     cond_both (eqb byte 3) _ _ (λ (x : StreamProgress). x.page_size ≡ c.page_size) (λ _. refl) (λ _. refl))))
 
+type_byte_size : (c : StreamProgress) (before : Before) (byte : ℕ) → (after_type_byte c before byte).page_size ≡ c.page_size
+type_byte_size c before byte = cond_both (is_passed c.frame before byte) _ _ (λ (x : StreamProgress). x.page_size ≡ c.page_size) (λ _. refl) (λ _. type_size c byte)
+
 -- so does a record head, of any kind
 head_size : (c : StreamProgress) (kind : Option RecordKind) (page : ℕ) → (after_head c kind page).page_size ≡ c.page_size
 head_size c None page = refl
@@ -43,7 +50,7 @@ head_size c (Some Flush) page = refl
 -- and so does each item
 item_size : (c : StreamProgress) (d : Due) (item : List ℕ) → (after_item c d item).page_size ≡ c.page_size
 item_size c FileHeader item = refl
-item_size c (TypeByte before) item = type_size c (slice_index item 0)
+item_size c (TypeByte before) item = type_byte_size c before (slice_index item 0)
 item_size c ConfigLength item = refl
 item_size c (ConfigName len) item = refl
 item_size c StartHead item = refl
@@ -54,6 +61,7 @@ item_size c (BlockName filling page) item = refl
 item_size c (Content Zero place) item = refl
 item_size c (Content Normal place) item = refl
 item_size c Footer item = refl
+item_size c (Passed passed) item = refl
 item_size c Nothing item = refl
 
 -- ---- each item is a step forward
@@ -71,12 +79,22 @@ work_small ListEntry = omega arith
 work_small (BlockName filling page) = omega arith
 work_small (Content filling place) = omega arith
 work_small Footer = omega arith
+work_small (Passed passed) = omega arith
 work_small Nothing = omega arith
+
+-- an item that is passed over is not empty
+passed_some : (passed : PassedItem) (item : List ℕ) → 1 ≤ passed_size passed item
+passed_some (Command before) item = omega arith
+passed_some SubsectionHead item = omega arith
+passed_some (SubsectionBody PageBits) item = omega arith
+passed_some (SubsectionBody Uuid) item = omega arith
+passed_some (SubsectionBody Capabilities) item = omega arith
+passed_some (Capability others) item = omega arith
 
 -- an item is not empty, or it is a name, behind which no name comes
 pub work_falls : (c : StreamProgress) (d : Due) (item : List ℕ) → 0 < c.page_size → d ≢ Nothing → length item ≡ size c.page_size d item → work (after_item c d item).due < 2 * length item + work d
 work_falls c FileHeader item some open_ whole = omega arith
-work_falls c (TypeByte before) item some open_ whole = omega (arith, work_small (after_type c (slice_index item 0)).due)
+work_falls c (TypeByte before) item some open_ whole = omega (arith, work_small (after_type_byte c before (slice_index item 0)).due)
 work_falls c ConfigLength item some open_ whole = omega (arith, work_small (after_item c ConfigLength item).due)
 work_falls c (ConfigName len) item some open_ whole = omega arith
 work_falls c StartHead item some open_ whole = omega arith
@@ -86,7 +104,8 @@ work_falls c ListEntry item some open_ whole = omega (arith, work_small (after_i
 work_falls c (BlockName filling page) item some open_ whole = omega arith
 work_falls c (Content Zero place) item some open_ whole = omega arith
 work_falls c (Content Normal place) item some open_ whole = omega arith
-work_falls c Footer item some open_ whole = omega arith
+work_falls c Footer item some open_ whole = omega (arith, work_small (end_section c).due)
+work_falls c (Passed passed) item some open_ whole = omega (arith, passed_some passed item, work_small (behind_passed passed item))
 work_falls c Nothing item some open_ whole = absurd (open_ refl)
 
 -- whether an item is due at all
@@ -102,6 +121,7 @@ is_nothing ListEntry = inr (λ e. absurd cc)
 is_nothing (BlockName filling page) = inr (λ e. absurd cc)
 is_nothing (Content filling place) = inr (λ e. absurd cc)
 is_nothing Footer = inr (λ e. absurd cc)
+is_nothing (Passed passed) = inr (λ e. absurd cc)
 is_nothing Nothing = inl refl
 
 -- ---- a text has a reading
@@ -159,7 +179,7 @@ reads_from from text some = read_on (suc (2 * length text + work from.due)) from
 -- Each text has exactly one reading.
 pub one_reading_law : HasOneReading
 one_reading_law = λ given text is.
-    let from : StreamProgress = start given.mode given.page_size given.limit in
+    let from : StreamProgress = start given.frame given.mode given.page_size given.limit in
     let r = reads_from from text (page_size_some given.page_size is) in
     let reading : StreamReading = record { table = whole_table r.0; rounds = r.0.rounds; state = r.2 } in (
       reading,

@@ -1,16 +1,19 @@
 -- Reading a piece behind the bytes of an item that wasn't whole.
-use Rattle.std.proofs.Common.{◌≡◌, ◌≢◌, ℕ, ◌<◌, ◌≤◌, List, [], ◌++◌, length, get_or, take, drop, Option, Some, None, refl, sym, ap, subst, ◌∙◌, append_assoc, inl, inr, arith}
+use Rattle.std.proofs.Common.{◌≡◌, ◌≢◌, ℕ, ◌+◌, ◌<◌, ◌≤◌, List, [], ◌++◌, length, get_or, take, drop, Option, Some, None, refl, sym, ap, subst, ◌∙◌, append_assoc, inl, inr, arith}
 use Rattle.std.specs.Prelude.{IfSome, IfNone}
-use Rattle.std.proofs.lemmas.List.{take-append-drop, get_or_append_left, get_or_past}
+use Rattle.std.proofs.lemmas.List.{length-append, take-append-drop, get_or_append_left, get_or_past}
 use Rattle.std.proofs.lemmas.Bool.{cases_lt}
 use Rattle.mig_stream.specs.declared.item.Filling.TheVariants.{Zero, Normal}
+use Rattle.mig_stream.specs.declared.item.PassedItem.{PassedItem}
+use Rattle.mig_stream.specs.declared.item.PassedItem.TheVariants.{Command, SubsectionHead, SubsectionBody, Capability}
+use Rattle.mig_stream.specs.declared.item.Subsection.TheVariants.{PageBits, Uuid, Capabilities}
 use Rattle.mig_stream.specs.declared.item.Due.{Due}
-use Rattle.mig_stream.specs.declared.item.Due.TheVariants.{FileHeader, TypeByte, ConfigLength, ConfigName, StartHead, SectionHead, RecordHead, ListEntry, BlockName, Content, Footer, Nothing}
+use Rattle.mig_stream.specs.declared.item.Due.TheVariants.{FileHeader, TypeByte, ConfigLength, ConfigName, StartHead, SectionHead, RecordHead, ListEntry, BlockName, Content, Footer, Passed, Nothing}
 use Rattle.mig_stream.specs.declared.item.StreamState.{StreamState}
 use Rattle.mig_stream.specs.declared.item.StreamState.TheVariants.{Reading, Bad}
 use Rattle.mig_stream.specs.declared.fault.StreamFault.{StreamFault}
 use Rattle.mig_stream.specs.Progress.{StreamProgress}
-use Rattle.mig_stream.specs.Items.{size, first_fault, after}
+use Rattle.mig_stream.specs.Items.{passed_size, size, first_fault, after}
 use Rattle.mig_stream.specs.Reading.{IsItem, Front, Reads}
 use Rattle.mig_stream.specs.Taking.{HasTaken}
 use Rattle.mig_stream.specs.Reader.{IsUnfinished, ReadsOn}
@@ -37,6 +40,14 @@ byte_grows bytes more i =
       | inr le ↦ omega (arith, get_or_past bytes i 0 le)
     ]
 
+passed_grows : (passed : PassedItem) (bytes more : List ℕ) → passed_size passed bytes ≤ passed_size passed (bytes ++ more)
+passed_grows (Command before) bytes more = omega (arith, byte_grows bytes more 2, byte_grows bytes more 3)
+passed_grows SubsectionHead bytes more = omega (arith, byte_grows bytes more 0)
+passed_grows (SubsectionBody PageBits) bytes more = omega arith
+passed_grows (SubsectionBody Uuid) bytes more = omega arith
+passed_grows (SubsectionBody Capabilities) bytes more = omega arith
+passed_grows (Capability others) bytes more = omega (arith, byte_grows bytes more 0)
+
 -- more bytes may tell that an item is longer, and never that it is shorter
 pub size_grows : (p : ℕ) (d : Due) (bytes more : List ℕ) → size p d bytes ≤ size p d (bytes ++ more)
 size_grows p FileHeader bytes more = omega arith
@@ -51,6 +62,7 @@ size_grows p (BlockName f page) bytes more = omega (arith, byte_grows bytes more
 size_grows p (Content Zero place) bytes more = omega arith
 size_grows p (Content Normal place) bytes more = omega arith
 size_grows p Footer bytes more = omega arith
+size_grows p (Passed passed) bytes more = passed_grows passed bytes more
 size_grows p Nothing bytes more = omega arith
 
 -- ---- what is read
@@ -76,8 +88,8 @@ reads_fault c item rest f is fault = record {
 pub front_item : (c : StreamProgress) (item : List ℕ) → IsItem c.page_size c.due item → first_fault c item ≡ None → Front c item (after c item)
 front_item c item is none = Front-push c c [] item (Front-none c) is none
 
-pub reads_behind : (c d to : StreamProgress) (item rest pending : List ℕ) (s : StreamState) → IsItem c.page_size c.due item → first_fault c item ≡ None → d ≡ after c item → ReadsOn d rest to pending s → ReadsOn c (item ++ rest) to pending s
-reads_behind c d to item rest pending s is none d_is r = record {
+pub reads_behind : (c d to : StreamProgress) (item rest pending : List ℕ) (left : ℕ) (s : StreamState) → IsItem c.page_size c.due item → first_fault c item ≡ None → d ≡ after c item → ReadsOn d rest to pending left s → ReadsOn c (item ++ rest) to pending left s
+reads_behind c d to item rest pending left s is none d_is r = record {
   rest = r.rest;
   reads = record {
     front = item ++ r.reads.front;
@@ -85,6 +97,7 @@ reads_behind c d to item rest pending s is none d_is r = record {
     leads = Front-append c d to item r.reads.front (subst (λ (x : StreamProgress). Front c item x) (sym d_is) (front_item c item is none)) r.reads.leads;
     ends = r.reads.ends;
   };
+  has_left = r.has_left;
   has_rest = r.has_rest;
 }
 
@@ -108,11 +121,12 @@ taken_behind c d to item rest is none d_is t = record {
 -- ---- what filling the pending item up leads to
 
 -- the piece was too short
-pub still_short : {X : Type 0} (o : Option X) (c : StreamProgress) (old piece new : List ℕ) → o ≡ None → IfNone o ((new ≡ old ++ piece) × IsUnfinished c new) → ReadsOn c (old ++ piece) c new Reading
-still_short {X} (Some x) c old piece new none h = absurd cc
-still_short {X} None c old piece new none h = record {
+pub still_short : {X : Type 0} (o : Option X) (c : StreamProgress) (old piece new : List ℕ) (left : ℕ) → left ≡ length new → o ≡ None → IfNone o ((new ≡ old ++ piece) × IsUnfinished c new) → ReadsOn c (old ++ piece) c new left Reading
+still_short {X} (Some x) c old piece new left len none h = absurd cc
+still_short {X} None c old piece new left len none h = record {
   rest = new;
   reads = subst (λ (x : List ℕ). Reads c x c new Reading) h.0 (reads_short c new h.1);
+  has_left = sym len;
   has_rest = λ _. refl;
 }
 
@@ -120,14 +134,15 @@ still_short {X} None c old piece new none h = record {
 pub text_at : {X : Type 0} (o : Option X) (x : X) (P : X → Type 0) → o ≡ Some x → IfSome o P → P x
 text_at {X} o x P e h = subst (λ (y : Option X). IfSome y P) e h
 
-pub whole_fault : (c d : StreamProgress) (old piece item rest pending : List ℕ) (f : StreamFault) → item ++ rest ≡ old ++ piece → IsItem c.page_size c.due item → first_fault c item ≡ Some f → d ≡ c → ReadsOn c (old ++ piece) d pending (Bad f)
-whole_fault c d old piece item rest pending f e is fault same = record {
+pub whole_fault : (c d : StreamProgress) (old piece item rest pending : List ℕ) (left : ℕ) (f : StreamFault) → left ≡ length item + length rest → item ++ rest ≡ old ++ piece → IsItem c.page_size c.due item → first_fault c item ≡ Some f → d ≡ c → ReadsOn c (old ++ piece) d pending left (Bad f)
+whole_fault c d old piece item rest pending left f len e is fault same = record {
   rest = item ++ rest;
   reads = subst (λ (x : List ℕ). Reads c x d (item ++ rest) (Bad f)) e (subst (λ (x : StreamProgress). Reads c (item ++ rest) x (item ++ rest) (Bad f)) (sym same) (reads_fault c item rest f is fault));
+  has_left = length-append item rest ∙ sym len;
   has_rest = λ reading. absurd cc;
 }
 
 -- what a reading keeps is no whole item
-pub unfinished_behind : (from : StreamProgress) (bytes : List ℕ) (to : StreamProgress) (pending : List ℕ) (s : StreamState) → ReadsOn from bytes to pending s → s ≡ Reading → IsUnfinished to pending
-unfinished_behind from bytes to pending s r reading =
+pub unfinished_behind : (from : StreamProgress) (bytes : List ℕ) (to : StreamProgress) (pending : List ℕ) (left : ℕ) (s : StreamState) → ReadsOn from bytes to pending left s → s ≡ Reading → IsUnfinished to pending
+unfinished_behind from bytes to pending left s r reading =
     subst (IsUnfinished to) (r.has_rest reading) (unfinished from bytes to r.rest (subst (λ (x : StreamState). Reads from bytes to r.rest x) reading r.reads))

@@ -1,24 +1,31 @@
 -- What is read to its end byte is spelled so.
-use Rattle.std.proofs.Common.{◌≡◌, ℕ, ◌+◌, ◌^◌, ◌≤◌, List, [], ◌∷◌, ◌++◌, Some, None, refl, sym, ap, subst, ◌∙◌, append_assoc, arith}
-use Rattle.std.specs.List.{flat_map}
+use Rattle.std.proofs.Common.{◌≡◌, ℕ, ◌+◌, ◌^◌, ◌<◌, ◌≤◌, false, List, [], ◌∷◌, ◌++◌, length, Option, Some, None, refl, sym, ap, subst, ◌∙◌, append_assoc, arith}
+use Rattle.std.specs.List.{flat_map, AllByRecursion}
+use Rattle.std.specs.Prelude.{All, IfSome}
+use Rattle.std.proofs.lemmas.List.{append-nil}
 use Rattle.mig_mem.specs.PageSize.{IsPageSize}
-use Rattle.mig_mem.specs.RamTable.{RamTable}
+use Rattle.mig_mem.specs.RamTable.{RamTable, IsTable}
+use Rattle.mig_stream.specs.declared.item.Frame.{Frame}
+use Rattle.mig_stream.specs.declared.item.Frame.TheVariants.{Ram, Machine}
 use Rattle.mig_stream.specs.declared.item.Mode.{Mode}
 use Rattle.mig_stream.specs.declared.item.Section.TheVariants.{Part, End}
 use Rattle.mig_stream.specs.declared.item.Due.TheVariants.{Nothing}
 use Rattle.mig_stream.specs.declared.item.StreamState.{StreamState}
+use Rattle.mig_stream.specs.declared.item.StreamState.TheVariants.{Closed}
 use Rattle.mig_stream.specs.declared.item.RecordKind.TheVariants.{SizeList}
 use Rattle.mig_stream.specs.PageRecord.{PageRecord}
 use Rattle.mig_stream.specs.Fields.{be64}
-use Rattle.mig_stream.specs.Format.{end_byte, flags_of}
+use Rattle.mig_stream.specs.Format.{end_byte, flags_of, most_name_bytes}
 use Rattle.mig_stream.specs.Progress.{StreamProgress, start, whole_table}
-use Rattle.mig_stream.specs.Reading.{Ends}
-use Rattle.mig_stream.specs.Text.{file_header, configuration, start_head, size_list, total_bytes, entry, Follow, all_records, body, section, IsText, AreRounds}
-use Rattle.mig_stream.specs.Law.{ReadIsSpelled}
+use Rattle.mig_stream.specs.Items.{is_machine}
+use Rattle.mig_stream.specs.Reading.{Settings, Ends, StreamReading, IsReading}
+use Rattle.mig_stream.specs.Text.{Record, file_header, configuration, start_head, size_list, total_bytes, entry, Follow, all_records, body, section, IsText, AreRounds}
+use Rattle.mig_stream.specs.Machine.{Command, command, IsCommand, SubsectionBody, subsection, Configuration, configured, IsConfiguration, PartOrCommand, PartOf, CommandOf, part_or_command, IsPartOrCommand, parts_of, IsMachineText}
+use Rattle.mig_stream.specs.Law.{ReadIsSpelled, MachineReadIsSpelled}
 use Rattle.mig_stream.proofs.Tables.{sum_of, table_from_blocks, total_is_sum}
 use Rattle.mig_stream.proofs.SectionRounds.{rounds_spelled}
 use Rattle.mig_stream.proofs.FoundFields.{IsBytes, bytes_from_all, bytes_of_front}
-use Rattle.mig_stream.proofs.FoundTail.{Follow-append, FlushesFit-cons}
+use Rattle.mig_stream.proofs.FoundTail.{ending, HasNoCommand, Follow-append, FlushesFit-cons}
 use Rattle.mig_stream.proofs.FoundOpening.{RestOfFile}
 use Rattle.mig_stream.proofs.FoundItems.{items_back}
 
@@ -30,65 +37,105 @@ list_spelled table bytes =
     ap (λ (n : ℕ). be64 (n + flags_of SizeList) ++ (flat_map (entry table.page_size) table.blocks ++ bytes)) (sym (total_is_sum table))
     ∙ sym (append_assoc (be64 (total_bytes table + flags_of SizeList)) (flat_map (entry table.page_size) table.blocks) bytes)
 
--- the eight parts of a text, put together otherwise
-regroup : (f c s l b p e z : List ℕ) → f ++ (c ++ (s ++ (l ++ (b ++ (p ++ (e ++ z)))))) ≡ f ++ c ++ s ++ l ++ b ++ p ++ e ++ z
-regroup f c s l b p e z = simp append_assoc
+-- the parts of a text, put together otherwise
+regroup : (f c x s l b p e z : List ℕ) → f ++ (c ++ (x ++ (s ++ (l ++ (b ++ (p ++ (e ++ z))))))) ≡ f ++ c ++ x ++ s ++ l ++ b ++ p ++ e ++ z
+regroup f c x s l b p e z = simp append_assoc
+
+-- A text of either frame: what a machine's stream alone has isn't there in the other.
+pub record IsFramedText (frame : Frame) (mode : Mode) (limit : ℕ) (text : List ℕ) (table : RamTable) (rounds : List (List PageRecord)) : Type 0 where
+  pub id : ℕ
+  pub machine : Option Configuration
+  pub commands : List Command
+  pub first : List Record
+  pub others : List PartOrCommand
+  pub last : List Record
+  pub is_spelled : text ≡ file_header ++ configured machine ++ flat_map command commands ++ start_head id ++ size_list table ++ body table id first
+      ++ flat_map (part_or_command table id) others ++ section table End id last ++ ending (is_machine frame)
+  pub has_table : IsTable table
+  pub has_limit : total_bytes table ≤ limit
+  pub has_id : id < 2 ^ 32
+  pub has_machine : IfSome machine (IsConfiguration table.page_size)
+  pub are_commands : AllByRecursion IsCommand commands
+  pub are_others : AllByRecursion IsPartOrCommand others
+  pub follow : Follow table None (first ++ all_records (parts_of others) ++ last)
+  pub has_rounds : AreRounds mode (first ∷ parts_of others ++ last ∷ []) rounds
+  pub no_subsections : is_machine frame ≡ false → IfSome machine (λ x. x.subsections ≡ [])
+  pub no_commands : is_machine frame ≡ false → commands ≡ []
+  pub no_others : is_machine frame ≡ false → HasNoCommand others
 
 -- A whole text that is left from the first byte on is a text of its table and its rounds.
-pub record IsFound (mode : Mode) (page_size limit : ℕ) (to : StreamProgress) (text : List ℕ) : Type 0 where
+pub record IsFound (frame : Frame) (mode : Mode) (page_size limit : ℕ) (to : StreamProgress) (text : List ℕ) : Type 0 where
   pub table : RamTable
   pub has_page_size : table.page_size ≡ page_size
   pub has_table : whole_table to ≡ Some table
-  pub has_text : IsText mode limit text table to.rounds
+  pub has_text : IsFramedText frame mode limit text table to.rounds
 
 -- Such a rest is a text.
-pub text_found : (mode : Mode) (page_size limit : ℕ) (to : StreamProgress) (text : List ℕ) → IsPageSize page_size → limit ≤ 2 ^ 40 → RestOfFile to (start mode page_size limit) text
-    → IsFound mode page_size limit to text
-text_found mode page_size limit to text size small file =
+pub text_found : (frame : Frame) (mode : Mode) (page_size limit : ℕ) (to : StreamProgress) (text : List ℕ) → IsPageSize page_size → limit ≤ 2 ^ 40 → RestOfFile to (start frame mode page_size limit) text
+    → IsFound frame mode page_size limit to text
+text_found frame mode page_size limit to text size small file =
     let opening = file.rest in
-    let begun = opening.rest in
+    let before = opening.rest in
+    let begun = before.rest in
     let list = begun.rest in
     let records = list.rest in
     let tail = records.others in
     let id = begun.id in
     let table : RamTable = record { page_size = page_size; blocks = list.blocks } in
-    let others = flat_map (section table Part id) tail.parts ++ (section table End id tail.last ++ end_byte ∷ []) in
+    let others = flat_map (part_or_command table id) tail.others ++ (section table End id tail.last ++ ending (is_machine frame)) in
     let six : list.tail ≡ body table id records.records ++ others = records.has_bytes ∙ ap (λ (x : List ℕ). body table id records.records ++ x) tail.has_bytes in
     let five : begun.tail ≡ size_list table ++ (body table id records.records ++ others) =
     list.has_bytes ∙ list_spelled table list.tail ∙ ap (λ (x : List ℕ). size_list table ++ x) six in
-    let four : opening.tail ≡ start_head id ++ (size_list table ++ (body table id records.records ++ others)) = begun.has_bytes ∙ ap (λ (x : List ℕ). start_head id ++ x) five in
-    let three : file.tail ≡ configuration opening.name ++ (start_head id ++ (size_list table ++ (body table id records.records ++ others))) =
-    opening.has_bytes ∙ ap (λ (x : List ℕ). configuration opening.name ++ x) four in
-    let spelled : text ≡ file_header ++ (configuration opening.name ++ (start_head id ++ (size_list table ++ (body table id records.records ++ others)))) =
+    let four : before.tail ≡ start_head id ++ (size_list table ++ (body table id records.records ++ others)) = begun.has_bytes ∙ ap (λ (x : List ℕ). start_head id ++ x) five in
+    let commands : opening.tail ≡ flat_map command before.commands ++ (start_head id ++ (size_list table ++ (body table id records.records ++ others))) =
+    before.has_bytes ∙ ap (λ (x : List ℕ). flat_map command before.commands ++ x) four in
+    let three : file.tail ≡ configured opening.machine ++ (flat_map command before.commands ++ (start_head id ++ (size_list table ++ (body table id records.records ++ others)))) =
+    opening.has_bytes ∙ ap (λ (x : List ℕ). configured opening.machine ++ x) commands in
+    let spelled : text ≡ file_header ++ (configured opening.machine ++ (flat_map command before.commands ++ (start_head id ++ (size_list table ++ (body table id records.records ++ others))))) =
     file.has_bytes ∙ ap (λ (x : List ℕ). file_header ++ x) three in
     let sum : total_bytes table ≡ sum_of page_size list.blocks = total_is_sum table in
-    let rounds = rounds_spelled mode (records.records ∷ tail.parts ++ tail.last ∷ []) (FlushesFit-cons mode records.records (tail.parts ++ tail.last ∷ []) records.flushes tail.flushes) tail.no_tail in
+    let rounds = rounds_spelled mode (records.records ∷ parts_of tail.others ++ tail.last ∷ []) (FlushesFit-cons mode records.records (parts_of tail.others ++ tail.last ∷ []) records.flushes tail.flushes) tail.no_tail in
     record {
       table = table;
       has_page_size = refl;
       has_table = tail.has_table;
       has_text = record {
         id = id;
-        name = opening.name;
+        machine = opening.machine;
+        commands = before.commands;
         first = records.records;
-        parts = tail.parts;
+        others = tail.others;
         last = tail.last;
-        is_spelled = spelled ∙ regroup file_header (configuration opening.name) (start_head id) (size_list table) (body table id records.records) (flat_map (section table Part id) tail.parts)
-            (section table End id tail.last) (end_byte ∷ []);
+        is_spelled = spelled ∙ regroup file_header (configured opening.machine) (flat_map command before.commands) (start_head id) (size_list table) (body table id records.records) (flat_map (part_or_command table id) tail.others)
+            (section table End id tail.last) (ending (is_machine frame));
         has_table = table_from_blocks table size list.has_some (omega (arith, list.has_few)) list.are_blocks (omega (arith, sum, list.has_limit));
         has_limit = omega (arith, sum, list.has_limit);
         has_id = begun.has_id;
-        has_name = opening.has_name;
-        follow = subst (Follow table None) (sym (append_assoc records.records (all_records tail.parts) tail.last))
-            (Follow-append table None records.records (all_records tail.parts ++ tail.last) records.follow tail.follow);
-        has_rounds = subst (AreRounds mode (records.records ∷ tail.parts ++ tail.last ∷ [])) (sym tail.has_rounds) rounds;
+        has_machine = opening.has_machine;
+        are_commands = before.are_commands;
+        are_others = tail.are_others;
+        follow = subst (Follow table None) (sym (append_assoc records.records (all_records (parts_of tail.others)) tail.last))
+            (Follow-append table None records.records (all_records (parts_of tail.others) ++ tail.last) records.follow tail.follow);
+        has_rounds = subst (AreRounds mode (records.records ∷ parts_of tail.others ++ tail.last ∷ [])) (sym tail.has_rounds) rounds;
+        no_subsections = opening.in_frame;
+        no_commands = before.in_frame;
+        no_others = tail.in_frame;
       };
     }
 
--- Whatever is read to its end byte is spelled so.
-pub read_law : ReadIsSpelled
-read_law given bytes reading size small all is closed =
-    let from : StreamProgress = start given.mode given.page_size given.limit in
+-- what was read closed is a text of its frame
+record IsReadAs (given : Settings) (bytes : List ℕ) (reading : StreamReading) : Type 0 where
+  table : RamTable
+  has_page_size : table.page_size ≡ given.page_size
+  has_table : reading.table ≡ Some table
+  text : List ℕ
+  rest : List ℕ
+  has_bytes : bytes ≡ text ++ rest
+  has_text : IsFramedText given.frame given.mode given.limit text table reading.rounds
+
+read_as : (given : Settings) (bytes : List ℕ) (reading : StreamReading) → IsPageSize given.page_size → given.limit ≤ 2 ^ 40 → All (λ byte. byte < 2 ^ 8) bytes → IsReading given bytes reading → reading.state ≡ Closed → IsReadAs given bytes reading
+read_as given bytes reading size small all is closed =
+    let from : StreamProgress = start given.frame given.mode given.page_size given.limit in
     let reads = is.reads in
     let leads = reads.leads in
     let due : is.to.due ≡ Nothing = subst (λ (x : StreamState). Ends is.to is.rest x) closed reads.ends in
@@ -96,14 +143,106 @@ read_law given bytes reading size small all is closed =
     let front : IsBytes reads.front = bytes_of_front reads.front is.rest (subst IsBytes reads.has_text whole) in
     let left = items_back is.to from leads.items leads.are_faultless (subst IsBytes leads.has_bytes front) leads.leads_to due in
     let file : RestOfFile is.to from reads.front = subst (λ (x : List ℕ). RestOfFile is.to from x) (sym leads.has_bytes) (left refl) in
-    let found = text_found given.mode given.page_size given.limit is.to reads.front size small file in (
+    let found = text_found given.frame given.mode given.page_size given.limit is.to reads.front size small file in
+    record {
+      table = found.table;
+      has_page_size = found.has_page_size;
+      has_table = is.has_table ∙ found.has_table;
+      text = reads.front;
+      rest = is.rest;
+      has_bytes = reads.has_text;
+      has_text = subst (λ (x : List (List PageRecord)). IsFramedText given.frame given.mode given.limit reads.front found.table x) (sym is.has_rounds) found.has_text;
+    }
+
+-- ---- of RAM's sections alone
+
+abbrev name_of : Option Configuration → Option (List ℕ)
+name_of None = None
+name_of (Some x) = Some x.name
+
+plain_configuration : (o : Option Configuration) → IfSome o (λ x. x.subsections ≡ []) → configured o ≡ configuration (name_of o)
+plain_configuration None none = refl
+plain_configuration (Some x) none = ap (λ (hs : List SubsectionBody). configuration (Some x.name) ++ flat_map subsection hs) none ∙ append-nil (configuration (Some x.name))
+
+plain_name : (p : ℕ) (o : Option Configuration) → IfSome o (IsConfiguration p) → IfSome (name_of o) (λ bytes. length bytes ≤ most_name_bytes)
+plain_name p None is = tt
+plain_name p (Some x) is = is.has_name
+
+plain_parts : (table : RamTable) (id : ℕ) (others : List PartOrCommand) → HasNoCommand others → flat_map (part_or_command table id) others ≡ flat_map (section table Part id) (parts_of others)
+plain_parts table id [] none = refl
+plain_parts table id (PartOf records ∷ others) none = ap (λ (x : List ℕ). section table Part id records ++ x) (plain_parts table id others none)
+plain_parts table id (CommandOf x ∷ others) none = absurd none
+
+ram_text : (mode : Mode) (limit : ℕ) (text : List ℕ) (table : RamTable) (rounds : List (List PageRecord)) → IsFramedText Ram mode limit text table rounds → IsText mode limit text table rounds
+ram_text mode limit text table rounds t =
+    let c = plain_configuration t.machine (t.no_subsections refl) in
+    let p = plain_parts table t.id t.others (t.no_others refl) in
+    let behind : List ℕ → List ℕ → List ℕ → List ℕ = λ c x p. file_header ++ c ++ x ++ start_head t.id ++ size_list table ++ body table t.id t.first ++ p ++ section table End t.id t.last ++ end_byte ∷ [] in
+    let one : text ≡ behind (configuration (name_of t.machine)) (flat_map command t.commands) (flat_map (part_or_command table t.id) t.others) = t.is_spelled ∙ ap (λ (x : List ℕ). behind x (flat_map command t.commands) (flat_map (part_or_command table t.id) t.others)) c in
+    let two : text ≡ behind (configuration (name_of t.machine)) [] (flat_map (part_or_command table t.id) t.others) = one ∙ ap (λ (x : List Command). behind (configuration (name_of t.machine)) (flat_map command x) (flat_map (part_or_command table t.id) t.others)) (t.no_commands refl) in
+    let three : text ≡ behind (configuration (name_of t.machine)) [] (flat_map (section table Part t.id) (parts_of t.others)) = two ∙ ap (behind (configuration (name_of t.machine)) []) p in
+    record {
+      id = t.id;
+      name = name_of t.machine;
+      first = t.first;
+      parts = parts_of t.others;
+      last = t.last;
+      is_spelled = three ∙ simp append-nil refl;
+      has_table = t.has_table;
+      has_limit = t.has_limit;
+      has_id = t.has_id;
+      has_name = plain_name table.page_size t.machine t.has_machine;
+      follow = t.follow;
+      has_rounds = t.has_rounds;
+    }
+
+-- Whatever is read to its end byte is spelled so.
+pub read_law : ReadIsSpelled
+read_law given bytes reading ram size small all is closed =
+    let found = read_as given bytes reading size small all is closed in (
       found.table,
       found.has_page_size,
-      is.has_table ∙ found.has_table,
+      found.has_table,
       (
-        reads.front,
-        is.rest,
-        reads.has_text,
-        subst (λ (x : List (List PageRecord)). IsText given.mode given.limit reads.front found.table x) (sym is.has_rounds) found.has_text,
+        found.text,
+        found.rest,
+        found.has_bytes,
+        ram_text given.mode given.limit found.text found.table reading.rounds (subst (λ (f : Frame). IsFramedText f given.mode given.limit found.text found.table reading.rounds) ram found.has_text),
+      ),
+    )
+
+-- ---- of a machine's stream
+
+machine_text : (mode : Mode) (limit : ℕ) (text : List ℕ) (table : RamTable) (rounds : List (List PageRecord)) → IsFramedText Machine mode limit text table rounds → IsMachineText mode limit text table rounds
+machine_text mode limit text table rounds t = record {
+  id = t.id;
+  machine = t.machine;
+  commands = t.commands;
+  first = t.first;
+  others = t.others;
+  last = t.last;
+  is_spelled = t.is_spelled ∙ append-nil _;
+  has_table = t.has_table;
+  has_limit = t.has_limit;
+  has_id = t.has_id;
+  has_machine = t.has_machine;
+  are_commands = t.are_commands;
+  are_others = t.are_others;
+  follow = t.follow;
+  has_rounds = t.has_rounds;
+}
+
+-- Whatever is read to the footer of RAM's END is spelled so.
+pub machine_read_law : MachineReadIsSpelled
+machine_read_law given bytes reading machine size small all is closed =
+    let found = read_as given bytes reading size small all is closed in (
+      found.table,
+      found.has_page_size,
+      found.has_table,
+      (
+        found.text,
+        found.rest,
+        found.has_bytes,
+        machine_text given.mode given.limit found.text found.table reading.rounds (subst (λ (f : Frame). IsFramedText f given.mode given.limit found.text found.table reading.rounds) machine found.has_text),
       ),
     )

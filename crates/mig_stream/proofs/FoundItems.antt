@@ -1,31 +1,40 @@
 -- An item without a fault, of any kind, goes in front of what is left behind it.
-use Rattle.std.proofs.Common.{◌≡◌, ℕ, ◌+◌, ◌/◌, ◌%◌, Bool, true, false, not, cond, eqb, List, [], ◌∷◌, ◌++◌, length, get_or, Option, Some, None, refl, sym, ap, subst, ◌∙◌}
-use Rattle.std.specs.Prelude.{is_none}
+use Rattle.std.proofs.Common.{◌≡◌, ◌≢◌, ℕ, zero, suc, ◌+◌, ◌-◌, ◌^◌, ◌<◌, ◌/◌, ◌%◌, Bool, true, false, not, cond, eqb, List, [], ◌∷◌, ◌++◌, length, get_or, Option, Some, None, refl, sym, ap, subst, ◌∙◌, append_assoc, arith}
+use Rattle.std.specs.Prelude.{is_none, ◌==◌, ◌&&◌}
 use Rattle.std.specs.Option.{unwrap_or}
-use Rattle.std.specs.List.{concat}
-use Rattle.std.proofs.lemmas.Bool.{not-false, eqb-true}
+use Rattle.std.specs.List.{concat, flat_map}
+use Rattle.std.proofs.lemmas.Bool.{not-false, eqb-true, eqb-false}
 use Rattle.mig_mem.specs.Place.{place_at}
 use Rattle.mig_mem.specs.RamTable.{block_of}
 use Rattle.mig_stream.specs.declared.item.Filling.{Filling}
 use Rattle.mig_stream.specs.declared.item.Filling.TheVariants.{Zero, Normal}
 use Rattle.mig_stream.specs.declared.item.Before.TheVariants as before
+use Rattle.mig_stream.specs.declared.item.PassedItem.{PassedItem}
+use Rattle.mig_stream.specs.declared.item.PassedItem.TheVariants as pass
+use Rattle.mig_stream.specs.declared.item.Subsection.{Subsection}
+use Rattle.mig_stream.specs.declared.item.Subsection.TheVariants as kinds
+use Rattle.mig_stream.specs.Format.{footer_type}
+use Rattle.mig_stream.specs.Machine.{PageBits, Uuid, Capabilities, kind_of, body_bytes, subsection_head}
 use Rattle.mig_stream.specs.declared.item.Section.{Section}
 use Rattle.mig_stream.specs.declared.item.Section.TheVariants as section
 use Rattle.mig_stream.specs.declared.item.Due.{Due}
-use Rattle.mig_stream.specs.declared.item.Due.TheVariants.{FileHeader, TypeByte, ConfigLength, ConfigName, StartHead, SectionHead, RecordHead, ListEntry, BlockName, Content, Footer, Nothing}
+use Rattle.mig_stream.specs.declared.item.Due.TheVariants.{FileHeader, TypeByte, ConfigLength, ConfigName, StartHead, SectionHead, RecordHead, ListEntry, BlockName, Content, Footer, Passed, Nothing}
 use Rattle.mig_stream.specs.declared.fault.StreamFault.TheVariants as fault
-use Rattle.mig_stream.specs.Fields.{be32_at, be64_at}
+use Rattle.mig_stream.specs.Fields.{be32, counted, be32_at, be64_at}
 use Rattle.mig_stream.specs.Progress.{StreamProgress, whole_table}
 use Rattle.mig_mem.specs.First.{first_of}
-use Rattle.mig_stream.specs.Items.{id_in, record_kind, has_page, faults, footer_of, end_section, after_item, after}
+use Rattle.mig_stream.specs.Items.{is_machine, closes, has_tail, body_of, behind_passed, passed_size, passed_faults, open_records, behind_footer, id_in, record_kind, has_page, faults, end_section, after_item, after}
 use Rattle.mig_stream.specs.Reading.{IsItem, AreFaultless, after_all}
-use Rattle.mig_stream.proofs.FoundFields.{IsBytes, bytes_of_front, bytes_of_rest, passed, head_found}
+use Rattle.mig_stream.proofs.FoundFields.{IsBytes, bytes_of_front, bytes_of_rest, passed, be32_found, head_found}
 use Rattle.mig_stream.proofs.FoundPages.{RestOfBody, RestOfPage, RestOfName, zero_back, normal_back, name_back}
 use Rattle.mig_stream.proofs.FoundSections.{footer_back, section_back}
 use Rattle.mig_stream.proofs.FoundList.{RestOfEntries, RestOfList, IsEntry, entry_is, left_after, block_in, last_entry_back, entry_back}
-use Rattle.mig_stream.proofs.FoundTail.{RestBehind, Behind}
+use Rattle.mig_stream.proofs.FoundTail.{ending, RestOfEnd, RestBehind, Behind, no_tail_closed}
 use Rattle.mig_stream.proofs.FoundOpening as opening
-use Rattle.mig_stream.proofs.FoundRest.{RestAt, RestAtType, RestFrom}
+use Rattle.mig_stream.proofs.After.{HasNoTail}
+use Rattle.mig_stream.proofs.FoundParts.{be32_small}
+use Rattle.mig_stream.proofs.FoundPassed.{command_found, head_found as head_found_of, bits_found, capability_found}
+use Rattle.mig_stream.proofs.FoundRest.{RestAt, RestAtPassed, RestFrom}
 use Rattle.mig_stream.proofs.FoundHeads.{head_back}
 use Rattle.mig_stream.proofs.FoundTypes.{type_back}
 
@@ -59,11 +68,98 @@ id_back : (Behind : StreamProgress → List ℕ → Type 0) (c : StreamProgress)
 id_back Behind c f page item bytes None len is in_range r = absurd cc
 id_back Behind c f page item bytes (Some b) len is in_range r = name_back Behind c f page item bytes len b is in_range r
 
+-- behind the footer of END stands the ending
+ending_behind : (to c : StreamProgress) (bytes : List ℕ) (machine : Bool) → is_machine c.frame ≡ machine → (machine ≡ true → HasNoTail c.mode c.records) → RestAt to c (cond machine Nothing (TypeByte before.LastFooter)) bytes → RestOfEnd to c bytes
+ending_behind to c bytes true is whole r = record { has_bytes = r.0 ∙ sym (ap ending is); no_tail = whole refl; has_rounds = r.1; has_table = r.2 }
+ending_behind to c bytes false is whole r = r is
+
 -- behind a footer
-footer_behind : (to c : StreamProgress) (s : Section) (bytes : List ℕ) → c.left ≡ Some 0 → RestAtType to c (footer_of s) bytes → RestBehind to s c bytes
-footer_behind to c section.Start bytes used r = r used
-footer_behind to c section.Part bytes used r = r used
-footer_behind to c section.End bytes used r = r
+footer_behind : (to c : StreamProgress) (s : Section) (bytes : List ℕ) → c.left ≡ Some 0 → (closes c.frame s ≡ true → HasNoTail c.mode c.records) → RestAt to c (behind_footer c.frame s) bytes → RestBehind to s c bytes
+footer_behind to c section.Start bytes used whole r = r used
+footer_behind to c section.Part bytes used whole r = r used
+footer_behind to c section.End bytes used whole r = ending_behind to c bytes (is_machine c.frame) refl whole r
+
+-- a footer that closes the text was tested so
+closed_whole : (c : StreamProgress) (closing : Bool) → has_tail closing c ≡ false → closing ≡ true → HasNoTail c.mode (open_records c.mode c.records)
+closed_whole c true free e = no_tail_closed c.mode c.records free
+closed_whole c false free e = absurd cc
+
+-- ---- items that are passed over
+
+-- behind the count of capabilities stand their names
+names_behind : (to c : StreamProgress) (n : ℕ) (bytes : List ℕ) (b : Bool) → eqb n 0 ≡ b → RestAt to (record c { due = cond b (TypeByte before.Configuration) (Passed (pass.Capability (n - 1))) }) (cond b (TypeByte before.Configuration) (Passed (pass.Capability (n - 1)))) bytes
+    → c.left ≡ None → opening.RestOfNames to c n bytes
+names_behind to c n bytes true test r none = record { names = []; has_length = sym (eqb-true n 0 test); tail = bytes; has_bytes = refl; are_capabilities = tt; rest = opening.configured_at to c (TypeByte before.Configuration) bytes (r none) }
+names_behind to c n bytes false test r none =
+    let q = r none in
+    record { names = q.names; has_length = q.has_length ∙ some n (eqb-false n 0 test); tail = q.tail; has_bytes = q.has_bytes; are_capabilities = q.are_capabilities; rest = opening.configured_at to c (Passed (pass.Capability (n - 1))) q.tail q.rest }
+  where
+    some : (k : ℕ) → k ≢ 0 → k - 1 + 1 ≡ k
+    some zero e = absurd (e refl)
+    some (suc k) e = omega arith
+
+body_back : (to c : StreamProgress) (kind : Subsection) (item bytes : List ℕ) → length item ≡ passed_size (pass.SubsectionBody kind) item → IsBytes item → first_of (passed_faults c.page_size (pass.SubsectionBody kind) item) ≡ None
+    → RestAt to (record c { due = behind_passed (pass.SubsectionBody kind) item }) (behind_passed (pass.SubsectionBody kind) item) bytes → c.left ≡ None → opening.RestOfBodyOf to c kind (item ++ bytes)
+body_back to c kinds.PageBits item bytes len all free r none = record {
+  held = PageBits (be32_at 0 item);
+  has_kind = refl;
+  tail = bytes;
+  has_bytes = ap (λ (x : List ℕ). x ++ bytes) (sym (be32_found item len all));
+  is_body = (be32_small item (omega (arith, len)) all, bits_found c.page_size item free);
+  rest = opening.configured_at to c (TypeByte before.Configuration) bytes (r none);
+}
+body_back to c kinds.Uuid item bytes len all free r none = record {
+  held = Uuid item;
+  has_kind = refl;
+  tail = bytes;
+  has_bytes = refl;
+  is_body = len;
+  rest = opening.configured_at to c (TypeByte before.Configuration) bytes (r none);
+}
+body_back to c kinds.Capabilities item bytes len all free r none =
+    let n : ℕ = be32_at 0 item in
+    let q = names_behind to c n bytes (eqb n 0) refl r none in
+    let count : item ≡ be32 (length q.names) = sym (be32_found item len all) ∙ ap be32 (sym q.has_length) in
+    record {
+      held = Capabilities q.names;
+      has_kind = refl;
+      tail = q.tail;
+      has_bytes = ap (λ (x : List ℕ). x ++ bytes) count ∙ ap (λ (x : List ℕ). be32 (length q.names) ++ x) q.has_bytes ∙ sym (append_assoc (be32 (length q.names)) (flat_map counted q.names) q.tail);
+      is_body = (subst (λ (x : ℕ). x < 2 ^ 32) (sym q.has_length) (be32_small item (omega (arith, len)) all), q.are_capabilities);
+      rest = q.rest;
+    }
+
+head_back_of : (to c : StreamProgress) (item bytes : List ℕ) (kind : Subsection) → item ≡ subsection_head kind → opening.RestOfBodyOf to (record c { due = Passed (pass.SubsectionBody kind) }) kind bytes → opening.RestOfSubsection to c (item ++ bytes)
+head_back_of to c item bytes kind is q = record {
+  held = q.held;
+  tail = q.tail;
+  has_bytes = ap (λ (x : List ℕ). x ++ bytes) (is ∙ ap subsection_head (sym q.has_kind)) ∙ ap (λ (x : List ℕ). subsection_head (kind_of q.held) ++ x) q.has_bytes ∙ sym (append_assoc (subsection_head (kind_of q.held)) (body_bytes q.held) q.tail);
+  is_body = q.is_body;
+  rest = opening.configured_at to c (Passed (pass.SubsectionBody kind)) q.tail q.rest;
+}
+
+passed_back : (to c : StreamProgress) (passed : PassedItem) (item bytes : List ℕ) → length item ≡ passed_size passed item → IsBytes item → first_of (passed_faults c.page_size passed item) ≡ None
+    → RestAt to (record c { due = behind_passed passed item }) (behind_passed passed item) bytes → RestAtPassed to c passed (item ++ bytes)
+passed_back to c (pass.Command b) item bytes len all free r =
+    let found = command_found c.page_size b item len all free in
+    record { command_is = found.command_is; tail = bytes; has_bytes = ap (λ (x : List ℕ). x ++ bytes) found.has_bytes; is_command = found.is_command; rest = r }
+passed_back to c pass.SubsectionHead item bytes len all free r =
+    let found = head_found_of item len all free in
+    let q = subst (λ (o : Option Subsection). RestAt to (record c { due = body_of o }) (body_of o) bytes) found.is_told r in
+    λ none. head_back_of to c item bytes found.kind_is found.has_bytes (q none)
+passed_back to c (pass.SubsectionBody kind) item bytes len all free r = body_back to c kind item bytes len all free r
+passed_back to c (pass.Capability others) item bytes len all free r =
+    let found = capability_found c.page_size others item len all free in
+    λ none.
+    let q = names_behind to c others bytes (eqb others 0) refl r none in
+    record {
+      names = id_in item ∷ q.names;
+      has_length = omega (arith, q.has_length);
+      tail = q.tail;
+      has_bytes = ap (λ (x : List ℕ). x ++ bytes) found.0 ∙ ap (λ (x : List ℕ). counted (id_in item) ++ x) q.has_bytes ∙ sym (append_assoc (counted (id_in item)) (flat_map counted q.names) q.tail);
+      are_capabilities = (found.1, q.are_capabilities);
+      rest = q.rest;
+    }
 
 -- The item of each kind in front of what is left behind it.
 pub item_back : (to c : StreamProgress) (d : Due) (item bytes : List ℕ) → c.due ≡ d → IsItem c.page_size d item → IsBytes item → first_of (faults c d item) ≡ None
@@ -88,7 +184,12 @@ item_back to c (BlockName f page) item bytes due is all free r =
     λ used. id_back (Behind to) c f page item bytes named is.is_whole refl (not-false (has_page c.blocks named page) t2.0) (r used)
 item_back to c (Content Zero place) item bytes due is all free r = λ used. zero_back (Behind to) c place item bytes is.is_whole free (r.1 used)
 item_back to c (Content Normal place) item bytes due is all free r = λ used. normal_back (Behind to) c place item bytes is.is_whole (r.1 used)
-item_back to c Footer item bytes due is all free r = λ used. footer_back (Behind to) c item bytes is.is_whole all free (footer_behind to (end_section c) c.section bytes used r)
+item_back to c Footer item bytes due is all free r =
+    let footer_test = not (get_or item 0 0 == footer_type && be32_at 1 item == c.section_id) in
+    let t1 = passed footer_test fault.Footer ((has_tail (closes c.frame c.section) c, fault.Tail) ∷ []) free in
+    let t2 = passed (has_tail (closes c.frame c.section) c) fault.Tail [] t1.1 in
+    λ used. footer_back (Behind to) c item bytes is.is_whole all free (footer_behind to (end_section c) c.section bytes used (closed_whole c (closes c.frame c.section) t2.0) r)
+item_back to c (Passed passed) item bytes due is all free r = passed_back to c passed item bytes is.is_whole all free r
 item_back to c Nothing item bytes due is all free r = absurd (is.is_due refl)
 
 -- Items without a fault that lead to the end byte are what is left before them.

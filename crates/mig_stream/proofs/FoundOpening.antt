@@ -1,20 +1,24 @@
 -- What is left of a stream from the file header, the configuration or START on, where its items were read without a fault.
-use Rattle.std.proofs.Common.{◌≡◌, ℕ, ◌+◌, ◌^◌, ◌<◌, ◌≤◌, not, eqb, ltb, List, [], ◌∷◌, ◌++◌, length, get_or, Option, Some, None, refl, sym, ap, ◌∙◌, append_assoc, arith}
+use Rattle.std.proofs.Common.{◌≡◌, ℕ, ◌+◌, ◌^◌, ◌<◌, ◌≤◌, true, false, not, eqb, ltb, List, [], ◌∷◌, ◌++◌, length, get_or, Option, Some, None, refl, sym, ap, ◌∙◌, append_assoc, arith}
 use Rattle.std.specs.Prelude.{IfSome, slice_range}
 use Rattle.std.specs.Int.{w32, to_be_bytes}
+use Rattle.std.specs.List.{flat_map, AllByRecursion}
 use Rattle.std.specs.Str.{bytes_eq}
 use Rattle.std.proofs.lemmas.Slice.Eq.{bytes_eq-Decides}
 use Rattle.std.proofs.lemmas.Bool.{not-false, eqb-true, ltb-false}
 use Rattle.mig_stream.specs.declared.item.Before.TheVariants as before
 use Rattle.mig_stream.specs.declared.item.Section.TheVariants.{Start}
+use Rattle.mig_stream.specs.declared.item.Subsection.{Subsection}
+use Rattle.mig_stream.specs.declared.item.Due.{Due}
 use Rattle.mig_stream.specs.declared.item.Due.TheVariants.{FileHeader, TypeByte, ConfigLength, ConfigName, StartHead, RecordHead}
 use Rattle.mig_stream.specs.declared.fault.StreamFault.TheVariants as fault
-use Rattle.mig_stream.specs.Fields.{be32, be32_at}
-use Rattle.mig_stream.specs.Format.{magic, version, section_type, configuration_type, ram_name, ram_instance, ram_version, most_name_bytes}
+use Rattle.mig_stream.specs.Fields.{be32, counted, be32_at}
+use Rattle.mig_stream.specs.Format.{magic, version, section_type, command_type, subsection_type, configuration_type, ram_name, ram_instance, ram_version, most_name_bytes}
 use Rattle.mig_stream.specs.Progress.{StreamProgress}
 use Rattle.mig_mem.specs.First.{first_of}
-use Rattle.mig_stream.specs.Items.{faults}
-use Rattle.mig_stream.specs.Text.{file_header, configuration, start_head}
+use Rattle.mig_stream.specs.Items.{faults, is_machine}
+use Rattle.mig_stream.specs.Machine.{Command, command_bytes, command, IsCommand, SubsectionBody, kind_of, body_bytes, IsCapability, IsSubsectionBody, subsection_head, subsection, Configuration, configured, IsConfiguration}
+use Rattle.mig_stream.specs.Text.{file_header, start_head}
 use Rattle.mig_stream.proofs.FoundFields.{IsBytes, passed, be32_found}
 use Rattle.mig_stream.proofs.FoundParts.{be32_small, header_found, start_found}
 use Rattle.mig_stream.proofs.FoundList.{RestOfList}
@@ -28,13 +32,31 @@ pub record RestOfStart (front : List ℕ) (to c : StreamProgress) (bytes : List 
   pub has_id : id < 2 ^ 32
   pub rest : RestOfList (Behind to) (record c { due = RecordHead; section = Start; section_id = id }) tail
 
+-- COMMANDs are left, and then START.
+pub record RestOfCommands (to c : StreamProgress) (bytes : List ℕ) : Type 0 where
+  pub commands : List Command
+  pub tail : List ℕ
+  pub has_bytes : bytes ≡ flat_map command commands ++ tail
+  pub are_commands : AllByRecursion IsCommand commands
+  pub in_frame : is_machine c.frame ≡ false → commands ≡ []
+  pub rest : RestOfStart [] to c tail
+
+-- Subsections of the configuration are left, then COMMANDs, and START.
+pub record RestOfConfigured (to c : StreamProgress) (bytes : List ℕ) : Type 0 where
+  pub subsections : List SubsectionBody
+  pub tail : List ℕ
+  pub has_bytes : bytes ≡ flat_map subsection subsections ++ tail
+  pub are_bodies : AllByRecursion (IsSubsectionBody c.page_size) subsections
+  pub in_frame : is_machine c.frame ≡ false → subsections ≡ []
+  pub rest : RestOfCommands to c tail
+
 -- The name of a configuration is left, and then START.
 pub record RestOfConfigName (to c : StreamProgress) (len : ℕ) (bytes : List ℕ) : Type 0 where
   pub name : List ℕ
   pub tail : List ℕ
   pub has_bytes : bytes ≡ name ++ tail
   pub has_length : length name ≡ len
-  pub rest : RestOfStart [] to (record c { due = TypeByte before.Configuration }) tail
+  pub rest : RestOfConfigured to (record c { due = TypeByte before.Configuration }) tail
 
 -- The name of a configuration and its length are left, and then START.
 pub record RestOfConfigLength (to c : StreamProgress) (bytes : List ℕ) : Type 0 where
@@ -42,15 +64,16 @@ pub record RestOfConfigLength (to c : StreamProgress) (bytes : List ℕ) : Type 
   pub tail : List ℕ
   pub has_bytes : bytes ≡ be32 (length name) ++ (name ++ tail)
   pub has_length : length name ≤ most_name_bytes
-  pub rest : RestOfStart [] to (record c { due = TypeByte before.Configuration }) tail
+  pub rest : RestOfConfigured to (record c { due = TypeByte before.Configuration }) tail
 
 -- A configuration or none is left, and then START.
 pub record RestOfOpening (to c : StreamProgress) (bytes : List ℕ) : Type 0 where
-  pub name : Option (List ℕ)
+  pub machine : Option Configuration
   pub tail : List ℕ
-  pub has_bytes : bytes ≡ configuration name ++ tail
-  pub has_name : IfSome name (λ x. length x ≤ most_name_bytes)
-  pub rest : RestOfStart [] to (record c { due = TypeByte before.Configuration }) tail
+  pub has_bytes : bytes ≡ configured machine ++ tail
+  pub has_machine : IfSome machine (IsConfiguration c.page_size)
+  pub in_frame : is_machine c.frame ≡ false → IfSome machine (λ x. x.subsections ≡ [])
+  pub rest : RestOfCommands to c tail
 
 -- The whole text is left.
 pub record RestOfFile (to c : StreamProgress) (bytes : List ℕ) : Type 0 where
@@ -83,13 +106,88 @@ start_head_back to c item bytes len all free r =
 
 -- the type byte in front of START's head
 pub start_type_back : (to c : StreamProgress) (bytes : List ℕ) → RestOfStart (section_type Start ∷ []) to (record c { due = StartHead; section = Start }) bytes
-    → RestOfStart [] to (record c { due = TypeByte before.Configuration }) (section_type Start ∷ bytes)
+    → RestOfStart [] to c (section_type Start ∷ bytes)
 start_type_back to c bytes r = record { id = r.id; tail = r.tail; has_bytes = r.has_bytes; has_id = r.has_id; rest = r.rest }
+
+-- START may stand where COMMANDs may
+pub no_commands_back : (to c : StreamProgress) (bytes : List ℕ) → RestOfStart [] to c bytes → RestOfCommands to c bytes
+no_commands_back to c bytes r = record { commands = []; tail = bytes; has_bytes = refl; are_commands = tt; in_frame = λ ram. refl; rest = r }
+
+pub start_at : (front : List ℕ) (to c : StreamProgress) (d : Due) (bytes : List ℕ) → RestOfStart front to (record c { due = d }) bytes → RestOfStart front to c bytes
+start_at front to c d bytes r = record { id = r.id; tail = r.tail; has_bytes = r.has_bytes; has_id = r.has_id; rest = r.rest }
+
+pub commands_at : (to c : StreamProgress) (d : Due) (bytes : List ℕ) → RestOfCommands to (record c { due = d }) bytes → RestOfCommands to c bytes
+commands_at to c d bytes r = record { commands = r.commands; tail = r.tail; has_bytes = r.has_bytes; are_commands = r.are_commands; in_frame = r.in_frame; rest = start_at [] to c d r.tail r.rest }
+
+-- a COMMAND in front of others
+pub command_back : (to c : StreamProgress) (x : Command) (tail bytes : List ℕ) → is_machine c.frame ≡ true → IsCommand x → bytes ≡ command_bytes x ++ tail → RestOfCommands to c tail → RestOfCommands to c (command_type ∷ bytes)
+command_back to c x tail bytes machine is e q = record {
+  commands = x ∷ q.commands;
+  tail = q.tail;
+  has_bytes = ap (λ (y : List ℕ). command_type ∷ y) (e ∙ ap (λ (y : List ℕ). command_bytes x ++ y) q.has_bytes) ∙ sym (append_assoc (command x) (flat_map command q.commands) q.tail);
+  are_commands = (is, q.are_commands);
+  in_frame = λ ram. absurd (let clash : true ≡ false = sym machine ∙ ram in cc);
+  rest = q.rest;
+}
 
 -- ---- configurations
 
+-- a configuration may have no subsection
+pub no_subsections_back : (to c : StreamProgress) (bytes : List ℕ) → RestOfCommands to c bytes → RestOfConfigured to c bytes
+no_subsections_back to c bytes r = record { subsections = []; tail = bytes; has_bytes = refl; are_bodies = tt; in_frame = λ ram. refl; rest = r }
+
+pub configured_at : (to c : StreamProgress) (d : Due) (bytes : List ℕ) → RestOfConfigured to (record c { due = d }) bytes → RestOfConfigured to c bytes
+configured_at to c d bytes r = record { subsections = r.subsections; tail = r.tail; has_bytes = r.has_bytes; are_bodies = r.are_bodies; in_frame = r.in_frame; rest = commands_at to c d r.tail r.rest }
+
+-- what a subsection holds, in front of others
+pub record RestOfBodyOf (to c : StreamProgress) (kind : Subsection) (bytes : List ℕ) : Type 0 where
+  pub held : SubsectionBody
+  pub has_kind : kind_of held ≡ kind
+  pub tail : List ℕ
+  pub has_bytes : bytes ≡ body_bytes held ++ tail
+  pub is_body : IsSubsectionBody c.page_size held
+  pub rest : RestOfConfigured to c tail
+
+-- a subsection behind its type byte
+pub record RestOfSubsection (to c : StreamProgress) (bytes : List ℕ) : Type 0 where
+  pub held : SubsectionBody
+  pub tail : List ℕ
+  pub has_bytes : bytes ≡ subsection_head (kind_of held) ++ body_bytes held ++ tail
+  pub is_body : IsSubsectionBody c.page_size held
+  pub rest : RestOfConfigured to c tail
+
+pub subsection_at : (to c : StreamProgress) (d : Due) (bytes : List ℕ) → RestOfSubsection to (record c { due = d }) bytes → RestOfSubsection to c bytes
+subsection_at to c d bytes r = record { held = r.held; tail = r.tail; has_bytes = r.has_bytes; is_body = r.is_body; rest = configured_at to c d r.tail r.rest }
+
+-- the names of so many capabilities
+pub record RestOfNames (to c : StreamProgress) (n : ℕ) (bytes : List ℕ) : Type 0 where
+  pub names : List (List ℕ)
+  pub has_length : length names ≡ n
+  pub tail : List ℕ
+  pub has_bytes : bytes ≡ flat_map counted names ++ tail
+  pub are_capabilities : AllByRecursion IsCapability names
+  pub rest : RestOfConfigured to c tail
+
+-- a subsection in front of others
+pub subsection_back : (to c : StreamProgress) (bytes : List ℕ) → is_machine c.frame ≡ true → RestOfSubsection to c bytes → RestOfConfigured to c (subsection_type ∷ bytes)
+subsection_back to c bytes machine r =
+    let q = r.rest in
+    let h = r.held in
+    record {
+      subsections = h ∷ q.subsections;
+      tail = q.tail;
+      has_bytes = ap (λ (y : List ℕ). subsection_type ∷ y) (r.has_bytes ∙ ap (λ (y : List ℕ). subsection_head (kind_of h) ++ body_bytes h ++ y) q.has_bytes)
+          ∙ regroup_subsection (subsection_head (kind_of h)) (body_bytes h) (flat_map subsection q.subsections) q.tail subsection_type;
+      are_bodies = (r.is_body, q.are_bodies);
+      in_frame = λ ram. absurd (let clash : true ≡ false = sym machine ∙ ram in cc);
+      rest = q.rest;
+    }
+  where
+    regroup_subsection : (head held others tail : List ℕ) (kind : ℕ) → kind ∷ ((head ++ held) ++ (others ++ tail)) ≡ ((kind ∷ (head ++ held)) ++ others) ++ tail
+    regroup_subsection head held others tail kind = simp append_assoc
+
 -- a configuration's name, in front of START
-pub name_back : (to c : StreamProgress) (len : ℕ) (item bytes : List ℕ) → length item ≡ len → RestOfStart [] to (record c { due = TypeByte before.Configuration }) bytes → RestOfConfigName to c len (item ++ bytes)
+pub name_back : (to c : StreamProgress) (len : ℕ) (item bytes : List ℕ) → length item ≡ len → RestOfConfigured to (record c { due = TypeByte before.Configuration }) bytes → RestOfConfigName to c len (item ++ bytes)
 name_back to c len item bytes whole r = record { name = item; tail = bytes; has_bytes = refl; has_length = whole; rest = r }
 
 -- the length of a configuration's name, in front of the name
@@ -106,22 +204,29 @@ length_back to c item bytes len all free r =
     }
 
 -- a name of no bytes has no item
-pub no_name_back : (to c : StreamProgress) (len : ℕ) (bytes : List ℕ) → len ≡ 0 → RestOfStart [] to (record c { due = TypeByte before.Configuration }) bytes → RestOfConfigName to c len bytes
+pub no_name_back : (to c : StreamProgress) (len : ℕ) (bytes : List ℕ) → len ≡ 0 → RestOfConfigured to (record c { due = TypeByte before.Configuration }) bytes → RestOfConfigName to c len bytes
 no_name_back to c len bytes none r = record { name = []; tail = bytes; has_bytes = refl; has_length = sym none; rest = r }
 
 -- the type byte of a configuration, in front of its length
 pub configuration_back : (to c : StreamProgress) (bytes : List ℕ) → RestOfConfigLength to (record c { due = ConfigLength }) bytes → RestOfOpening to c (configuration_type ∷ bytes)
-configuration_back to c bytes r = record {
-  name = Some r.name;
-  tail = r.tail;
-  has_bytes = ap (λ (x : List ℕ). configuration_type ∷ x) r.has_bytes ∙ ap (λ (x : List ℕ). configuration_type ∷ x) (sym (append_assoc (be32 (length r.name)) r.name r.tail));
-  has_name = r.has_length;
-  rest = r.rest;
-}
+configuration_back to c bytes r =
+    let q = r.rest in
+    record {
+      machine = Some (record { name = r.name; subsections = q.subsections });
+      tail = q.tail;
+      has_bytes = ap (λ (x : List ℕ). configuration_type ∷ x) (r.has_bytes ∙ ap (λ (x : List ℕ). be32 (length r.name) ++ (r.name ++ x)) q.has_bytes)
+          ∙ regroup_configuration (be32 (length r.name)) r.name (flat_map subsection q.subsections) q.tail configuration_type;
+      has_machine = record { has_name = r.has_length; are_bodies = q.are_bodies };
+      in_frame = q.in_frame;
+      rest = commands_at to c (TypeByte before.Configuration) q.tail q.rest;
+    }
+  where
+    regroup_configuration : (len name others tail : List ℕ) (kind : ℕ) → kind ∷ (len ++ (name ++ (others ++ tail))) ≡ ((kind ∷ (len ++ name)) ++ others) ++ tail
+    regroup_configuration len name others tail kind = simp append_assoc
 
--- START alone is START behind no configuration
-pub no_configuration_back : (to c : StreamProgress) (bytes : List ℕ) → RestOfStart [] to (record c { due = TypeByte before.Configuration }) bytes → RestOfOpening to c bytes
-no_configuration_back to c bytes r = record { name = None; tail = bytes; has_bytes = refl; has_name = tt; rest = r }
+-- there may be no configuration
+pub no_configuration_back : (to c : StreamProgress) (bytes : List ℕ) → RestOfCommands to c bytes → RestOfOpening to c bytes
+no_configuration_back to c bytes r = record { machine = None; tail = bytes; has_bytes = refl; has_machine = tt; in_frame = λ ram. tt; rest = r }
 
 -- ---- the file header
 

@@ -83,6 +83,16 @@ entry_found item len all =
     let long : n ≡ length (id_in item) = sym (length_slice item 1 n (omega arith)) in
     first ∙ ap (λ (x : List ℕ). n ∷ x) (id ∙ ap (λ (x : List ℕ). id_in item ++ x) number) ∙ ap (λ (x : ℕ). x ∷ (id_in item ++ be64 (length_in item))) long
 
+-- the name and the version of a subsection
+pub head_named : (item : List ℕ) → length item ≡ 5 + get_or item 0 0 → IsBytes item → item ≡ counted (id_in item) ++ be32 (be32_at (1 + get_or item 0 0) item)
+head_named item len all =
+    let n = get_or item 0 0 in
+    let first : item ≡ n ∷ drop 1 item = drop_more item 0 0 (omega arith) in
+    let id : drop 1 item ≡ id_in item ++ drop (1 + n) item = drop_split item 1 (1 + n) (omega arith) in
+    let number : drop (1 + n) item ≡ be32 (be32_at (1 + n) item) = be32_last item (1 + n) (omega arith) all in
+    let long : n ≡ length (id_in item) = sym (length_slice item 1 n (omega arith)) in
+    first ∙ ap (λ (x : List ℕ). n ∷ x) (id ∙ ap (λ (x : List ℕ). id_in item ++ x) number) ∙ ap (λ (x : ℕ). x ∷ (id_in item ++ be32 (be32_at (1 + n) item))) long
+
 -- START's head behind its type byte
 pub start_found : (item : List ℕ) (n : ℕ) → get_or item 4 0 ≡ n → length item ≡ 13 + n → IsBytes item → slice_range item 5 (5 + n) ≡ ram_name → be32_at (5 + n) item ≡ ram_instance
     → be32_at (9 + n) item ≡ ram_version → item ≡ be32 (be32_at 0 item) ++ counted ram_name ++ be32 ram_instance ++ be32 ram_version

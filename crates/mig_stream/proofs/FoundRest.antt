@@ -1,24 +1,44 @@
 -- What is left of a stream from each kind of item on.
-use Rattle.std.proofs.Common.{◌≡◌, ℕ, List, [], ◌∷◌, Some, None}
+use Rattle.std.proofs.Common.{◌≡◌, ℕ, ◌+◌, false, List, [], ◌∷◌, ◌++◌, Some, None}
 use Rattle.mig_stream.specs.declared.item.Before.{Before}
 use Rattle.mig_stream.specs.declared.item.Before.TheVariants as before
 use Rattle.mig_stream.specs.declared.item.Section.TheVariants as section
+use Rattle.mig_stream.specs.declared.item.PassedItem.{PassedItem}
+use Rattle.mig_stream.specs.declared.item.PassedItem.TheVariants as pass
 use Rattle.mig_stream.specs.declared.item.Due.{Due}
-use Rattle.mig_stream.specs.declared.item.Due.TheVariants.{FileHeader, TypeByte, ConfigLength, ConfigName, StartHead, SectionHead, RecordHead, ListEntry, BlockName, Content, Footer, Nothing}
+use Rattle.mig_stream.specs.declared.item.Due.TheVariants.{FileHeader, TypeByte, ConfigLength, ConfigName, StartHead, SectionHead, RecordHead, ListEntry, BlockName, Content, Footer, Passed, Nothing}
 use Rattle.mig_stream.specs.Format.{section_type}
+use Rattle.mig_stream.specs.Items.{is_machine}
+use Rattle.mig_stream.specs.Machine.{Command, command_bytes, IsCommand}
 use Rattle.mig_stream.specs.Progress.{StreamProgress, whole_table}
 use Rattle.mig_stream.proofs.FoundPages.{RestOfBody, RestOfPage, RestOfName}
 use Rattle.mig_stream.proofs.FoundSections.{RestOfFooter, RestOfSection}
 use Rattle.mig_stream.proofs.FoundList.{RestOfEntries, RestOfList}
 use Rattle.mig_stream.proofs.FoundTail.{RestOfEnd, RestOfParts, Behind}
-use Rattle.mig_stream.proofs.FoundOpening.{RestOfStart, RestOfConfigName, RestOfConfigLength, RestOfOpening, RestOfFile}
+use Rattle.mig_stream.proofs.FoundOpening.{RestOfStart, RestOfCommands, RestOfConfigured, RestOfBodyOf, RestOfSubsection, RestOfNames, RestOfConfigName, RestOfConfigLength, RestOfOpening, RestOfFile}
 
 -- what is left from a type byte on, up to where the reading stands at `to`
 abbrev pub RestAtType : StreamProgress → StreamProgress → Before → List ℕ → Type 0
 RestAtType to c before.FileHeader bytes = c.left ≡ None → RestOfOpening to c bytes
-RestAtType to c before.Configuration bytes = c.left ≡ None → RestOfStart [] to (record c { due = TypeByte before.Configuration }) bytes
+RestAtType to c before.Configuration bytes = c.left ≡ None → RestOfConfigured to c bytes
+RestAtType to c before.Command bytes = c.left ≡ None → RestOfCommands to c bytes
 RestAtType to c before.Footer bytes = c.left ≡ Some 0 → RestOfParts to c bytes
-RestAtType to c before.LastFooter bytes = RestOfEnd to c bytes
+RestAtType to c before.LastFooter bytes = is_machine c.frame ≡ false → RestOfEnd to c bytes
+
+-- A COMMAND is left, and what stands behind it.
+pub record RestOfCommand (to c : StreamProgress) (b : Before) (bytes : List ℕ) : Type 0 where
+  pub command_is : Command
+  pub tail : List ℕ
+  pub has_bytes : bytes ≡ command_bytes command_is ++ tail
+  pub is_command : IsCommand command_is
+  pub rest : RestAtType to (record c { due = TypeByte b }) b tail
+
+-- an item that is passed over, and what stands behind it
+abbrev pub RestAtPassed : StreamProgress → StreamProgress → PassedItem → List ℕ → Type 0
+RestAtPassed to c (pass.Command b) bytes = RestOfCommand to c b bytes
+RestAtPassed to c pass.SubsectionHead bytes = c.left ≡ None → RestOfSubsection to c bytes
+RestAtPassed to c (pass.SubsectionBody kind) bytes = c.left ≡ None → RestOfBodyOf to c kind bytes
+RestAtPassed to c (pass.Capability others) bytes = c.left ≡ None → RestOfNames to c (others + 1) bytes
 
 -- Each kind says what of the size list must have been read before it: nothing, or all of it.
 abbrev pub RestAt : StreamProgress → StreamProgress → Due → List ℕ → Type 0
@@ -33,6 +53,7 @@ RestAt to c ListEntry bytes = RestOfEntries (Behind to) c bytes
 RestAt to c (BlockName f page) bytes = c.left ≡ Some 0 → RestOfName (Behind to) c f page bytes
 RestAt to c (Content f place) bytes = c.left ≡ Some 0 → RestOfPage (Behind to) c f place bytes
 RestAt to c Footer bytes = c.left ≡ Some 0 → RestOfFooter (Behind to) c bytes
+RestAt to c (Passed passed) bytes = RestAtPassed to c passed bytes
 RestAt to c Nothing bytes = (bytes ≡ []) × (to.rounds ≡ c.rounds) × (whole_table to ≡ whole_table c)
 
 -- what is left from the item that is due on

@@ -10,7 +10,7 @@ use Rattle.mig_stream.specs.Fields.{be32, be64, be32_at}
 use Rattle.mig_stream.specs.Format.{flags_of, footer_type}
 use Rattle.mig_stream.specs.Progress.{StreamProgress}
 use Rattle.mig_mem.specs.First.{first_of}
-use Rattle.mig_stream.specs.Items.{is_single, faults, end_round, end_section}
+use Rattle.mig_stream.specs.Items.{is_single, closes, has_tail, faults, end_round, end_section}
 use Rattle.mig_stream.specs.Text.{FlushMark, footer}
 use Rattle.mig_stream.proofs.FoundFields.{IsBytes, passed, be32_found}
 use Rattle.mig_stream.proofs.FoundParts.{footer_found}
@@ -38,7 +38,7 @@ pub footer_back : (Behind : StreamProgress → List ℕ → Type 0) (c : StreamP
 footer_back Behind c item bytes len all free r =
     let mark = eqb (get_or item 0 0) footer_type in
     let same = eqb (be32_at 1 item) c.section_id in
-    let both = and_parts mark same (not-false (mark && same) (passed (not (mark && same)) fault.Footer [] free).0) in
+    let both = and_parts mark same (not-false (mark && same) (passed (not (mark && same)) fault.Footer ((has_tail (closes c.frame c.section) c, fault.Tail) ∷ []) free).0) in
     record {
       more = bytes;
       has_bytes = ap (λ (x : List ℕ). x ++ bytes) (footer_found item c.section_id len all (eqb-true _ _ both.0) (eqb-true _ _ both.1));

@@ -1,39 +1,54 @@
 -- What is left of a stream behind a footer: PARTs, END and the end byte.
-use Rattle.std.proofs.Common.{◌≡◌, ◌⊎◌, ℕ, true, false, not, eqb, List, [], ◌∷◌, ◌++◌, length, Option, Some, refl, sym, ap, subst, ◌∙◌, append_assoc, inl, inr, arith}
-use Rattle.std.specs.Prelude.{◌&&◌}
-use Rattle.std.specs.List.{flat_map}
+use Rattle.std.proofs.Common.{◌≡◌, ◌⊎◌, ℕ, Bool, true, false, not, eqb, List, [], ◌∷◌, ◌++◌, length, Option, Some, refl, sym, ap, subst, ◌∙◌, append_assoc, inl, inr, arith}
+use Rattle.std.specs.Prelude.{◌&&◌, ⊤}
+use Rattle.std.specs.List.{flat_map, AllByRecursion}
 use Rattle.std.proofs.lemmas.Bool.{not-false, eqb-true}
 use Rattle.mig_mem.specs.RamTable.{RamTable}
 use Rattle.mig_stream.specs.declared.item.Mode.{Mode}
 use Rattle.mig_stream.specs.declared.item.Mode.TheVariants.{Single, Main}
 use Rattle.mig_stream.specs.declared.item.Section.{Section}
 use Rattle.mig_stream.specs.declared.item.Section.TheVariants.{Start, Part, End}
+use Rattle.mig_stream.specs.declared.item.Due.{Due}
 use Rattle.mig_stream.specs.declared.item.Due.TheVariants.{SectionHead}
 use Rattle.mig_stream.specs.Fields.{be32}
-use Rattle.mig_stream.specs.Format.{end_byte, section_type}
+use Rattle.mig_stream.specs.Format.{end_byte, section_type, command_type}
 use Rattle.mig_stream.specs.PageRecord.{PageRecord}
 use Rattle.mig_stream.specs.Progress.{StreamProgress, table_of, whole_table}
-use Rattle.mig_stream.specs.Items.{is_single}
+use Rattle.mig_stream.specs.Items.{is_single, is_machine, open_records}
+use Rattle.mig_stream.specs.Machine.{Command, command_bytes, command, IsCommand, PartOrCommand, PartOf, CommandOf, part_or_command, IsPartOrCommand, parts_of}
 use Rattle.mig_stream.specs.Text.{named_after, Record, PageOf, FlushMark, Follow, HasNoFlush, all_records, body, section}
 use Rattle.mig_stream.proofs.After.{records_behind, rounds_behind, FlushesFit, HasNoTail}
 use Rattle.mig_stream.proofs.FoundSections.{RestOfSection}
 
--- The end byte is left, and after it the reading stands at `to`.
+-- what ends a text: the end byte, and of a machine's stream nothing
+abbrev pub ending : Bool → List ℕ
+ending true = []
+ending false = end_byte ∷ []
+
+-- outside of a machine's stream there is no COMMAND
+abbrev pub HasNoCommand : List PartOrCommand → Type 0
+HasNoCommand [] = ⊤
+HasNoCommand (PartOf records ∷ others) = HasNoCommand others
+HasNoCommand (CommandOf c ∷ others) = ⊥
+
+-- The ending is left, and after it the reading stands at `to`.
 pub record RestOfEnd (to c : StreamProgress) (bytes : List ℕ) : Type 0 where
-  pub has_bytes : bytes ≡ end_byte ∷ []
+  pub has_bytes : bytes ≡ ending (is_machine c.frame)
   pub no_tail : HasNoTail c.mode c.records
   pub has_rounds : to.rounds ≡ c.rounds
   pub has_table : whole_table to ≡ whole_table c
 
--- PARTs, END and the end byte are left, and after them the reading stands at `to`.
+-- PARTs and COMMANDs, END and the ending are left, and after them the reading stands at `to`.
 pub record RestOfParts (to c : StreamProgress) (bytes : List ℕ) : Type 0 where
-  pub parts : List (List Record)
+  pub others : List PartOrCommand
   pub last : List Record
-  pub has_bytes : bytes ≡ flat_map (section (table_of c) Part c.section_id) parts ++ (section (table_of c) End c.section_id last ++ end_byte ∷ [])
-  pub follow : Follow (table_of c) c.named (all_records parts ++ last)
-  pub flushes : FlushesFit c.mode (parts ++ last ∷ [])
-  pub no_tail : HasNoTail c.mode (records_behind c.mode c.records (parts ++ last ∷ []))
-  pub has_rounds : to.rounds ≡ rounds_behind c.mode c.records c.rounds (parts ++ last ∷ [])
+  pub has_bytes : bytes ≡ flat_map (part_or_command (table_of c) c.section_id) others ++ (section (table_of c) End c.section_id last ++ ending (is_machine c.frame))
+  pub are_others : AllByRecursion IsPartOrCommand others
+  pub in_frame : is_machine c.frame ≡ false → HasNoCommand others
+  pub follow : Follow (table_of c) c.named (all_records (parts_of others) ++ last)
+  pub flushes : FlushesFit c.mode (parts_of others ++ last ∷ [])
+  pub no_tail : HasNoTail c.mode (records_behind c.mode c.records (parts_of others ++ last ∷ []))
+  pub has_rounds : to.rounds ≡ rounds_behind c.mode c.records c.rounds (parts_of others ++ last ∷ [])
   pub has_table : whole_table to ≡ whole_table c
 
 -- what is left behind the footer of a section
@@ -71,17 +86,19 @@ pub part_back : (to c : StreamProgress) (bytes : List ℕ) → RestOfSection (Be
 part_back to c bytes r =
     let s = r.rest in
     let q = s.others in
-    let parts = flat_map (section (table_of c) Part c.section_id) q.parts in
-    let end = section (table_of c) End c.section_id q.last ++ end_byte ∷ [] in
+    let parts = flat_map (part_or_command (table_of c) c.section_id) q.others in
+    let end = section (table_of c) End c.section_id q.last ++ ending (is_machine c.frame) in
     let items = body (table_of c) c.section_id s.records in
     let spelled : bytes ≡ be32 c.section_id ++ (items ++ (parts ++ end)) =
     r.has_bytes ∙ ap (λ (x : List ℕ). be32 c.section_id ++ x) (s.has_bytes ∙ ap (λ (x : List ℕ). items ++ x) q.has_bytes) in
     record {
-      parts = s.records ∷ q.parts;
+      others = PartOf s.records ∷ q.others;
       last = q.last;
       has_bytes = ap (λ (x : List ℕ). section_type Part ∷ x) spelled ∙ regroup_part (be32 c.section_id) items parts end (section_type Part);
-      follow = subst (Follow (table_of c) c.named) (sym (append_assoc s.records (all_records q.parts) q.last)) (Follow-append (table_of c) c.named s.records (all_records q.parts ++ q.last) s.follow q.follow);
-      flushes = FlushesFit-cons c.mode s.records (q.parts ++ q.last ∷ []) s.flushes q.flushes;
+      are_others = (tt, q.are_others);
+      in_frame = q.in_frame;
+      follow = subst (Follow (table_of c) c.named) (sym (append_assoc s.records (all_records (parts_of q.others)) q.last)) (Follow-append (table_of c) c.named s.records (all_records (parts_of q.others) ++ q.last) s.follow q.follow);
+      flushes = FlushesFit-cons c.mode s.records (parts_of q.others ++ q.last ∷ []) s.flushes q.flushes;
       no_tail = q.no_tail;
       has_rounds = q.has_rounds;
       has_table = q.has_table;
@@ -97,18 +114,51 @@ last_back to c bytes r =
     let s = r.rest in
     let q = s.others in
     let items = body (table_of c) c.section_id s.records in
-    let spelled : bytes ≡ be32 c.section_id ++ (items ++ end_byte ∷ []) =
+    let end : List ℕ = ending (is_machine c.frame) in
+    let spelled : bytes ≡ be32 c.section_id ++ (items ++ end) =
     r.has_bytes ∙ ap (λ (x : List ℕ). be32 c.section_id ++ x) (s.has_bytes ∙ ap (λ (x : List ℕ). items ++ x) q.has_bytes) in
     record {
-      parts = [];
+      others = [];
       last = s.records;
-      has_bytes = ap (λ (x : List ℕ). section_type End ∷ x) spelled ∙ regroup_end (be32 c.section_id) items (end_byte ∷ []) (section_type End);
+      has_bytes = ap (λ (x : List ℕ). section_type End ∷ x) spelled ∙ regroup_end (be32 c.section_id) items end (section_type End);
+      are_others = tt;
+      in_frame = λ ram. tt;
       follow = s.follow;
       flushes = FlushesFit-cons c.mode s.records [] s.flushes (inr tt);
       no_tail = q.no_tail;
       has_rounds = q.has_rounds;
       has_table = q.has_table;
     }
+
+-- what is left behind a footer doesn't depend on the item that is due
+pub parts_at : (to c : StreamProgress) (d : Due) (bytes : List ℕ) → RestOfParts to (record c { due = d }) bytes → RestOfParts to c bytes
+parts_at to c d bytes r = record {
+  others = r.others;
+  last = r.last;
+  has_bytes = r.has_bytes;
+  are_others = r.are_others;
+  in_frame = r.in_frame;
+  follow = r.follow;
+  flushes = r.flushes;
+  no_tail = r.no_tail;
+  has_rounds = r.has_rounds;
+  has_table = r.has_table;
+}
+
+-- a COMMAND in front of the PARTs and END behind it
+pub command_back : (to c : StreamProgress) (x : Command) (tail bytes : List ℕ) → is_machine c.frame ≡ true → IsCommand x → bytes ≡ command_bytes x ++ tail → RestOfParts to c tail → RestOfParts to c (command_type ∷ bytes)
+command_back to c x tail bytes machine is e q = record {
+  others = CommandOf x ∷ q.others;
+  last = q.last;
+  has_bytes = ap (λ (y : List ℕ). command_type ∷ y) (e ∙ ap (λ (y : List ℕ). command_bytes x ++ y) q.has_bytes) ∙ sym (append_assoc (command x) (flat_map (part_or_command (table_of c) c.section_id) q.others) (section (table_of c) End c.section_id q.last ++ ending (is_machine c.frame)));
+  are_others = (is, q.are_others);
+  in_frame = λ ram. absurd (let clash : true ≡ false = sym machine ∙ ram in cc);
+  follow = q.follow;
+  flushes = q.flushes;
+  no_tail = q.no_tail;
+  has_rounds = q.has_rounds;
+  has_table = q.has_table;
+}
 
 -- the end byte's second test found no fault
 pub no_tail_found : (mode : Mode) (records : List PageRecord) → (true && not (is_single mode) && not (eqb (length records) 0)) ≡ false → HasNoTail mode records
@@ -117,3 +167,8 @@ no_tail_found Main [] e = inr refl
 no_tail_found Main (r ∷ records) e =
     let none : length (r ∷ records) ≡ 0 = eqb-true _ _ (not-false (eqb (length (r ∷ records)) 0) e) in
     absurd (omega arith)
+
+-- and so the last footer's second test
+pub no_tail_closed : (mode : Mode) (records : List PageRecord) → (not (is_single mode) && not (eqb (length records) 0)) ≡ false → HasNoTail mode (open_records mode records)
+no_tail_closed Single records e = inl refl
+no_tail_closed Main records e = no_tail_found Main records e

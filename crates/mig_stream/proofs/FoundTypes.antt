@@ -1,20 +1,22 @@
 -- A type byte without a fault goes in front of what is left behind it.
-use Rattle.std.proofs.Common.{◌≡◌, ℕ, true, false, not, eqb, List, [], ◌∷◌, ◌++◌, length, get_or, None, refl, sym, ap, subst, ◌∙◌, inl, inr, arith}
-use Rattle.std.specs.Prelude.{◌&&◌}
-use Rattle.std.proofs.lemmas.Bool.{not-false, eqb-true, or_cases}
+use Rattle.std.proofs.Common.{◌≡◌, ℕ, Bool, cond, true, false, not, eqb, List, [], ◌∷◌, ◌++◌, length, get_or, None, refl, sym, ap, subst, ◌∙◌, inl, inr, arith}
+use Rattle.std.specs.Prelude.{◌&&◌, ◌||◌}
+use Rattle.std.proofs.lemmas.Bool.{not-false, eqb-true, or_cases, and_parts}
 use Rattle.mig_stream.specs.declared.item.Before.{Before}
 use Rattle.mig_stream.specs.declared.item.Before.TheVariants as before
 use Rattle.mig_stream.specs.declared.item.Section.TheVariants as section
-use Rattle.mig_stream.specs.declared.item.Due.TheVariants.{TypeByte}
+use Rattle.mig_stream.specs.declared.item.PassedItem.TheVariants as pass
+use Rattle.mig_stream.specs.declared.item.Due.TheVariants.{TypeByte, Passed}
 use Rattle.mig_stream.specs.declared.fault.StreamFault.TheVariants as fault
-use Rattle.mig_stream.specs.Format.{end_byte, section_type, configuration_type}
+use Rattle.mig_stream.specs.Format.{end_byte, section_type, command_type, subsection_type, configuration_type}
 use Rattle.mig_stream.specs.Progress.{StreamProgress}
 use Rattle.mig_mem.specs.First.{first_of}
-use Rattle.mig_stream.specs.Items.{is_single, is_allowed, faults, after_type}
+use Rattle.mig_stream.specs.Items.{is_single, is_allowed, is_machine, may_pass, is_passed, behind_command, passed_by, faults, after_type, after_type_byte}
 use Rattle.mig_stream.proofs.FoundFields.{passed}
-use Rattle.mig_stream.proofs.FoundTail.{part_back, last_back, no_tail_found}
-use Rattle.mig_stream.proofs.FoundOpening.{start_type_back, configuration_back, no_configuration_back}
-use Rattle.mig_stream.proofs.FoundRest.{RestAt, RestAtType, RestFrom}
+use Rattle.mig_stream.proofs.FoundTail.{ending, part_back, last_back, parts_at, command_back, no_tail_found}
+use Rattle.mig_stream.proofs.FoundOpening.{start_type_back, no_commands_back, commands_at, no_subsections_back, subsection_at, subsection_back, configuration_back, no_configuration_back}
+use Rattle.mig_stream.proofs.FoundOpening as opening
+use Rattle.mig_stream.proofs.FoundRest.{RestOfCommand, RestAt, RestAtType, RestFrom}
 
 -- the rest behind a byte is the rest behind the byte that it is
 byte_is : (to c : StreamProgress) (byte known : ℕ) (bytes : List ℕ) → byte ≡ known → RestFrom to (after_type c byte) bytes → RestFrom to (after_type c known) bytes
@@ -41,12 +43,18 @@ byte_back to c before.FileHeader byte bytes ok free r =
       | inr h ↦
           let e : byte ≡ section_type section.Start = eqb-true _ _ h in
           let at = byte_is to c byte (section_type section.Start) bytes e r in
-          byte_front to c before.FileHeader byte (section_type section.Start) bytes e (λ none. no_configuration_back to c (section_type section.Start ∷ bytes) (start_type_back to c bytes (at none refl)))
+          byte_front to c before.FileHeader byte (section_type section.Start) bytes e
+          (λ none. no_configuration_back to c (section_type section.Start ∷ bytes) (no_commands_back to c (section_type section.Start ∷ bytes) (start_type_back to c bytes (at none refl))))
     ]
 byte_back to c before.Configuration byte bytes ok free r =
     let e : byte ≡ section_type section.Start = eqb-true _ _ ok in
     let at = byte_is to c byte (section_type section.Start) bytes e r in
-    byte_front to c before.Configuration byte (section_type section.Start) bytes e (λ none. start_type_back to c bytes (at none refl))
+    byte_front to c before.Configuration byte (section_type section.Start) bytes e
+    (λ none. no_subsections_back to c (section_type section.Start ∷ bytes) (no_commands_back to c (section_type section.Start ∷ bytes) (start_type_back to c bytes (at none refl))))
+byte_back to c before.Command byte bytes ok free r =
+    let e : byte ≡ section_type section.Start = eqb-true _ _ ok in
+    let at = byte_is to c byte (section_type section.Start) bytes e r in
+    byte_front to c before.Command byte (section_type section.Start) bytes e (λ none. no_commands_back to c (section_type section.Start ∷ bytes) (start_type_back to c bytes (at none refl)))
 byte_back to c before.Footer byte bytes ok free r =
     elim (or_cases (eqb byte (section_type section.Part)) (eqb byte (section_type section.End)) ok) [
       | inl h ↦
@@ -62,15 +70,66 @@ byte_back to c before.LastFooter byte bytes ok free r =
     let e : byte ≡ end_byte = eqb-true _ _ ok in
     let at = byte_is to c byte end_byte bytes e r in
     byte_front to c before.LastFooter byte end_byte bytes e
-    (record { has_bytes = ap (λ (x : List ℕ). end_byte ∷ x) at.0; no_tail = no_tail_found c.mode c.records (tail_test c byte e free); has_rounds = at.1; has_table = at.2 })
+    (λ ram. record {
+      has_bytes = ap (λ (x : List ℕ). end_byte ∷ x) at.0 ∙ sym (ap ending ram);
+      no_tail = no_tail_found c.mode c.records (tail_test c byte e free);
+      has_rounds = at.1;
+      has_table = at.2;
+    })
+
+-- ---- a byte that is passed over
+
+-- that of a COMMAND, in front of the COMMAND
+command_type_back : (to c : StreamProgress) (b : Before) (bytes : List ℕ) → may_pass b command_type ≡ true → is_machine c.frame ≡ true → RestOfCommand to (record c { due = Passed (pass.Command (behind_command b)) }) (behind_command b) bytes
+    → RestAtType to c b (command_type ∷ bytes)
+command_type_back to c before.FileHeader bytes may machine r =
+    λ none. no_configuration_back to c (command_type ∷ bytes) (opening.command_back to c r.command_is r.tail bytes machine r.is_command r.has_bytes (commands_at to c (TypeByte before.Command) r.tail (r.rest none)))
+command_type_back to c before.Configuration bytes may machine r =
+    λ none. no_subsections_back to c (command_type ∷ bytes) (opening.command_back to c r.command_is r.tail bytes machine r.is_command r.has_bytes (commands_at to c (TypeByte before.Command) r.tail (r.rest none)))
+command_type_back to c before.Command bytes may machine r =
+    λ none. opening.command_back to c r.command_is r.tail bytes machine r.is_command r.has_bytes (commands_at to c (TypeByte before.Command) r.tail (r.rest none))
+command_type_back to c before.Footer bytes may machine r =
+    λ used. command_back to c r.command_is r.tail bytes machine r.is_command r.has_bytes (parts_at to c (TypeByte before.Footer) r.tail (r.rest used))
+command_type_back to c before.LastFooter bytes may machine r = absurd cc
+
+-- a subsection's stands behind the configuration alone
+passed_back : (to c : StreamProgress) (b : Before) (byte : ℕ) (bytes : List ℕ) (is_command : Bool) → eqb byte command_type ≡ is_command → may_pass b byte ≡ true → is_machine c.frame ≡ true
+    → RestFrom to (record c { due = Passed (cond is_command (pass.Command (behind_command b)) pass.SubsectionHead) }) bytes → RestAtType to c b (byte ∷ bytes)
+passed_back to c b byte bytes true test may machine r =
+    let e : byte ≡ command_type = eqb-true _ _ test in
+    byte_front to c b byte command_type bytes e (command_type_back to c b bytes (subst (λ (x : ℕ). may_pass b x ≡ true) e may) machine r)
+passed_back to c before.FileHeader byte bytes false test may machine r = absurd (let clash : true ≡ false = sym may ∙ test in cc)
+passed_back to c before.Command byte bytes false test may machine r = absurd (let clash : true ≡ false = sym may ∙ test in cc)
+passed_back to c before.Footer byte bytes false test may machine r = absurd (let clash : true ≡ false = sym may ∙ test in cc)
+passed_back to c before.LastFooter byte bytes false test may machine r = absurd cc
+passed_back to c before.Configuration byte bytes false test may machine r =
+    elim (or_cases (eqb byte command_type) (eqb byte subsection_type) may) [
+      | inl h ↦ absurd (let clash : true ≡ false = sym h ∙ test in cc)
+      | inr h ↦
+          let e : byte ≡ subsection_type = eqb-true _ _ h in
+          byte_front to c before.Configuration byte subsection_type bytes e (λ none. subsection_back to c bytes machine (subsection_at to c (Passed pass.SubsectionHead) bytes (r none)))
+    ]
+
+-- a byte that is passed over, or allowed
+either_back : (to c : StreamProgress) (b : Before) (byte : ℕ) (bytes : List ℕ) (is : Bool) → is_passed c.frame b byte ≡ is → not (is_allowed b byte || is) ≡ false
+    → (eqb byte end_byte && not (is_single c.mode) && not (eqb (length c.records) 0)) ≡ false
+    → RestFrom to (cond is (record c { due = Passed (passed_by b byte) }) (after_type c byte)) bytes → RestAtType to c b (byte ∷ bytes)
+either_back to c b byte bytes true own ok free r =
+    let both = and_parts (may_pass b byte) (is_machine c.frame) own in
+    passed_back to c b byte bytes (eqb byte command_type) refl both.0 both.1 r
+either_back to c b byte bytes false own ok free r = byte_back to c b byte bytes (allowed_alone (is_allowed b byte) (not-false (is_allowed b byte || false) ok)) free r
+  where
+    allowed_alone : (x : Bool) → (x || false) ≡ true → x ≡ true
+    allowed_alone true ok = refl
+    allowed_alone false ok = ok
 
 -- A type byte in front of what is left behind it.
-pub type_back : (to c : StreamProgress) (b : Before) (item bytes : List ℕ) → length item ≡ 1 → first_of (faults c (TypeByte b) item) ≡ None → RestFrom to (after_type c (get_or item 0 0)) bytes
-    → RestAt to c (TypeByte b) (item ++ bytes)
+pub type_back : (to c : StreamProgress) (b : Before) (item bytes : List ℕ) → length item ≡ 1 → first_of (faults c (TypeByte b) item) ≡ None
+    → RestFrom to (after_type_byte c b (get_or item 0 0)) bytes → RestAt to c (TypeByte b) (item ++ bytes)
 type_back to c b [] bytes len free r = absurd cc
 type_back to c b (x ∷ []) bytes len free r =
     let tail = eqb x end_byte && not (is_single c.mode) && not (eqb (length c.records) 0) in
-    let t1 = passed (not (is_allowed b x)) fault.SectionType ((tail, fault.Tail) ∷ []) free in
+    let t1 = passed (not (is_allowed b x || is_passed c.frame b x)) fault.SectionType ((tail, fault.Tail) ∷ []) free in
     let t2 = passed tail fault.Tail [] t1.1 in
-    byte_back to c b x bytes (not-false (is_allowed b x) t1.0) t2.0 r
+    either_back to c b x bytes (is_passed c.frame b x) refl t1.0 t2.0 r
 type_back to c b (x ∷ y ∷ item) bytes len free r = absurd (omega arith)

@@ -6,11 +6,34 @@ use Rattle.std.proofs.lemmas.List.Folds.{concat-append}
 use Rattle.mig_stream.specs.declared.fault.StreamFault.{StreamFault}
 use Rattle.mig_stream.specs.declared.item.StreamState.TheVariants.{Bad}
 use Rattle.mig_stream.specs.declared.item.Filling.TheVariants.{Zero, Normal}
+use Rattle.mig_stream.specs.declared.item.PassedItem.{PassedItem}
+use Rattle.mig_stream.specs.declared.item.PassedItem.TheVariants.{Command, SubsectionHead, SubsectionBody, Capability}
+use Rattle.mig_stream.specs.declared.item.Subsection.TheVariants.{PageBits, Uuid, Capabilities}
 use Rattle.mig_stream.specs.declared.item.Due.{Due}
-use Rattle.mig_stream.specs.declared.item.Due.TheVariants.{FileHeader, TypeByte, ConfigLength, ConfigName, StartHead, SectionHead, RecordHead, ListEntry, BlockName, Content, Footer, Nothing}
+use Rattle.mig_stream.specs.declared.item.Due.TheVariants.{FileHeader, TypeByte, ConfigLength, ConfigName, StartHead, SectionHead, RecordHead, ListEntry, BlockName, Content, Footer, Passed, Nothing}
+use Rattle.mig_stream.specs.Fields.{be16_at}
 use Rattle.mig_stream.specs.Progress.{StreamProgress}
-use Rattle.mig_stream.specs.Items.{size, first_fault, after}
+use Rattle.mig_stream.specs.Items.{passed_size, size, first_fault, after}
 use Rattle.mig_stream.specs.Reading.{IsItem, AreFaultless, after_all, Front, Reads}
+
+-- the same of an item that is passed over
+passed-take : (passed : PassedItem) (bytes : List ℕ) → passed_size passed bytes ≤ length bytes → passed_size passed (take (passed_size passed bytes) bytes) ≡ passed_size passed bytes
+passed-take (Command before) bytes le =
+    let n : ℕ = 4 + be16_at 2 bytes in
+    omega (arith, get_or-take n bytes 2 0 (omega arith), get_or-take n bytes 3 0 (omega arith))
+passed-take SubsectionHead bytes le = ap (λ (n : ℕ). 5 + n) (get_or-take (5 + get_or bytes 0 0) bytes 0 0 (omega arith))
+passed-take (SubsectionBody PageBits) bytes le = refl
+passed-take (SubsectionBody Uuid) bytes le = refl
+passed-take (SubsectionBody Capabilities) bytes le = refl
+passed-take (Capability others) bytes le = ap (λ (n : ℕ). 1 + n) (get_or-take (1 + get_or bytes 0 0) bytes 0 0 (omega arith))
+
+passed-append : (passed : PassedItem) (item more : List ℕ) → length item ≡ passed_size passed item → passed_size passed (item ++ more) ≡ length item
+passed-append (Command before) item more w = omega (arith, w, get_or_append_left item more 0 2 (omega arith), get_or_append_left item more 0 3 (omega arith))
+passed-append SubsectionHead item more w = ap (λ (n : ℕ). 5 + n) (get_or_append_left item more 0 0 (omega arith)) ∙ sym w
+passed-append (SubsectionBody PageBits) item more w = sym w
+passed-append (SubsectionBody Uuid) item more w = sym w
+passed-append (SubsectionBody Capabilities) item more w = sym w
+passed-append (Capability others) item more w = ap (λ (n : ℕ). 1 + n) (get_or_append_left item more 0 0 (omega arith)) ∙ sym w
 
 -- the length of an item is told by the bytes that it has itself
 pub size-take : (p : ℕ) (d : Due) (bytes : List ℕ) → size p d bytes ≤ length bytes → size p d (take (size p d bytes) bytes) ≡ size p d bytes
@@ -26,6 +49,7 @@ size-take p (BlockName f page) bytes le = ap (λ (n : ℕ). 1 + n) (get_or-take 
 size-take p (Content Zero place) bytes le = refl
 size-take p (Content Normal place) bytes le = refl
 size-take p Footer bytes le = refl
+size-take p (Passed passed) bytes le = passed-take passed bytes le
 size-take p Nothing bytes le = refl
 
 pub item_at : (p : ℕ) (d : Due) (rest : List ℕ) → d ≢ Nothing → size p d rest ≤ length rest → IsItem p d (take (size p d rest) rest)
@@ -48,6 +72,7 @@ size-append p (BlockName f page) item more w = ap (λ (n : ℕ). 1 + n) (get_or_
 size-append p (Content Zero place) item more w = sym w
 size-append p (Content Normal place) item more w = sym w
 size-append p Footer item more w = sym w
+size-append p (Passed passed) item more w = passed-append passed item more w
 size-append p Nothing item more w = sym w
 
 -- where the bytes are fewer than the item's, no front of them is the item

@@ -1,6 +1,6 @@
 -- Records that were given, and those that are read behind them.
-use Rattle.std.proofs.Common.{◌≡◌, ℕ, cond, ◌+◌, ◌*◌, ◌<◌, Bool, true, false, not, ◌&&◌, ◌==◌, All, List, [], ◌∷◌, ◌++◌, length, get_or, Option, Some, None, refl, sym, ap, subst, ◌∙◌, append_assoc, arith}
-use Rattle.std.specs.Prelude.{IfSome, slice_index}
+use Rattle.std.proofs.Common.{◌≡◌, ℕ, cond, ◌+◌, ◌*◌, ◌<◌, Bool, true, false, not, ◌&&◌, ◌||◌, ◌==◌, All, List, [], ◌∷◌, ◌++◌, length, get_or, Option, Some, None, refl, sym, ap, subst, ◌∙◌, append_assoc, arith, ◌≤◌, inl}
+use Rattle.std.specs.Prelude.{IfSome, slice_index, IfNone}
 use Rattle.std.specs.Bool.{then_some}
 use Rattle.std.proofs.lemmas.List.{append-nil, length-append, get_or_at, get_or-append-add}
 use Rattle.mig_mem.specs.PageSize.{IsPageSize}
@@ -12,26 +12,28 @@ use Rattle.mig_stream.specs.declared.item.Mode.{Mode}
 use Rattle.mig_stream.specs.declared.item.Mode.TheVariants.{Single, Main}
 use Rattle.mig_stream.specs.declared.item.Filling.TheVariants.{Zero, Normal}
 use Rattle.mig_stream.specs.declared.item.Due.{Due}
-use Rattle.mig_stream.specs.declared.item.Due.TheVariants.{FileHeader, TypeByte, ConfigLength, ConfigName, StartHead, SectionHead, RecordHead, ListEntry, BlockName, Content, Footer, Nothing}
+use Rattle.mig_stream.specs.declared.item.Due.TheVariants.{FileHeader, TypeByte, ConfigLength, ConfigName, StartHead, SectionHead, RecordHead, ListEntry, BlockName, Content, Footer, Passed, Nothing}
 use Rattle.mig_stream.specs.declared.item.RecordKind.{RecordKind}
 use Rattle.mig_stream.specs.declared.item.RecordKind.TheVariants.{SizeList, Named, Continued, EndOfSection, Flush}
 use Rattle.mig_stream.specs.declared.item.StreamState.{StreamState}
 use Rattle.mig_stream.specs.declared.item.StreamState.TheVariants.{Reading, Closed, Bad}
 use Rattle.mig_stream.specs.declared.item.Before.{Before}
 use Rattle.mig_stream.specs.declared.fault.StreamFault.TheVariants as fault
-use Rattle.mig_stream.specs.Format.{end_byte}
+use Rattle.mig_stream.specs.Fields.{be32_at}
+use Rattle.mig_stream.specs.Format.{end_byte, footer_type}
 use Rattle.mig_stream.specs.PageRecord.{PageRecord}
 use Rattle.mig_stream.specs.Progress.{StreamProgress, start, is_used_up, table_of, whole_table}
-use Rattle.mig_stream.specs.Items.{is_single, is_allowed, kind_faults, head_faults, faults, first_fault, after_type, after_kind, after_head, with_record, end_round, open_records, whole_rounds, end_section, after_item, after}
+use Rattle.mig_stream.specs.Items.{is_single, is_allowed, is_passed, closes, passed_by, after_type_byte, kind_faults, head_faults, faults, after_type, after_kind, after_head, end_round, open_records, whole_rounds, end_section, after_item, after}
 use Rattle.mig_stream.specs.Reading.{Settings, AreFaultless, after_all, Front, Ends, Reads, StreamReading, IsReading}
 use Rattle.mig_stream.specs.Taking.{HasTakenTo}
-use Rattle.mig_stream.specs.Reader.{with_taken, HasTable}
-use Rattle.mig_stream.specs.Giving.{Giver, GivenSoFar, none_given, with_more, with_last, rounds_behind, records_behind, with_open, all_read, Gives, GiverTells, HasReading}
+use Rattle.mig_stream.specs.Reader.{with_taken, IsUnfinished, HasTable}
+use Rattle.mig_stream.specs.Giving.{Giver, GivenSoFar, none_given, with_more, with_last, rounds_behind, records_behind, with_open, all_read, Gives, GiverTells, HasReading, Paused, giver_at, PausesAt, IsUnread, IsPaused}
 use Rattle.mig_stream.proofs.Between.{closed_is_empty}
 use Rattle.mig_stream.proofs.Exists.{read_on}
 use Rattle.mig_stream.proofs.Fronts.{Front-none, Front-append, work}
-use Rattle.mig_stream.proofs.Feeding.{front_item}
+use Rattle.mig_stream.proofs.Feeding.{front_item, unfinished, reads_short}
 use Rattle.mig_stream.proofs.Later.{Front-taken, Ends-taken}
+use Rattle.mig_stream.proofs.Limits.{few_front, none_first}
 use Rattle.mig_stream.proofs.Placing.{placed_so_far}
 use Rattle.mig_stream.proofs.Steps.{IsLater-front}
 use Rattle.mig_stream.proofs.Unique.{one_reading}
@@ -57,8 +59,13 @@ no_tail false m x y single = refl
 
 type_faults-open : (b : List PageRecord) (c : StreamProgress) (before : Before) (item : List ℕ) → c.mode ≡ Single → faults (with_open b c) (TypeByte before) item ≡ faults c (TypeByte before) item
 type_faults-open b c before item single =
-    ap (λ (t : Bool). (not (is_allowed before (slice_index item 0)), fault.SectionType) ∷ (t, fault.Tail) ∷ [])
+    ap (λ (t : Bool). (not (is_allowed before (slice_index item 0) || is_passed c.frame before (slice_index item 0)), fault.SectionType) ∷ (t, fault.Tail) ∷ [])
     (no_tail (slice_index item 0 == end_byte) c.mode (not (length (with_open b c).records == 0)) (not (length c.records == 0)) single)
+
+footer_faults-open : (b : List PageRecord) (c : StreamProgress) (item : List ℕ) → c.mode ≡ Single → faults (with_open b c) Footer item ≡ faults c Footer item
+footer_faults-open b c item single =
+    ap (λ (t : Bool). (not (slice_index item 0 == footer_type && be32_at 1 item == c.section_id), fault.Footer) ∷ (t, fault.Tail) ∷ [])
+    (no_tail (closes c.frame c.section) c.mode (not (length (with_open b c).records == 0)) (not (length c.records == 0)) single)
 
 faults-open : (b : List PageRecord) (c : StreamProgress) (d : Due) (item : List ℕ) → c.mode ≡ Single → faults (with_open b c) d item ≡ faults c d item
 faults-open b c FileHeader item single = refl
@@ -72,7 +79,8 @@ faults-open b c ListEntry item single = refl
 faults-open b c (BlockName f page) item single = refl
 faults-open b c (Content Zero place) item single = refl
 faults-open b c (Content Normal place) item single = refl
-faults-open b c Footer item single = refl
+faults-open b c Footer item single = footer_faults-open b c item single
+faults-open b c (Passed passed) item single = refl
 faults-open b c Nothing item single = refl
 
 -- ---- and stay before them
@@ -113,6 +121,11 @@ choice f false x y = refl
 after_type-open : (b : List PageRecord) (c : StreamProgress) (byte : ℕ) → after_type (with_open b c) byte ≡ with_open b (after_type c byte)
 after_type-open b c byte = sym (simp (choice (with_open b)))
 
+after_type_byte-open : (b : List PageRecord) (c : StreamProgress) (before : Before) (byte : ℕ) → after_type_byte (with_open b c) before byte ≡ with_open b (after_type_byte c before byte)
+after_type_byte-open b c before byte =
+    ap (λ (x : StreamProgress). cond (is_passed c.frame before byte) (with_open b (record c { due = Passed (passed_by before byte) })) x) (after_type-open b c byte)
+    ∙ sym (choice (with_open b) (is_passed c.frame before byte) (record c { due = Passed (passed_by before byte) }) (after_type c byte))
+
 with_record-open : (b : List PageRecord) (c : StreamProgress) (r : PageRecord)
     → record (with_open b c) { due = RecordHead; records = records_behind b c.rounds c.records ++ r ∷ [] } ≡ with_open b (record c { due = RecordHead; records = c.records ++ r ∷ [] })
 with_record-open b c r = ap (λ (x : List PageRecord). record c { due = RecordHead; records = x; rounds = rounds_behind b c.rounds }) (records_more b c.rounds c.records (r ∷ []))
@@ -134,7 +147,7 @@ end_section-open b c =
 
 after_item-open : (b : List PageRecord) (c : StreamProgress) (d : Due) (item : List ℕ) → after_item (with_open b c) d item ≡ with_open b (after_item c d item)
 after_item-open b c FileHeader item = refl
-after_item-open b c (TypeByte before) item = after_type-open b c (slice_index item 0)
+after_item-open b c (TypeByte before) item = after_type_byte-open b c before (slice_index item 0)
 after_item-open b c ConfigLength item = refl
 after_item-open b c (ConfigName n) item = refl
 after_item-open b c StartHead item = refl
@@ -145,6 +158,7 @@ after_item-open b c (BlockName f page) item = refl
 after_item-open b c (Content Zero place) item = with_record-open b c (record { place = place; content = None })
 after_item-open b c (Content Normal place) item = with_record-open b c (record { place = place; content = Some item })
 after_item-open b c Footer item = end_section-open b c
+after_item-open b c (Passed passed) item = refl
 after_item-open b c Nothing item = refl
 
 -- an item leaves a single stream one
@@ -181,18 +195,18 @@ Ends-open b c rest (Bad f) single e = (e.0, e.1, e.2, record { is_due = e.3.is_d
 -- it is a single stream that is read
 reads_single : (given : Settings) (text : List ℕ) (so_far : GivenSoFar) (r : Giver) → Gives given text so_far r → r.progress.mode ≡ Single
 reads_single given text so_far r g =
-    (IsLater-front (start given.mode given.page_size given.limit) (all_read so_far r.progress) g.front g.leads).same_mode ∙ g.is_single
+    (IsLater-front (start given.frame given.mode given.page_size given.limit) (all_read so_far r.progress) g.front g.leads).same_mode ∙ g.is_single
 
 pub same_page_size : (given : Settings) (text : List ℕ) (so_far : GivenSoFar) (r : Giver) → Gives given text so_far r → r.progress.page_size ≡ given.page_size
-same_page_size given text so_far r g = (IsLater-front (start given.mode given.page_size given.limit) (all_read so_far r.progress) g.front g.leads).same_page_size
+same_page_size given text so_far r g = (IsLater-front (start given.frame given.mode given.page_size given.limit) (all_read so_far r.progress) g.front g.leads).same_page_size
 
-pub gives_first : (given : Settings) (text : List ℕ) (r : Giver) → given.mode ≡ Single → IsPageSize given.page_size → r.progress ≡ start given.mode given.page_size given.limit → r.rest ≡ text → r.found ≡ None → Gives given text none_given r
+pub gives_first : (given : Settings) (text : List ℕ) (r : Giver) → given.mode ≡ Single → IsPageSize given.page_size → r.progress ≡ start given.frame given.mode given.page_size given.limit → r.rest ≡ text → r.found ≡ None → Gives given text none_given r
 gives_first given text r single size progress rest found = record {
   is_single = single;
   is_page_size = size;
   front = [];
   has_text = sym rest;
-  leads = subst (λ (c : StreamProgress). Front (start given.mode given.page_size given.limit) [] (all_read none_given c)) (sym progress) (Front-none (start given.mode given.page_size given.limit));
+  leads = subst (λ (c : StreamProgress). Front (start given.frame given.mode given.page_size given.limit) [] (all_read none_given c)) (sym progress) (Front-none (start given.frame given.mode given.page_size given.limit));
   ends = subst (λ (o : Option StreamState). IfSome o (λ s. Ends (all_read none_given r.progress) r.rest s)) (sym found) tt;
 }
 
@@ -213,7 +227,7 @@ reads_behind given text so_far old new taken ends g =
       is_page_size = g.is_page_size;
       front = g.front ++ taken.0;
       has_text = g.has_text ∙ ap (λ (x : List ℕ). g.front ++ x) taken.1 ∙ sym (append_assoc g.front taken.0 new.rest);
-      leads = Front-append (start given.mode given.page_size given.limit) (all_read so_far old.progress) (all_read so_far new.progress) g.front taken.0 g.leads
+      leads = Front-append (start given.frame given.mode given.page_size given.limit) (all_read so_far old.progress) (all_read so_far new.progress) g.front taken.0 g.leads
           (Front-taken so_far.sections o n taken.0 (Front-open so_far.open_section old.progress new.progress taken.0 single taken.2));
       ends = ends_each so_far.open_section so_far.sections new.progress new.rest new.found there ends;
     }
@@ -258,7 +272,7 @@ gives_same given text so_far then old new same rest found g = record {
   is_page_size = g.is_page_size;
   front = g.front;
   has_text = g.has_text ∙ ap (λ (x : List ℕ). g.front ++ x) (sym rest);
-  leads = subst (λ (c : StreamProgress). Front (start given.mode given.page_size given.limit) g.front c) same g.leads;
+  leads = subst (λ (c : StreamProgress). Front (start given.frame given.mode given.page_size given.limit) g.front c) same g.leads;
   ends = subst (λ (o : Option StreamState). IfSome o (λ s. Ends (all_read then new.progress) new.rest s)) (sym found)
       (subst (λ (x : List ℕ). IfSome old.found (λ s. Ends (all_read then new.progress) x s)) (sym rest)
       (subst (λ (c : StreamProgress). IfSome old.found (λ s. Ends c old.rest s)) same g.ends));
@@ -279,7 +293,7 @@ gives_more given text so_far old new records are none is rest found g =
 
 -- what a reader was made with reads from there
 abbrev from : Settings → StreamProgress
-from given = start given.mode given.page_size given.limit
+from given = start given.frame given.mode given.page_size given.limit
 
 -- The reading of the whole text goes on from here.
 record GoesTo (given : Settings) (text : List ℕ) (c : StreamProgress) : Type 0 where
@@ -354,7 +368,7 @@ all_places given text so_far r table g f =
     let whole : whole_table on.to ≡ Some table = ap whole_table same.0 ∙ sym (f.2 ∙ b.has_table) in
     let there = table_there (is_used_up on.to.left) (table_of on.to) table whole in
     let later = IsLater-front c on.to on.more on.leads in
-    placed_so_far given.mode given.page_size given.limit g.front c later.more_blocks table g.leads (ap (λ (t : RamTable). t.blocks) (sym there.1) ∙ later.has_blocks)
+    placed_so_far given.frame given.mode given.page_size given.limit g.front c later.more_blocks table g.leads (ap (λ (t : RamTable). t.blocks) (sym there.1) ∙ later.has_blocks)
 
 -- those of the records behind others
 last_in : (table : RamTable) (before records : List PageRecord) → AreIn table (before ++ records) → AreIn table records
@@ -394,5 +408,90 @@ ends_so given text so_far r found none nothing is g =
       is_reading = record { to = to; rest = r.rest; reads = record { front = g.front; has_text = g.has_text; leads = g.leads; ends = ends }; has_table = refl; has_rounds = refl };
       has_sections = ap (λ (x : List (List PageRecord)). so_far.sections ++ rounds_behind so_far.open_section x) none ∙ append-nil so_far.sections;
       has_state = refl;
-      has_none_open = λ closed. sym records ∙ closed_is_empty given.mode given.page_size given.limit g.front to g.is_single g.leads (subst (λ (s : StreamState). Ends to r.rest s) closed ends);
+      has_open = records;
+      has_none_open = λ closed. sym records ∙ closed_is_empty given.frame given.mode given.page_size given.limit g.front to g.is_single g.leads (subst (λ (s : StreamState). Ends to r.rest s) closed ends);
     }
+
+-- ---- between two pieces
+
+-- what is left of a reading that stops short is a part of an item
+ends_unfinished : (c : StreamProgress) (rest : List ℕ) → Ends c rest Reading → IsUnfinished c rest
+ends_unfinished c rest ends = unfinished c rest c rest (record { front = []; has_text = refl; leads = Front-none c; ends = ends })
+
+pub unread_behind : (c : StreamProgress) (pending rest : List ℕ) (o : Option StreamState) → IfNone o (pending ≡ []) → (o ≡ Some Closed → pending ≡ []) → IfSome o (λ s. Ends c (pending ++ rest) s) → IsUnread o c pending rest
+unread_behind c pending rest None none closed ends = inl none
+unread_behind c pending rest (Some Reading) none closed ends = ends_unfinished c (pending ++ rest) ends
+unread_behind c pending rest (Some Closed) none closed ends = closed refl
+unread_behind c pending rest (Some (Bad f)) none closed ends = tt
+
+pub pauses_first : (given : Settings) (p : Paused) → given.mode ≡ Single → IsPageSize given.page_size → p.progress ≡ start given.frame given.mode given.page_size given.limit → p.pending ≡ [] → PausesAt given [] none_given p
+pauses_first given p single size progress pending =
+    let c : StreamProgress = start given.frame given.mode given.page_size given.limit in
+    record {
+      is_single = single;
+      is_page_size = size;
+      front = [];
+      has_text = sym pending;
+      leads = subst (λ (x : StreamProgress). Front c [] (all_read none_given x)) (sym progress) (Front-none c);
+      ends = subst (λ (x : StreamProgress). Ends (all_read none_given x) p.pending Reading) (sym progress)
+          (subst (λ (x : List ℕ). Ends c x Reading) (sym pending) (reads_short c [] (omega arith)).ends);
+    }
+
+pub paused_table : (given : Settings) (text : List ℕ) (so_far : GivenSoFar) (p : Paused) → PausesAt given text so_far p → HasTable given text (whole_table p.progress)
+paused_table given text so_far p at =
+    let to : StreamProgress = all_read so_far p.progress in (
+      record { table = whole_table to; rounds = to.rounds; state = Reading },
+      record { to = to; rest = p.pending; reads = record { front = at.front; has_text = at.has_text; leads = at.leads; ends = at.ends }; has_table = refl; has_rounds = refl },
+      refl,
+    )
+
+-- a piece more of the text
+pub resumed : (given : Settings) (text piece : List ℕ) (so_far : GivenSoFar) (p : Paused) (r : Giver) → r.progress ≡ p.progress → r.rest ≡ p.pending ++ piece → r.found ≡ None → PausesAt given text so_far p
+    → Gives given (text ++ piece) so_far r
+resumed given text piece so_far p r progress rest found at = record {
+  is_single = at.is_single;
+  is_page_size = at.is_page_size;
+  front = at.front;
+  has_text = ap (λ (x : List ℕ). x ++ piece) at.has_text ∙ append_assoc at.front p.pending piece ∙ ap (λ (x : List ℕ). at.front ++ x) (sym rest);
+  leads = subst (λ (x : StreamProgress). Front (start given.frame given.mode given.page_size given.limit) at.front (all_read so_far x)) (sym progress) at.leads;
+  ends = subst (λ (o : Option StreamState). IfSome o (λ s. Ends (all_read so_far r.progress) r.rest s)) (sym found) tt;
+}
+
+-- the same at a pause
+pub paused : (given : Settings) (text : List ℕ) (so_far : GivenSoFar) (r : Giver) (p : Paused) → r.found ≡ Some Reading → p.progress ≡ r.progress → p.pending ≡ r.rest → Gives given text so_far r → PausesAt given text so_far p
+paused given text so_far r p found progress rest g = gives_same given text so_far so_far r (giver_at p) (ap (all_read so_far) (sym progress)) rest (sym found) g
+
+-- ---- before the table, and how many sections there are
+
+none_left : {X : Type 0} (xs ys : List X) → xs ++ ys ≡ [] → (xs ≡ []) × (ys ≡ [])
+none_left {X} [] ys e = (refl, e)
+none_left {X} (x ∷ xs) ys e = absurd cc
+
+no_rounds : (before : List PageRecord) (rounds : List (List PageRecord)) → rounds_behind before rounds ≡ [] → rounds ≡ []
+no_rounds before [] e = refl
+no_rounds before (r ∷ rounds) e = absurd cc
+
+-- Before the table nothing was given, and nothing waits.
+pub none_before_table : (given : Settings) (text : List ℕ) (so_far : GivenSoFar) (r : Giver) → Gives given text so_far r → whole_table r.progress ≡ None → (so_far.sections ≡ []) × (so_far.open_section ≡ [])
+none_before_table given text so_far r g none =
+    let both = none_first given.frame given.mode given.page_size given.limit g.front (all_read so_far r.progress) g.leads none in
+    let sections = none_left so_far.sections (rounds_behind so_far.open_section r.progress.rounds) both.0 in
+    let rounds : r.progress.rounds ≡ [] = no_rounds so_far.open_section r.progress.rounds sections.1 in
+    let records : so_far.open_section ++ r.progress.records ≡ [] =
+    ap (λ (x : List (List PageRecord)). records_behind so_far.open_section x r.progress.records) (sym rounds) ∙ both.1 in
+    (sections.0, (none_left so_far.open_section r.progress.records records).0)
+
+-- No more sections were given than the text has bytes.
+pub few_sections : (given : Settings) (text : List ℕ) (so_far : GivenSoFar) (r : Giver) → Gives given text so_far r → length so_far.sections ≤ length text
+few_sections given text so_far r g =
+    omega (
+      arith,
+      few_front given.frame given.mode given.page_size given.limit g.front (all_read so_far r.progress) g.leads,
+      length-append so_far.sections (rounds_behind so_far.open_section r.progress.rounds),
+      ap (λ (x : List ℕ). length x) g.has_text,
+      length-append g.front r.rest,
+    )
+
+-- the reading of what a pause was made of
+pub paused_reading : (given : Settings) (text : List ℕ) (so_far : GivenSoFar) (p : Paused) → IsPaused p → PausesAt given text so_far p → HasReading given text so_far Reading
+paused_reading given text so_far p is at = ends_so given text so_far (giver_at p) Reading is.has_no_rounds is.has_no_records refl at

@@ -4,8 +4,9 @@ use Rattle.std.specs.Prelude.{slice_index}
 use Rattle.mig_stream.specs.declared.item.Mode.{Mode}
 use Rattle.mig_stream.specs.declared.item.Mode.TheVariants.{Single, Main}
 use Rattle.mig_stream.specs.declared.item.Filling.TheVariants.{Zero, Normal}
+use Rattle.mig_stream.specs.declared.item.Before.{Before}
 use Rattle.mig_stream.specs.declared.item.Due.{Due}
-use Rattle.mig_stream.specs.declared.item.Due.TheVariants.{FileHeader, TypeByte, ConfigLength, ConfigName, StartHead, SectionHead, RecordHead, ListEntry, BlockName, Content, Footer, Nothing}
+use Rattle.mig_stream.specs.declared.item.Due.TheVariants.{FileHeader, TypeByte, ConfigLength, ConfigName, StartHead, SectionHead, RecordHead, ListEntry, BlockName, Content, Footer, Passed, Nothing}
 use Rattle.mig_stream.specs.declared.item.RecordKind.{RecordKind}
 use Rattle.mig_stream.specs.declared.item.RecordKind.TheVariants.{SizeList, Named, Continued, EndOfSection, Flush}
 use Rattle.mig_stream.specs.declared.item.StreamState.{StreamState}
@@ -13,7 +14,7 @@ use Rattle.mig_stream.specs.declared.item.StreamState.TheVariants.{Reading, Clos
 use Rattle.mig_stream.specs.PageRecord.{PageRecord}
 use Rattle.mig_stream.specs.Progress.{StreamProgress}
 use Rattle.mig_mem.specs.First.{first_of}
-use Rattle.mig_stream.specs.Items.{kind_faults, head_faults, faults, after_type, after_kind, after_head, end_round, whole_rounds, end_section, after_item, after}
+use Rattle.mig_stream.specs.Items.{is_passed, passed_by, after_type_byte, kind_faults, head_faults, faults, after_type, after_kind, after_head, end_round, whole_rounds, end_section, after_item, after}
 use Rattle.mig_stream.specs.Reading.{AreFaultless, after_all, Front, Ends, Reads}
 use Rattle.mig_stream.specs.Reader.{with_taken}
 use Rattle.mig_stream.proofs.Fronts.{Front-append}
@@ -44,6 +45,7 @@ faults-taken g c (BlockName f page) item = refl
 faults-taken g c (Content Zero place) item = refl
 faults-taken g c (Content Normal place) item = refl
 faults-taken g c Footer item = refl
+faults-taken g c (Passed passed) item = refl
 faults-taken g c Nothing item = refl
 
 end_round-taken : (g : List (List PageRecord)) (c : StreamProgress) → end_round (with_taken g c) ≡ with_taken g (end_round c)
@@ -68,13 +70,18 @@ choice f false x y = refl
 after_type-taken : (g : List (List PageRecord)) (c : StreamProgress) (b : ℕ) → after_type (with_taken g c) b ≡ with_taken g (after_type c b)
 after_type-taken g c b = sym (simp (choice (with_taken g)))
 
+after_type_byte-taken : (g : List (List PageRecord)) (c : StreamProgress) (before : Before) (b : ℕ) → after_type_byte (with_taken g c) before b ≡ with_taken g (after_type_byte c before b)
+after_type_byte-taken g c before b =
+    ap (λ (x : StreamProgress). cond (is_passed c.frame before b) (with_taken g (record c { due = Passed (passed_by before b) })) x) (after_type-taken g c b)
+    ∙ sym (choice (with_taken g) (is_passed c.frame before b) (record c { due = Passed (passed_by before b) }) (after_type c b))
+
 whole_rounds-taken : (g : List (List PageRecord)) (m : Mode) (rounds : List (List PageRecord)) (records : List PageRecord) → whole_rounds m (g ++ rounds) records ≡ g ++ whole_rounds m rounds records
 whole_rounds-taken g Single rounds records = append_assoc g rounds (records ∷ [])
 whole_rounds-taken g Main rounds records = refl
 
 after_item-taken : (g : List (List PageRecord)) (c : StreamProgress) (d : Due) (item : List ℕ) → after_item (with_taken g c) d item ≡ with_taken g (after_item c d item)
 after_item-taken g c FileHeader item = refl
-after_item-taken g c (TypeByte b) item = after_type-taken g c (slice_index item 0)
+after_item-taken g c (TypeByte b) item = after_type_byte-taken g c b (slice_index item 0)
 after_item-taken g c ConfigLength item = refl
 after_item-taken g c (ConfigName n) item = refl
 after_item-taken g c StartHead item = refl
@@ -85,6 +92,7 @@ after_item-taken g c (BlockName f page) item = refl
 after_item-taken g c (Content Zero place) item = refl
 after_item-taken g c (Content Normal place) item = refl
 after_item-taken g c Footer item = ap (λ (x : List (List PageRecord)). record (end_section c) { rounds = x }) (whole_rounds-taken g c.mode c.rounds c.records)
+after_item-taken g c (Passed passed) item = refl
 after_item-taken g c Nothing item = refl
 
 AreFaultless-taken : (g : List (List PageRecord)) (c : StreamProgress) (items : List (List ℕ)) → AreFaultless c items → AreFaultless (with_taken g c) items

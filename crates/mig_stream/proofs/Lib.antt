@@ -11,6 +11,8 @@ pub mod SpelledRecords
 pub mod SpelledList
 pub mod SpelledSections
 pub mod SpelledText
+pub mod SpelledPassed
+pub mod SpelledMachine
 pub mod FoundFields
 pub mod FoundParts
 pub mod FoundPages
@@ -18,6 +20,7 @@ pub mod FoundSections
 pub mod FoundList
 pub mod FoundTail
 pub mod FoundOpening
+pub mod FoundPassed
 pub mod FoundRest
 pub mod FoundHeads
 pub mod FoundTypes
@@ -26,7 +29,6 @@ pub mod Found
 pub mod Closed
 pub mod Writing
 pub mod Walking
-mod Examples
 pub mod Entering
 pub mod Later
 pub mod Steps
@@ -41,3 +43,6 @@ pub mod ZeroRecords
 pub mod Between
 pub mod Giver
 pub mod Waiting
+pub mod Closing
+pub mod WrittenMachine
+mod Examples

@@ -7,19 +7,27 @@ use Rattle.std.specs.Option.{unwrap_or}
 use Rattle.std.proofs.lemmas.List.{length-append}
 use Rattle.std.proofs.lemmas.Bool.{cond_both, eqb-false, eqb-true, false_from_ne_true}
 use Rattle.mig_mem.specs.RamTable.{RamTable}
+use Rattle.mig_stream.specs.declared.item.Frame.{Frame}
 use Rattle.mig_stream.specs.declared.item.Mode.{Mode}
 use Rattle.mig_stream.specs.declared.item.Mode.TheVariants.{Single, Main}
+use Rattle.mig_mem.specs.declared.place.Place.{Place}
+use Rattle.mig_stream.specs.declared.item.Filling.{Filling}
 use Rattle.mig_stream.specs.declared.item.Filling.TheVariants.{Zero, Normal}
+use Rattle.mig_stream.specs.declared.item.Before.{Before}
+use Rattle.mig_stream.specs.declared.item.PassedItem.{PassedItem}
+use Rattle.mig_stream.specs.declared.item.PassedItem.TheVariants.{Command, SubsectionHead, SubsectionBody, Capability}
+use Rattle.mig_stream.specs.declared.item.Subsection.{Subsection}
+use Rattle.mig_stream.specs.declared.item.Subsection.TheVariants.{PageBits, Uuid, Capabilities}
 use Rattle.mig_stream.specs.declared.item.Due.{Due}
-use Rattle.mig_stream.specs.declared.item.Due.TheVariants.{FileHeader, TypeByte, ConfigLength, ConfigName, StartHead, SectionHead, RecordHead, ListEntry, BlockName, Content, Footer, Nothing}
+use Rattle.mig_stream.specs.declared.item.Due.TheVariants.{FileHeader, TypeByte, ConfigLength, ConfigName, StartHead, SectionHead, RecordHead, ListEntry, BlockName, Content, Footer, Passed, Nothing}
 use Rattle.mig_stream.specs.declared.item.RecordKind.{RecordKind}
 use Rattle.mig_stream.specs.declared.item.RecordKind.TheVariants.{SizeList, Named, Continued, EndOfSection, Flush}
 use Rattle.mig_stream.specs.declared.fault.StreamFault.{StreamFault}
 use Rattle.mig_stream.specs.Fields.{be32_at}
 use Rattle.mig_stream.specs.PageRecord.{PageRecord}
-use Rattle.mig_stream.specs.Progress.{StreamProgress, start, is_used_up, table_of}
+use Rattle.mig_stream.specs.Progress.{StreamProgress, start, is_used_up, table_of, whole_table}
 use Rattle.mig_mem.specs.First.{first_of}
-use Rattle.mig_stream.specs.Items.{size, length_in, kind_faults, head_faults, faults, after_type, after_kind, after_head, whole_rounds, after_item, after}
+use Rattle.mig_stream.specs.Items.{id_in, is_passed, passed_by, subsection_of, body_of, capabilities_due, behind_passed, after_type_byte, size, length_in, kind_faults, head_faults, faults, after_type, after_kind, after_head, whole_rounds, after_item, after}
 use Rattle.mig_stream.specs.Reading.{AreFaultless, after_all, Front}
 use Rattle.mig_stream.specs.Law.{ReadingsKeepLimits}
 use Rattle.mig_stream.proofs.Steps.{passed, IsLater-front}
@@ -37,6 +45,9 @@ few_type c byte n =
     cond_both (eqb byte 2) _ _ (HasFew c.rounds n) (λ _. omega arith) (λ _.
     cond_both (eqb byte 3) _ _ (HasFew c.rounds n) (λ _. omega arith) (λ _. omega arith))))
 
+few_type_byte : (c : StreamProgress) (before : Before) (byte n : ℕ) → HasFew c.rounds n (after_type_byte c before byte)
+few_type_byte c before byte n = cond_both (is_passed c.frame before byte) _ _ (HasFew c.rounds n) (λ _. omega arith) (λ _. few_type c byte n)
+
 few_head : (c : StreamProgress) (kind : Option RecordKind) (page n : ℕ) → 1 ≤ n → HasFew c.rounds n (after_head c kind page)
 few_head c None page n some = omega arith
 few_head c (Some SizeList) page n some = omega arith
@@ -52,7 +63,7 @@ few_whole Main rounds records = omega arith
 -- an item makes one round whole at most, and none where it is empty
 few_item : (c : StreamProgress) (d : Due) (item : List ℕ) → length item ≡ size c.page_size d item → HasFew c.rounds (length item) (after_item c d item)
 few_item c FileHeader item whole = omega arith
-few_item c (TypeByte before) item whole = few_type c (slice_index item 0) (length item)
+few_item c (TypeByte before) item whole = few_type_byte c before (slice_index item 0) (length item)
 few_item c ConfigLength item whole = omega arith
 few_item c (ConfigName len) item whole = omega arith
 few_item c StartHead item whole = omega arith
@@ -63,6 +74,7 @@ few_item c (BlockName filling page) item whole = omega arith
 few_item c (Content Zero place) item whole = omega arith
 few_item c (Content Normal place) item whole = omega arith
 few_item c Footer item whole = omega (arith, few_whole c.mode c.rounds c.records)
+few_item c (Passed passed) item whole = omega arith
 few_item c Nothing item whole = omega arith
 
 few_all : (c : StreamProgress) (items : List (List ℕ)) → AreFaultless c items → HasFew c.rounds (length (concat items)) (after_all c items)
@@ -70,11 +82,13 @@ few_all c [] free = omega arith
 few_all c (item ∷ items) free =
     omega (arith, few_item c c.due item free.0.is_whole, few_all (after c item) items free.2, length-append item (concat items))
 
--- ---- no round before the table
+-- ---- no round and no record before the table
 
--- Before the size list a footer isn't due, and in it each item is an entry.
+-- Before the size list neither a footer is due nor a part of a page record, and in it each item is an entry.
 abbrev IsNoFooter : Due → Type 0
 IsNoFooter Footer = ⊥
+IsNoFooter (BlockName filling page) = ⊥
+IsNoFooter (Content filling place) = ⊥
 IsNoFooter d = ⊤
 
 abbrev IsEntry : Due → Type 0
@@ -85,9 +99,9 @@ abbrev MayBeDue : Option ℕ → Due → Type 0
 MayBeDue None d = IsNoFooter d
 MayBeDue (Some left) d = IsEntry d
 
--- no round is whole before the size list is used up
+-- no round is whole before the size list is used up, and no record is there
 abbrev Waits : StreamProgress → Due → Type 0
-Waits c d = is_used_up c.left ≡ false → (c.rounds ≡ []) × MayBeDue c.left d
+Waits c d = is_used_up c.left ≡ false → (c.rounds ≡ []) × (c.records ≡ []) × MayBeDue c.left d
 
 abbrev IsWaiting : StreamProgress → Type 0
 IsWaiting c = Waits c c.due
@@ -98,7 +112,7 @@ moved None d e other next h = next
 moved (Some n) d e other next h = absurd (other h)
 
 waits_on : (c : StreamProgress) (d e : Due) → (IsEntry d → ⊥) → IsNoFooter e → Waits c d → Waits c e
-waits_on c d e other next w = λ open_. let h = w open_ in (h.0, moved c.left d e other next h.1)
+waits_on c d e other next w = λ open_. let h = w open_ in (h.0, h.1, moved c.left d e other next h.2)
 
 waits_type : (c : StreamProgress) (d : Due) (byte : ℕ) → (IsEntry d → ⊥) → Waits c d → IsWaiting (after_type c byte)
 waits_type c d byte other w =
@@ -107,6 +121,26 @@ waits_type c d byte other w =
     cond_both (eqb byte 2) _ _ IsWaiting (λ _. waits_on c d SectionHead other tt w) (λ _.
     cond_both (eqb byte 3) _ _ IsWaiting (λ _. waits_on c d SectionHead other tt w) (λ _.
     waits_on c d Nothing other tt w))))
+
+waits_type_byte : (c : StreamProgress) (d : Due) (before : Before) (byte : ℕ) → (IsEntry d → ⊥) → Waits c d → IsWaiting (after_type_byte c before byte)
+waits_type_byte c d before byte other w =
+    cond_both (is_passed c.frame before byte) _ _ IsWaiting (λ _. waits_on c d (Passed (passed_by before byte)) other tt w) (λ _. waits_type c d byte other w)
+
+-- nothing that is passed over stands before a footer
+capabilities_no_footer : (others : ℕ) → IsNoFooter (capabilities_due others)
+capabilities_no_footer others = cond_both (eqb others 0) _ _ IsNoFooter (λ _. tt) (λ _. tt)
+
+body_no_footer : (o : Option Subsection) → IsNoFooter (body_of o)
+body_no_footer None = tt
+body_no_footer (Some s) = tt
+
+passed_no_footer : (passed : PassedItem) (item : List ℕ) → IsNoFooter (behind_passed passed item)
+passed_no_footer (Command before) item = tt
+passed_no_footer SubsectionHead item = body_no_footer (subsection_of (id_in item))
+passed_no_footer (SubsectionBody PageBits) item = tt
+passed_no_footer (SubsectionBody Uuid) item = tt
+passed_no_footer (SubsectionBody Capabilities) item = capabilities_no_footer (be32_at 0 item)
+passed_no_footer (Capability others) item = capabilities_no_footer others
 
 -- behind the size list's head no record head is due before the list is used up
 no_head : (left : Option ℕ) → is_none left ≡ false → MayBeDue left RecordHead → ⊥
@@ -118,7 +152,7 @@ not_begun None none = refl
 not_begun (Some n) none = absurd cc
 
 no_record : {X : Type 0} (c : StreamProgress) → Waits c RecordHead → is_none c.left ≡ false → is_used_up c.left ≡ false → X
-no_record {X} c w begun open_ = absurd (no_head c.left begun (w open_).1)
+no_record {X} c w begun open_ = absurd (no_head c.left begun (w open_).2)
 
 -- the first of these tests doesn't hold
 abbrev PassesFirst : List (Bool × StreamFault) → Type 0
@@ -130,7 +164,7 @@ passes_first [] free = tt
 passes_first (test ∷ tests) free = (passed test.0 test.1 tests free).0
 
 waits_kind : (c : StreamProgress) (kind : RecordKind) (page : ℕ) → Waits c RecordHead → PassesFirst (kind_faults c kind page) → IsWaiting (after_kind c kind page)
-waits_kind c SizeList page w none = λ _. ((w (not_begun c.left none)).0, tt)
+waits_kind c SizeList page w none = λ _. ((w (not_begun c.left none)).0, (w (not_begun c.left none)).1, tt)
 waits_kind c (Named filling) page w begun = λ open_. no_record c w begun open_
 waits_kind c (Continued filling) page w begun = λ open_. no_record c w begun open_
 waits_kind c EndOfSection page w begun = λ open_. no_record c w begun open_
@@ -153,20 +187,29 @@ no_footer : (left : Option ℕ) → MayBeDue left Footer → ⊥
 no_footer None h = h
 no_footer (Some n) h = h
 
+no_name : (left : Option ℕ) (filling : Filling) (page : ℕ) → MayBeDue left (BlockName filling page) → ⊥
+no_name None filling page h = h
+no_name (Some n) filling page h = h
+
+no_content : (left : Option ℕ) (filling : Filling) (place : Place) → MayBeDue left (Content filling place) → ⊥
+no_content None filling place h = h
+no_content (Some n) filling place h = h
+
 waits_item : (c : StreamProgress) (d : Due) (item : List ℕ) → IsWaiting c → Waits c d → first_of (faults c d item) ≡ None → IsWaiting (after_item c d item)
 waits_item c FileHeader item v w free = waits_on c FileHeader _ (λ h. h) tt w
-waits_item c (TypeByte before) item v w free = waits_type c (TypeByte before) (slice_index item 0) (λ h. h) w
+waits_item c (TypeByte before) item v w free = waits_type_byte c (TypeByte before) before (slice_index item 0) (λ h. h) w
 waits_item c ConfigLength item v w free = waits_on c ConfigLength _ (λ h. h) (cond_both (eqb (be32_at 0 item) 0) _ _ IsNoFooter (λ _. tt) (λ _. tt)) w
 waits_item c (ConfigName len) item v w free = waits_on c (ConfigName len) _ (λ h. h) tt w
 waits_item c StartHead item v w free = waits_on c StartHead RecordHead (λ h. h) tt w
 waits_item c SectionHead item v w free = waits_on c SectionHead RecordHead (λ h. h) tt w
 waits_item c RecordHead item v w free = waits_head c _ _ _ w free
 waits_item c ListEntry item v w free =
-    λ open_. ((w (left_before c.left (length_in item) open_)).0, entry_follows (unwrap_or c.left 0 - length_in item == 0) open_)
-waits_item c (BlockName filling page) item v w free = waits_on c (BlockName filling page) _ (λ h. h) tt w
-waits_item c (Content Zero place) item v w free = waits_on c (Content Zero place) RecordHead (λ h. h) tt w
-waits_item c (Content Normal place) item v w free = waits_on c (Content Normal place) RecordHead (λ h. h) tt w
-waits_item c Footer item v w free = λ open_. absurd (no_footer c.left (w open_).1)
+    λ open_. ((w (left_before c.left (length_in item) open_)).0, (w (left_before c.left (length_in item) open_)).1, entry_follows (unwrap_or c.left 0 - length_in item == 0) open_)
+waits_item c (BlockName filling page) item v w free = λ open_. absurd (no_name c.left filling page (w open_).2)
+waits_item c (Content Zero place) item v w free = λ open_. absurd (no_content c.left Zero place (w open_).2)
+waits_item c (Content Normal place) item v w free = λ open_. absurd (no_content c.left Normal place (w open_).2)
+waits_item c Footer item v w free = λ open_. absurd (no_footer c.left (w open_).2)
+waits_item c (Passed passed) item v w free = waits_on c (Passed passed) _ (λ h. h) (passed_no_footer passed item) w
 waits_item c Nothing item v w free = v
 
 waits_all : (c : StreamProgress) (items : List (List ℕ)) → IsWaiting c → AreFaultless c items → IsWaiting (after_all c items)
@@ -183,13 +226,26 @@ the_table : (b : Bool) (t u : RamTable) → then_some b t ≡ Some u → u ≡ t
 the_table true t u e = let back : Some u ≡ Some t = sym e in cc
 the_table false t u e = absurd cc
 
+-- a front has few rounds
+pub few_front : (frame : Frame) (mode : Mode) (page_size limit : ℕ) (bytes : List ℕ) (c : StreamProgress) → Front (start frame mode page_size limit) bytes c → length c.rounds ≤ length bytes
+few_front frame mode page_size limit bytes c f =
+    let few : HasFew [] (length (concat f.items)) c = subst (HasFew [] (length (concat f.items))) (sym f.leads_to) (few_all (start frame mode page_size limit) f.items f.are_faultless) in
+    omega (arith, few, ap length f.has_bytes)
+
+-- and before its table neither a round nor a record
+pub none_first : (frame : Frame) (mode : Mode) (page_size limit : ℕ) (bytes : List ℕ) (c : StreamProgress) → Front (start frame mode page_size limit) bytes c → whole_table c ≡ None → (c.rounds ≡ []) × (c.records ≡ [])
+none_first frame mode page_size limit bytes c f none =
+    let waits : IsWaiting c = subst IsWaiting (sym f.leads_to) (waits_all (start frame mode page_size limit) f.items (λ open_. (refl, refl, tt)) f.are_faultless) in
+    let both = waits (no_table (is_used_up c.left) (table_of c) none) in
+    (both.0, both.1)
+
 -- A text has few rounds, none before its table, and the page size that was handed in.
 pub limits_law : ReadingsKeepLimits
 limits_law = λ given text reading size_is is.
-    let from : StreamProgress = start given.mode given.page_size given.limit in
+    let from : StreamProgress = start given.frame given.mode given.page_size given.limit in
     let f : Front from is.reads.front is.to = is.reads.leads in
     let few : HasFew [] (length (concat f.items)) is.to = subst (HasFew [] (length (concat f.items))) (sym f.leads_to) (few_all from f.items f.are_faultless) in
-    let waits : IsWaiting is.to = subst IsWaiting (sym f.leads_to) (waits_all from f.items (λ open_. (refl, tt)) f.are_faultless) in
+    let waits : IsWaiting is.to = subst IsWaiting (sym f.leads_to) (waits_all from f.items (λ open_. (refl, refl, tt)) f.are_faultless) in
     record {
       has_few = omega (arith, few, ap length is.has_rounds, ap length is.reads.has_text, ap length f.has_bytes, length-append is.reads.front is.rest);
       has_table_first = λ none. is.has_rounds ∙ (waits (no_table (is_used_up is.to.left) (table_of is.to) (sym is.has_table ∙ none))).0;

@@ -8,11 +8,18 @@ use Rattle.std.proofs.lemmas.Bool.{cond_both, cases_lt, ltb-true, not-false}
 use Rattle.mig_mem.specs.declared.place.Place.{Place}
 use Rattle.mig_mem.specs.Place.{IsPlace, place_at}
 use Rattle.mig_mem.specs.RamTable.{Block, RamTable, block, block_of}
+use Rattle.mig_stream.specs.declared.item.Frame.{Frame}
 use Rattle.mig_stream.specs.declared.item.Mode.{Mode}
+use Rattle.mig_stream.specs.declared.item.Section.{Section}
 use Rattle.mig_stream.specs.declared.item.Mode.TheVariants.{Single, Main}
 use Rattle.mig_stream.specs.declared.item.Filling.TheVariants.{Zero, Normal}
+use Rattle.mig_stream.specs.declared.item.Before.{Before}
+use Rattle.mig_stream.specs.declared.item.PassedItem.{PassedItem}
+use Rattle.mig_stream.specs.declared.item.PassedItem.TheVariants.{Command, SubsectionHead, SubsectionBody, Capability}
+use Rattle.mig_stream.specs.declared.item.Subsection.{Subsection}
+use Rattle.mig_stream.specs.declared.item.Subsection.TheVariants.{PageBits, Uuid, Capabilities}
 use Rattle.mig_stream.specs.declared.item.Due.{Due}
-use Rattle.mig_stream.specs.declared.item.Due.TheVariants.{FileHeader, TypeByte, ConfigLength, ConfigName, StartHead, SectionHead, RecordHead, ListEntry, BlockName, Content, Footer, Nothing}
+use Rattle.mig_stream.specs.declared.item.Due.TheVariants.{FileHeader, TypeByte, ConfigLength, ConfigName, StartHead, SectionHead, RecordHead, ListEntry, BlockName, Content, Footer, Passed, Nothing}
 use Rattle.mig_stream.specs.declared.item.RecordKind.{RecordKind}
 use Rattle.mig_stream.specs.declared.item.RecordKind.TheVariants.{SizeList, Named, Continued, EndOfSection, Flush}
 use Rattle.mig_stream.specs.declared.fault.StreamFault.TheVariants as fault
@@ -20,7 +27,7 @@ use Rattle.mig_stream.specs.Fields.{be32_at}
 use Rattle.mig_stream.specs.PageRecord.{PageRecord}
 use Rattle.mig_stream.specs.Progress.{StreamProgress, start}
 use Rattle.mig_mem.specs.First.{first_of}
-use Rattle.mig_stream.specs.Items.{id_in, length_in, has_page, kind_faults, head_faults, faults, after_type, after_kind, after_head, open_records, whole_rounds, after_item, after}
+use Rattle.mig_stream.specs.Items.{is_passed, closes, subsection_of, body_of, capabilities_due, behind_passed, behind_footer, after_type_byte, id_in, length_in, has_page, kind_faults, head_faults, faults, after_type, after_kind, after_head, open_records, whole_rounds, after_item, after}
 use Rattle.mig_stream.specs.Reading.{AreFaultless, after_all, Front}
 use Rattle.mig_stream.proofs.Steps.{passed}
 
@@ -75,6 +82,28 @@ placed_type c b v =
     cond_both (eqb b 3) _ _ Placed (λ _. record { due = tt; records = v.records; rounds = v.rounds }) (λ _.
     record { due = tt; records = v.records; rounds = v.rounds }))))
 
+placed_type_byte : (c : StreamProgress) (before : Before) (b : ℕ) → Placed c → Placed (after_type_byte c before b)
+placed_type_byte c before b v = cond_both (is_passed c.frame before b) _ _ Placed (λ _. record { due = tt; records = v.records; rounds = v.rounds }) (λ _. placed_type c b v)
+
+-- no page is due behind what is passed over, or behind a footer
+capabilities_in : (blocks : List Block) (others : ℕ) → DueIn blocks (capabilities_due others)
+capabilities_in blocks others = cond_both (eqb others 0) _ _ (DueIn blocks) (λ _. tt) (λ _. tt)
+
+body_in : (blocks : List Block) (o : Option Subsection) → DueIn blocks (body_of o)
+body_in blocks None = tt
+body_in blocks (Some s) = tt
+
+passed_in : (blocks : List Block) (passed : PassedItem) (item : List ℕ) → DueIn blocks (behind_passed passed item)
+passed_in blocks (Command before) item = tt
+passed_in blocks SubsectionHead item = body_in blocks (subsection_of (id_in item))
+passed_in blocks (SubsectionBody PageBits) item = tt
+passed_in blocks (SubsectionBody Uuid) item = tt
+passed_in blocks (SubsectionBody Capabilities) item = capabilities_in blocks (be32_at 0 item)
+passed_in blocks (Capability others) item = capabilities_in blocks others
+
+footer_in : (blocks : List Block) (frame : Frame) (kind : Section) → DueIn blocks (behind_footer frame kind)
+footer_in blocks frame kind = cond_both (closes frame kind) _ _ (DueIn blocks) (λ _. tt) (λ _. tt)
+
 placed_kind : (c : StreamProgress) (k : RecordKind) (page : ℕ) → Placed c → DueIn c.blocks c.due → first_of (kind_faults c k page) ≡ None → Placed (after_kind c k page)
 placed_kind c SizeList page v d free = record { due = tt; records = v.records; rounds = v.rounds }
 placed_kind c (Named f) page v d free = record { due = tt; records = v.records; rounds = v.rounds }
@@ -100,7 +129,7 @@ whole_in Main blocks rounds records all last = all
 
 placed_item : (c : StreamProgress) (d : Due) (item : List ℕ) → Placed c → DueIn c.blocks d → first_of (faults c d item) ≡ None → Placed (after_item c d item)
 placed_item c FileHeader item v d free = record { due = tt; records = v.records; rounds = v.rounds }
-placed_item c (TypeByte b) item v d free = placed_type c (slice_index item 0) v
+placed_item c (TypeByte b) item v d free = placed_type_byte c b (slice_index item 0) v
 placed_item c ConfigLength item v d free = record { due = cond_both (eqb (be32_at 0 item) 0) _ _ (DueIn c.blocks) (λ _. tt) (λ _. tt); records = v.records; rounds = v.rounds }
 placed_item c (ConfigName n) item v d free = record { due = tt; records = v.records; rounds = v.rounds }
 placed_item c StartHead item v d free = record { due = tt; records = v.records; rounds = v.rounds }
@@ -118,7 +147,8 @@ placed_item c (BlockName f page) item v d free =
     record { due = judged c.blocks named page two.0; records = v.records; rounds = v.rounds }
 placed_item c (Content Zero place) item v d free = record { due = tt; records = All-push (λ r. HasPage c.blocks r.place) c.records (record { place = place; content = None }) v.records d; rounds = v.rounds }
 placed_item c (Content Normal place) item v d free = record { due = tt; records = All-push (λ r. HasPage c.blocks r.place) c.records (record { place = place; content = Some item }) v.records d; rounds = v.rounds }
-placed_item c Footer item v d free = record { due = tt; records = open_in c.mode c.blocks c.records v.records; rounds = whole_in c.mode c.blocks c.rounds c.records v.rounds v.records }
+placed_item c Footer item v d free = record { due = footer_in c.blocks c.frame c.section; records = open_in c.mode c.blocks c.records v.records; rounds = whole_in c.mode c.blocks c.rounds c.records v.rounds v.records }
+placed_item c (Passed passed) item v d free = record { due = passed_in c.blocks passed item; records = v.records; rounds = v.rounds }
 placed_item c Nothing item v d free = v
 
 placed_all : (c : StreamProgress) (items : List (List ℕ)) → Placed c → AreFaultless c items → Placed (after_all c items)
@@ -126,11 +156,11 @@ placed_all c [] v free = v
 placed_all c (item ∷ items) v free = placed_all (after c item) items (placed_item c c.due item v v.due free.1) free.2
 
 -- Each page record that was read has its page in the blocks that were read by then, and in those behind them.
-pub placed_so_far : (m : Mode) (p limit : ℕ) (bytes : List ℕ) (to : StreamProgress) (more : List Block) (table : RamTable) → Front (start m p limit) bytes to → table.blocks ≡ to.blocks ++ more
+pub placed_so_far : (frame : Frame) (m : Mode) (p limit : ℕ) (bytes : List ℕ) (to : StreamProgress) (more : List Block) (table : RamTable) → Front (start frame m p limit) bytes to → table.blocks ≡ to.blocks ++ more
     → All (λ rs. All (λ r. IsPlace table r.place) rs) to.rounds × All (λ r. IsPlace table r.place) to.records
-placed_so_far m p limit bytes to more table f same =
-    let first : Placed (start m p limit) = record { due = tt; records = All-nil (λ r. HasPage [] r.place); rounds = All-nil (AreIn []) } in
-    let last : Placed to = subst Placed (sym f.leads_to) (placed_all (start m p limit) f.items first f.are_faultless) in
+placed_so_far frame m p limit bytes to more table f same =
+    let first : Placed (start frame m p limit) = record { due = tt; records = All-nil (λ r. HasPage [] r.place); rounds = All-nil (AreIn []) } in
+    let last : Placed to = subst Placed (sym f.leads_to) (placed_all (start frame m p limit) f.items first f.are_faultless) in
     let there : (place : Place) → HasPage to.blocks place → IsPlace table place =
     λ place has.
     let h : HasPage table.blocks place = subst (λ (b : List Block). HasPage b place) (sym same) (more_blocks to.blocks more place has) in
@@ -140,10 +170,10 @@ placed_so_far m p limit bytes to more table f same =
     )
 
 -- Each page record of a whole round has its page in the blocks that were read.
-pub placed_front : (m : Mode) (p limit : ℕ) (bytes : List ℕ) (to : StreamProgress) (table : RamTable) → Front (start m p limit) bytes to → table.blocks ≡ to.blocks → All (λ rs. All (λ r. IsPlace table r.place) rs) to.rounds
-placed_front m p limit bytes to table f same =
-    let first : Placed (start m p limit) = record { due = tt; records = All-nil (λ r. HasPage [] r.place); rounds = All-nil (AreIn []) } in
-    let last : Placed to = subst Placed (sym f.leads_to) (placed_all (start m p limit) f.items first f.are_faultless) in
+pub placed_front : (frame : Frame) (m : Mode) (p limit : ℕ) (bytes : List ℕ) (to : StreamProgress) (table : RamTable) → Front (start frame m p limit) bytes to → table.blocks ≡ to.blocks → All (λ rs. All (λ r. IsPlace table r.place) rs) to.rounds
+placed_front frame m p limit bytes to table f same =
+    let first : Placed (start frame m p limit) = record { due = tt; records = All-nil (λ r. HasPage [] r.place); rounds = All-nil (AreIn []) } in
+    let last : Placed to = subst Placed (sym f.leads_to) (placed_all (start frame m p limit) f.items first f.are_faultless) in
     λ i rs lt j r within.
     let h : HasPage table.blocks (get_or (get_or to.rounds i rs) j r).place = subst (λ (b : List Block). HasPage b (get_or (get_or to.rounds i rs) j r).place) (sym same) (last.rounds i rs lt j r within) in
     record { has_block = h.has_block; has_page = h.has_page }

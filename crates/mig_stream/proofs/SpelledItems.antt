@@ -14,14 +14,14 @@ use Rattle.mig_stream.specs.declared.item.Before.TheVariants as before
 use Rattle.mig_stream.specs.declared.item.Filling.TheVariants.{Zero, Normal}
 use Rattle.mig_stream.specs.declared.item.RecordKind.{RecordKind}
 use Rattle.mig_stream.specs.declared.item.RecordKind.TheVariants.{SizeList, Named, Continued, EndOfSection, Flush}
-use Rattle.mig_stream.specs.declared.item.Due.TheVariants.{FileHeader, TypeByte, ConfigLength, ConfigName, StartHead, SectionHead, RecordHead, Footer, Nothing}
+use Rattle.mig_stream.specs.declared.item.Due.TheVariants.{FileHeader, TypeByte, ConfigLength, ConfigName, StartHead, SectionHead, RecordHead, Footer, Passed, Nothing}
 use Rattle.mig_stream.specs.declared.fault.StreamFault.TheVariants as fault
 use Rattle.mig_stream.specs.Fields.{be32, be64, counted, be32_at, be64_at}
 use Rattle.mig_stream.specs.Format.{end_byte, section_type, configuration_type, ram_name, ram_instance, ram_version, flags_of, most_name_bytes}
 use Rattle.mig_stream.specs.PageRecord.{PageRecord}
 use Rattle.mig_stream.specs.Progress.{StreamProgress}
 use Rattle.mig_mem.specs.First.{first_of}
-use Rattle.mig_stream.specs.Items.{size, record_kind, is_single, is_allowed, kind_faults, head_faults, first_fault, after_type, after_kind, after_head, end_section, after}
+use Rattle.mig_stream.specs.Items.{size, record_kind, is_single, is_allowed, is_machine, may_pass, is_passed, passed_by, closes, has_tail, kind_faults, head_faults, first_fault, after_type, after_kind, after_head, end_section, after}
 use Rattle.mig_stream.specs.Reading.{Front}
 use Rattle.mig_stream.specs.Text.{file_header, configuration, start_head, footer}
 use Rattle.mig_stream.proofs.Fronts.{Front-none, Front-push, Front-append}
@@ -115,8 +115,13 @@ bare_front c kind is none =
 -- ---- type bytes, heads of sections, and footers
 
 -- a type byte that is allowed there, but the end byte
-pub type_front : (c : StreamProgress) (b : Before) (byte : ℕ) → is_allowed b byte ≡ true → eqb byte end_byte ≡ false → Front (record c { due = TypeByte b }) (byte ∷ []) (after_type (record c { due = TypeByte b }) byte)
-type_front c b byte allowed other = item_front (record c { due = TypeByte b }) (byte ∷ []) (λ e. absurd cc) refl (rw (allowed, other) refl)
+pub type_front : (c : StreamProgress) (b : Before) (byte : ℕ) → is_allowed b byte ≡ true → may_pass b byte ≡ false → eqb byte end_byte ≡ false
+    → Front (record c { due = TypeByte b }) (byte ∷ []) (after_type (record c { due = TypeByte b }) byte)
+type_front c b byte allowed own other =
+    let d : StreamProgress = record c { due = TypeByte b } in
+    let passed : is_passed c.frame b byte ≡ false = ap (λ (x : Bool). x && is_machine c.frame) own in
+    let new : after d (byte ∷ []) ≡ after_type d byte = ap (λ (x : Bool). cond x (record d { due = Passed (passed_by b byte) }) (after_type d byte)) passed in
+    subst (λ (x : StreamProgress). Front d (byte ∷ []) x) new (item_front d (byte ∷ []) (λ e. absurd cc) refl (rw (allowed, other) refl))
 
 -- the head of a PART or END, with START's section id
 pub section_front : (c : StreamProgress) → c.section_id < 2 ^ 32 → Front (record c { due = SectionHead }) (be32 c.section_id) (record c { due = RecordHead })
@@ -125,10 +130,10 @@ section_front c small =
     item_front (record c { due = SectionHead }) (be32 c.section_id) (λ e. absurd cc) refl (rw same refl)
 
 -- a footer, with START's section id
-pub footer_front : (c : StreamProgress) → c.section_id < 2 ^ 32 → Front (record c { due = Footer }) (footer c.section_id) (end_section c)
-footer_front c small =
+pub footer_front : (c : StreamProgress) → c.section_id < 2 ^ 32 → has_tail (closes c.frame c.section) c ≡ false → Front (record c { due = Footer }) (footer c.section_id) (end_section c)
+footer_front c small whole =
     let same : eqb (be32_at 1 (footer c.section_id)) c.section_id ≡ true = eq-eqb _ _ (be32_footer c.section_id small) in
-    item_front (record c { due = Footer }) (footer c.section_id) (λ e. absurd cc) refl (rw same refl)
+    item_front (record c { due = Footer }) (footer c.section_id) (λ e. absurd cc) refl (rw (same, whole) refl)
 
 -- ---- the end byte
 
@@ -159,7 +164,7 @@ unfolding be32_at file_header
 header_front c = item_front (record c { due = FileHeader }) file_header (λ e. absurd cc) refl refl
 
 -- the length of a configuration's name
-length_front : (c : StreamProgress) (len : ℕ) → len ≤ most_name_bytes → Front (record c { due = ConfigLength }) (be32 len) (record c { due = cond (eqb len 0) (TypeByte before.Configuration) (ConfigName len) })
+pub length_front : (c : StreamProgress) (len : ℕ) → len ≤ most_name_bytes → Front (record c { due = ConfigLength }) (be32 len) (record c { due = cond (eqb len 0) (TypeByte before.Configuration) (ConfigName len) })
 length_front c len small =
     let item : List ℕ = be32 len in
     let d : StreamProgress = record c { due = ConfigLength } in
@@ -170,7 +175,7 @@ length_front c len small =
     subst (λ (x : StreamProgress). Front d item x) new (item_front d item (λ e. absurd cc) refl free)
 
 -- a configuration's name: an item, or nothing where it has no bytes
-name_front : (c : StreamProgress) (name : List ℕ) → Front (record c { due = cond (eqb (length name) 0) (TypeByte before.Configuration) (ConfigName (length name)) }) name (record c { due = TypeByte before.Configuration })
+pub name_front : (c : StreamProgress) (name : List ℕ) → Front (record c { due = cond (eqb (length name) 0) (TypeByte before.Configuration) (ConfigName (length name)) }) name (record c { due = TypeByte before.Configuration })
 name_front c [] = Front-none (record c { due = TypeByte before.Configuration })
 name_front c (byte ∷ name) =
     let n : ℕ = length (byte ∷ name) in
@@ -184,11 +189,11 @@ before_start None = before.FileHeader
 before_start (Some name) = before.Configuration
 
 -- a whole configuration, or none
-configuration_front : (c : StreamProgress) (name : Option (List ℕ)) → IfSome name (λ bytes. length bytes ≤ most_name_bytes)
+pub configuration_front : (c : StreamProgress) (name : Option (List ℕ)) → IfSome name (λ bytes. length bytes ≤ most_name_bytes)
     → Front (record c { due = TypeByte before.FileHeader }) (configuration name) (record c { due = TypeByte (before_start name) })
 configuration_front c None small = Front-none (record c { due = TypeByte before.FileHeader })
 configuration_front c (Some name) small =
-    Front-append _ _ _ _ _ (type_front c before.FileHeader configuration_type refl refl) (Front-append _ _ _ _ _ (length_front c (length name) small) (name_front c name))
+    Front-append _ _ _ _ _ (type_front c before.FileHeader configuration_type refl refl refl) (Front-append _ _ _ _ _ (length_front c (length name) small) (name_front c name))
 
 -- START's head behind its type byte
 abbrev head_bytes : ℕ → List ℕ
@@ -200,7 +205,7 @@ unfolding be32_at
 start_free c id = refl
 
 -- and it tells START's section id
-start_front : (c : StreamProgress) (id : ℕ) → id < 2 ^ 32 → Front (record c { due = StartHead }) (head_bytes id) (record c { due = RecordHead; section_id = id })
+pub start_front : (c : StreamProgress) (id : ℕ) → id < 2 ^ 32 → Front (record c { due = StartHead }) (head_bytes id) (record c { due = RecordHead; section_id = id })
 start_front c id small =
     let item : List ℕ = head_bytes id in
     let d : StreamProgress = record c { due = StartHead } in
@@ -209,9 +214,9 @@ start_front c id small =
     subst (λ (x : StreamProgress). Front d item x) new (item_front d item (λ e. absurd cc) refl (start_free c id))
 
 -- START's type byte may stand behind a configuration, and where there is none
-start_allowed : (name : Option (List ℕ)) → is_allowed (before_start name) (section_type sections.Start) ≡ true
-start_allowed None = refl
-start_allowed (Some name) = refl
+start_allowed : (name : Option (List ℕ)) → (is_allowed (before_start name) (section_type sections.Start) ≡ true) × (may_pass (before_start name) (section_type sections.Start) ≡ false)
+start_allowed None = (refl, refl)
+start_allowed (Some name) = (refl, refl)
 
 -- all that stands before the size list
 pub opening_front : (c : StreamProgress) (name : Option (List ℕ)) (id : ℕ) → IfSome name (λ bytes. length bytes ≤ most_name_bytes) → id < 2 ^ 32
@@ -219,5 +224,5 @@ pub opening_front : (c : StreamProgress) (name : Option (List ℕ)) (id : ℕ) �
 opening_front c name id short small =
     let d : StreamProgress = record c { section = sections.Start } in
     let first : Front (record c { due = TypeByte (before_start name) }) (section_type sections.Start ∷ []) (record d { due = StartHead }) =
-    type_front c (before_start name) (section_type sections.Start) (start_allowed name) refl in
+    type_front c (before_start name) (section_type sections.Start) (start_allowed name).0 (start_allowed name).1 refl in
     Front-append _ _ _ _ _ (Front-append _ _ _ _ _ (header_front c) (configuration_front c name short)) (Front-append _ _ _ _ _ first (start_front d id small))

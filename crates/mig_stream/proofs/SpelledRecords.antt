@@ -19,7 +19,7 @@ use Rattle.mig_stream.specs.Fields.{counted}
 use Rattle.mig_stream.specs.Format.{flags_of}
 use Rattle.mig_stream.specs.PageRecord.{PageRecord, filling_of}
 use Rattle.mig_stream.specs.Progress.{StreamProgress, table_of}
-use Rattle.mig_stream.specs.Items.{is_single, id_in, first_fault, end_round, with_record, after}
+use Rattle.mig_stream.specs.Items.{closes, has_tail, is_single, id_in, first_fault, end_round, with_record, after}
 use Rattle.mig_stream.specs.Reading.{Front}
 use Rattle.mig_stream.specs.Text.{content_bytes, page_record, Fits, Record, PageOf, FlushMark, record_bytes, Follow, HasNoFlush, body}
 use Rattle.mig_stream.proofs.Fronts.{Front-none, Front-append}
@@ -98,8 +98,9 @@ records_front c (FlushMark ∷ records) is begun (inr none) follow = absurd none
 
 -- a section's records, EOS and footer
 pub body_front : (c : StreamProgress) (records : List Record) → IsTable (table_of c) → c.section_id < 2 ^ 32 → is_none c.left ≡ false → is_single c.mode ≡ false ⊎ HasNoFlush records
-    → Follow (table_of c) c.named records → Front (record c { due = RecordHead }) (body (table_of c) c.section_id records) (after_body c records)
-body_front c records is small begun flushes follow =
+    → Follow (table_of c) c.named records → has_tail (closes c.frame c.section) (after_records c records) ≡ false
+    → Front (record c { due = RecordHead }) (body (table_of c) c.section_id records) (after_body c records)
+body_front c records is small begun flushes follow whole =
     let d : StreamProgress = after_records c records in
-    let end = Front-append _ _ _ _ _ (bare_front d EndOfSection is.has_page_size (rw begun refl)) (footer_front d small) in
+    let end = Front-append _ _ _ _ _ (bare_front d EndOfSection is.has_page_size (rw begun refl)) (footer_front d small whole) in
     Front-append _ _ _ _ _ (records_front c records is begun flushes follow) end

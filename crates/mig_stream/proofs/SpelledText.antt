@@ -3,6 +3,7 @@ use Rattle.std.proofs.Common.{◌≡◌, ℕ, List, [], ◌∷◌, ◌++◌, Som
 use Rattle.std.specs.List.{flat_map}
 use Rattle.std.proofs.lemmas.List.{append_cancel_right}
 use Rattle.mig_mem.specs.RamTable.{RamTable}
+use Rattle.mig_stream.specs.declared.item.Frame.TheVariants.{Ram}
 use Rattle.mig_stream.specs.declared.item.Mode.{Mode}
 use Rattle.mig_stream.specs.declared.item.Section.TheVariants as sections
 use Rattle.mig_stream.specs.declared.item.Due.TheVariants.{RecordHead, Nothing}
@@ -25,7 +26,7 @@ use Rattle.mig_stream.proofs.SpelledSections.{FlushesFit-first, FlushesFit-rest,
 -- a front that is a whole text: it leads to the end of the stream, and tells this table and these rounds
 pub record IsReadWhole (mode : Mode) (limit : ℕ) (text : List ℕ) (table : RamTable) (rounds : List (List PageRecord)) : Type 0 where
   pub to : StreamProgress
-  pub leads : Front (start mode table.page_size limit) text to
+  pub leads : Front (start Ram mode table.page_size limit) text to
   pub is_closed : to.due ≡ Nothing
   pub has_table : whole_table to ≡ Some table
   pub has_rounds : to.rounds ≡ rounds
@@ -41,14 +42,14 @@ text_is_read mode limit text table rounds is =
     let behind : List Record = all_records is.parts ++ is.last in
     let told = rounds_read mode (is.first ∷ others) rounds is.has_rounds in
     let follow : Follow table None (is.first ++ behind) = subst (Follow table None) (append_assoc is.first (all_records is.parts) is.last) is.follow in
-    let from : StreamProgress = start mode table.page_size limit in
+    let from : StreamProgress = start Ram mode table.page_size limit in
     let begun : StreamProgress = record from { due = RecordHead; section_id = is.id } in
     let listed : StreamProgress = record begun { left = Some 0; blocks = table.blocks } in
     let first : StreamProgress = after_body listed is.first in
     let opening = opening_front from is.name is.id is.has_name is.has_id in
     let list = list_front begun table is.has_table is.has_limit in
-    let start_body = body_front listed is.first is.has_table is.has_id refl (FlushesFit-first mode is.first others told.0) (Follow-first table None is.first behind follow) in
-    let end = sections_front first is.parts is.last is.has_table is.has_id refl (FlushesFit-rest mode is.first others told.0) (Follow-rest table None is.first behind follow) told.1 in
+    let start_body = body_front listed is.first is.has_table is.has_id refl (FlushesFit-first mode is.first others told.0) (Follow-first table None is.first behind follow) refl in
+    let end = sections_front first is.parts is.last refl is.has_table is.has_id refl (FlushesFit-rest mode is.first others told.0) (Follow-rest table None is.first behind follow) told.1 in
     let parts : List ℕ = flat_map (section table sections.Part is.id) is.parts in
     let spelled = is.is_spelled ∙ regroup file_header (configuration is.name) (start_head is.id) (size_list table) (body table is.id is.first) parts (section table sections.End is.id is.last) (end_byte ∷ []) in
     record {
@@ -61,7 +62,7 @@ text_is_read mode limit text table rounds is =
 
 -- The reading of a text ends with it, whatever follows it.
 text_reads : (mode : Mode) (limit : ℕ) (text rest : List ℕ) (table : RamTable) (rounds : List (List PageRecord)) → (is : IsReadWhole mode limit text table rounds)
-    → Reads (start mode table.page_size limit) (text ++ rest) is.to rest Closed
+    → Reads (start Ram mode table.page_size limit) (text ++ rest) is.to rest Closed
 text_reads mode limit text rest table rounds is = record { front = text; has_text = refl; leads = is.leads; ends = is.is_closed }
 
 -- Whatever is spelled is read so.
@@ -80,10 +81,10 @@ spelled_law = λ mode limit text rest table rounds is_text.
 one_whole : (mode : Mode) (limit : ℕ) (a b x y : List ℕ) (s t : RamTable) (p q : List (List PageRecord)) → s.page_size ≡ t.page_size → IsReadWhole mode limit a s p → IsReadWhole mode limit b t q
     → a ++ x ≡ b ++ y → (a ≡ b) × (s ≡ t) × (p ≡ q)
 one_whole mode limit a b x y s t p q size f g e =
-    let from : StreamProgress = start mode t.page_size limit in
-    let one : Reads (start mode s.page_size limit) (a ++ x) f.to x Closed = text_reads mode limit a x s p f in
+    let from : StreamProgress = start Ram mode t.page_size limit in
+    let one : Reads (start Ram mode s.page_size limit) (a ++ x) f.to x Closed = text_reads mode limit a x s p f in
     let two : Reads from (b ++ y) g.to y Closed = text_reads mode limit b y t q g in
-    let here : Reads from (b ++ y) f.to x Closed = subst (λ (n : ℕ). Reads (start mode n limit) (b ++ y) f.to x Closed) size (subst (λ (z : List ℕ). Reads (start mode s.page_size limit) z f.to x Closed) e one) in
+    let here : Reads from (b ++ y) f.to x Closed = subst (λ (n : ℕ). Reads (start Ram mode n limit) (b ++ y) f.to x Closed) size (subst (λ (z : List ℕ). Reads (start Ram mode s.page_size limit) z f.to x Closed) e one) in
     let same = one_reading from (b ++ y) f.to g.to x y Closed Closed here two in
     let fronts : a ++ x ≡ b ++ x = e ∙ ap (λ (z : List ℕ). b ++ z) (sym same.1) in
     let tables : Some s ≡ Some t = sym f.has_table ∙ ap whole_table same.0 ∙ g.has_table in

@@ -8,8 +8,9 @@ use Rattle.mig_mem.specs.RamTable.{Block, block_of, is_id, max_blocks}
 use Rattle.mig_stream.specs.declared.item.Mode.{Mode}
 use Rattle.mig_stream.specs.declared.item.Mode.TheVariants.{Single, Main}
 use Rattle.mig_stream.specs.declared.item.Filling.TheVariants.{Zero, Normal}
+use Rattle.mig_stream.specs.declared.item.Before.{Before}
 use Rattle.mig_stream.specs.declared.item.Due.{Due}
-use Rattle.mig_stream.specs.declared.item.Due.TheVariants.{FileHeader, TypeByte, ConfigLength, ConfigName, StartHead, SectionHead, RecordHead, ListEntry, BlockName, Content, Footer, Nothing}
+use Rattle.mig_stream.specs.declared.item.Due.TheVariants.{FileHeader, TypeByte, ConfigLength, ConfigName, StartHead, SectionHead, RecordHead, ListEntry, BlockName, Content, Footer, Passed, Nothing}
 use Rattle.mig_stream.specs.declared.item.RecordKind.{RecordKind}
 use Rattle.mig_stream.specs.declared.item.RecordKind.TheVariants.{SizeList, Named, Continued, EndOfSection, Flush}
 use Rattle.mig_stream.specs.declared.fault.StreamFault.{StreamFault}
@@ -17,7 +18,7 @@ use Rattle.mig_stream.specs.declared.fault.StreamFault.TheVariants as fault
 use Rattle.mig_stream.specs.PageRecord.{PageRecord}
 use Rattle.mig_stream.specs.Progress.{StreamProgress, is_used_up}
 use Rattle.mig_mem.specs.First.{first_of}
-use Rattle.mig_stream.specs.Items.{id_in, length_in, head_faults, faults, first_fault, after_type, after_kind, after_head, open_records, whole_rounds, end_section, after_item, after}
+use Rattle.mig_stream.specs.Items.{id_in, length_in, is_passed, after_type_byte, head_faults, faults, first_fault, after_type, after_kind, after_head, open_records, whole_rounds, end_section, after_item, after}
 use Rattle.mig_stream.specs.Reading.{AreFaultless, after_all, Front}
 use Rattle.mig_stream.specs.Later.{HasGrown, IsLater}
 
@@ -46,28 +47,32 @@ data Change (old new : StreamProgress) : Type 0 where
   whole : new.blocks ≡ old.blocks → new.rounds ≡ old.rounds ++ old.records ∷ [] → Change old new
 
 record Step (old new : StreamProgress) : Type 0 where
+  frame : new.frame ≡ old.frame
   mode : new.mode ≡ old.mode
   page_size : new.page_size ≡ old.page_size
   limit : new.limit ≡ old.limit
   change : Change old new
 
 no_change : (c : StreamProgress) → Step c c
-no_change c = record { mode = refl; page_size = refl; limit = refl; change = none refl refl refl }
+no_change c = record { frame = refl; mode = refl; page_size = refl; limit = refl; change = none refl refl refl }
 
 type_step : (c : StreamProgress) (b : ℕ) → Step c (after_type c b)
 type_step c b =
-    cond_both (eqb b 7) _ _ (Step c) (λ _. record { mode = refl; page_size = refl; limit = refl; change = none refl refl refl }) (λ _.
-    cond_both (eqb b 1) _ _ (Step c) (λ _. record { mode = refl; page_size = refl; limit = refl; change = none refl refl refl }) (λ _.
-    cond_both (eqb b 2) _ _ (Step c) (λ _. record { mode = refl; page_size = refl; limit = refl; change = none refl refl refl }) (λ _.
-    cond_both (eqb b 3) _ _ (Step c) (λ _. record { mode = refl; page_size = refl; limit = refl; change = none refl refl refl }) (λ _.
-    record { mode = refl; page_size = refl; limit = refl; change = none refl refl refl }))))
+    cond_both (eqb b 7) _ _ (Step c) (λ _. record { frame = refl; mode = refl; page_size = refl; limit = refl; change = none refl refl refl }) (λ _.
+    cond_both (eqb b 1) _ _ (Step c) (λ _. record { frame = refl; mode = refl; page_size = refl; limit = refl; change = none refl refl refl }) (λ _.
+    cond_both (eqb b 2) _ _ (Step c) (λ _. record { frame = refl; mode = refl; page_size = refl; limit = refl; change = none refl refl refl }) (λ _.
+    cond_both (eqb b 3) _ _ (Step c) (λ _. record { frame = refl; mode = refl; page_size = refl; limit = refl; change = none refl refl refl }) (λ _.
+    record { frame = refl; mode = refl; page_size = refl; limit = refl; change = none refl refl refl }))))
+
+type_byte_step : (c : StreamProgress) (before : Before) (b : ℕ) → Step c (after_type_byte c before b)
+type_byte_step c before b = cond_both (is_passed c.frame before b) _ _ (Step c) (λ _. record { frame = refl; mode = refl; page_size = refl; limit = refl; change = none refl refl refl }) (λ _. type_step c b)
 
 kind_step : (c : StreamProgress) (k : RecordKind) (page : ℕ) → Step c (after_kind c k page)
-kind_step c SizeList page = record { mode = refl; page_size = refl; limit = refl; change = none refl refl refl }
-kind_step c (Named f) page = record { mode = refl; page_size = refl; limit = refl; change = none refl refl refl }
-kind_step c (Continued f) page = record { mode = refl; page_size = refl; limit = refl; change = none refl refl refl }
-kind_step c EndOfSection page = record { mode = refl; page_size = refl; limit = refl; change = none refl refl refl }
-kind_step c Flush page = record { mode = refl; page_size = refl; limit = refl; change = whole refl refl }
+kind_step c SizeList page = record { frame = refl; mode = refl; page_size = refl; limit = refl; change = none refl refl refl }
+kind_step c (Named f) page = record { frame = refl; mode = refl; page_size = refl; limit = refl; change = none refl refl refl }
+kind_step c (Continued f) page = record { frame = refl; mode = refl; page_size = refl; limit = refl; change = none refl refl refl }
+kind_step c EndOfSection page = record { frame = refl; mode = refl; page_size = refl; limit = refl; change = none refl refl refl }
+kind_step c Flush page = record { frame = refl; mode = refl; page_size = refl; limit = refl; change = whole refl refl }
 
 head_step : (c : StreamProgress) (k : Option RecordKind) (page : ℕ) → Step c (after_head c k page)
 head_step c None page = no_change c
@@ -78,18 +83,19 @@ footer_change c new Single b r s = whole b s
 footer_change c new Main b r s = none b s r
 
 item_step : (c : StreamProgress) (d : Due) (item : List ℕ) → Step c (after_item c d item)
-item_step c FileHeader item = record { mode = refl; page_size = refl; limit = refl; change = none refl refl refl }
-item_step c (TypeByte b) item = type_step c (slice_index item 0)
-item_step c ConfigLength item = record { mode = refl; page_size = refl; limit = refl; change = none refl refl refl }
-item_step c (ConfigName n) item = record { mode = refl; page_size = refl; limit = refl; change = none refl refl refl }
-item_step c StartHead item = record { mode = refl; page_size = refl; limit = refl; change = none refl refl refl }
-item_step c SectionHead item = record { mode = refl; page_size = refl; limit = refl; change = none refl refl refl }
+item_step c FileHeader item = record { frame = refl; mode = refl; page_size = refl; limit = refl; change = none refl refl refl }
+item_step c (TypeByte b) item = type_byte_step c b (slice_index item 0)
+item_step c ConfigLength item = record { frame = refl; mode = refl; page_size = refl; limit = refl; change = none refl refl refl }
+item_step c (ConfigName n) item = record { frame = refl; mode = refl; page_size = refl; limit = refl; change = none refl refl refl }
+item_step c StartHead item = record { frame = refl; mode = refl; page_size = refl; limit = refl; change = none refl refl refl }
+item_step c SectionHead item = record { frame = refl; mode = refl; page_size = refl; limit = refl; change = none refl refl refl }
 item_step c RecordHead item = head_step c _ _
-item_step c ListEntry item = record { mode = refl; page_size = refl; limit = refl; change = block _ refl refl refl }
-item_step c (BlockName f page) item = record { mode = refl; page_size = refl; limit = refl; change = none refl refl refl }
-item_step c (Content Zero place) item = record { mode = refl; page_size = refl; limit = refl; change = one _ refl refl refl }
-item_step c (Content Normal place) item = record { mode = refl; page_size = refl; limit = refl; change = one _ refl refl refl }
-item_step c Footer item = record { mode = refl; page_size = refl; limit = refl; change = footer_change c (end_section c) c.mode refl refl refl }
+item_step c ListEntry item = record { frame = refl; mode = refl; page_size = refl; limit = refl; change = block _ refl refl refl }
+item_step c (BlockName f page) item = record { frame = refl; mode = refl; page_size = refl; limit = refl; change = none refl refl refl }
+item_step c (Content Zero place) item = record { frame = refl; mode = refl; page_size = refl; limit = refl; change = one _ refl refl refl }
+item_step c (Content Normal place) item = record { frame = refl; mode = refl; page_size = refl; limit = refl; change = one _ refl refl refl }
+item_step c Footer item = record { frame = refl; mode = refl; page_size = refl; limit = refl; change = footer_change c (end_section c) c.mode refl refl refl }
+item_step c (Passed passed) item = record { frame = refl; mode = refl; page_size = refl; limit = refl; change = none refl refl refl }
 item_step c Nothing item = no_change c
 
 grown_by : (old mid new : StreamProgress) → Change mid new → HasGrown old mid → HasGrown old new
@@ -126,6 +132,9 @@ type_entries c b =
     cond_both (eqb b 2) _ _ (SameEntries c) (λ _. (refl, refl)) (λ _.
     cond_both (eqb b 3) _ _ (SameEntries c) (λ _. (refl, refl)) (λ _. (refl, refl)))))
 
+type_byte_entries : (c : StreamProgress) (before : Before) (b : ℕ) → SameEntries c (after_type_byte c before b)
+type_byte_entries c before b = cond_both (is_passed c.frame before b) _ _ (SameEntries c) (λ _. (refl, refl)) (λ _. type_entries c b)
+
 -- a size list that was whole doesn't begin again
 no_list : (o : Option ℕ) (more : List (Bool × StreamFault)) → o ≡ Some 0 → first_of ((is_some o, fault.SizePlace) ∷ more) ≡ None → ⊥
 no_list o more e free =
@@ -160,7 +169,7 @@ no_entry a b d n m left nothing free =
 
 item_entries : (c : StreamProgress) (d : Due) (item : List ℕ) → c.left ≡ Some 0 → first_of (faults c d item) ≡ None → SameEntries c (after_item c d item)
 item_entries c FileHeader item e free = (refl, refl)
-item_entries c (TypeByte b) item e free = type_entries c (slice_index item 0)
+item_entries c (TypeByte b) item e free = type_byte_entries c b (slice_index item 0)
 item_entries c ConfigLength item e free = (refl, refl)
 item_entries c (ConfigName n) item e free = (refl, refl)
 item_entries c StartHead item e free = (refl, refl)
@@ -173,6 +182,7 @@ item_entries c (BlockName f page) item e free = (refl, refl)
 item_entries c (Content Zero place) item e free = (refl, refl)
 item_entries c (Content Normal place) item e free = (refl, refl)
 item_entries c Footer item e free = (refl, refl)
+item_entries c (Passed passed) item e free = (refl, refl)
 item_entries c Nothing item e free = (refl, refl)
 
 -- ---- items one after another
@@ -183,6 +193,7 @@ later_step old mid item l free =
     let s = item_step mid mid.due item in
     let b = blocks_by mid new s.change in
     record {
+      same_frame = s.frame ∙ l.same_frame;
       same_mode = s.mode ∙ l.same_mode;
       same_page_size = s.page_size ∙ l.same_page_size;
       same_limit = s.limit ∙ l.same_limit;
@@ -200,7 +211,7 @@ later_all old mid [] l free = l
 later_all old mid (item ∷ items) l free = later_all old (after mid item) items (later_step old mid item l free.1) free.2
 
 later_self : (c : StreamProgress) → IsLater c c
-later_self c = record { same_mode = refl; same_page_size = refl; same_limit = refl; more_blocks = []; has_blocks = sym (append-nil c.blocks); has_grown = same_log c c refl refl; same_table = λ _. (refl, refl) }
+later_self c = record { same_frame = refl; same_mode = refl; same_page_size = refl; same_limit = refl; more_blocks = []; has_blocks = sym (append-nil c.blocks); has_grown = same_log c c refl refl; same_table = λ _. (refl, refl) }
 
 -- A front leads to what is later.
 pub IsLater-front : (c d : StreamProgress) (bytes : List ℕ) → Front c bytes d → IsLater c d

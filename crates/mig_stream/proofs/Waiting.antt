@@ -1,5 +1,5 @@
 -- What is read and waits to be given: no more than there were bytes.
-use Rattle.std.proofs.Common.{◌≡◌, eqb, ℕ, ◌+◌, ◌*◌, ◌<◌, ◌≤◌, List, [], ◌∷◌, ◌++◌, length, Option, Some, None, refl, sym, ap, subst, ◌∙◌, arith}
+use Rattle.std.proofs.Common.{◌≡◌, eqb, ℕ, ◌+◌, ◌*◌, ◌<◌, ◌≤◌, List, [], ◌∷◌, length, Option, Some, None, sym, ap, subst, ◌∙◌, arith}
 use Rattle.std.specs.Prelude.{slice_index, IfNone}
 use Rattle.std.specs.List.{concat}
 use Rattle.std.proofs.lemmas.List.{length-append}
@@ -7,8 +7,9 @@ use Rattle.std.proofs.lemmas.Bool.{cond_both}
 use Rattle.mig_stream.specs.declared.item.Mode.{Mode}
 use Rattle.mig_stream.specs.declared.item.Mode.TheVariants.{Single, Main}
 use Rattle.mig_stream.specs.declared.item.Filling.TheVariants.{Zero, Normal}
+use Rattle.mig_stream.specs.declared.item.Before.{Before}
 use Rattle.mig_stream.specs.declared.item.Due.{Due}
-use Rattle.mig_stream.specs.declared.item.Due.TheVariants.{FileHeader, TypeByte, ConfigLength, ConfigName, StartHead, SectionHead, RecordHead, ListEntry, BlockName, Content, Footer, Nothing}
+use Rattle.mig_stream.specs.declared.item.Due.TheVariants.{FileHeader, TypeByte, ConfigLength, ConfigName, StartHead, SectionHead, RecordHead, ListEntry, BlockName, Content, Footer, Passed, Nothing}
 use Rattle.mig_stream.specs.declared.item.RecordKind.{RecordKind}
 use Rattle.mig_stream.specs.declared.item.RecordKind.TheVariants.{SizeList, Named, Continued, EndOfSection, Flush}
 use Rattle.mig_stream.specs.declared.item.StreamState.{StreamState}
@@ -16,7 +17,7 @@ use Rattle.mig_stream.specs.declared.giving.Given.{Given}
 use Rattle.mig_stream.specs.declared.giving.Given.TheVariants.{Records, Section, End}
 use Rattle.mig_stream.specs.PageRecord.{PageRecord}
 use Rattle.mig_stream.specs.Progress.{StreamProgress}
-use Rattle.mig_stream.specs.Items.{size, after_type, after_head, open_records, whole_rounds, after_item, after}
+use Rattle.mig_stream.specs.Items.{is_passed, after_type_byte, size, after_type, after_head, open_records, whole_rounds, after_item, after}
 use Rattle.mig_stream.specs.Reading.{AreFaultless, after_all, Front}
 use Rattle.mig_stream.specs.Taking.{HasTakenTo}
 use Rattle.mig_stream.specs.Giving.{Giver, waiting_in, to_go, left, LeavesLess}
@@ -34,6 +35,9 @@ few_type c byte n =
     cond_both (eqb byte 2) _ _ (HasFew (waiting_in c) n) (λ _. omega arith) (λ _.
     cond_both (eqb byte 3) _ _ (HasFew (waiting_in c) n) (λ _. omega arith) (λ _. omega arith))))
 
+few_type_byte : (c : StreamProgress) (before : Before) (byte n : ℕ) → HasFew (waiting_in c) n (after_type_byte c before byte)
+few_type_byte c before byte n = cond_both (is_passed c.frame before byte) _ _ (HasFew (waiting_in c) n) (λ _. omega arith) (λ _. few_type c byte n)
+
 few_head : (c : StreamProgress) (kind : Option RecordKind) (page n : ℕ) → 1 ≤ n → HasFew (waiting_in c) n (after_head c kind page)
 few_head c None page n some = omega arith
 few_head c (Some SizeList) page n some = omega arith
@@ -49,7 +53,7 @@ few_footer Main rounds records = omega arith
 -- an item adds one at most, and none where it is empty
 few_item : (c : StreamProgress) (d : Due) (item : List ℕ) → 0 < c.page_size → length item ≡ size c.page_size d item → HasFew (waiting_in c) (length item) (after_item c d item)
 few_item c FileHeader item some whole = omega arith
-few_item c (TypeByte before) item some whole = few_type c (slice_index item 0) (length item)
+few_item c (TypeByte before) item some whole = few_type_byte c before (slice_index item 0) (length item)
 few_item c ConfigLength item some whole = omega arith
 few_item c (ConfigName len) item some whole = omega arith
 few_item c StartHead item some whole = omega arith
@@ -60,6 +64,7 @@ few_item c (BlockName filling page) item some whole = omega arith
 few_item c (Content Zero place) item some whole = omega (arith, whole, length-append c.records (record { place = place; content = None } ∷ []))
 few_item c (Content Normal place) item some whole = omega (arith, some, whole, length-append c.records (record { place = place; content = Some item } ∷ []))
 few_item c Footer item some whole = omega (arith, whole, few_footer c.mode c.rounds c.records)
+few_item c (Passed passed) item some whole = omega arith
 few_item c Nothing item some whole = omega arith
 
 few_all : (c : StreamProgress) (items : List (List ℕ)) → 0 < c.page_size → AreFaultless c items → HasFew (waiting_in c) (length (concat items)) (after_all c items)

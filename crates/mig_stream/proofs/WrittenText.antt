@@ -103,12 +103,23 @@ rounds_are before (round ∷ rounds) =
     ap (λ (r : List PageRecord). r ∷ (map (map written_record) rounds ++ [] ∷ [])) (sym (written_pages before round))
     ∙ ap (λ (rs : List (List PageRecord)). page_records (written_records before round) ∷ rs) (rounds_are (named_by_pages before round) rounds)
 
+-- The records of rounds that are written may stand one after the other, and are these rounds.
+pub single_parts : (table : RamTable) (rounds : List (List Page)) → All (IsRound table) rounds
+    → Follow table None (all_records (parts_records None (map RoundPart rounds)) ++ []) × AreRounds Single ([] ∷ (parts_records None (map RoundPart rounds) ++ [] ∷ [])) ([] ∷ map (map written_record) rounds ++ [] ∷ [])
+single_parts table rounds are = (
+  subst (Follow table None) (sym (append-nil (all_records (parts_records None (map RoundPart rounds))))) (rounds_follow table None rounds (recursion_from_All (IsRound table) rounds are)),
+  (
+    All-from_recursion HasNoFlush ([] ∷ (parts_records None (map RoundPart rounds) ++ [] ∷ [])) (tt, rounds_no_flush None rounds),
+    ap (λ (rs : List (List PageRecord)). [] ∷ rs) (rounds_are None rounds),
+  ),
+)
+
 -- What is written of rounds is a text of a single stream: a round of no page for START, each round, and one of no page
 -- for END.
 pub written_single : (table : RamTable) (rounds : List (List Page)) (limit : ℕ) → IsTable table → total_bytes table ≤ limit → All (IsRound table) rounds
     → IsText Single limit (written table (map RoundPart rounds)) table ([] ∷ map (map written_record) rounds ++ [] ∷ [])
 written_single table rounds limit is most are =
-    let each : AllByRecursion (IsRound table) rounds = recursion_from_All (IsRound table) rounds are in
+    let both = single_parts table rounds are in
     record {
       id = written_id;
       name = None;
@@ -120,11 +131,8 @@ written_single table rounds limit is most are =
       has_limit = most;
       has_id = omega arith;
       has_name = tt;
-      follow = subst (Follow table None) (sym (append-nil (all_records (parts_records None (map RoundPart rounds))))) (rounds_follow table None rounds each);
-      has_rounds = (
-        All-from_recursion HasNoFlush ([] ∷ (parts_records None (map RoundPart rounds) ++ [] ∷ [])) (tt, rounds_no_flush None rounds),
-        ap (λ (rs : List (List PageRecord)). [] ∷ rs) (rounds_are None rounds),
-      );
+      follow = both.0;
+      has_rounds = both.1;
     }
 
 -- ---- a main stream: FLUSHes
@@ -154,12 +162,22 @@ flushes_empty (suc n) = ap (λ (rs : List (List PageRecord)). [] ∷ rs) (flushe
 flush_rounds : (n : ℕ) → AreRounds Main ([] ∷ (replicate n (FlushMark ∷ []) ++ [] ∷ [])) (replicate n [])
 flush_rounds n = (replicate n [], All-from_recursion HasNoFlush (replicate n []) (flushes_none n), flushes_end n, flushes_empty n)
 
+-- The records of FLUSHes that are written may stand one after the other, and are rounds of no page.
+pub main_parts : (table : RamTable) (n : ℕ)
+    → Follow table None (all_records (parts_records None (replicate n FlushPart)) ++ []) × AreRounds Main ([] ∷ (parts_records None (replicate n FlushPart) ++ [] ∷ [])) (replicate n [])
+main_parts table n =
+    let flushes : List (List Record) = parts_records None (replicate n FlushPart) in
+    let same : flushes ≡ replicate n (FlushMark ∷ []) = flush_records None n in
+    let follow : Follow table None (all_records flushes) = subst (λ (rs : List (List Record)). Follow table None (all_records rs)) (sym same) (flushes_follow table None n) in (
+      subst (Follow table None) (sym (append-nil (all_records flushes))) follow,
+      subst (λ (rs : List (List Record)). AreRounds Main ([] ∷ (rs ++ [] ∷ [])) (replicate n [])) (sym same) (flush_rounds n),
+    )
+
 -- What is written of FLUSHes is a text of a main stream: a round of no page for each.
 pub written_main : (table : RamTable) (n limit : ℕ) → IsTable table → total_bytes table ≤ limit → IsText Main limit (written table (replicate n FlushPart)) table (replicate n [])
 written_main table n limit is most =
     let flushes : List (List Record) = parts_records None (replicate n FlushPart) in
-    let same : flushes ≡ replicate n (FlushMark ∷ []) = flush_records None n in
-    let follow : Follow table None (all_records flushes) = subst (λ (rs : List (List Record)). Follow table None (all_records rs)) (sym same) (flushes_follow table None n) in
+    let both = main_parts table n in
     record {
       id = written_id;
       name = None;
@@ -171,6 +189,6 @@ written_main table n limit is most =
       has_limit = most;
       has_id = omega arith;
       has_name = tt;
-      follow = subst (Follow table None) (sym (append-nil (all_records flushes))) follow;
-      has_rounds = subst (λ (rs : List (List Record)). AreRounds Main ([] ∷ (rs ++ [] ∷ [])) (replicate n [])) (sym same) (flush_rounds n);
+      follow = both.0;
+      has_rounds = both.1;
     }

@@ -6,7 +6,8 @@ use Rattle.mig_mem.specs.PageSize.{IsPageSize}
 use Rattle.mig_mem.specs.RamTable.{Block, RamTable, block_of, is_id, total_pages, max_blocks}
 use Rattle.mig_stream.specs.Progress.{is_used_up}
 
--- the page size, the limit on the total, how many bytes of the total are left (None before the list), and the blocks
+-- the page size, the limit on the total, how many bytes of the total are left (None before the
+-- list), and the blocks
 pub record Listed : Type 0 where
   pub page_size : ℕ
   pub limit : ℕ

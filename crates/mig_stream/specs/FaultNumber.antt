@@ -28,3 +28,7 @@ fault_number (fault.Fill byte) = 31
 fault_number fault.Flush = 32
 fault_number fault.Tail = 33
 fault_number fault.Truncated = 34
+fault_number fault.Subsection = 46
+fault_number fault.Capability = 47
+fault_number fault.PageBits = 48
+fault_number fault.Command = 49

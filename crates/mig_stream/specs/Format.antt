@@ -1,9 +1,11 @@
--- The numbers of QEMU's migration stream, each with its name there. Those of the stream and its sections stand in
--- `migration/savevm.h`, those of RAM's records in `migration/ram.c` (`ram.h` in newer versions), whose `ram_mig_init` has
--- the section's name, instance and version.
+-- The numbers of QEMU's migration stream, each with its name there. Those of the stream and its
+-- sections stand in `migration/savevm.h`, those of RAM's records in `migration/ram.c` (`ram.h` in
+-- newer versions), whose `ram_mig_init` has the section's name, instance and version.
 use Rattle.std.specs.Prelude.{ℕ, ◌+◌, List, [], ◌∷◌}
 use Rattle.mig_stream.specs.declared.item.Section.{Section}
 use Rattle.mig_stream.specs.declared.item.Section.TheVariants.{Start, Part, End}
+use Rattle.mig_stream.specs.declared.item.Subsection.{Subsection}
+use Rattle.mig_stream.specs.declared.item.Subsection.TheVariants.{PageBits, Uuid, Capabilities}
 use Rattle.mig_stream.specs.declared.item.Filling.{Filling}
 use Rattle.mig_stream.specs.declared.item.Filling.TheVariants.{Zero, Normal}
 use Rattle.mig_stream.specs.declared.item.RecordKind.{RecordKind}
@@ -26,6 +28,14 @@ section_type Start = 0x01
 section_type Part = 0x02
 section_type End = 0x03
 
+-- QEMU_VM_SUBSECTION
+abbrev pub subsection_type : ℕ
+subsection_type = 0x05
+
+-- QEMU_VM_COMMAND
+abbrev pub command_type : ℕ
+command_type = 0x08
+
 -- QEMU_VM_CONFIGURATION
 abbrev pub configuration_type : ℕ
 configuration_type = 0x07
@@ -33,6 +43,35 @@ configuration_type = 0x07
 -- QEMU_VM_SECTION_FOOTER
 abbrev pub footer_type : ℕ
 footer_type = 0x7E
+
+-- The subsections of the configuration: "configuration/target-page-bits", "configuration/uuid",
+-- "configuration/capabilities" (`vmstate_configuration` in `migration/savevm.c`). Each has version
+-- 1.
+unfoldable pub subsection_name : Subsection → List ℕ
+subsection_name PageBits =
+    0x63 ∷ 0x6F ∷ 0x6E ∷ 0x66 ∷ 0x69 ∷ 0x67 ∷ 0x75 ∷ 0x72 ∷ 0x61 ∷ 0x74 ∷ 0x69 ∷ 0x6F ∷ 0x6E ∷ 0x2F ∷ 0x74 ∷ 0x61 ∷ 0x72 ∷ 0x67 ∷ 0x65 ∷ 0x74 ∷ 0x2D ∷ 0x70 ∷ 0x61 ∷ 0x67 ∷ 0x65 ∷ 0x2D ∷ 0x62 ∷ 0x69 ∷ 0x74 ∷ 0x73 ∷ []
+subsection_name Uuid = 0x63 ∷ 0x6F ∷ 0x6E ∷ 0x66 ∷ 0x69 ∷ 0x67 ∷ 0x75 ∷ 0x72 ∷ 0x61 ∷ 0x74 ∷ 0x69 ∷ 0x6F ∷ 0x6E ∷ 0x2F ∷ 0x75 ∷ 0x75 ∷ 0x69 ∷ 0x64 ∷ []
+subsection_name Capabilities =
+    0x63 ∷ 0x6F ∷ 0x6E ∷ 0x66 ∷ 0x69 ∷ 0x67 ∷ 0x75 ∷ 0x72 ∷ 0x61 ∷ 0x74 ∷ 0x69 ∷ 0x6F ∷ 0x6E ∷ 0x2F ∷ 0x63 ∷ 0x61 ∷ 0x70 ∷ 0x61 ∷ 0x62 ∷ 0x69 ∷ 0x6C ∷ 0x69 ∷ 0x74 ∷ 0x69 ∷ 0x65 ∷ 0x73 ∷ []
+
+abbrev pub subsections : List Subsection
+subsections = PageBits ∷ Uuid ∷ Capabilities ∷ []
+
+abbrev pub subsection_version : ℕ
+subsection_version = 1
+
+-- The capabilities that change the layout of RAM's section, "x-ignore-shared" and "mapped-ram": the
+-- only ones that QEMU writes.
+unfoldable pub layout_capabilities : List (List ℕ)
+layout_capabilities =
+    (0x78 ∷ 0x2D ∷ 0x69 ∷ 0x67 ∷ 0x6E ∷ 0x6F ∷ 0x72 ∷ 0x65 ∷ 0x2D ∷ 0x73 ∷ 0x68 ∷ 0x61 ∷ 0x72 ∷ 0x65 ∷ 0x64 ∷ [])
+    ∷ (0x6D ∷ 0x61 ∷ 0x70 ∷ 0x70 ∷ 0x65 ∷ 0x64 ∷ 0x2D ∷ 0x72 ∷ 0x61 ∷ 0x6D ∷ []) ∷ []
+
+-- The COMMANDs that leave the reading of RAM's section alone: MIG_CMD_OPEN_RETURN_PATH,
+-- MIG_CMD_PING, MIG_CMD_POSTCOPY_ADVISE, MIG_CMD_ENABLE_COLO and MIG_CMD_SWITCHOVER_START (`enum
+-- qemu_vm_cmd` in `migration/savevm.c`).
+abbrev pub passed_commands : List ℕ
+passed_commands = 1 ∷ 2 ∷ 3 ∷ 8 ∷ 11 ∷ []
 
 -- RAM's section: "ram", its instance, and its version
 abbrev pub ram_name : List ℕ

@@ -1,15 +1,16 @@
--- A reader that gives the page records of a single stream as they come, before their section is whole, and what it stands for.
-use Rattle.std.specs.Prelude.{◌≡◌, ◌<◌, ℕ, ◌+◌, ◌*◌, List, [], ◌∷◌, ◌++◌, length, Option, None, Some, IfSome, ⊤}
+-- A reader that gives the page records of a single stream as they come, before their section is
+-- whole, and what it stands for.
+use Rattle.std.specs.Prelude.{◌≡◌, ◌<◌, ℕ, ◌+◌, ◌*◌, List, [], ◌∷◌, ◌++◌, length, drop, Option, None, Some, IfSome, ⊤, ◌⊎◌}
 use Rattle.mig_mem.specs.PageSize.{IsPageSize}
 use Rattle.mig_stream.specs.declared.item.Mode.TheVariants.{Single}
 use Rattle.mig_stream.specs.declared.item.StreamState.{StreamState}
-use Rattle.mig_stream.specs.declared.item.StreamState.TheVariants.{Closed}
+use Rattle.mig_stream.specs.declared.item.StreamState.TheVariants.{Reading, Closed}
 use Rattle.mig_stream.specs.declared.giving.Given.{Given}
 use Rattle.mig_stream.specs.declared.giving.Given.TheVariants.{Records, Section, End}
 use Rattle.mig_stream.specs.PageRecord.{PageRecord}
 use Rattle.mig_stream.specs.Progress.{StreamProgress, start}
 use Rattle.mig_stream.specs.Reading.{Settings, Front, Ends, StreamReading, IsReading}
-use Rattle.mig_stream.specs.Reader.{with_taken}
+use Rattle.mig_stream.specs.Reader.{with_taken, IsClosedAt, IsUnfinished}
 use Rattle.mig_stream.specs.Round.{RoundOfRecords}
 
 -- what such a reader holds
@@ -23,7 +24,8 @@ pub record Giver : Type 0 where
   -- what it gave last
   pub given : RoundOfRecords
 
--- the records that were given so far: those of each section that is whole, and those of the one that is open
+-- the records that were given so far: those of each section that is whole, and those of the one
+-- that is open
 pub record GivenSoFar : Type 0 where
   pub sections : List (List PageRecord)
   pub open_section : List PageRecord
@@ -71,7 +73,7 @@ pub record Gives (given : Settings) (text : List ℕ) (so_far : GivenSoFar) (r :
   pub is_page_size : IsPageSize given.page_size
   pub front : List ℕ
   pub has_text : text ≡ front ++ r.rest
-  pub leads : Front (start given.mode given.page_size given.limit) front (all_read so_far r.progress)
+  pub leads : Front (start given.frame given.mode given.page_size given.limit) front (all_read so_far r.progress)
   pub ends : IfSome r.found (λ found. Ends (all_read so_far r.progress) r.rest found)
 
 -- A call takes this step: whatever the reader gave before it, it has given that with the step done.
@@ -103,14 +105,74 @@ LeavesLess other old new = left new < left old
 abbrev pub GiverTells : Giver → (Settings → List ℕ → GivenSoFar → Type 0) → Type 0
 GiverTells r says = (given : Settings) (text : List ℕ) (so_far : GivenSoFar) → Gives given text so_far r → says given text so_far
 
--- Where it gives no more, this is the reading of the text: its rounds are the sections that were given. A closed text leaves none open.
+-- Where it gives no more, this is the reading of the text: its rounds are the sections that were
+-- given. A closed text leaves none open.
 pub record HasReading (given : Settings) (text : List ℕ) (so_far : GivenSoFar) (found : StreamState) : Type 0 where
   pub reading : StreamReading
   pub is_reading : IsReading given text reading
   pub has_sections : reading.rounds ≡ so_far.sections
   pub has_state : reading.state ≡ found
+  pub has_open : is_reading.to.records ≡ so_far.open_section
   pub has_none_open : found ≡ Closed → so_far.open_section ≡ []
 
 abbrev pub EndsSo : Given → Settings → List ℕ → GivenSoFar → Type 0
 EndsSo (End found) given text so_far = HasReading given text so_far found
 EndsSo other given text so_far = ⊤
+
+-- what is given at the end: how the text was found to stand, and no records
+abbrev pub TellsFound : Given → Giver → Type 0
+TellsFound (End found) r = (r.found ≡ Some found) × (r.given.records ≡ [])
+TellsFound other r = ⊤
+
+-- The text is closed before these last bytes of it.
+pub record IsBehind (given : Settings) (text rest : List ℕ) : Type 0 where
+  pub closed_at : ℕ
+  pub is_closed_at : IsClosedAt given text closed_at
+  pub has_rest : rest ≡ drop closed_at text
+
+-- ---- between two pieces of a text
+
+-- where a reader reads no further: all that was read is given
+pub record HasNoneLeft (found : StreamState) (r : Giver) : Type 0 where
+  pub has_found : r.found ≡ Some found
+  pub has_no_records : r.progress.records ≡ []
+  pub has_no_rounds : r.progress.rounds ≡ []
+
+-- so it is once the end was given
+abbrev pub LeavesNone : Given → Giver → Type 0
+LeavesNone (End found) r = HasNoneLeft found r
+LeavesNone other r = ⊤
+
+-- what is kept between two pieces: how far the text was read, and the bytes after that
+pub record Paused : Type 0 where
+  pub progress : StreamProgress
+  pub pending : List ℕ
+
+-- as a reader that reads no further
+abbrev pub giver_at : Paused → Giver
+giver_at p = record { progress = p.progress; rest = p.pending; found = Some Reading; given = record { page_size = p.progress.page_size; records = [] } }
+
+-- The pieces so far are this text, read with these settings, and so much of it was given.
+abbrev pub PausesAt : Settings → List ℕ → GivenSoFar → Paused → Type 0
+PausesAt given text so_far p = Gives given text so_far (giver_at p)
+
+-- what is said at a pause by what was read and given alone
+abbrev pub PauseTells : Paused → (Settings → List ℕ → GivenSoFar → Type 0) → Type 0
+PauseTells p says = (given : Settings) (text : List ℕ) (so_far : GivenSoFar) → PausesAt given text so_far p → says given text so_far
+
+-- ---- the inside
+
+-- What is pending of earlier pieces is a part of an item; and so is all that is left, where no more
+-- is read of it. Nothing is pending where the text is closed: what is left then lies whole in the
+-- last piece.
+abbrev pub IsUnread : Option StreamState → StreamProgress → List ℕ → List ℕ → Type 0
+IsUnread None c pending rest = (pending ≡ []) ⊎ IsUnfinished c pending
+IsUnread (Some Reading) c pending rest = IsUnfinished c (pending ++ rest)
+IsUnread (Some Closed) c pending rest = pending ≡ []
+IsUnread (Some other) c pending rest = ⊤
+
+-- all was given, and what is kept is a part of an item
+pub record IsPaused (p : Paused) : Type 0 where
+  pub is_unfinished : IsUnfinished p.progress p.pending
+  pub has_no_records : p.progress.records ≡ []
+  pub has_no_rounds : p.progress.rounds ≡ []

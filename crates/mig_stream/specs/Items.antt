@@ -1,6 +1,8 @@
--- The items of a stream: how long each is, what may be wrong with it, and how far the stream has been read after it.
-use Rattle.std.specs.Prelude.{ℕ, ◌+◌, ◌-◌, ◌*◌, ◌/◌, ◌%◌, Bool, true, false, not, ◌&&◌, ◌||◌, nat_lt, nat_le, ◌==◌, if◌then◌else◌, List, [], ◌∷◌, ◌++◌, length, slice_index, slice_range, find, Option, Some, None, is_none, is_some}
+-- The items of a stream: how long each is, what may be wrong with it, and how far the stream has
+-- been read after it.
+use Rattle.std.specs.Prelude.{ℕ, ◌+◌, ◌-◌, ◌*◌, ◌/◌, ◌%◌, ◌^◌, Bool, true, false, not, ◌&&◌, ◌||◌, nat_lt, nat_le, ◌==◌, if◌then◌else◌, List, [], ◌∷◌, ◌++◌, length, slice_index, slice_range, find, Option, Some, None, is_none, is_some}
 use Rattle.std.specs.Option.{unwrap_or}
+use Rattle.std.specs.List.{list_any}
 use Rattle.std.specs.Str.{bytes_eq}
 use Rattle.mig_mem.specs.declared.place.Place.{Place}
 use Rattle.mig_mem.specs.Place.{place_at}
@@ -8,6 +10,8 @@ use Rattle.mig_mem.specs.First.{first_of}
 use Rattle.mig_mem.specs.RamTable.{Block, block, block_of, is_id, max_blocks}
 use Rattle.mig_stream.specs.declared.fault.StreamFault.{StreamFault}
 use Rattle.mig_stream.specs.declared.fault.StreamFault.TheVariants as fault
+use Rattle.mig_stream.specs.declared.item.Frame.{Frame}
+use Rattle.mig_stream.specs.declared.item.Frame.TheVariants.{Ram, Machine}
 use Rattle.mig_stream.specs.declared.item.Mode.{Mode}
 use Rattle.mig_stream.specs.declared.item.Mode.TheVariants.{Single, Main}
 use Rattle.mig_stream.specs.declared.item.Section.{Section}
@@ -17,14 +21,27 @@ use Rattle.mig_stream.specs.declared.item.Before.TheVariants as before
 use Rattle.mig_stream.specs.declared.item.Filling.TheVariants.{Zero, Normal}
 use Rattle.mig_stream.specs.declared.item.RecordKind.{RecordKind}
 use Rattle.mig_stream.specs.declared.item.RecordKind.TheVariants.{SizeList, Named, Continued, EndOfSection, Flush}
+use Rattle.mig_stream.specs.declared.item.Subsection.{Subsection}
+use Rattle.mig_stream.specs.declared.item.Subsection.TheVariants.{PageBits, Uuid, Capabilities}
+use Rattle.mig_stream.specs.declared.item.PassedItem.{PassedItem}
+use Rattle.mig_stream.specs.declared.item.PassedItem.TheVariants.{Command, SubsectionHead, SubsectionBody, Capability}
 use Rattle.mig_stream.specs.declared.item.Due.{Due}
-use Rattle.mig_stream.specs.declared.item.Due.TheVariants.{FileHeader, TypeByte, ConfigLength, ConfigName, StartHead, SectionHead, RecordHead, ListEntry, BlockName, Content, Footer, Nothing}
-use Rattle.mig_stream.specs.Fields.{be32_at, be64_at}
-use Rattle.mig_stream.specs.Format.{magic, version, end_byte, section_type, configuration_type, footer_type, ram_name, ram_instance, ram_version, flags_of, record_kinds, most_name_bytes}
+use Rattle.mig_stream.specs.declared.item.Due.TheVariants.{FileHeader, TypeByte, ConfigLength, ConfigName, StartHead, SectionHead, RecordHead, ListEntry, BlockName, Content, Footer, Passed, Nothing}
+use Rattle.mig_stream.specs.Fields.{be16_at, be32_at, be64_at}
+use Rattle.mig_stream.specs.Format.{magic, version, end_byte, section_type, subsection_type, command_type, configuration_type, footer_type, subsection_name, subsections, subsection_version, layout_capabilities, passed_commands, ram_name, ram_instance, ram_version, flags_of, record_kinds, most_name_bytes}
 use Rattle.mig_stream.specs.PageRecord.{PageRecord}
 use Rattle.mig_stream.specs.Progress.{StreamProgress}
 
 -- ---- how many bytes an item has, as its first bytes say
+
+-- of an item that is passed over
+abbrev pub passed_size : PassedItem → List ℕ → ℕ
+passed_size (Command before) bytes = 4 + be16_at 2 bytes
+passed_size SubsectionHead bytes = 5 + slice_index bytes 0
+passed_size (SubsectionBody PageBits) bytes = 4
+passed_size (SubsectionBody Uuid) bytes = 16
+passed_size (SubsectionBody Capabilities) bytes = 4
+passed_size (Capability others) bytes = 1 + slice_index bytes 0
 
 abbrev pub size : ℕ → Due → List ℕ → ℕ
 size page_size FileHeader bytes = 8
@@ -39,6 +56,7 @@ size page_size (BlockName filling page) bytes = 1 + slice_index bytes 0
 size page_size (Content Zero place) bytes = 1
 size page_size (Content Normal place) bytes = page_size
 size page_size Footer bytes = 5
+size page_size (Passed passed) bytes = passed_size passed bytes
 size page_size Nothing bytes = 0
 
 -- ---- what is found in an item
@@ -60,6 +78,10 @@ abbrev pub has_page : List Block → Option ℕ → ℕ → Bool
 has_page blocks None page = false
 has_page blocks (Some b) page = nat_lt page (block blocks b).pages
 
+-- the subsection of a name
+abbrev pub subsection_of : List ℕ → Option Subsection
+subsection_of name = find (λ subsection. bytes_eq name (subsection_name subsection)) subsections
+
 -- ---- what may be wrong with an item
 
 abbrev pub is_single : Mode → Bool
@@ -69,8 +91,53 @@ is_single Main = false
 abbrev pub is_allowed : Before → ℕ → Bool
 is_allowed before.FileHeader byte = byte == configuration_type || byte == section_type section.Start
 is_allowed before.Configuration byte = byte == section_type section.Start
+is_allowed before.Command byte = byte == section_type section.Start
 is_allowed before.Footer byte = byte == section_type section.Part || byte == section_type section.End
 is_allowed before.LastFooter byte = byte == end_byte
+
+abbrev pub is_machine : Frame → Bool
+is_machine Ram = false
+is_machine Machine = true
+
+-- In a machine's stream a COMMAND may stand there too, and after the configuration a subsection of
+-- it.
+abbrev pub may_pass : Before → ℕ → Bool
+may_pass before.FileHeader byte = byte == command_type
+may_pass before.Configuration byte = byte == command_type || byte == subsection_type
+may_pass before.Command byte = byte == command_type
+may_pass before.Footer byte = byte == command_type
+may_pass before.LastFooter byte = false
+
+abbrev pub is_passed : Frame → Before → ℕ → Bool
+is_passed frame before byte = may_pass before byte && is_machine frame
+
+-- the footer of this section closes the text
+abbrev pub closes : Frame → Section → Bool
+closes frame section.Start = false
+closes frame section.Part = false
+closes frame section.End = is_machine frame
+
+-- a main stream that ends here has a page record that no FLUSH follows
+abbrev pub has_tail : Bool → StreamProgress → Bool
+has_tail ends c = ends && not (is_single c.mode) && not (length c.records == 0)
+
+-- a COMMAND of this number leaves the reading of RAM's section alone
+abbrev pub is_passed_command : ℕ → Bool
+is_passed_command number = list_any (λ known. number == known) passed_commands
+
+-- the test of a subsection's name and version
+abbrev pub subsection_faults : List ℕ → List (Bool × StreamFault)
+subsection_faults item =
+    (is_none (subsection_of (id_in item)) || not (be32_at (1 + slice_index item 0) item == subsection_version), fault.Subsection) ∷ []
+
+-- the tests of an item that is passed over, in a stream of this page size
+abbrev pub passed_faults : ℕ → PassedItem → List ℕ → List (Bool × StreamFault)
+passed_faults page_size (Command before) item = (not (is_passed_command (be16_at 0 item)), fault.Command) ∷ []
+passed_faults page_size SubsectionHead item = subsection_faults item
+passed_faults page_size (SubsectionBody PageBits) item = (not (2 ^ be32_at 0 item == page_size), fault.PageBits) ∷ []
+passed_faults page_size (SubsectionBody Uuid) item = []
+passed_faults page_size (SubsectionBody Capabilities) item = []
+passed_faults page_size (Capability others) item = (list_any (λ name. bytes_eq (id_in item) name) layout_capabilities, fault.Capability) ∷ []
 
 -- the tests of a record head with this page number, after that of its flags
 abbrev pub kind_faults : StreamProgress → RecordKind → ℕ → List (Bool × StreamFault)
@@ -101,8 +168,8 @@ faults c FileHeader item =
     (not (be32_at 4 item == version), fault.Version) ∷ []
 faults c (TypeByte before) item =
     let byte = slice_index item 0 in
-    (not (is_allowed before byte), fault.SectionType) ∷
-    (byte == end_byte && not (is_single c.mode) && not (length c.records == 0), fault.Tail) ∷ []
+    (not (is_allowed before byte || is_passed c.frame before byte), fault.SectionType) ∷
+    (has_tail (byte == end_byte) c, fault.Tail) ∷ []
 faults c ConfigLength item = (nat_lt most_name_bytes (be32_at 0 item), fault.ConfigLength) ∷ []
 faults c (ConfigName len) item = []
 faults c StartHead item =
@@ -126,7 +193,10 @@ faults c (BlockName filling page) item =
     (not (has_page c.blocks named page), fault.OffsetOut) ∷ []
 faults c (Content Zero place) item = (not (slice_index item 0 == 0), fault.Fill (slice_index item 0)) ∷ []
 faults c (Content Normal place) item = []
-faults c Footer item = (not (slice_index item 0 == footer_type && be32_at 1 item == c.section_id), fault.Footer) ∷ []
+faults c Footer item =
+    (not (slice_index item 0 == footer_type && be32_at 1 item == c.section_id), fault.Footer) ∷
+    (has_tail (closes c.frame c.section) c, fault.Tail) ∷ []
+faults c (Passed passed) item = passed_faults c.page_size passed item
 faults c Nothing item = []
 
 abbrev pub first_fault : StreamProgress → List ℕ → Option StreamFault
@@ -142,6 +212,40 @@ after_type c byte =
     if byte == section_type section.Part then record c { due = SectionHead; section = section.Part } else
     if byte == section_type section.End then record c { due = SectionHead; section = section.End } else
     record c { due = Nothing }
+
+-- what the type byte after a COMMAND follows
+abbrev pub behind_command : Before → Before
+behind_command before.FileHeader = before.Command
+behind_command before.Configuration = before.Command
+behind_command before.Command = before.Command
+behind_command before.Footer = before.Footer
+behind_command before.LastFooter = before.LastFooter
+
+-- the item after the type byte of one that is passed over
+abbrev pub passed_by : Before → ℕ → PassedItem
+passed_by before byte = if byte == command_type then Command (behind_command before) else SubsectionHead
+
+abbrev pub after_type_byte : StreamProgress → Before → ℕ → StreamProgress
+after_type_byte c before byte =
+    if is_passed c.frame before byte then record c { due = Passed (passed_by before byte) } else after_type c byte
+
+-- what a subsection holds, after its name and version
+abbrev pub body_of : Option Subsection → Due
+body_of None = Nothing
+body_of (Some subsection) = Passed (SubsectionBody subsection)
+
+-- the item after the count of capabilities, or after one of them, with so many to come
+abbrev pub capabilities_due : ℕ → Due
+capabilities_due others = if others == 0 then TypeByte before.Configuration else Passed (Capability (others - 1))
+
+-- the item after one that is passed over
+abbrev pub behind_passed : PassedItem → List ℕ → Due
+behind_passed (Command before) item = TypeByte before
+behind_passed SubsectionHead item = body_of (subsection_of (id_in item))
+behind_passed (SubsectionBody PageBits) item = TypeByte before.Configuration
+behind_passed (SubsectionBody Uuid) item = TypeByte before.Configuration
+behind_passed (SubsectionBody Capabilities) item = capabilities_due (be32_at 0 item)
+behind_passed (Capability others) item = capabilities_due others
 
 -- the records so far are a whole round
 abbrev pub end_round : StreamProgress → StreamProgress
@@ -166,6 +270,9 @@ footer_of section.Start = before.Footer
 footer_of section.Part = before.Footer
 footer_of section.End = before.LastFooter
 
+abbrev pub behind_footer : Frame → Section → Due
+behind_footer frame kind = if closes frame kind then Nothing else TypeByte (footer_of kind)
+
 -- In a single stream a section is a round; in a main stream the round goes on after the footer.
 abbrev pub open_records : Mode → List PageRecord → List PageRecord
 open_records Single records = []
@@ -177,14 +284,14 @@ whole_rounds Main rounds records = rounds
 
 abbrev pub end_section : StreamProgress → StreamProgress
 end_section c = record c {
-  due = TypeByte (footer_of c.section);
+  due = behind_footer c.frame c.section;
   records = open_records c.mode c.records;
   rounds = whole_rounds c.mode c.rounds c.records;
 }
 
 abbrev pub after_item : StreamProgress → Due → List ℕ → StreamProgress
 after_item c FileHeader item = record c { due = TypeByte before.FileHeader }
-after_item c (TypeByte before) item = after_type c (slice_index item 0)
+after_item c (TypeByte before) item = after_type_byte c before (slice_index item 0)
 -- a name of no bytes is no item
 after_item c ConfigLength item =
     let len = be32_at 0 item in
@@ -206,6 +313,7 @@ after_item c (BlockName filling page) item =
 after_item c (Content Zero place) item = with_record c place None
 after_item c (Content Normal place) item = with_record c place (Some item)
 after_item c Footer item = end_section c
+after_item c (Passed passed) item = record c { due = behind_passed passed item }
 after_item c Nothing item = c
 
 abbrev pub after : StreamProgress → List ℕ → StreamProgress

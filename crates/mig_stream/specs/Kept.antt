@@ -69,7 +69,8 @@ abbrev pub AreHeldAfter : {A : Type 0} → List (List ℕ) → List (Record A) �
 AreHeldAfter buffers [] = ⊤
 AreHeldAfter buffers (r ∷ rs) = IsHeld buffers r × AreHeldAfter (buffers ++ buffer_of r ∷ []) rs
 
--- The number of the block has one byte, and the number of the page four: so it is in each table that a reader accepts.
+-- The number of the block has one byte, and the number of the page four: so it is in each table
+-- that a reader accepts.
 abbrev pub IsShort : Place → Type 0
 IsShort p = (p.block < 2 ^ 8) × (p.page < 2 ^ 32)
 

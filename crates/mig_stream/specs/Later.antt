@@ -28,6 +28,7 @@ HasGrown old new =
 
 -- Items only add to what was read before them, and a whole table stays.
 pub record IsLater (old new : StreamProgress) : Type 0 where
+  pub same_frame : new.frame ≡ old.frame
   pub same_mode : new.mode ≡ old.mode
   pub same_page_size : new.page_size ≡ old.page_size
   pub same_limit : new.limit ≡ old.limit

@@ -4,15 +4,17 @@ use Rattle.mig_mem.specs.PageSize.{IsPageSize}
 use Rattle.mig_mem.specs.RamTable.{RamTable, IsTable}
 use Rattle.mig_mem.specs.Image.{Page}
 use Rattle.mig_mem.specs.Round.{IsRound}
+use Rattle.mig_stream.specs.declared.item.Frame.TheVariants.{Ram, Machine}
 use Rattle.mig_stream.specs.declared.item.Mode.{Mode}
 use Rattle.mig_stream.specs.declared.item.Mode.TheVariants.{Single, Main}
 use Rattle.mig_stream.specs.declared.item.StreamState.TheVariants.{Reading, Closed}
 use Rattle.mig_stream.specs.PageRecord.{PageRecord, page_of}
-use Rattle.mig_stream.specs.Reading.{Settings, settings, StreamReading, IsReading}
+use Rattle.mig_stream.specs.Reading.{Settings, settings, in_frame, StreamReading, IsReading}
 use Rattle.mig_stream.specs.Text.{IsText, total_bytes}
+use Rattle.mig_stream.specs.Machine.{IsMachineText}
 use Rattle.mig_stream.specs.Written.{written_record, single, main}
 
--- the reading of a text that was read to its end byte
+-- the reading of a text that was read to its end
 abbrev pub closed : RamTable → List (List PageRecord) → StreamReading
 closed table rounds = record { table = Some table; rounds = rounds; state = Closed }
 
@@ -33,10 +35,11 @@ HasText mode limit bytes table rounds = (text rest : List ℕ) × (bytes ≡ tex
 -- Whatever is read to its end byte is spelled so.
 abbrev pub ReadIsSpelled : Type 0
 ReadIsSpelled = (given : Settings) (bytes : List ℕ) (reading : StreamReading)
-    → IsPageSize given.page_size → given.limit ≤ 2 ^ 40 → All (λ byte. byte < 2 ^ 8) bytes → IsReading given bytes reading → reading.state ≡ Closed
+    → given.frame ≡ Ram → IsPageSize given.page_size → given.limit ≤ 2 ^ 40 → All (λ byte. byte < 2 ^ 8) bytes → IsReading given bytes reading → reading.state ≡ Closed
     → (table : RamTable) × (table.page_size ≡ given.page_size) × (reading.table ≡ Some table) × HasText given.mode given.limit bytes table reading.rounds
 
--- So bytes are read to an end byte exactly where a prefix of them is a text of that table and those rounds.
+-- So bytes are read to an end byte exactly where a prefix of them is a text of that table and those
+-- rounds.
 abbrev pub ClosedIsText : Type 0
 ClosedIsText = (mode : Mode) (limit : ℕ) (bytes : List ℕ) (table : RamTable) (rounds : List (List PageRecord))
     → IsPageSize table.page_size → limit ≤ 2 ^ 40 → All (λ byte. byte < 2 ^ 8) bytes
@@ -48,7 +51,30 @@ HasOneText = (mode : Mode) (limit : ℕ) (a b x y : List ℕ) (s t : RamTable) (
     → s.page_size ≡ t.page_size → IsText mode limit a s p → IsText mode limit b t q → a ++ x ≡ b ++ y
     → (a ≡ b) × (s ≡ t) × (p ≡ q)
 
--- What a writer makes of rounds is a text: a single stream of them, with an empty round for START and for END.
+-- a prefix of these bytes is the text of a machine's stream, of this table and these rounds
+abbrev pub HasMachineText : Mode → ℕ → List ℕ → RamTable → List (List PageRecord) → Type 0
+HasMachineText mode limit bytes table rounds = (text rest : List ℕ) × (bytes ≡ text ++ rest) × IsMachineText mode limit text table rounds
+
+-- Whatever is spelled as a machine's stream is read so, whatever follows it.
+abbrev pub MachineIsRead : Type 0
+MachineIsRead = (mode : Mode) (limit : ℕ) (text rest : List ℕ) (table : RamTable) (rounds : List (List PageRecord))
+    → IsMachineText mode limit text table rounds → IsReading (in_frame Machine (settings mode table.page_size limit)) (text ++ rest) (closed table rounds)
+
+-- Whatever is read to the footer of RAM's END is spelled so.
+abbrev pub MachineReadIsSpelled : Type 0
+MachineReadIsSpelled = (given : Settings) (bytes : List ℕ) (reading : StreamReading) → given.frame ≡ Machine
+    → IsPageSize given.page_size → given.limit ≤ 2 ^ 40 → All (λ byte. byte < 2 ^ 8) bytes → IsReading given bytes reading → reading.state ≡ Closed
+    → (table : RamTable) × (table.page_size ≡ given.page_size) × (reading.table ≡ Some table) × HasMachineText given.mode given.limit bytes table reading.rounds
+
+-- So bytes are read to that footer exactly where a prefix of them is a machine's stream of that
+-- table and those rounds.
+abbrev pub MachineClosedIsText : Type 0
+MachineClosedIsText = (mode : Mode) (limit : ℕ) (bytes : List ℕ) (table : RamTable) (rounds : List (List PageRecord))
+    → IsPageSize table.page_size → limit ≤ 2 ^ 40 → All (λ byte. byte < 2 ^ 8) bytes
+    → IsReading (in_frame Machine (settings mode table.page_size limit)) bytes (closed table rounds) ↔ HasMachineText mode limit bytes table rounds
+
+-- What a writer makes of rounds is a text: a single stream of them, with an empty round for START
+-- and for END.
 abbrev pub SinglesAreTexts : Type 0
 SinglesAreTexts = (limit : ℕ) (table : RamTable) (rounds : List (List Page)) → IsTable table → total_bytes table ≤ limit → All (IsRound table) rounds
     → IsText Single limit (single table rounds) table ([] ∷ map (map written_record) rounds ++ [] ∷ [])
@@ -61,7 +87,8 @@ MainsAreTexts = (limit : ℕ) (table : RamTable) (n : ℕ) → IsTable table →
 abbrev pub RecordsStandForPages : Type 0
 RecordsStandForPages = (table : RamTable) (round : List Page) → IsRound table round → map (page_of table.page_size) (map written_record round) ≡ round
 
--- A text has no more whole rounds than bytes, none before its table is known, and a table of the page size that was handed in.
+-- A text has no more whole rounds than bytes, none before its table is known, and a table of the
+-- page size that was handed in.
 pub record KeepsLimits (page_size : ℕ) (text : List ℕ) (reading : StreamReading) : Type 0 where
   pub has_few : length reading.rounds ≤ length text
   pub has_table_first : reading.table ≡ None → reading.rounds ≡ []
@@ -71,8 +98,9 @@ abbrev pub ReadingsKeepLimits : Type 0
 ReadingsKeepLimits = (given : Settings) (text : List ℕ) (reading : StreamReading) → IsPageSize given.page_size
     → IsReading given text reading → KeepsLimits given.page_size text reading
 
--- What is read of a text stays, whatever bytes follow: its whole rounds are the first ones of the longer text, and its table is that
--- text's too. After the end byte, or a fault, nothing changes any more.
+-- What is read of a text stays, whatever bytes follow: its whole rounds are the first ones of the
+-- longer text, and its table is that text's too. After the end byte, or a fault, nothing changes
+-- any more.
 pub record StaysRead (before now : StreamReading) : Type 0 where
   pub more_rounds : List (List PageRecord)
   pub has_rounds : now.rounds ≡ before.rounds ++ more_rounds

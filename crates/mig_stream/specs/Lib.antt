@@ -6,7 +6,9 @@ pub mod Progress
 pub mod Items
 pub mod Reading
 pub mod Text
+pub mod Machine
 pub mod Written
+pub mod MachineWritten
 pub mod Writer
 pub mod Round
 pub mod Reader

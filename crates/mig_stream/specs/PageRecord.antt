@@ -8,7 +8,8 @@ use Rattle.mig_stream.specs.declared.item.Filling.TheVariants.{Zero, Normal}
 use Rattle.mig_stream.specs.declared.item.RecordKind.{RecordKind}
 use Rattle.mig_stream.specs.declared.item.RecordKind.TheVariants.{Named, Continued}
 
--- a page record: where its page is, and the page's bytes, or None where it only says that they are zeros
+-- a page record: where its page is, and the page's bytes, or None where it only says that they are
+-- zeros
 pub record PageRecord : Type 0 where
   pub place : Place
   pub content : Option (List ℕ)

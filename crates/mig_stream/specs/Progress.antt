@@ -2,6 +2,7 @@
 use Rattle.std.specs.Prelude.{ℕ, Bool, false, ◌==◌, List, [], Option, Some, None}
 use Rattle.std.specs.Bool.{then_some}
 use Rattle.mig_mem.specs.RamTable.{Block, RamTable}
+use Rattle.mig_stream.specs.declared.item.Frame.{Frame}
 use Rattle.mig_stream.specs.declared.item.Mode.{Mode}
 use Rattle.mig_stream.specs.declared.item.Section.{Section}
 use Rattle.mig_stream.specs.declared.item.Section.TheVariants as section
@@ -10,7 +11,9 @@ use Rattle.mig_stream.specs.declared.item.Due.TheVariants as due
 use Rattle.mig_stream.specs.PageRecord.{PageRecord}
 
 pub record StreamProgress : Type 0 where
-  -- what no text tells: which stream it is, the size of a page, and the limit on the table's total
+  -- what no text tells: what it is the stream of, which stream it is, the size of a page, and the
+  -- limit on the table's total
+  pub frame : Frame
   pub mode : Mode
   pub page_size : ℕ
   pub limit : ℕ
@@ -30,8 +33,9 @@ pub record StreamProgress : Type 0 where
   pub rounds : List (List PageRecord)
 
 -- before the first byte
-abbrev pub start : Mode → ℕ → ℕ → StreamProgress
-start mode page_size limit = record {
+abbrev pub start : Frame → Mode → ℕ → ℕ → StreamProgress
+start frame mode page_size limit = record {
+  frame = frame;
   mode = mode;
   page_size = page_size;
   limit = limit;

@@ -1,8 +1,8 @@
 -- What a reader holds, and the bytes that it stands for.
-use Rattle.std.specs.Prelude.{◌≡◌, ◌≢◌, ℕ, ◌+◌, ◌<◌, Bool, true, false, List, [], ◌++◌, length, slice_index_or, Option}
+use Rattle.std.specs.Prelude.{◌≡◌, ◌≢◌, ℕ, ◌+◌, ◌<◌, ◌≤◌, Bool, true, false, List, [], ◌++◌, length, take, slice_index_or, Option, Some, None}
 use Rattle.mig_mem.specs.RamTable.{RamTable}
 use Rattle.mig_stream.specs.declared.item.StreamState.{StreamState}
-use Rattle.mig_stream.specs.declared.item.StreamState.TheVariants.{Reading}
+use Rattle.mig_stream.specs.declared.item.StreamState.TheVariants.{Reading, Closed}
 use Rattle.mig_stream.specs.PageRecord.{PageRecord}
 use Rattle.mig_stream.specs.Progress.{StreamProgress, start}
 use Rattle.mig_stream.specs.Items.{size}
@@ -16,6 +16,8 @@ pub record Reader : Type 0 where
   pub pending : List ℕ
   -- how the bytes fed stand, whether or not the text is over
   pub found : StreamState
+  -- how many bytes had been read when it was closed
+  pub closed_at : ℕ
   pub fed : ℕ
   pub ended : Bool
 
@@ -23,10 +25,11 @@ pub record Reader : Type 0 where
 abbrev pub IsUnfinished : StreamProgress → List ℕ → Type 0
 IsUnfinished c bytes = length bytes < size c.page_size c.due bytes
 
--- bytes are read to there, and of an item that isn't whole these bytes are kept
-pub record ReadsOn (from : StreamProgress) (bytes : List ℕ) (to : StreamProgress) (pending : List ℕ) (state : StreamState) : Type 0 where
+-- bytes are read to there, with so many left, and of an item that isn't whole these bytes are kept
+pub record ReadsOn (from : StreamProgress) (bytes : List ℕ) (to : StreamProgress) (pending : List ℕ) (left : ℕ) (state : StreamState) : Type 0 where
   pub rest : List ℕ
   pub reads : Reads from bytes to rest state
+  pub has_left : length rest ≡ left
   pub has_rest : state ≡ Reading → rest ≡ pending
 
 -- with rounds that were taken before
@@ -35,7 +38,8 @@ with_taken taken c = record c { rounds = taken ++ c.rounds }
 
 -- ---- what a reader stands for
 
--- what a reader was given so far: this text, whether it was told that the text is over, and how many rounds were taken from it
+-- what a reader was given so far: this text, whether it was told that the text is over, and how
+-- many rounds were taken from it
 pub record SoFar : Type 0 where
   pub text : List ℕ
   pub ended : Bool
@@ -63,10 +67,12 @@ pub record Stands (given : Settings) (so_far : SoFar) (r : Reader) : Type 0 wher
   pub rounds : List (List PageRecord)
   pub has_taken : length rounds ≡ so_far.taken
   pub rest : List ℕ
-  pub reads : Reads (start given.mode given.page_size given.limit) so_far.text (with_taken rounds r.progress) rest r.found
+  pub reads : Reads (start given.frame given.mode given.page_size given.limit) so_far.text (with_taken rounds r.progress) rest r.found
   pub has_pending : r.found ≡ Reading → rest ≡ r.pending
+  pub has_closed_at : r.found ≡ Closed → r.closed_at + length rest ≡ length so_far.text
 
--- A call takes this step: whatever the reader stood for before it, it stands for that with the step done.
+-- A call takes this step: whatever the reader stood for before it, it stands for that with the step
+-- done.
 abbrev pub StepsOn : (SoFar → SoFar) → Reader → Reader → Type 0
 StepsOn step old new = (given : Settings) (so_far : SoFar) → Stands given so_far old → Stands given (step so_far) new
 
@@ -87,6 +93,17 @@ HasState given text ended state = (reading : StreamReading) × IsReading given t
 -- no further byte changes how it stands: it is closed, or bad
 abbrev pub IsSettled : Settings → List ℕ → Type 0
 IsSettled given text = (reading : StreamReading) × IsReading given text reading × (reading.state ≢ Reading)
+
+-- The text is closed by its first n bytes, and by no fewer.
+pub record IsClosedAt (given : Settings) (text : List ℕ) (n : ℕ) : Type 0 where
+  pub fits : n ≤ length text
+  pub is_closed : HasState given (take n text) false Closed
+  pub is_first : (m : ℕ) → m < n → HasState given (take m text) false Closed → ⊥
+
+-- where the text is closed, if it is
+abbrev pub HasClosedAt : Settings → List ℕ → Option ℕ → Type 0
+HasClosedAt given text (Some n) = IsClosedAt given text n
+HasClosedAt given text None = (reading : StreamReading) × IsReading given text reading × (reading.state ≢ Closed)
 
 abbrev pub HasTable : Settings → List ℕ → Option RamTable → Type 0
 HasTable given text table = (reading : StreamReading) × IsReading given text reading × (table ≡ reading.table)

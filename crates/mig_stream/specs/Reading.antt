@@ -1,7 +1,10 @@
--- The reading of a stream: its longest front of whole items without a fault, and how it stands after it.
+-- The reading of a stream: its longest front of whole items without a fault, and how it stands
+-- after it.
 use Rattle.std.specs.Prelude.{◌≡◌, ◌≢◌, ℕ, Bool, true, false, List, [], ◌∷◌, ◌++◌, length, Option, Some, None, ⊤}
 use Rattle.std.specs.List.{concat}
 use Rattle.mig_mem.specs.RamTable.{RamTable}
+use Rattle.mig_stream.specs.declared.item.Frame.{Frame}
+use Rattle.mig_stream.specs.declared.item.Frame.TheVariants.{Ram}
 use Rattle.mig_stream.specs.declared.item.Mode.{Mode}
 use Rattle.mig_stream.specs.declared.item.Due.{Due}
 use Rattle.mig_stream.specs.declared.item.Due.TheVariants.{Nothing}
@@ -33,8 +36,8 @@ pub record Front (from : StreamProgress) (bytes : List ℕ) (to : StreamProgress
   pub are_faultless : AreFaultless from items
   pub leads_to : to ≡ after_all from items
 
--- How a text stands where these bytes follow a front: closed after the end byte, bad where a whole item with a fault
--- follows, and else not whole.
+-- How a text stands where these bytes follow a front: closed after its end, bad where a whole item
+-- with a fault follows, and else not whole.
 abbrev pub Ends : StreamProgress → List ℕ → StreamState → Type 0
 Ends c rest Closed = c.due ≡ Nothing
 Ends c rest (Bad fault) = (item more : List ℕ) × (rest ≡ item ++ more) × IsItem c.page_size c.due item × (first_fault c item ≡ Some fault)
@@ -47,7 +50,7 @@ pub record Reads (from : StreamProgress) (text : List ℕ) (to : StreamProgress)
   pub leads : Front from front to
   pub ends : Ends to rest state
 
--- How a text stands that may be over: where it is over before its end byte, it was cut short.
+-- How a text stands that may be over: where it is over before its end, it was cut short.
 abbrev pub state_at : Bool → StreamState → StreamState
 state_at true Reading = Bad Truncated
 state_at true Closed = Closed
@@ -60,19 +63,25 @@ pub record StreamReading : Type 0 where
   pub rounds : List (List PageRecord)
   pub state : StreamState
 
--- what no text tells: which stream it is, the size of a page, and the limit on the table's total
+-- what no text tells: what it is the stream of, which stream it is, the size of a page, and the
+-- limit on the table's total
 pub record Settings : Type 0 where
+  pub frame : Frame
   pub mode : Mode
   pub page_size : ℕ
   pub limit : ℕ
 
--- as a caller hands them in
+-- as a caller hands them in, for RAM's sections alone
 abbrev pub settings : Mode → ℕ → ℕ → Settings
-settings mode page_size limit = record { mode = mode; page_size = page_size; limit = limit }
+settings mode page_size limit = record { frame = Ram; mode = mode; page_size = page_size; limit = limit }
+
+-- these settings, for a stream of this frame
+abbrev pub in_frame : Frame → Settings → Settings
+in_frame frame given = record given { frame = frame }
 
 pub record IsReading (given : Settings) (text : List ℕ) (reading : StreamReading) : Type 0 where
   pub to : StreamProgress
   pub rest : List ℕ
-  pub reads : Reads (start given.mode given.page_size given.limit) text to rest reading.state
+  pub reads : Reads (start given.frame given.mode given.page_size given.limit) text to rest reading.state
   pub has_table : reading.table ≡ whole_table to
   pub has_rounds : reading.rounds ≡ to.rounds

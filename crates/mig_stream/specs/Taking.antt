@@ -7,11 +7,12 @@ use Rattle.mig_stream.specs.declared.stop.Stop.{Stop}
 use Rattle.mig_stream.specs.declared.stop.Stop.TheVariants as stop
 use Rattle.mig_stream.specs.Progress.{StreamProgress}
 use Rattle.mig_mem.specs.First.{first_of}
-use Rattle.mig_stream.specs.Items.{faults, kind_faults, after_kind, after_item}
+use Rattle.mig_stream.specs.declared.item.PassedItem.TheVariants.{SubsectionHead}
+use Rattle.mig_stream.specs.Items.{faults, kind_faults, after_kind, after_item, subsection_faults, behind_passed}
 use Rattle.mig_stream.specs.Reading.{Front}
 
--- An item of this kind is taken where it has no fault, and else its first fault is told. Where an allocation was refused nothing is
--- told. Without the item nothing changes.
+-- An item of this kind is taken where it has no fault, and else its first fault is told. Where an
+-- allocation was refused nothing is told. Without the item nothing changes.
 abbrev pub TakesAs : StreamProgress → Due → List ℕ → StreamProgress → Result ⊤ Stop → Type 0
 TakesAs old due item new (Ok done) = (first_of (faults old due item) ≡ None) × (new ≡ after_item old due item)
 TakesAs old due item new (Err (stop.Fault fault)) = (first_of (faults old due item) ≡ Some fault) × (new ≡ old)
@@ -22,6 +23,12 @@ abbrev pub TakesHead : StreamProgress → RecordKind → ℕ → StreamProgress 
 TakesHead old kind page new (Ok done) = (first_of (kind_faults old kind page) ≡ None) × (new ≡ after_kind old kind page)
 TakesHead old kind page new (Err (stop.Fault fault)) = (first_of (kind_faults old kind page) ≡ Some fault) × (new ≡ old)
 TakesHead old kind page new (Err stop.Memory) = new ≡ old
+
+-- the head of a subsection tells what stands behind it, or its fault
+abbrev pub TellsBody : List ℕ → Result Due Stop → Type 0
+TellsBody item (Ok due) = (first_of (subsection_faults item) ≡ None) × (due ≡ behind_passed SubsectionHead item)
+TellsBody item (Err (stop.Fault fault)) = first_of (subsection_faults item) ≡ Some fault
+TellsBody item (Err stop.Memory) = ⊥
 
 -- some of these bytes, whole items without a fault, were taken
 pub record HasTaken (old : StreamProgress) (bytes : List ℕ) (new : StreamProgress) : Type 0 where
@@ -34,7 +41,8 @@ pub record HasTaken (old : StreamProgress) (bytes : List ℕ) (new : StreamProgr
 abbrev pub HasTakenTo : StreamProgress → List ℕ → List ℕ → StreamProgress → Type 0
 HasTakenTo old bytes rest new = (front : List ℕ) × (bytes ≡ front ++ rest) × Front old front new
 
--- The first n bytes, whole records without a fault, were taken: the next record is due, and the table stays.
+-- The first n bytes, whole records without a fault, were taken: the next record is due, and the
+-- table stays.
 pub record HasTakenRecords (old : StreamProgress) (bytes : List ℕ) (n : ℕ) (new : StreamProgress) : Type 0 where
   pub fits : n ≤ length bytes
   pub leads : Front old (take n bytes) new

@@ -28,8 +28,9 @@ page_record table continued r =
     be64 (r.place.page * table.page_size + flags_of (page_kind continued r.content))
     ++ name_bytes table.blocks continued r.place.block ++ content_bytes r.content
 
--- A page record may stand where `before` is the block named last: its place is in the table, its content has the page
--- size, and it has CONTINUE only where the page record before it is of its block.
+-- A page record may stand where `before` is the block named last: its place is in the table, its
+-- content has the page size, and it has CONTINUE only where the page record before it is of its
+-- block.
 pub record Fits (table : RamTable) (before : Option ℕ) (continued : Bool) (r : PageRecord) : Type 0 where
   pub has_place : IsPlace table r.place
   pub has_size : IfSome r.content (λ bytes. length bytes ≡ table.page_size)
@@ -85,8 +86,8 @@ HasNoFlush [] = ⊤
 HasNoFlush (PageOf continued r ∷ records) = HasNoFlush records
 HasNoFlush (FlushMark ∷ records) = ⊥
 
--- In a single stream each section is a round, without a FLUSH. In a main stream a round ends with each FLUSH, and some
--- FLUSH follows each page record; the sections don't matter.
+-- In a single stream each section is a round, without a FLUSH. In a main stream a round ends with
+-- each FLUSH, and some FLUSH follows each page record; the sections don't matter.
 abbrev pub AreRounds : Mode → List (List Record) → List (List PageRecord) → Type 0
 AreRounds Single sections rounds = All HasNoFlush sections × (rounds ≡ map page_records sections)
 AreRounds Main sections rounds =
@@ -116,8 +117,8 @@ configuration (Some name) = configuration_type ∷ (be32 (length name) ++ name)
 abbrev pub start_head : ℕ → List ℕ
 start_head id = section_type Start ∷ (be32 id ++ counted ram_name ++ be32 ram_instance ++ be32 ram_version)
 
--- The text is a whole stream, up to and with its end byte: file header, configuration or none, START with the size list,
--- PARTs, END and the end byte, each section with any records.
+-- The text is a whole stream, up to and with its end byte: file header, configuration or none,
+-- START with the size list, PARTs, END and the end byte, each section with any records.
 pub record IsText (mode : Mode) (limit : ℕ) (text : List ℕ) (table : RamTable) (rounds : List (List PageRecord)) : Type 0 where
   pub id : ℕ
   pub name : Option (List ℕ)

@@ -1,4 +1,5 @@
-//! The entries of a size list, and the table that they make. `Progress` keeps them as they are read.
+//! The entries of a size list, and the table that they make. `Progress` keeps them as they are
+//! read.
 
 ghost use Rattle.std.specs.Prelude.{◌≡◌, ◌+◌, ◌*◌, ◌<◌, ◌≤◌, ◌^◌, length, take, None, Some, [], IfOk, OnOk, OnErr, IsTrue, IfSome, nat_lt};
 ghost use Rattle.std.specs.Option.{option_copied, unwrap_or};
@@ -28,7 +29,8 @@ impl<A: Allocator> Model for Entry<A> {
     ghost view = { λ b. record { id = b.id; pages = b.pages } };
 }
 
-/// The entries of a size list so far. Its blocks stay beside the table that they make, so that it can go back.
+/// The entries of a size list so far. Its blocks stay beside the table that they make, so that it
+/// can go back.
 #[derive(Drop)]
 pub(crate) struct Entries<A: Allocator> {
     page_size: u64,

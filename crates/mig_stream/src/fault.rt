@@ -1,4 +1,5 @@
-//! Why a stream is refused, by name and number: what `StreamReader::state` answers, and loads pass on.
+//! Why a stream is refused, by name and number: what `StreamReader::state` answers, and loads pass
+//! on.
 
 ghost use Rattle.std.specs.Prelude.{◌≡◌};
 ghost use Rattle.mig_stream.specs.FaultNumber.{fault_number};
@@ -53,10 +54,20 @@ pub enum StreamFault {
     Fill(u8),
     /// A FLUSH in a single stream.
     Flush,
-    /// The end byte of a main stream, after a page record that no FLUSH follows.
+    /// A main stream ends after a page record that no FLUSH follows.
     Tail,
-    /// The text was over before its end byte.
+    /// The text was over before its end byte, or in a machine's stream before the footer of RAM's
+    /// END.
     Truncated,
+    /// A subsection of the configuration has another name than those that are passed over, or a
+    /// version other than 1.
+    Subsection,
+    /// A capability of the configuration changes the layout of RAM's section.
+    Capability,
+    /// The configuration's page bits aren't those of the page size.
+    PageBits,
+    /// A COMMAND has another number than those that are passed over.
+    Command,
 }
 
 impl StreamFault {
@@ -89,6 +100,10 @@ impl StreamFault {
             StreamFault::Flush => 32,
             StreamFault::Tail => 33,
             StreamFault::Truncated => 34,
+            StreamFault::Subsection => 46,
+            StreamFault::Capability => 47,
+            StreamFault::PageBits => 48,
+            StreamFault::Command => 49,
         }
     }
 
@@ -121,6 +136,11 @@ impl StreamFault {
             StreamFault::Flush => "a FLUSH stands in a single stream",
             StreamFault::Tail => "the main stream ends after a page record that no FLUSH follows",
             StreamFault::Truncated => "the text was over before its end byte",
+            StreamFault::Subsection =>
+                "a subsection of the configuration isn't known, or its version",
+            StreamFault::Capability => "a capability changes the layout of RAM's section",
+            StreamFault::PageBits => "the configuration's page bits don't match the page size",
+            StreamFault::Command => "this COMMAND isn't one that is passed over",
         }
     }
 }

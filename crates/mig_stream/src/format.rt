@@ -1,4 +1,5 @@
-//! The numbers of QEMU's migration stream, by their names there. `specs/Format` has them for contracts, which tie the two.
+//! The numbers of QEMU's migration stream, by their names there. `specs/Format` has them for
+//! contracts, which tie the two.
 
 /// The first four bytes of a stream, "QEVM" (`migration/savevm.h`).
 pub(crate) const QEMU_VM_FILE_MAGIC: u32 = 0x5145_564D;
@@ -16,9 +17,41 @@ pub(crate) const QEMU_VM_SECTION_PART: u8 = 0x02;
 
 pub(crate) const QEMU_VM_SECTION_END: u8 = 0x03;
 
+pub(crate) const QEMU_VM_SUBSECTION: u8 = 0x05;
+
 pub(crate) const QEMU_VM_CONFIGURATION: u8 = 0x07;
 
+pub(crate) const QEMU_VM_COMMAND: u8 = 0x08;
+
 pub(crate) const QEMU_VM_SECTION_FOOTER: u8 = 0x7E;
+
+// ---- subsections of the configuration (`vmstate_configuration` in `migration/savevm.c`)
+
+pub(crate) const PAGE_BITS_NAME: &[u8] = b"configuration/target-page-bits";
+
+pub(crate) const UUID_NAME: &[u8] = b"configuration/uuid";
+
+pub(crate) const CAPABILITIES_NAME: &[u8] = b"configuration/capabilities";
+
+pub(crate) const SUBSECTION_VERSION: u32 = 1;
+
+// ---- capabilities that change the layout of RAM's section, the only ones that QEMU writes (`should_validate_capability`)
+
+pub(crate) const IGNORE_SHARED: &[u8] = b"x-ignore-shared";
+
+pub(crate) const MAPPED_RAM: &[u8] = b"mapped-ram";
+
+// ---- COMMANDs that leave the reading of RAM's section alone (`enum qemu_vm_cmd` in `migration/savevm.c`)
+
+pub(crate) const MIG_CMD_OPEN_RETURN_PATH: u16 = 1;
+
+pub(crate) const MIG_CMD_PING: u16 = 2;
+
+pub(crate) const MIG_CMD_POSTCOPY_ADVISE: u16 = 3;
+
+pub(crate) const MIG_CMD_ENABLE_COLO: u16 = 8;
+
+pub(crate) const MIG_CMD_SWITCHOVER_START: u16 = 11;
 
 // ---- RAM's section (`ram_mig_init` in `migration/ram.c`)
 

@@ -1,23 +1,31 @@
-//! The reader of a single stream that is there whole, which gives page records as they come. `load_single` of `mig_load` calls it.
+//! The reader of a single stream that gives page records as they come: of a whole text, or of piece
+//! after piece, with a `Pause` between two. `load_single` of `mig_load` reads a whole text by one,
+//! and `EagerState` the pieces as they come.
 //!
-//! A section's records are given before the section is whole, so that a page can be copied as soon as its bytes were read. Who takes
-//! them has to see to it that a text with a fault leaves nothing of a section that isn't whole. `StreamReader` keeps them instead.
+//! A section's records are given before the section is whole, so that a page can be copied as soon
+//! as its bytes were read. Who takes them has to see to it that a text with a fault leaves nothing
+//! of a section that isn't whole, or says what it leaves. `StreamReader` keeps them instead.
 
-ghost use Rattle.std.specs.Prelude.{◌≡◌, ◌≢◌, ◌<◌, ◌≤◌, ◌+◌, ◌*◌, ◌^◌, length, [], All, None, Some, IfOk, IfSome, OnOk, OnErr};
+ghost use Rattle.std.specs.Prelude.{◌≡◌, ◌≢◌, ◌<◌, ◌≤◌, ◌+◌, ◌*◌, ◌^◌, length, [], All, IsTrue, IsFalse, IsSome, None, Some, IfOk, IfSome, OnOk, OnErr, ◌++◌, ℕ, List, take, IfNone};
 ghost use Rattle.std.specs.Option.{option_copied};
 ghost use Rattle.mig_mem.specs.PageSize.{IsPageSize};
 ghost use Rattle.mig_mem.specs.RamTable.{RamTable};
 ghost use Rattle.mig_mem.specs.Place.{IsPlace};
 ghost use Rattle.mig_stream.specs.declared.item.Mode.TheVariants.{Single};
+ghost use Rattle.mig_stream.specs.declared.item.StreamState.TheVariants as state;
 ghost use Rattle.mig_stream.specs.Progress.{whole_table};
-ghost use Rattle.mig_stream.specs.Reading.{settings};
-ghost use Rattle.mig_stream.specs.Reader.{HasTable};
-ghost use Rattle.mig_stream.specs.Giving.{none_given, with_given, Gives, GivesOn, left, LeavesLess, GiverTells, EndsSo};
+ghost use Rattle.mig_stream.specs.Reading.{settings, in_frame, Settings, Ends};
+ghost use Rattle.mig_stream.specs.Reader.{HasTable, IsUnfinished};
+ghost use Rattle.mig_stream.specs.Giving.{none_given, with_given, Gives, GivesOn, left, LeavesLess, GiverTells, EndsSo, TellsFound, IsBehind, GivenSoFar, LeavesNone, HasNoneLeft, IsUnread, PausesAt, PauseTells};
+ghost use Rattle.mig_stream.specs.Taking.{HasTaken, HasTakenTo};
+ghost use Rattle.mig_stream.specs.Kept.{bytes_of};
 
-use crate::item::{Mode, StreamState};
+use crate::item::{Frame, Mode, StreamState};
 use crate::piece::Piece;
 use crate::progress::Progress;
+use crate::reader::complete;
 use crate::round::{Records, StreamRound};
+use crate::stop::Stop;
 use mig_mem::{NoMemory, Table};
 use std::alloc::{Allocator, Global};
 use std::marker::Model;
@@ -34,51 +42,209 @@ pub enum Given {
     End(StreamState),
 }
 
-/// Reads the text of a single stream, and gives its page records as they come. Their pages are lent from the text.
+/// Reads a single stream that is there whole, or its next piece after a `Pause`, and gives its page
+/// records as they come. Their pages are lent from those bytes, but for a page whose first bytes an
+/// earlier piece had.
 #[derive(Drop)]
 pub struct RecordReader<'a, A: Allocator = Global> {
     progress: Progress<'a, A>,
+    // the bytes that earlier pieces had of the item that is due
+    pending: Vec<u8, A>,
     rest: Piece<'a, 'a>,
-    // how the rest stands, once it isn't read any further
+    // how the pending bytes and the rest stand, once they aren't read any further
     found: Option<StreamState>,
     given: StreamRound<'a, A>,
 }
 
 impl<'a, A: Allocator> Model for RecordReader<'a, A> {
+    ghost use Rattle.std.specs.Prelude.{◌++◌};
     ghost use Rattle.mig_stream.specs.Kept.{bytes_of};
-    ghost use Rattle.mig_stream.specs.Giving.{Giver};
+    ghost use Rattle.mig_stream.specs.Giving.{Giver, IsUnread};
 
     ghost Value = { Giver };
 
-    ghost view = { λ r. record { progress = r.progress; rest = bytes_of r.rest; found = r.found; given = r.given } };
+    ghost view = { λ r. record { progress = r.progress; rest = r.pending.items ++ bytes_of r.rest; found = r.found; given = r.given } };
+
+    ghost invariant = { λ r. IsUnread r.found r.progress r.pending.items (bytes_of r.rest) };
+}
+
+/// A single stream between two of its pieces: how far it was read, and the bytes of an item that
+/// isn't whole yet. All records that were read have been given.
+///
+/// Load piece after piece: `resume` with the next one, `read_on` until `End(Reading)`, and `pause`.
+#[derive(Drop)]
+pub struct Pause<A: Allocator = Global> {
+    progress: Progress<'static, A>,
+    pending: Vec<u8, A>,
+}
+
+impl<A: Allocator> Model for Pause<A> {
+    ghost use Rattle.mig_stream.specs.Giving.{Paused, IsPaused};
+
+    ghost Value = { Paused };
+
+    ghost view = { λ p. record { progress = p.progress; pending = p.pending.items } };
+
+    ghost invariant = { λ p. IsPaused (record { progress = p.progress; pending = p.pending.items }) };
+}
+
+// Reads the item whose first bytes are pending, with the rest of it from a piece. Returns what is
+// left of the piece, after what is pending then, and how these stand where they aren't to be read
+// any further. An `Err` takes no item.
+fn read_pending<'b, A: Allocator + Copy>(
+    progress: &mut Progress<'_, A>,
+    pending: &mut Vec<u8, A>,
+    piece: &'b [u8],
+) -> Result<(&'b [u8], Option<StreamState>), NoMemory>
+    requires { IsUnfinished progress.old pending.old.items }
+    ensures taken { IfOk result (λ r. HasTakenTo progress.old (pending.old.items ++ piece.now) (pending.new.items ++ r.0.now) progress.new) }
+    ensures stands { IfOk result (λ r. IfSome r.1 (λ found. Ends progress.new (pending.new.items ++ r.0.now) found)) }
+    ensures moves { IfOk result (λ r. IfNone r.1 (length (pending.new.items ++ r.0.now) < length (pending.old.items ++ piece.now))) }
+    ensures none { IfOk result (λ r. IfNone r.1 (pending.new.items ≡ [])) }
+    ensures closed { IfOk result (λ r. r.1 ≢ Some state.Closed) }
+    ensures err { OnErr result (progress.new ≡ progress.old) }
+    ensures kept { OnErr result (take (length pending.old.items) pending.new.items ≡ pending.old.items) }
+{
+    let Some(rest) = complete(progress, pending, piece)? else {
+        return Ok((&[], Some(StreamState::Reading)));
+    };
+    match progress.take(Piece::Passing(pending)) {
+        Ok(()) => {
+            pending.clear();
+            Ok((rest, None))
+        }
+        Err(Stop::Fault(fault)) => Ok((rest, Some(StreamState::Bad(fault)))),
+        Err(Stop::Memory) => Err(NoMemory),
+    }
+}
+
+// Reads up to the next pause. Returns what is left, after what is pending then, and how these stand
+// where they aren't to be read any further. After an `Err` some items were taken, and the pending
+// bytes may have others after them.
+fn read_to_pause<'a, A: Allocator + Copy>(
+    progress: &mut Progress<'a, A>,
+    pending: &mut Vec<u8, A>,
+    rest: Piece<'a, 'a>,
+) -> Result<(Piece<'a, 'a>, Option<StreamState>), NoMemory>
+    requires { IsUnread None progress.old pending.old.items (bytes_of rest) }
+    ensures taken { IfOk result (λ r. HasTakenTo progress.old (pending.old.items ++ bytes_of rest.entry) (pending.new.items ++ bytes_of r.0) progress.new) }
+    ensures stands { IfOk result (λ r. IfSome r.1 (λ found. Ends progress.new (pending.new.items ++ bytes_of r.0) found)) }
+    ensures moves { IfOk result (λ r. IfNone r.1 (length (pending.new.items ++ bytes_of r.0) < length (pending.old.items ++ bytes_of rest.entry))) }
+    ensures none { IfOk result (λ r. IfNone r.1 (pending.new.items ≡ [])) }
+    ensures closed { IfOk result (λ r. r.1 ≡ Some state.Closed → pending.new.items ≡ []) }
+    ensures err { OnErr result (HasTaken progress.old (pending.old.items ++ bytes_of rest.entry) progress.new) }
+    ensures kept { OnErr result (take (length pending.old.items) pending.new.items ≡ pending.old.items) }
+{
+    if pending.is_empty() {
+        return progress.run_on(rest, true);
+    }
+    let (rest, found) = read_pending(progress, pending, rest.into_bytes())?;
+    Ok((Piece::Staying(rest), found))
+}
+
+impl<A: Allocator + Copy> Pause<A> {
+    /// Creates the pause before the first byte of a single stream of RAM's sections alone, with
+    /// pages of `page_size` bytes. Its size list may add up to at most `limit` bytes.
+    pub fn new(alloc: A, page_size: u64, limit: u64) -> Pause<A>
+        requires page_size { IsPageSize page_size }
+        requires limit { limit ≤ 2 ^ 40 }
+        ensures pauses { PausesAt (settings Single page_size limit) [] none_given result }
+    {
+        Pause::new_in(alloc, Frame::Ram, page_size, limit)
+    }
+
+    /// Creates the pause before the first byte of a single stream of `frame`, with pages of
+    /// `page_size` bytes. Its size list may add up to at most `limit` bytes.
+    pub fn new_in(alloc: A, frame: Frame, page_size: u64, limit: u64) -> Pause<A>
+        requires page_size { IsPageSize page_size }
+        requires limit { limit ≤ 2 ^ 40 }
+        ensures pauses { PausesAt (in_frame frame (settings Single page_size limit)) [] none_given result }
+    {
+        Pause {
+            progress: Progress::new(alloc, frame, Mode::Single, page_size, limit),
+            pending: Vec::new(alloc),
+        }
+    }
+
+    /// Returns a reader of `piece`, the next bytes of the stream, which gave nothing of them yet.
+    pub fn resume<'b>(self, piece: &'b [u8]) -> RecordReader<'b, A>
+        ensures gives { (given : Settings) (text : List ℕ) (so_far : GivenSoFar)
+            → PausesAt given text so_far self → Gives given (text ++ piece.now) so_far result }
+        ensures left { left result ≡ 2 * length (self.pending ++ piece.now) + 1 }
+        ensures given { result.given ≡ record { page_size = self.progress.page_size; records = [] } }
+    {
+        let Pause { progress, pending } = self;
+        let progress = progress.without_records();
+        let given = progress.no_round();
+        RecordReader {
+            progress,
+            pending,
+            rest: Piece::Staying(piece),
+            found: None,
+            given,
+        }
+    }
+}
+
+impl<A: Allocator> Pause<A> {
+    /// Returns the stream's table, once its size list was read whole.
+    pub fn table(&self) -> Option<&Table<A>>
+        ensures whole { option_copied result ≡ whole_table self.now.progress }
+        ensures table { PauseTells self.now (λ given text so_far. HasTable given text (option_copied result)) }
+    {
+        self.progress.table()
+    }
 }
 
 impl<'a, A: Allocator + Copy> RecordReader<'a, A> {
-    /// A reader of this text, of a single stream of this page size whose size list has at most `limit` bytes.
+    /// A reader of this text, of a single stream of this page size whose size list has at most
+    /// `limit` bytes.
     pub fn new(alloc: A, page_size: u64, limit: u64, text: &'a [u8]) -> RecordReader<'a, A>
         requires page_size { IsPageSize page_size }
         requires limit { limit ≤ 2 ^ 40 }
         ensures gives { Gives (settings Single page_size limit) text.now none_given result }
         ensures left { left result ≡ 2 * length text.now + 1 }
+        ensures given { result.given ≡ record { page_size = page_size; records = [] } }
     {
-        let progress = Progress::new(alloc, Mode::Single, page_size, limit);
+        RecordReader::new_in(alloc, Frame::Ram, page_size, limit, text)
+    }
+
+    /// Creates a reader of `text`, a single stream of `frame` with pages of `page_size` bytes. Its
+    /// size list may add up to at most `limit` bytes.
+    pub fn new_in(
+        alloc: A,
+        frame: Frame,
+        page_size: u64,
+        limit: u64,
+        text: &'a [u8],
+    ) -> RecordReader<'a, A>
+        requires page_size { IsPageSize page_size }
+        requires limit { limit ≤ 2 ^ 40 }
+        ensures gives { Gives (in_frame frame (settings Single page_size limit)) text.now none_given result }
+        ensures left { left result ≡ 2 * length text.now + 1 }
+        ensures given { result.given ≡ record { page_size = page_size; records = [] } }
+    {
+        let progress = Progress::new(alloc, frame, Mode::Single, page_size, limit);
         RecordReader {
             progress,
+            pending: Vec::new(alloc),
             rest: Piece::Staying(text),
             found: None,
             given: StreamRound::new(page_size, Records::new(alloc)),
         }
     }
 
-    /// Reads on, for the most part up to the end of a page or of a section, and gives the records that it found: `given` has them
-    /// until the next call. An `Err` changes nothing.
+    /// Reads on, for the most part up to the end of a page or of a section, and gives the records
+    /// that it found: `given` has them until the next call. An `Err` changes nothing.
     pub fn read_on(&mut self) -> Result<Given, NoMemory>
         ensures ok { IfOk result (λ gave. GivesOn (with_given gave self.new.given.records) self.old self.new) }
         ensures page_size { OnOk result (GiverTells self.old (λ given text so_far. self.new.given.page_size ≡ given.page_size)) }
         ensures places { OnOk result (GiverTells self.old (λ given text so_far. (table : RamTable) → HasTable given text (Some table)
             → All (λ x. IsPlace table x.place) self.new.given.records)) }
         ensures end { IfOk result (λ gave. GiverTells self.old (EndsSo gave)) }
+        ensures found { IfOk result (λ gave. TellsFound gave self.new) }
         ensures less { IfOk result (λ gave. LeavesLess gave self.old self.new) }
+        ensures none { IfOk result (λ gave. LeavesNone gave self.new) }
         ensures err { OnErr result (self.new ≡ self.old) }
     {
         if self.found.is_none() {
@@ -95,7 +261,8 @@ impl<'a, A: Allocator + Copy> RecordReader<'a, A> {
         ensures err { OnErr result (self.new ≡ self.old) }
     {
         let checkpoint = self.progress.checkpoint();
-        match self.progress.run_on(self.rest, true) {
+        let len = self.pending.len();
+        match read_to_pause(&mut self.progress, &mut self.pending, self.rest) {
             Ok((rest, found)) => {
                 self.rest = rest;
                 self.found = found;
@@ -103,9 +270,35 @@ impl<'a, A: Allocator + Copy> RecordReader<'a, A> {
             }
             Err(error) => {
                 self.progress.undo(checkpoint);
+                self.pending.truncate(len);
                 Err(error)
             }
         }
+    }
+
+    /// Returns the pause after this piece, once `read_on` returned `End(Reading)`. It keeps a copy
+    /// of the bytes of an item that isn't whole.
+    ///
+    /// # Errors
+    ///
+    /// `NoMemory`: the copy's allocation was refused. The reader is dropped, so the stream can't be
+    /// read on.
+    pub fn pause(self) -> Result<Pause<A>, NoMemory>
+        requires { HasNoneLeft state.Reading self }
+        ensures { IfOk result (λ p. (given : Settings) (text : List ℕ) (so_far : GivenSoFar)
+            → Gives given text so_far self.entry → PausesAt given text so_far p) }
+    {
+        let RecordReader {
+            progress,
+            mut pending,
+            rest,
+            ..
+        } = self;
+        pending.extend_from_slice(rest.bytes())?;
+        Ok(Pause {
+            progress: progress.without_records(),
+            pending,
+        })
     }
 }
 
@@ -119,6 +312,8 @@ impl<'a, A: Allocator> RecordReader<'a, A> {
         ensures places { GiverTells self.old (λ given text so_far. (table : RamTable) → HasTable given text (Some table)
             → All (λ x. IsPlace table x.place) self.new.given.records) }
         ensures end { GiverTells self.old (EndsSo result) }
+        ensures found { TellsFound result self.new }
+        ensures none { LeavesNone result self.new }
     {
         match self.progress.take_round() {
             Some(section) => {
@@ -139,6 +334,8 @@ impl<'a, A: Allocator> RecordReader<'a, A> {
         ensures places { GiverTells self.old (λ given text so_far. (table : RamTable) → HasTable given text (Some table)
             → All (λ x. IsPlace table x.place) self.new.given.records) }
         ensures end { GiverTells self.old (EndsSo result) }
+        ensures found { TellsFound result self.new }
+        ensures none { LeavesNone result self.new }
     {
         self.progress.give_records(&mut self.given);
         if self.given.len() != 0 {
@@ -150,11 +347,33 @@ impl<'a, A: Allocator> RecordReader<'a, A> {
         }
     }
 
-    /// What the last call of `read_on` gave; no records before the first.
+    /// What the last call of `read_on` gave: no records before the first call, and at the end.
     pub fn given(&self) -> &StreamRound<'a, A>
         ensures { result.now ≡ self.now.given }
     {
         &self.given
+    }
+
+    /// Returns the bytes after the stream, once `read_on` returned `End(Closed)`: what follows its
+    /// end byte, or in a machine's stream the footer of RAM's END.
+    pub fn behind(&self) -> Option<&'a [u8]>
+        ensures behind { IfSome result (λ rest. GiverTells self.now (λ given text so_far. IsBehind given text rest.now)) }
+        ensures some { self.now.found ≡ Some state.Closed → IsSome result }
+    {
+        if !self.is_closed() {
+            return None;
+        }
+        Some(self.rest.into_bytes())
+    }
+
+    fn is_closed(&self) -> bool
+        ensures closed { IsTrue result → self.now.found ≡ Some state.Closed }
+        ensures other { IsFalse result → self.now.found ≢ Some state.Closed }
+    {
+        match self.found {
+            Some(StreamState::Closed) => true,
+            _ => false,
+        }
     }
 
     /// The text's table, as soon as the size list was read whole. Page records come behind it.

@@ -1,5 +1,5 @@
-//! The items that a stream is read by, as plain names, for the definitions and for `items`, `progress` and `reader`. What each of them has
-//! to look like stands in `specs/`.
+//! The items that a stream is read by, as plain names, for the definitions and for `items`,
+//! `progress` and `reader`. What each of them has to look like stands in `specs/`.
 
 use crate::StreamFault;
 use mig_mem::Place;
@@ -9,8 +9,24 @@ use mig_mem::Place;
 pub enum Mode {
     /// All pages come in this stream; each section is a round.
     Single,
-    /// The main stream of multifd: a round ends with each FLUSH, and its other pages come on the channels.
+    /// The main stream of multifd: a round ends with each FLUSH, and its other pages come on the
+    /// channels.
     Main,
+}
+
+/// Which sections a stream has beside RAM's.
+#[derive(Clone, Copy, Debug, PartialEq, Eq)]
+pub enum Frame {
+    /// None: the stream is RAM's sections between the file header and the end byte.
+    Ram,
+    /// Those of a machine's stream, as QEMU writes it (`migration/savevm.c`). COMMANDs and the
+    /// configuration's subsections are passed over. One that may change how RAM's sections are read
+    /// is a fault. The stream is closed by the footer of RAM's END, and the bytes after it, the
+    /// devices' sections, are left to the caller.
+    ///
+    /// A COMMAND has up to 65,539 bytes after its type byte. Where pieces cut it, a reader keeps
+    /// those that came.
+    Machine,
 }
 
 /// How far a text has come.
@@ -18,13 +34,14 @@ pub enum Mode {
 pub enum StreamState {
     /// More bytes are needed.
     Reading,
-    /// The end byte was read.
+    /// The end byte was read, or in a machine's stream the footer of RAM's END.
     Closed,
     /// The text has a fault.
     Bad(StreamFault),
 }
 
-/// The kinds of a section: `QEMU_VM_SECTION_START`, `QEMU_VM_SECTION_PART` and `QEMU_VM_SECTION_END`.
+/// The kinds of a section: `QEMU_VM_SECTION_START`, `QEMU_VM_SECTION_PART` and
+/// `QEMU_VM_SECTION_END`.
 #[derive(Clone, Copy)]
 pub enum Section {
     Start,
@@ -36,7 +53,10 @@ pub enum Section {
 #[derive(Clone, Copy)]
 pub enum Before {
     FileHeader,
+    /// The configuration, or a subsection of it.
     Configuration,
+    /// A COMMAND, where START is still to come.
+    Command,
     /// The footer of START or of a PART.
     Footer,
     /// The footer of END.
@@ -67,6 +87,31 @@ pub enum RecordKind {
     Flush,
 }
 
+/// The subsections of the configuration that are passed over (`vmstate_configuration` in
+/// `migration/savevm.c`).
+#[derive(Clone, Copy)]
+pub enum Subsection {
+    /// `configuration/target-page-bits`.
+    PageBits,
+    /// `configuration/uuid`.
+    Uuid,
+    /// `configuration/capabilities`.
+    Capabilities,
+}
+
+/// An item of a machine's stream that is checked and passed over, since it says nothing of RAM.
+#[derive(Clone, Copy)]
+pub enum PassedItem {
+    /// A COMMAND after its type byte, and what the next type byte follows.
+    Command(Before),
+    /// The name and the version of a subsection, after its type byte.
+    SubsectionHead,
+    /// What a subsection holds; of the capabilities only their number.
+    SubsectionBody(Subsection),
+    /// The name of a capability, with this many others after it.
+    Capability(u32),
+}
+
 /// The item of a stream that comes next.
 #[derive(Clone, Copy)]
 pub enum Due {
@@ -88,6 +133,8 @@ pub enum Due {
     /// What a page record holds of the page at this place.
     Content(Filling, Place),
     Footer,
-    /// The end byte was read.
+    /// An item of a machine's stream that is passed over.
+    Passed(PassedItem),
+    /// The text was closed.
     Nothing,
 }

@@ -1,26 +1,32 @@
 //! How each item of a stream is taken. `Progress::run` calls it for the kind that is due.
 //!
-//! A function takes one kind of item, whole: it judges it, in the order of the item's faults, and notes what it tells.
+//! A function takes one kind of item, whole: it judges it, in the order of the item's faults, and
+//! notes what it tells.
 
-ghost use Rattle.std.specs.Prelude.{◌≡◌, ◌+◌, ◌/◌, ◌%◌, ◌≤◌, ◌==◌, if◌then◌else◌, length, slice_index, OnOk, OnErr};
+ghost use Rattle.std.specs.Prelude.{◌≡◌, ◌+◌, ◌/◌, ◌%◌, ◌^◌, ◌≤◌, ◌==◌, ◌&&◌, not, if◌then◌else◌, length, slice_index, OnOk, OnErr};
 ghost use Rattle.mig_mem.specs.PageSize.{IsPageSize};
 ghost use Rattle.mig_stream.specs.declared.item.Due.TheVariants as due;
 ghost use Rattle.mig_stream.specs.declared.item.RecordKind.TheVariants as kind;
 ghost use Rattle.mig_stream.specs.declared.item.Filling.TheVariants as filling;
-ghost use Rattle.mig_stream.specs.Items.{is_allowed, record_kind, end_round};
-ghost use Rattle.mig_stream.specs.Taking.{TakesAs, TakesHead};
+ghost use Rattle.mig_stream.specs.Items.{is_allowed, is_passed, closes, passed_size, passed_by, is_passed_command, behind_command, subsection_of, body_of, capabilities_due, behind_footer, record_kind, end_round};
+ghost use Rattle.std.specs.List.{list_any};
+ghost use Rattle.std.specs.Str.{bytes_eq};
+ghost use Rattle.mig_stream.specs.Format.{layout_capabilities};
+ghost use Rattle.mig_stream.specs.Taking.{TakesAs, TakesHead, TellsBody};
 ghost use Rattle.mig_stream.specs.Kept.{bytes_of, IsShort};
 
 use crate::StreamFault;
-use crate::fields::{be32, be64};
+use crate::fields::{be16, be32, be64};
 use crate::format::{
-    CONTINUED_PAGE, CONTINUED_ZERO, MAX_NAME_LEN, QEMU_VM_CONFIGURATION, QEMU_VM_EOF,
+    CAPABILITIES_NAME, CONTINUED_PAGE, CONTINUED_ZERO, IGNORE_SHARED, MAPPED_RAM, MAX_NAME_LEN,
+    MIG_CMD_ENABLE_COLO, MIG_CMD_OPEN_RETURN_PATH, MIG_CMD_PING, MIG_CMD_POSTCOPY_ADVISE,
+    MIG_CMD_SWITCHOVER_START, PAGE_BITS_NAME, QEMU_VM_COMMAND, QEMU_VM_CONFIGURATION, QEMU_VM_EOF,
     QEMU_VM_FILE_MAGIC, QEMU_VM_FILE_VERSION, QEMU_VM_SECTION_END, QEMU_VM_SECTION_FOOTER,
-    QEMU_VM_SECTION_PART, QEMU_VM_SECTION_START, RAM_INSTANCE, RAM_SAVE_FLAG_EOS,
-    RAM_SAVE_FLAG_MEM_SIZE, RAM_SAVE_FLAG_MULTIFD_FLUSH, RAM_SAVE_FLAG_PAGE, RAM_SAVE_FLAG_ZERO,
-    RAM_SECTION_NAME, RAM_VERSION,
+    QEMU_VM_SECTION_PART, QEMU_VM_SECTION_START, QEMU_VM_SUBSECTION, RAM_INSTANCE,
+    RAM_SAVE_FLAG_EOS, RAM_SAVE_FLAG_MEM_SIZE, RAM_SAVE_FLAG_MULTIFD_FLUSH, RAM_SAVE_FLAG_PAGE,
+    RAM_SAVE_FLAG_ZERO, RAM_SECTION_NAME, RAM_VERSION, SUBSECTION_VERSION, UUID_NAME,
 };
-use crate::item::{Before, Due, Filling, Mode, RecordKind, Section};
+use crate::item::{Before, Due, Filling, Frame, Mode, PassedItem, RecordKind, Section, Subsection};
 use crate::piece::Piece;
 use crate::progress::Progress;
 use crate::round::Records;
@@ -49,8 +55,13 @@ impl<'a, A: Allocator> Progress<'a, A> {
         ensures { TakesAs self.old (due.TypeByte before) item.now self.new result }
     {
         let byte = item[0];
-        if !is_allowed(before, byte) {
+        let passed = is_passed(self.frame, before, byte);
+        if !passed && !is_allowed(before, byte) {
             return Err(Stop::Fault(StreamFault::SectionType));
+        }
+        if passed {
+            self.due = Due::Passed(passed_by(before, byte));
+            return Ok(());
         }
         if byte == QEMU_VM_EOF && self.mode == Mode::Main && self.records.len() != 0 {
             return Err(Stop::Fault(StreamFault::Tail));
@@ -314,15 +325,177 @@ impl<'a, A: Allocator + Copy> Progress<'a, A> {
         if item[0] != QEMU_VM_SECTION_FOOTER || be32(item, 1) != self.section_id {
             return Err(Stop::Fault(StreamFault::Footer));
         }
+        let closes = closes(self.frame, self.section);
+        if closes && self.mode == Mode::Main && self.records.len() != 0 {
+            return Err(Stop::Fault(StreamFault::Tail));
+        }
         if self.mode == Mode::Single {
             self.end_round()?;
         }
-        self.due = Due::TypeByte(match self.section {
-            Section::End => Before::LastFooter,
-            _ => Before::Footer,
-        });
+        self.due = behind_footer(self.frame, self.section);
         Ok(())
     }
+}
+
+impl<'a, A: Allocator> Progress<'a, A> {
+    /// Passes over an item of a machine's stream that says nothing of RAM.
+    pub(crate) fn pass(&mut self, passed: PassedItem, item: &[u8]) -> Result<(), Stop>
+        requires { length item.now ≡ passed_size passed item.now }
+        ensures { TakesAs self.old (due.Passed passed) item.now self.new result }
+    {
+        self.due = match passed {
+            PassedItem::Command(before) => {
+                if !is_passed_command(be16(item, 0)) {
+                    return Err(Stop::Fault(StreamFault::Command));
+                }
+                Due::TypeByte(before)
+            }
+            PassedItem::SubsectionHead => subsection_head(item)?,
+            PassedItem::SubsectionBody(Subsection::PageBits) => {
+                if !are_page_bits(be32(item, 0), self.entries.page_size()) {
+                    return Err(Stop::Fault(StreamFault::PageBits));
+                }
+                Due::TypeByte(Before::Configuration)
+            }
+            PassedItem::SubsectionBody(Subsection::Uuid) => Due::TypeByte(Before::Configuration),
+            PassedItem::SubsectionBody(Subsection::Capabilities) => capabilities_due(be32(item, 0)),
+            PassedItem::Capability(others) => {
+                if is_layout(&item[1..1 + item[0] as usize]) {
+                    return Err(Stop::Fault(StreamFault::Capability));
+                }
+                capabilities_due(others)
+            }
+        };
+        Ok(())
+    }
+}
+
+// The item after the name and the version of a subsection.
+fn subsection_head(item: &[u8]) -> Result<Due, Stop>
+    requires { length item.now ≡ 5 + slice_index item.now 0 }
+    ensures { TellsBody item.now result }
+{
+    let len = item[0] as usize;
+    let Some(subsection) = subsection_of(&item[1..1 + len]) else {
+        return Err(Stop::Fault(StreamFault::Subsection));
+    };
+    if be32(item, 1 + len) != SUBSECTION_VERSION {
+        return Err(Stop::Fault(StreamFault::Subsection));
+    }
+    Ok(Due::Passed(PassedItem::SubsectionBody(subsection)))
+}
+
+// The subsection of a name.
+#[tactic(auto, unfolding(crate::specs::Format::subsection_name))]
+fn subsection_of(name: &[u8]) -> Option<Subsection>
+    ensures { result ≡ subsection_of name.now }
+{
+    if name == PAGE_BITS_NAME {
+        return Some(Subsection::PageBits);
+    }
+    if name == UUID_NAME {
+        return Some(Subsection::Uuid);
+    }
+    if name == CAPABILITIES_NAME {
+        return Some(Subsection::Capabilities);
+    }
+    None
+}
+
+// Whether a COMMAND of this number leaves the reading of RAM's section alone.
+fn is_passed_command(number: u16) -> bool
+    ensures { result ≡ is_passed_command number }
+{
+    match number {
+        MIG_CMD_OPEN_RETURN_PATH
+        | MIG_CMD_PING
+        | MIG_CMD_POSTCOPY_ADVISE
+        | MIG_CMD_ENABLE_COLO
+        | MIG_CMD_SWITCHOVER_START => true,
+        _ => false,
+    }
+}
+
+// Whether a page has 2^`bits` bytes.
+fn are_page_bits(bits: u32, page_size: u64) -> bool
+    ensures { result ≡ (2 ^ bits == page_size) }
+{
+    2u64.checked_pow(bits) == Some(page_size)
+}
+
+// Whether a capability of this name changes the layout of RAM's section.
+#[tactic(auto, unfolding(crate::specs::Format::layout_capabilities))]
+fn is_layout(name: &[u8]) -> bool
+    ensures { result ≡ list_any (λ known. bytes_eq name.now known) layout_capabilities }
+{
+    name == IGNORE_SHARED || name == MAPPED_RAM
+}
+
+// The item after the count of capabilities, or after one of them, with so many to come.
+fn capabilities_due(others: u32) -> Due
+    ensures { result ≡ capabilities_due others }
+{
+    if others == 0 {
+        Due::TypeByte(Before::Configuration)
+    } else {
+        Due::Passed(PassedItem::Capability(others - 1))
+    }
+}
+
+// The item after the type byte of one that is passed over.
+fn passed_by(before: Before, byte: u8) -> PassedItem
+    ensures { result ≡ passed_by before byte }
+{
+    if byte == QEMU_VM_COMMAND {
+        PassedItem::Command(behind_command(before))
+    } else {
+        PassedItem::SubsectionHead
+    }
+}
+
+// What the type byte after a COMMAND follows.
+fn behind_command(before: Before) -> Before
+    ensures { result ≡ behind_command before }
+{
+    match before {
+        Before::FileHeader | Before::Configuration | Before::Command => Before::Command,
+        Before::Footer => Before::Footer,
+        Before::LastFooter => Before::LastFooter,
+    }
+}
+
+// Whether a section of this type byte is passed over there.
+fn is_passed(frame: Frame, before: Before, byte: u8) -> bool
+    ensures { result ≡ is_passed frame before byte }
+{
+    let may_pass = match before {
+        Before::Configuration => byte == QEMU_VM_COMMAND || byte == QEMU_VM_SUBSECTION,
+        Before::LastFooter => false,
+        _ => byte == QEMU_VM_COMMAND,
+    };
+    may_pass && frame == Frame::Machine
+}
+
+// Whether the footer of this section closes the text.
+fn closes(frame: Frame, section: Section) -> bool
+    ensures { result ≡ closes frame section }
+{
+    match section {
+        Section::End => frame == Frame::Machine,
+        _ => false,
+    }
+}
+
+fn behind_footer(frame: Frame, section: Section) -> Due
+    ensures { result ≡ behind_footer frame section }
+{
+    if closes(frame, section) {
+        return Due::Nothing;
+    }
+    Due::TypeByte(match section {
+        Section::End => Before::LastFooter,
+        _ => Before::Footer,
+    })
 }
 
 // The type bytes that may stand there.
@@ -331,7 +504,7 @@ fn is_allowed(before: Before, byte: u8) -> bool
 {
     match before {
         Before::FileHeader => byte == QEMU_VM_CONFIGURATION || byte == QEMU_VM_SECTION_START,
-        Before::Configuration => byte == QEMU_VM_SECTION_START,
+        Before::Configuration | Before::Command => byte == QEMU_VM_SECTION_START,
         Before::Footer => byte == QEMU_VM_SECTION_PART || byte == QEMU_VM_SECTION_END,
         Before::LastFooter => byte == QEMU_VM_EOF,
     }
@@ -348,7 +521,8 @@ fn after_entry(left: u64) -> Due
     }
 }
 
-// The page number and the flags of a record's head. The sizes are named, so that none is divided by at run time.
+// The page number and the flags of a record's head. The sizes are named, so that none is divided by
+// at run time.
 pub(crate) fn split_head(head: u64, page_size: u64) -> (u64, u16)
     requires { IsPageSize page_size }
     ensures page { result.0 ≡ head / page_size }

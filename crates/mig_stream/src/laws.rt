@@ -1,12 +1,14 @@
-//! Laws of the definitions alone: what holds between the texts of a stream and their readings, whatever code writes and
-//! reads them.
+//! Laws of the definitions alone: what holds between the texts of a stream and their readings,
+//! whatever code writes and reads them.
 //!
-//! Each law is the clause of a function that does nothing, so that it is proved with the crate and callers can have it.
+//! Each law is the clause of a function that does nothing, so that it is proved with the crate and
+//! callers can have it.
 
-ghost use Rattle.mig_stream.specs.Law.{HasOneReading, SpelledIsRead, ReadIsSpelled, ClosedIsText, HasOneText, SinglesAreTexts, MainsAreTexts, RecordsStandForPages, ReadingsKeepLimits, LongerTextsStay};
+ghost use Rattle.mig_stream.specs.MachineWritten.{MachineSinglesAreTexts, MachineMainsAreTexts};
+ghost use Rattle.mig_stream.specs.Law.{HasOneReading, SpelledIsRead, ReadIsSpelled, ClosedIsText, MachineClosedIsText, HasOneText, SinglesAreTexts, MainsAreTexts, RecordsStandForPages, ReadingsKeepLimits, LongerTextsStay};
 
-/// Each text has exactly one reading. So whoever reads it, in whatever pieces, finds the same table, the same rounds and
-/// the same first fault.
+/// Each text has exactly one reading. So whoever reads it, in whatever pieces, finds the same
+/// table, the same rounds and the same first fault.
 pub fn text_has_one_reading()
     ensures { HasOneReading }
 {}
@@ -21,7 +23,8 @@ pub fn read_is_spelled()
     ensures { ReadIsSpelled }
 {}
 
-/// Bytes are read to an end byte exactly where a prefix of them is a text, of that table and those rounds.
+/// Bytes are read to an end byte exactly where a prefix of them is a text, of that table and those
+/// rounds.
 pub fn closed_is_text()
     ensures { ClosedIsText }
 {}
@@ -31,23 +34,38 @@ pub fn bytes_have_one_text()
     ensures { HasOneText }
 {}
 
-/// What a writer makes of rounds of a lawful table, which a limit admits, is a single stream, with a round for START and one
-/// for END around them, and its records stand for the pages of the rounds. What it makes of FLUSHes is a main stream with as
-/// many rounds.
+/// What a writer makes of rounds of a lawful table, which a limit admits, is a single stream, with
+/// a round for START and one for END around them, and its records stand for the pages of the
+/// rounds. What it makes of FLUSHes is a main stream with as many rounds.
 pub fn written_is_text()
     ensures single { SinglesAreTexts }
     ensures main { MainsAreTexts }
     ensures pages { RecordsStandForPages }
 {}
 
-/// A text has no more whole rounds than bytes, and none before its table is known; and its table has the page size that was
-/// handed in.
+/// A text has no more whole rounds than bytes, and none before its table is known; and its table
+/// has the page size that was handed in.
 pub fn readings_keep_limits()
     ensures { ReadingsKeepLimits }
 {}
 
-/// What is read of a text stays, whatever bytes follow: its whole rounds are the first ones of the longer text, and its table is
-/// that text's too. After the end byte, or a fault, nothing changes any more.
+/// What is read of a text stays, whatever bytes follow: its whole rounds are the first ones of the
+/// longer text, and its table is that text's too. After the end byte, or a fault, nothing changes
+/// any more.
 pub fn longer_texts_stay()
     ensures { LongerTextsStay }
+{}
+
+/// Bytes are read as a machine's stream to the footer of RAM's END exactly where a prefix of them
+/// is the text of one, of that table and those rounds, whatever follows it.
+pub fn machine_closed_is_text()
+    ensures { MachineClosedIsText }
+{}
+
+/// What a writer makes of rounds, or of FLUSHes, for a machine's stream is the text of one, of the
+/// same rounds. So it is with a machine's name of at most 1,024 bytes in front of RAM's START, and
+/// without one.
+pub fn machine_written_is_text()
+    ensures single { MachineSinglesAreTexts }
+    ensures main { MachineMainsAreTexts }
 {}

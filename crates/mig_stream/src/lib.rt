@@ -1,9 +1,13 @@
-//! The migration stream: the RAM section of QEMU's stream version 3, alone or as the main stream of multifd.
+//! The migration stream: the RAM section of QEMU's stream version 3, alone or as the main stream of
+//! multifd. `Frame::Ram` is that section with nothing beside it, as `StreamWriter` writes it, and
+//! `Frame::Machine` a whole machine's stream as QEMU writes it, read up to the footer of RAM's END.
 //!
-//! The definitions stand in `specs/`, apart from the code of both directions: what a text of a stream is (`Text`), how any bytes
-//! are read, item by item, with every fault by name (`Items`, `Reading`), and the one text that a writer makes (`Written`). The
-//! laws between them are in `laws`. `StreamWriter` writes, and `StreamReader` reads; `RecordReader` reads a single stream that is
-//! there whole, and gives its page records before their section is whole. What travels on the channels beside a main stream, and
+//! The definitions stand in `specs/`, apart from the code of both directions: what a text of a
+//! stream is (`Text`, `Machine`), how any bytes are read, item by item, with every fault by name
+//! (`Items`, `Reading`), and the one text that a writer makes (`Written`, `MachineWritten`). The
+//! laws between them are in `laws`. `StreamWriter` writes, and `StreamReader` reads; `RecordReader`
+//! reads a single stream, whole or piece by piece with a `Pause` between, and gives its page
+//! records before their section is whole. What travels on the channels beside a main stream, and
 //! what becomes of the pages, is for other crates.
 #![tactic(auto)]
 
@@ -27,11 +31,12 @@ mod writer;
 mod zeros;
 
 pub use fault::StreamFault;
-pub use giving::{Given, RecordReader};
-pub use item::{Mode, StreamState};
+pub use giving::{Given, Pause, RecordReader};
+pub use item::{Frame, Mode, StreamState};
 pub use laws::{
-    bytes_have_one_text, closed_is_text, longer_texts_stay, read_is_spelled, readings_keep_limits,
-    spelled_is_read, text_has_one_reading, written_is_text,
+    bytes_have_one_text, closed_is_text, longer_texts_stay, machine_closed_is_text,
+    machine_written_is_text, read_is_spelled, readings_keep_limits, spelled_is_read,
+    text_has_one_reading, written_is_text,
 };
 pub use reader::StreamReader;
 pub use round::StreamRound;

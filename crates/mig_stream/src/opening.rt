@@ -1,4 +1,5 @@
-//! What a stream begins with that a writer makes: file header and START. `StreamWriter::new` calls it.
+//! What a stream begins with that a writer makes: file header and START. `StreamWriter::new` calls
+//! it.
 
 ghost use Rattle.std.specs.Prelude.{◌≡◌, ◌*◌, ◌<◌, ◌≤◌, ◌^◌, ◌++◌, length, IfOk, OnOk};
 ghost use Rattle.std.specs.List.{flat_map};
@@ -10,8 +11,8 @@ use crate::format::RAM_SAVE_FLAG_MEM_SIZE;
 use mig_mem::{NoMemory, Table};
 use std::alloc::Allocator;
 
-// The file header, QEMU_VM_FILE_MAGIC and QEMU_VM_FILE_VERSION; and START's head: QEMU_VM_SECTION_START, the section id 1, the
-// name, RAM_INSTANCE and RAM_VERSION.
+// The file header, QEMU_VM_FILE_MAGIC and QEMU_VM_FILE_VERSION; and START's head:
+// QEMU_VM_SECTION_START, the section id 1, the name, RAM_INSTANCE and RAM_VERSION.
 const HEAD: [u8; 25] = [
     0x51, 0x45, 0x56, 0x4D, 0, 0, 0, 3, 0x01, 0, 0, 0, 1, 3, 0x72, 0x61, 0x6D, 0, 0, 0, 0, 0, 0, 0,
     4,

@@ -1,4 +1,5 @@
-//! The bytes that a reader is given to read, which pass by or stay: `reader` makes them, and `round` copies or lends of them.
+//! The bytes that a reader is given to read, which pass by or stay: `reader` makes them, and
+//! `round` copies or lends of them.
 
 ghost use Rattle.std.specs.Prelude.{◌≡◌, ◌≤◌, length, take, drop};
 ghost use Rattle.mig_stream.specs.Kept.{bytes_of};
@@ -37,6 +38,18 @@ impl<'a, 'b> Piece<'a, 'b> {
                 let (front, back) = bytes.split_at(mid);
                 (Piece::Staying(front), Piece::Staying(back))
             }
+        }
+    }
+}
+
+impl<'a> Piece<'a, 'a> {
+    /// The bytes, for as long as they are lent.
+    pub(crate) fn into_bytes(self) -> &'a [u8]
+        ensures { result.now ≡ bytes_of self.entry }
+    {
+        match self {
+            Piece::Passing(bytes) => bytes,
+            Piece::Staying(bytes) => bytes,
         }
     }
 }

@@ -5,7 +5,7 @@ ghost use Rattle.std.specs.Option.{option_copied};
 ghost use Rattle.mig_mem.specs.PageSize.{IsPageSize};
 ghost use Rattle.mig_stream.specs.declared.item.Due.TheVariants as due;
 ghost use Rattle.mig_stream.specs.Progress.{StreamProgress, start, whole_table};
-ghost use Rattle.mig_stream.specs.Items.{size};
+ghost use Rattle.mig_stream.specs.Items.{size, passed_size};
 ghost use Rattle.mig_stream.specs.Reading.{IsItem, Ends, Reads};
 ghost use Rattle.mig_stream.specs.Taking.{TakesAs, HasTaken, HasTakenTo};
 ghost use Rattle.mig_stream.specs.Entries.{AreListed};
@@ -14,7 +14,7 @@ ghost use Rattle.mig_stream.specs.Later.{checkpoint_of, IsLater, WasSaved};
 ghost use Rattle.mig_stream.specs.Reader.{with_taken};
 
 use crate::entries::Entries;
-use crate::item::{Due, Filling, Mode, Section, StreamState};
+use crate::item::{Due, Filling, Frame, Mode, PassedItem, Section, StreamState, Subsection};
 use crate::piece::Piece;
 use crate::round::{Records, StreamRound};
 use crate::stop::Stop;
@@ -30,6 +30,7 @@ const MANY: usize = 1 << 10;
 /// How far a stream has been read.
 #[derive(Drop)]
 pub(crate) struct Progress<'a, A: Allocator> {
+    pub(crate) frame: Frame,
     pub(crate) mode: Mode,
     pub(crate) entries: Entries<A>,
     pub(crate) due: Due,
@@ -52,6 +53,7 @@ impl<'a, A: Allocator> Model for Progress<'a, A> {
     ghost Value = { StreamProgress };
 
     ghost view = { λ c. record {
+      frame = c.frame;
       mode = c.mode;
       page_size = c.entries.page_size;
       limit = c.entries.limit;
@@ -84,12 +86,19 @@ pub(crate) struct Checkpoint {
 
 impl<'a, A: Allocator + Copy> Progress<'a, A> {
     /// Before the first byte.
-    pub(crate) fn new(alloc: A, mode: Mode, page_size: u64, limit: u64) -> Progress<'a, A>
+    pub(crate) fn new(
+        alloc: A,
+        frame: Frame,
+        mode: Mode,
+        page_size: u64,
+        limit: u64,
+    ) -> Progress<'a, A>
         requires page_size { IsPageSize page_size }
         requires limit { limit ≤ 2 ^ 40 }
-        ensures { result ≡ start mode page_size limit }
+        ensures { result ≡ start frame mode page_size limit }
     {
         Progress {
+            frame,
             mode,
             entries: Entries::new(alloc, page_size, limit),
             due: Due::FileHeader,
@@ -100,6 +109,34 @@ impl<'a, A: Allocator + Copy> Progress<'a, A> {
             filling: 0,
             rounds: VecDeque::new(alloc),
         }
+    }
+
+    /// Lets go of the bytes read so far, where it has no records that lend them.
+    pub(crate) fn without_records<'b>(self) -> Progress<'b, A>
+        requires records { self.records ≡ [] }
+        requires rounds { self.rounds ≡ [] }
+        ensures { result ≡ self.entry }
+    {
+        let alloc = self.records.alloc();
+        Progress {
+            frame: self.frame,
+            mode: self.mode,
+            entries: self.entries,
+            due: self.due,
+            section: self.section,
+            section_id: self.section_id,
+            named: self.named,
+            records: Records::new(alloc),
+            filling: 0,
+            rounds: VecDeque::new(alloc),
+        }
+    }
+
+    /// A round of no records.
+    pub(crate) fn no_round(&self) -> StreamRound<'a, A>
+        ensures { result ≡ record { page_size = self.now.page_size; records = [] } }
+    {
+        StreamRound::new(self.entries.page_size(), Records::new(self.records.alloc()))
     }
 }
 
@@ -124,12 +161,13 @@ impl<'a, A: Allocator + Copy> Progress<'a, A> {
             Due::Content(Filling::Zero, place) => self.fill_byte(place, bytes),
             Due::Content(Filling::Normal, place) => self.page(place, item),
             Due::Footer => self.footer(bytes),
+            Due::Passed(passed) => self.pass(passed, bytes),
             Due::Nothing => Ok(()),
         }
     }
 
-    /// Takes items from the beginning of the bytes, as far as they are whole and without a fault. Gives the bytes that are left,
-    /// and how they stand. After an `Err` some items were taken.
+    /// Takes items from the beginning of the bytes, as far as they are whole and without a fault.
+    /// Gives the bytes that are left, and how they stand. After an `Err` some items were taken.
     pub(crate) fn run<'b>(
         &mut self,
         text: Piece<'a, 'b>,
@@ -143,7 +181,8 @@ impl<'a, A: Allocator + Copy> Progress<'a, A> {
         }
     }
 
-    /// The same, and where pauses are asked for, it may pause after any item: how the bytes that are left stand isn't told then.
+    /// The same, and where pauses are asked for, it may pause after any item: how the bytes that
+    /// are left stand isn't told then.
     pub(crate) fn run_on<'b>(
         &mut self,
         text: Piece<'a, 'b>,
@@ -179,6 +218,23 @@ impl<'a, A: Allocator + Copy> Progress<'a, A> {
     }
 }
 
+// How many bytes an item has that is passed over, as its first bytes say.
+fn passed_size(passed: PassedItem, bytes: &[u8]) -> usize
+    ensures { result ≡ passed_size passed bytes.now }
+{
+    let byte = |at: usize| match bytes.get(at) {
+        Some(byte) => *byte as usize,
+        None => 0,
+    };
+    match passed {
+        PassedItem::Command(_) => 4 + byte(2) * 0x100 + byte(3),
+        PassedItem::SubsectionHead => 5 + byte(0),
+        PassedItem::SubsectionBody(Subsection::Uuid) => 16,
+        PassedItem::SubsectionBody(_) => 4,
+        PassedItem::Capability(_) => 1 + byte(0),
+    }
+}
+
 impl<'a, A: Allocator> Progress<'a, A> {
     /// How many bytes the item has that is due, as its first bytes say.
     pub(crate) fn size(&self, bytes: &[u8]) -> usize
@@ -201,12 +257,14 @@ impl<'a, A: Allocator> Progress<'a, A> {
             Due::Content(Filling::Zero, _) => 1,
             Due::Content(Filling::Normal, _) => page_size,
             Due::Footer => 5,
+            Due::Passed(passed) => passed_size(passed, bytes),
             Due::Nothing => 0,
         }
     }
 
-    // Whether it is time to give the records so far, behind the item that is due: it is a page, whose bytes were just read and lead
-    // to the head that follows them, or the end of a section, or the records are many.
+    // Whether it is time to give the records so far, behind the item that is due: it is a page,
+    // whose bytes were just read and lead to the head that follows them, or the end of a section,
+    // or the records are many.
     fn ends_piece(&self) -> bool {
         match self.due {
             Due::Content(Filling::Normal, _) | Due::Footer => true,
@@ -214,7 +272,7 @@ impl<'a, A: Allocator> Progress<'a, A> {
         }
     }
 
-    // Nothing comes after the end byte.
+    // Nothing comes after the text's end.
     fn is_closed(&self) -> bool
         ensures closed { IsTrue result → self.now.due ≡ due.Nothing }
         ensures open { IsFalse result → self.now.due ≢ due.Nothing }

@@ -1,7 +1,8 @@
-//! The reader of a stream that comes in pieces, or is there whole. The loaders of `mig_load` call it.
+//! The reader of a stream that comes in pieces, or is there whole. The loaders of `mig_load` call
+//! it.
 //!
-//! It keeps what was read as a `Progress`, and of the text only the bytes of an item that isn't whole yet. A piece is read in
-//! place, but for what such an item needs of its beginning.
+//! It keeps what was read as a `Progress`, and of the text only the bytes of an item that isn't
+//! whole yet. A piece is read in place, but for what such an item needs of its beginning.
 
 ghost use Rattle.std.specs.Prelude.{◌≡◌, ◌≢◌, ◌+◌, ◌<◌, ◌≤◌, ◌^◌, ◌++◌, ◌↔◌, ℕ, Bool, List, [], ◌∷◌, length, take, true, false, IsTrue, IsFalse, IsOk, Some, All, IfOk, IfSome, IfNone, OnOk, OnErr};
 ghost use Rattle.std.specs.Option.{option_copied};
@@ -12,12 +13,12 @@ ghost use Rattle.mig_stream.specs.declared.item.StreamState.TheVariants as state
 ghost use Rattle.mig_stream.specs.PageRecord.{PageRecord};
 ghost use Rattle.mig_stream.specs.Items.{size};
 ghost use Rattle.mig_stream.specs.Taking.{HasTaken};
-ghost use Rattle.mig_stream.specs.Reading.{settings, state_at};
+ghost use Rattle.mig_stream.specs.Reading.{settings, in_frame, state_at};
 ghost use Rattle.mig_stream.specs.Kept.{bytes_of};
-ghost use Rattle.mig_stream.specs.Reader.{IsUnfinished, ReadsOn, nothing_yet, with_piece, over, one_taken, Stands, StepsOn, Tells, waiting, HasState, IsSettled, HasTable, HasRound};
+ghost use Rattle.mig_stream.specs.Reader.{IsUnfinished, ReadsOn, nothing_yet, with_piece, over, one_taken, Stands, StepsOn, Tells, waiting, HasState, IsSettled, HasClosedAt, HasTable, HasRound};
 
 use crate::StreamFault;
-use crate::item::{Mode, StreamState};
+use crate::item::{Frame, Mode, StreamState};
 use crate::piece::Piece;
 use crate::progress::Progress;
 use crate::round::StreamRound;
@@ -26,7 +27,8 @@ use mig_mem::{NoMemory, Table};
 use std::alloc::{Allocator, Global};
 use std::marker::Model;
 
-/// Reads a stream from pieces of its text. What it tells is the reading of all bytes fed, however they were cut.
+/// Reads a stream from pieces of its text. What it tells is the reading of all bytes fed, however
+/// they were cut.
 #[derive(Drop)]
 pub struct StreamReader<'a, A: Allocator = Global> {
     progress: Progress<'a, A>,
@@ -34,6 +36,8 @@ pub struct StreamReader<'a, A: Allocator = Global> {
     pending: Vec<u8, A>,
     // how the bytes fed stand
     found: StreamState,
+    // how many bytes the stream has, once it is closed
+    closed_at: u64,
     fed: u64,
     ended: bool,
 }
@@ -45,7 +49,7 @@ impl<'a, A: Allocator> Model for StreamReader<'a, A> {
 
     ghost Value = { Reader };
 
-    ghost view = { λ r. record { progress = r.progress; pending = r.pending.items; found = r.found; fed = r.fed; ended = r.ended } };
+    ghost view = { λ r. record { progress = r.progress; pending = r.pending.items; found = r.found; closed_at = r.closed_at; fed = r.fed; ended = r.ended } };
 
     ghost invariant = { λ r. r.found ≡ state.Reading → IsUnfinished r.progress r.pending.items };
 }
@@ -60,9 +64,9 @@ fn state_at(ended: bool, found: StreamState) -> StreamState
     }
 }
 
-// Fills the pending item up from the beginning of a piece. Gives what is left of the piece, or None where the item isn't whole
-// with all of it.
-fn complete<'b, A: Allocator>(
+/// Fills the pending item up from the beginning of a piece. Gives what is left of the piece, or
+/// None where the item isn't whole with all of it.
+pub(crate) fn complete<'b, A: Allocator>(
     progress: &Progress<'_, A>,
     pending: &mut Vec<u8, A>,
     piece: &'b [u8],
@@ -100,13 +104,14 @@ fn keep<A: Allocator>(kept: &mut Vec<u8, A>, bytes: &[u8]) -> Result<(), NoMemor
     Ok(())
 }
 
-// Reads bytes in place, and keeps those of an item that isn't whole. After an `Err` some items were taken.
+// Reads bytes in place, and keeps those of an item that isn't whole. Returns how the text stands,
+// and how many bytes are left. After an `Err` some items were taken.
 fn read_in_place<'a, A: Allocator + Copy>(
     progress: &mut Progress<'a, A>,
     pending: &mut Vec<u8, A>,
     bytes: Piece<'a, '_>,
-) -> Result<StreamState, NoMemory>
-    ensures ok { IfOk result (λ found. ReadsOn progress.old (bytes_of bytes.entry) progress.new pending.new.items found) }
+) -> Result<(StreamState, usize), NoMemory>
+    ensures ok { IfOk result (λ r. ReadsOn progress.old (bytes_of bytes.entry) progress.new pending.new.items r.1 r.0) }
     ensures err { OnErr result (HasTaken progress.old (bytes_of bytes.entry) progress.new) }
     ensures kept { OnErr result (pending.new.items ≡ pending.old.items) }
 {
@@ -115,18 +120,18 @@ fn read_in_place<'a, A: Allocator + Copy>(
         StreamState::Reading => keep(pending, rest.bytes())?,
         _ => pending.clear(),
     }
-    Ok(found)
+    Ok((found, rest.bytes().len()))
 }
 
-// Reads a piece that follows the pending bytes. After an `Err` some items were taken, and the pending bytes have others after
-// them.
+// Reads a piece that follows the pending bytes. After an `Err` some items were taken, and the
+// pending bytes have others after them.
 fn read<A: Allocator + Copy>(
     progress: &mut Progress<'_, A>,
     pending: &mut Vec<u8, A>,
     piece: &[u8],
-) -> Result<StreamState, NoMemory>
+) -> Result<(StreamState, usize), NoMemory>
     requires { IsUnfinished progress.old pending.old.items }
-    ensures ok { IfOk result (λ found. ReadsOn progress.old (pending.old.items ++ piece.now) progress.new pending.new.items found) }
+    ensures ok { IfOk result (λ r. ReadsOn progress.old (pending.old.items ++ piece.now) progress.new pending.new.items r.1 r.0) }
     ensures err { OnErr result (HasTaken progress.old (pending.old.items ++ piece.now) progress.new) }
     ensures kept { OnErr result (take (length pending.old.items) pending.new.items ≡ pending.old.items) }
 {
@@ -134,17 +139,18 @@ fn read<A: Allocator + Copy>(
         return read_in_place(progress, pending, Piece::Passing(piece));
     }
     let Some(rest) = complete(progress, pending, piece)? else {
-        return Ok(StreamState::Reading);
+        return Ok((StreamState::Reading, pending.len()));
     };
     match progress.take(Piece::Passing(pending)) {
         Ok(()) => read_in_place(progress, pending, Piece::Passing(rest)),
-        Err(Stop::Fault(fault)) => Ok(StreamState::Bad(fault)),
+        Err(Stop::Fault(fault)) => Ok((StreamState::Bad(fault), pending.len() + rest.len())),
         Err(Stop::Memory) => Err(NoMemory),
     }
 }
 
 impl<'a, A: Allocator + Copy> StreamReader<'a, A> {
-    /// A reader that was fed nothing, of a stream of this mode and page size whose size list has at most `limit` bytes.
+    /// A reader that was fed nothing, of a stream of this mode and page size whose size list has at
+    /// most `limit` bytes.
     pub fn new(alloc: A, mode: Mode, page_size: u64, limit: u64) -> StreamReader<'a, A>
         requires page_size { IsPageSize page_size }
         requires limit { limit ≤ 2 ^ 40 }
@@ -152,16 +158,36 @@ impl<'a, A: Allocator + Copy> StreamReader<'a, A> {
         ensures open { IsFalse result.ended }
         ensures fed { result.fed ≡ 0 }
     {
+        StreamReader::new_in(alloc, Frame::Ram, mode, page_size, limit)
+    }
+
+    /// Creates a reader that was fed nothing, for a stream of `frame` and `mode` with pages of
+    /// `page_size` bytes. Its size list may add up to at most `limit` bytes.
+    pub fn new_in(
+        alloc: A,
+        frame: Frame,
+        mode: Mode,
+        page_size: u64,
+        limit: u64,
+    ) -> StreamReader<'a, A>
+        requires page_size { IsPageSize page_size }
+        requires limit { limit ≤ 2 ^ 40 }
+        ensures stands { Stands (in_frame frame (settings mode page_size limit)) nothing_yet result }
+        ensures open { IsFalse result.ended }
+        ensures fed { result.fed ≡ 0 }
+    {
         StreamReader {
-            progress: Progress::new(alloc, mode, page_size, limit),
+            progress: Progress::new(alloc, frame, mode, page_size, limit),
             pending: Vec::new(alloc),
             found: StreamState::Reading,
+            closed_at: 0,
             fed: 0,
             ended: false,
         }
     }
 
-    /// A reader that was fed this text. The bytes of its pages are not copied: the rounds lend them from the text.
+    /// A reader that was fed this text. The bytes of its pages are not copied: the rounds lend them
+    /// from the text.
     pub fn of_text(
         alloc: A,
         mode: Mode,
@@ -175,20 +201,45 @@ impl<'a, A: Allocator + Copy> StreamReader<'a, A> {
         ensures open { IfOk result (λ r. IsFalse r.ended) }
         ensures fed { IfOk result (λ r. r.fed ≡ length text.now) }
     {
-        let mut progress = Progress::new(alloc, mode, page_size, limit);
+        StreamReader::of_text_in(alloc, Frame::Ram, mode, page_size, limit, text)
+    }
+
+    /// Creates a reader that was fed `text`, a stream of `frame` and `mode` with pages of
+    /// `page_size` bytes. Its size list may add up to at most `limit` bytes. The bytes of pages are
+    /// not copied: the rounds lend them from `text`.
+    ///
+    /// # Errors
+    ///
+    /// `NoMemory`: an allocation was refused.
+    pub fn of_text_in(
+        alloc: A,
+        frame: Frame,
+        mode: Mode,
+        page_size: u64,
+        limit: u64,
+        text: &'a [u8],
+    ) -> Result<StreamReader<'a, A>, NoMemory>
+        requires page_size { IsPageSize page_size }
+        requires limit { limit ≤ 2 ^ 40 }
+        ensures stands { IfOk result (λ r. Stands (in_frame frame (settings mode page_size limit)) (with_piece text.now nothing_yet) r) }
+        ensures open { IfOk result (λ r. IsFalse r.ended) }
+        ensures fed { IfOk result (λ r. r.fed ≡ length text.now) }
+    {
+        let mut progress = Progress::new(alloc, frame, mode, page_size, limit);
         let mut pending = Vec::new(alloc);
-        let found = read_in_place(&mut progress, &mut pending, Piece::Staying(text))?;
+        let (found, left) = read_in_place(&mut progress, &mut pending, Piece::Staying(text))?;
         Ok(StreamReader {
             progress,
             pending,
             found,
+            closed_at: text.len().saturating_sub(left) as u64,
             fed: text.len() as u64,
             ended: false,
         })
     }
 
-    /// Takes the next piece of the text. After the end byte, or a fault, its bytes are only counted, which is never refused. An
-    /// `Err` changes nothing.
+    /// Takes the next piece of the text. Once it is closed or bad, the bytes fed are only
+    /// counted, which is never refused. An `Err` changes nothing.
     pub fn feed(&mut self, piece: &[u8]) -> Result<(), NoMemory>
         requires open { IsFalse self.old.ended }
         requires room { self.old.fed + length piece.now < 2 ^ 64 }
@@ -202,24 +253,25 @@ impl<'a, A: Allocator + Copy> StreamReader<'a, A> {
             self.fed += piece.len() as u64;
             return Ok(());
         }
-        self.read_on(piece)?;
+        let left = self.read_on(piece)?;
         self.fed += piece.len() as u64;
+        self.closed_at = self.fed.saturating_sub(left as u64);
         Ok(())
     }
 
-    // Reads on. An `Err` changes nothing.
-    fn read_on(&mut self, piece: &[u8]) -> Result<(), NoMemory>
+    // Reads on, and returns how many bytes are left. An `Err` changes nothing.
+    fn read_on(&mut self, piece: &[u8]) -> Result<usize, NoMemory>
         requires { self.old.found ≡ state.Reading }
-        ensures ok { OnOk result (ReadsOn self.old.progress (self.old.pending ++ piece.now) self.new.progress self.new.pending self.new.found) }
+        ensures ok { IfOk result (λ left. ReadsOn self.old.progress (self.old.pending ++ piece.now) self.new.progress self.new.pending left self.new.found) }
         ensures same { OnOk result ((self.new.fed ≡ self.old.fed) × (self.new.ended ≡ self.old.ended)) }
         ensures err { OnErr result (self.new ≡ self.old) }
     {
         let checkpoint = self.progress.checkpoint();
         let len = self.pending.len();
         match read(&mut self.progress, &mut self.pending, piece) {
-            Ok(found) => {
+            Ok((found, left)) => {
                 self.found = found;
-                Ok(())
+                Ok(left)
             }
             Err(error) => {
                 self.progress.undo(checkpoint);
@@ -241,7 +293,8 @@ impl<'a, A: Allocator> StreamReader<'a, A> {
         }
     }
 
-    /// The text is over: a reader that isn't closed or bad is bad from now on, with `Truncated`. A second call changes nothing.
+    /// The text is over: a reader that isn't closed or bad is bad from now on, with `Truncated`. A
+    /// second call changes nothing.
     pub fn end(&mut self)
         ensures value { self.new ≡ record self.old { ended = true } }
         ensures stands { StepsOn over self.old self.new }
@@ -270,6 +323,18 @@ impl<'a, A: Allocator> StreamReader<'a, A> {
         state_at(self.ended, self.found)
     }
 
+    /// Returns how many of the bytes fed the stream has, once it is closed: those up to its end
+    /// byte, or in a machine's stream up to the footer of RAM's END. The bytes fed after them are
+    /// left to the caller.
+    pub fn closed_at(&self) -> Option<u64>
+        ensures { Tells self.now (λ given so_far. HasClosedAt given so_far.text result) }
+    {
+        match self.found {
+            StreamState::Closed => Some(self.closed_at),
+            _ => None,
+        }
+    }
+
     /// The table, as soon as the size list is whole. It stays, also where a fault follows.
     pub fn table(&self) -> Option<&Table<A>>
         ensures { Tells self.now (λ given so_far. HasTable given so_far.text (option_copied result)) }
@@ -277,7 +342,8 @@ impl<'a, A: Allocator> StreamReader<'a, A> {
         self.progress.table()
     }
 
-    /// The next whole round that was not taken, in the order of the text. It allocates nothing, and is always `Ok`.
+    /// The next whole round that was not taken, in the order of the text. It allocates nothing, and
+    /// is always `Ok`.
     pub fn take_round(&mut self) -> Result<Option<StreamRound<'a, A>>, NoMemory>
         ensures ok { IsOk result }
         ensures none { IfOk result (λ o. IfNone o (self.new ≡ self.old)) }

@@ -1,7 +1,8 @@
 //! Page records as they are kept, each in 24 bytes, for `round`.
 //!
-//! The bytes of copied pages lie together in buffers, so that most pages need no allocation of their own. A buffer belongs to the
-//! record of its first page, and the records behind it say where in it their bytes are.
+//! The bytes of copied pages lie together in buffers, so that most pages need no allocation of
+//! their own. A buffer belongs to the record of its first page, and the records behind it say where
+//! in it their bytes are.
 
 ghost use Rattle.std.specs.Prelude.{◌≡◌, ◌+◌, ◌<◌, ◌≤◌, ◌^◌, ◌++◌, [], ◌∷◌, length, take, None, Some, IfOk, IfSome, IfNone};
 ghost use Rattle.std.specs.Option.{option_copied};
@@ -60,7 +61,8 @@ pub(crate) fn place_of(block: u8, page: u32) -> Place
     }
 }
 
-// Puts bytes behind those of a buffer, where there is room. Gives from where on, and up to where, they lie.
+// Puts bytes behind those of a buffer, where there is room. Gives from where on, and up to where,
+// they lie.
 fn append<A: Allocator>(buffer: &mut Vec<u8, A>, bytes: &[u8]) -> Option<(u32, u32)>
     ensures some { IfSome result (λ s. (buffer.new.items ≡ buffer.old.items ++ bytes.now)
         × (s.0 ≡ length buffer.old.items) × (s.1 ≡ length buffer.new.items)) }

@@ -1,4 +1,5 @@
-//! The rounds of a stream: their page records. `Progress` fills them, `StreamReader::take_round` gives them, and `Target` reads them.
+//! The rounds of a stream: their page records. `Progress` fills them, `StreamReader::take_round`
+//! gives them, and `Target` reads them.
 
 ghost use Rattle.std.specs.Prelude.{◌≡◌, ◌<◌, ◌^◌, ◌++◌, [], ◌∷◌, length, take, None, Some, IfSome, IfOk, OnOk, OnErr, vec_len, vec_capacity};
 ghost use Rattle.std.specs.Option.{option_copied};
@@ -12,8 +13,8 @@ use std::alloc::{Allocator, Global};
 use std::marker::Model;
 use std::mem;
 
-// Makes room for one more record: as much again as there is, and at first for one, since a text may have many rounds of few
-// records.
+// Makes room for one more record: as much again as there is, and at first for one, since a text may
+// have many rounds of few records.
 #[inline(never)]
 fn grow<A: Allocator>(records: &mut Vec<Record<'_, A>, A>) -> Result<(), NoMemory>
     ensures items { records.new.items ≡ records.old.items }
@@ -140,8 +141,14 @@ impl<'a, A: Allocator + Copy> Records<'a, A> {
         }
     }
 
-    /// Adds a record of a page with these bytes, which may go into the buffer of the record of a number. Gives the number
-    /// of the record whose buffer may have room for the next one. An `Err` changes nothing.
+    /// The allocator of its lists and buffers.
+    pub(crate) fn alloc(&self) -> A {
+        *self.items.allocator()
+    }
+
+    /// Adds a record of a page with these bytes, which may go into the buffer of the record of a
+    /// number. Gives the number of the record whose buffer may have room for the next one. An `Err`
+    /// changes nothing.
     pub(crate) fn push_page(
         &mut self,
         owner: usize,
@@ -244,7 +251,8 @@ impl<'a, A: Allocator> StreamRound<'a, A> {
         self.records.place(i)
     }
 
-    /// What a record says that its page holds, as many bytes as the page size: None is a zero record.
+    /// What a record says that its page holds, as many bytes as the page size: None is a zero
+    /// record.
     pub fn content(&self, i: usize) -> Option<&[u8]>
         requires { i < length self.now.records }
         ensures value { option_copied result ≡ (record_at self.now.records i).content }

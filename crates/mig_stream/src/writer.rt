@@ -1,4 +1,5 @@
-//! The writer of a stream: of one table and some parts it makes the one text that `specs/Written.antt` says. The senders of `mig_send` call it.
+//! The writer of a stream: of one table and some parts it makes the one text that
+//! `specs/Written.antt` says. The senders of `mig_send` call it.
 //!
 //! It only appends. Which rounds there are, and which stream a part belongs to, is for its caller.
 
@@ -12,6 +13,7 @@ ghost use Rattle.mig_stream.specs.Fields.{counted};
 ghost use Rattle.mig_stream.specs.Format.{flags_of};
 ghost use Rattle.mig_stream.specs.PageRecord.{page_kind};
 ghost use Rattle.mig_stream.specs.Written.{Part, RoundPart, FlushPart, is_named, opening, closing, written, written_so_far};
+ghost use Rattle.mig_stream.specs.MachineWritten.{machine_written};
 ghost use Rattle.mig_stream.specs.Writer.{HasWritten, HasDrained, HasPut, with_pages, with_part, KeepsFront};
 
 use crate::format::{CONTINUED_PAGE, CONTINUED_ZERO, RAM_SAVE_FLAG_PAGE, RAM_SAVE_FLAG_ZERO};
@@ -29,12 +31,18 @@ const FLUSH_PART: [u8; 26] = [
     0x02, 0, 0, 0, 1, 0, 0, 0, 0, 0, 0, 0x02, 0, 0, 0, 0, 0, 0, 0, 0, 0x10, 0x7E, 0, 0, 0, 1,
 ];
 
-// QEMU_VM_SECTION_END with RAM_SAVE_FLAG_EOS alone and its footer, and QEMU_VM_EOF.
+// QEMU_VM_SECTION_END with RAM_SAVE_FLAG_EOS alone and its footer.
+const END: [u8; 18] = [
+    0x03, 0, 0, 0, 1, 0, 0, 0, 0, 0, 0, 0, 0x10, 0x7E, 0, 0, 0, 1,
+];
+
+// QEMU_VM_SECTION_END as in `END`, and QEMU_VM_EOF.
 const CLOSING: [u8; 19] = [
     0x03, 0, 0, 0, 1, 0, 0, 0, 0, 0, 0, 0, 0x10, 0x7E, 0, 0, 0, 1, 0x00,
 ];
 
-/// Writes a stream: the file header and START when it is made, a PART for each part, and END when it is finished.
+/// Writes a stream: the file header and START when it is made, a PART for each part, and END when
+/// it is finished.
 #[derive(Drop)]
 pub struct StreamWriter<A: Allocator = Global> {
     table: Table<A>,
@@ -128,7 +136,8 @@ impl<A: Allocator> StreamWriter<A> {
         Ok(())
     }
 
-    // Writes the records of the dirty pages, in the order of their places; after an `Err` some of them may stand.
+    // Writes the records of the dirty pages, in the order of their places; after an `Err` some of
+    // them may stand.
     fn put_pages<G: GuestPages, C: Allocator>(
         &mut self,
         image: &G,
@@ -244,8 +253,9 @@ impl<A: Allocator> StreamWriter<A> {
         }
     }
 
-    /// Hands out the bytes that were written and not drained yet: all that stands of the text so far is what was drained in all.
-    /// What is drained, piece after piece, and then what `finish` gives is the text. It allocates nothing.
+    /// Hands out the bytes that were written and not drained yet: all that stands of the text so
+    /// far is what was drained in all. What is drained, piece after piece, and then what `finish`
+    /// gives is the text. It allocates nothing.
     pub fn drain(&mut self) -> Vec<u8, A>
     where
         A: Copy,
@@ -260,8 +270,8 @@ impl<A: Allocator> StreamWriter<A> {
         bytes
     }
 
-    /// As `drain`, into a buffer: what it held is dropped, and its room is used for what is written next. So two buffers serve
-    /// for a stream of any length.
+    /// As `drain`, into a buffer: what it held is dropped, and its room is used for what is written
+    /// next. So two buffers serve for a stream of any length.
     pub fn drain_into(&mut self, bytes: &mut Vec<u8, A>)
         ensures table { self.new.table ≡ self.old.table }
         ensures all { (drained : List ℕ) (parts : List Part) → HasDrained drained self.old parts
@@ -273,13 +283,38 @@ impl<A: Allocator> StreamWriter<A> {
         std::mem::swap(&mut self.text, bytes);
     }
 
-    /// Ends the stream and gives its text, or what of it wasn't drained; an `Err` gives the writer back as it was.
-    pub fn finish(mut self) -> Result<Vec<u8, A>, StreamWriter<A>>
+    /// Ends the stream and gives its text, or what of it wasn't drained; an `Err` gives the writer
+    /// back as it was.
+    pub fn finish(self) -> Result<Vec<u8, A>, StreamWriter<A>>
         ensures ok { IfOk result (λ text. (drained : List ℕ) (parts : List Part) → HasDrained drained self parts
             → drained ++ text.items ≡ written self.table parts) }
         ensures err { IfErr result (λ w. w ≡ self) }
     {
-        match self.text.extend_from_slice(&CLOSING) {
+        self.finish_with(&CLOSING)
+    }
+
+    /// Ends RAM's sections without the stream's end byte, and returns the bytes that weren't
+    /// drained. The caller goes on with the sections of devices and the end byte
+    /// (`qemu_savevm_state_complete_precopy` in QEMU's `migration/savevm.c`).
+    ///
+    /// # Errors
+    ///
+    /// The writer, as it was: an allocation was refused.
+    pub fn finish_open(self) -> Result<Vec<u8, A>, StreamWriter<A>>
+        ensures ok { IfOk result (λ text. (drained : List ℕ) (parts : List Part) → HasDrained drained self parts
+            → drained ++ text.items ≡ machine_written None self.table parts) }
+        ensures err { IfErr result (λ w. w ≡ self) }
+    {
+        self.finish_with(&END)
+    }
+
+    // Appends the stream's last bytes, and gives those that weren't drained; an `Err` gives the
+    // writer back as it was.
+    fn finish_with(mut self, last: &[u8]) -> Result<Vec<u8, A>, StreamWriter<A>>
+        ensures ok { IfOk result (λ text. text.items ≡ self.text ++ last.now) }
+        ensures err { IfErr result (λ w. w ≡ self) }
+    {
+        match self.text.extend_from_slice(last) {
             Ok(()) => {
                 let StreamWriter {
                     table: _,
@@ -293,8 +328,9 @@ impl<A: Allocator> StreamWriter<A> {
     }
 }
 
-/// A part that is being written, page after page: a round whose pages are what its caller read, as of a guest that runs on. It
-/// has the writer until the part is ended or cancelled; whoever drops it drops the writer too, and so gives up the stream.
+/// A part that is being written, page after page: a round whose pages are what its caller read, as
+/// of a guest that runs on. It has the writer until the part is ended or cancelled; whoever drops
+/// it drops the writer too, and so gives up the stream.
 #[derive(Drop)]
 pub struct OpenPart<A: Allocator = Global> {
     writer: StreamWriter<A>,
@@ -322,8 +358,9 @@ impl<A: Allocator> OpenPart<A> {
         self.writer.table()
     }
 
-    /// Writes a page: a place of the table, for which `Table::holds` is the test, and its bytes. Places come in any order, and
-    /// of several pages at one place the last one counts. An `Err` changes nothing, so the page can be put again.
+    /// Writes a page: a place of the table, for which `Table::holds` is the test, and its bytes.
+    /// Places come in any order, and of several pages at one place the last one counts. An `Err`
+    /// changes nothing, so the page can be put again.
     pub fn put_page(&mut self, place: Place, bytes: &[u8]) -> Result<(), NoMemory>
         requires place { IsPlace self.old.before.table place }
         requires bytes { length bytes.now ≡ self.old.before.table.page_size }
@@ -341,7 +378,8 @@ impl<A: Allocator> OpenPart<A> {
         put
     }
 
-    /// Ends the part: the round of the pages that were put, in the order in which they were. An `Err` gives it back as it was.
+    /// Ends the part: the round of the pages that were put, in the order in which they were. An
+    /// `Err` gives it back as it was.
     pub fn end_part(mut self) -> Result<StreamWriter<A>, OpenPart<A>>
         ensures table { IfOk result (λ w. w.table ≡ self.before.table) }
         ensures ok { IfOk result (λ w. (pages : List Page) → HasPut self pages → (drained : List ℕ) (parts : List Part) → HasDrained drained self.before parts

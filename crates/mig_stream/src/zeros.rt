@@ -1,8 +1,8 @@
 //! The records of zero pages, many at once.
 //!
-//! Most records of a guest that has hardly been used are such. A record is two items, or three where it names its block; here it is
-//! judged and noted whole. Whatever isn't a whole record of a zero page without a fault is left to the items one by one, which
-//! judge it anew.
+//! Most records of a guest that has hardly been used are such. A record is two items, or three
+//! where it names its block; here it is judged and noted whole. Whatever isn't a whole record of a
+//! zero page without a fault is left to the items one by one, which judge it anew.
 
 ghost use Rattle.std.specs.Prelude.{◌≡◌, ◌+◌, ◌<◌, ◌≤◌, ◌++◌, [], ◌∷◌, false, is_none, length, slice_index, Some, None, IfOk, IfSome, OnOk, OnErr};
 ghost use Rattle.mig_mem.specs.RamTable.{block, block_of};
@@ -23,15 +23,18 @@ use std::alloc::Allocator;
 /// How many bytes a record's head has.
 const HEAD_LEN: usize = 8;
 
-/// How many bytes a zero page's record has that leaves its block's id out: its head, and the fill byte.
+/// How many bytes a zero page's record has that leaves its block's id out: its head, and the fill
+/// byte.
 const CONTINUED_LEN: usize = 9;
 
-/// How many bytes are looked at in one go: more would leave more records to be given at once than caches hold.
+/// How many bytes are looked at in one go: more would leave more records to be given at once than
+/// caches hold.
 const NEAR: usize = 1 << 14;
 
 impl<'a, A: Allocator> Progress<'a, A> {
-    /// Takes the records of zero pages at the front of the bytes, as far as they are whole and without a fault, where a record is
-    /// due, or the first of very many. Gives the bytes behind them. After an `Err` some were taken.
+    /// Takes the records of zero pages at the front of the bytes, as far as they are whole and
+    /// without a fault, where a record is due, or the first of very many. Gives the bytes behind
+    /// them. After an `Err` some were taken.
     #[tactic(auto, using(crate::proofs::ZeroRecords::none_taken))]
     #[inline(always)]
     pub(crate) fn pass_zeros<'b>(&mut self, text: Piece<'a, 'b>) -> Result<Piece<'a, 'b>, NoMemory>
@@ -157,7 +160,8 @@ impl<'a, A: Allocator> Progress<'a, A> {
         Ok(CONTINUED_LEN + name_len)
     }
 
-    // The place of a page in the block that a length byte and an id name. None where there is no such block or page.
+    // The place of a page in the block that a length byte and an id name. None where there is no
+    // such block or page.
     #[inline(always)]
     fn named_place(&self, name: &[u8], page: u64) -> Option<Place>
         requires { length name.now ≡ 1 + slice_index name.now 0 }

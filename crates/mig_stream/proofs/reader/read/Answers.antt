@@ -1,4 +1,4 @@
-use Rattle.std.proofs.Common.{◌≡◌, sym, subst, ap, ◌∙◌, ◌++◌, length, List, ℕ, None, Err}
+use Rattle.std.proofs.Common.{◌≡◌, sym, subst, ap, ◌∙◌, ◌++◌, ◌+◌, length, List, ℕ, None, Err, rules}
 use Rattle.std.proofs.lemmas.Result.{IfOk-weaker, IfErr-weaker}
 use Rattle.mig_stream.specs.declared.fault.StreamFault.{StreamFault}
 use Rattle.mig_stream.specs.declared.item.StreamState.TheVariants.{Bad}
@@ -13,7 +13,7 @@ use Rattle.mig_stream.proofs.reader.read.Goals as goal
 
 pub returns-in_default-clause-ok : goal.returns-in_default-clause-ok
 returns-in_default-clause-ok g c =
-    still_short c.in_ok-rest.field-0 c.args.progress.now c.args.pending.now.items c.args.piece.now c.complete.new.pending.items c.in_default.is c.in_ok-rest.ensures.short
+    still_short c.in_ok-rest.field-0 c.args.progress.now c.args.pending.now.items c.args.piece.now c.complete.new.pending.items c.len.result (search rules) c.in_default.is c.in_ok-rest.ensures.short
 
 pub returns-in-Ok-clause-ok : goal.returns-in-Ok-clause-ok
 returns-in-Ok-clause-ok g c =
@@ -25,10 +25,10 @@ returns-in-Ok-clause-ok g c =
     let is : IsItem p.page_size p.due item = record { is_due = is_due p.page_size p.due c.args.pending.now.items c.requires; is_whole = whole } in
     let free : first_fault p item ≡ None = ap (λ (x : List ℕ). first_fault p x) (sym c.deref.ensures.value) ∙ c.in-Ok.ensures.0 in
     let next : c.take.new.self ≡ after p item = c.in-Ok.ensures.1 ∙ ap (λ (x : List ℕ). after p x) c.deref.ensures.value in
-    IfOk-weaker c.read_in_place-in-Ok.result (λ found. ReadsOn c.take.new.self c.in-Some.rest.now c.read_in_place-in-Ok.new.progress c.read_in_place-in-Ok.new.pending.items found)
-    (λ found. ReadsOn p (c.args.pending.now.items ++ c.args.piece.now) c.read_in_place-in-Ok.new.progress c.read_in_place-in-Ok.new.pending.items found)
-    (λ found r. subst (λ (x : List ℕ). ReadsOn p x c.read_in_place-in-Ok.new.progress c.read_in_place-in-Ok.new.pending.items found) text
-    (reads_behind p c.take.new.self c.read_in_place-in-Ok.new.progress item c.in-Some.rest.now c.read_in_place-in-Ok.new.pending.items found is free next r)) c.read_in_place-in-Ok.ensures.ok
+    IfOk-weaker c.read_in_place-in-Ok.result (λ t. ReadsOn c.take.new.self c.in-Some.rest.now c.read_in_place-in-Ok.new.progress c.read_in_place-in-Ok.new.pending.items t.1 t.0)
+    (λ t. ReadsOn p (c.args.pending.now.items ++ c.args.piece.now) c.read_in_place-in-Ok.new.progress c.read_in_place-in-Ok.new.pending.items t.1 t.0)
+    (λ t r. subst (λ (x : List ℕ). ReadsOn p x c.read_in_place-in-Ok.new.progress c.read_in_place-in-Ok.new.pending.items t.1 t.0) text
+    (reads_behind p c.take.new.self c.read_in_place-in-Ok.new.progress item c.in-Some.rest.now c.read_in_place-in-Ok.new.pending.items t.1 t.0 is free next r)) c.read_in_place-in-Ok.ensures.ok
 
 pub returns-in-Ok-clause-err : goal.returns-in-Ok-clause-err
 returns-in-Ok-clause-err g c =
@@ -53,5 +53,6 @@ returns-in-Err-Fault-clause-ok g c =
     let is : IsItem p.page_size p.due item = record { is_due = is_due p.page_size p.due c.args.pending.now.items c.requires; is_whole = whole } in
     let taken : TakesAs p p.due c.deref.result.now c.take.new.self (Err (Fault c.in-Err-Fault.fault)) =
     subst (λ (x : Stop). TakesAs p p.due c.deref.result.now c.take.new.self (Err x)) c.in-Err-Fault.field-0-is c.in-Err-Fault.ensures in
-    let read = whole_fault p c.take.new.self c.args.pending.now.items c.args.piece.now item c.in-Some.rest.now item c.in-Err-Fault.fault text is (ap (λ (x : List ℕ). first_fault p x) (sym c.deref.ensures.value) ∙ taken.0) taken.1 in
-    subst (λ (x : StreamFault). ReadsOn p (c.args.pending.now.items ++ c.args.piece.now) c.take.new.self item (Bad x)) (sym c.in-Err-Fault.fault-is) read
+    let len : c.len-in-Err-Fault.result ≡ length item = search rules in
+    let read = whole_fault p c.take.new.self c.args.pending.now.items c.args.piece.now item c.in-Some.rest.now item (c.len-in-Err-Fault.result + length c.in-Some.rest.now) c.in-Err-Fault.fault (ap (λ (x : ℕ). x + length c.in-Some.rest.now) len) text is (ap (λ (x : List ℕ). first_fault p x) (sym c.deref.ensures.value) ∙ taken.0) taken.1 in
+    subst (λ (x : StreamFault). ReadsOn p (c.args.pending.now.items ++ c.args.piece.now) c.take.new.self item (c.len-in-Err-Fault.result + length c.in-Some.rest.now) (Bad x)) (sym c.in-Err-Fault.fault-is) read

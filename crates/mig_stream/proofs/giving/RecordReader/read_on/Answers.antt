@@ -1,4 +1,4 @@
-use Rattle.std.proofs.Common.{◌≡◌, sym, ap, refl, subst, ◌∙◌}
+use Rattle.std.proofs.Common.{sym, subst}
 use Rattle.mig_stream.specs.Giving.{Giver, Gives}
 use Rattle.mig_stream.proofs.giving.RecordReader.read_on.Goals as goal
 use Rattle.mig_stream.proofs.giving.RecordReader.read_on.Goals.{then-is_none+in_ok-read, else-is_none}

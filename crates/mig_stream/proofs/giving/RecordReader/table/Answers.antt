@@ -1,4 +1,4 @@
-use Rattle.std.proofs.Common.{sym, ap, refl, ◌∙◌}
+use Rattle.std.proofs.Common.{ap, refl, ◌∙◌}
 use Rattle.mig_stream.specs.Progress.{whole_table}
 use Rattle.mig_stream.specs.Giving.{Giver}
 use Rattle.mig_stream.proofs.Giver.{table_each}

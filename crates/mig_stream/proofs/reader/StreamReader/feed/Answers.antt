@@ -1,19 +1,20 @@
-use Rattle.std.proofs.Common.{refl, sym, subst, ◌+◌, length}
+use Rattle.std.proofs.Common.{refl, sym, ap, ◌∙◌, subst, ◌+◌, ◌-◌, length}
 use Rattle.mig_stream.specs.Reader.{Reader, StepsOn, with_piece}
 use Rattle.mig_stream.proofs.Standing.{fed_on, fed_past, unsettled}
 use Rattle.mig_stream.proofs.reader.StreamReader.feed.Goals as goal
 
 pub returns-clause-stands : goal.returns-clause-stands
 returns-clause-stands g c =
-    subst (λ (x : Reader). StepsOn (with_piece c.args.piece.now) c.args.self.now (record x { fed = x.fed + length c.args.piece.now })) (sym c.self-2.view_is)
-    (fed_on c.args.self.now c.read_on.new.self c.args.piece.now (c.if-not-is_reading.ensures.reading refl)
-    c.in_ok-read_on.ensures.ok c.in_ok-read_on.ensures.same.0 c.in_ok-read_on.ensures.same.1)
+    subst (λ (x : Reader). StepsOn (with_piece c.args.piece.now) c.args.self.now (record x { closed_at = c.saturating_sub-self-inside.result; fed = x.fed + length c.args.piece.now })) (sym c.self-2.view_is)
+    (fed_on c.args.self.now c.read_on.new.self c.args.piece.now c.in_ok-left.left c.saturating_sub-self-inside.result
+    (c.saturating_sub-self-inside.ensures ∙ ap (λ (x : Reader). x.fed + length c.args.piece.now - c.in_ok-left.left) c.self-2.view_is) (c.if-not-is_reading.ensures.reading refl)
+    c.in_ok-left.ensures.ok c.in_ok-left.ensures.same.0 c.in_ok-left.ensures.same.1)
 
 pub returns-then-not-is_reading-clause-stands : goal.returns-then-not-is_reading-clause-stands
 returns-then-not-is_reading-clause-stands g c =
     subst (λ (x : Reader). StepsOn (with_piece c.args.piece.now) c.args.self.now (record x { fed = x.fed + length c.args.piece.now })) (sym c.self.view_is)
     (fed_past c.args.self.now c.args.piece.now (c.if-not-is_reading.ensures.other refl))
 
-pub returns-in_err-read_on-clause-settled : goal.returns-in_err-read_on-clause-settled
-returns-in_err-read_on-clause-settled g c = λ given so_far s settled.
+pub returns-in_err-left-clause-settled : goal.returns-in_err-left-clause-settled
+returns-in_err-left-clause-settled g c = λ given so_far s settled.
     absurd (unsettled c.args.self.now (c.if-not-is_reading.ensures.reading refl) given so_far s settled)

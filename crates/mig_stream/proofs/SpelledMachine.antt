@@ -1,0 +1,144 @@
+-- A whole text of a machine's stream is read as it is spelled.
+use Rattle.std.proofs.Common.{◌≡◌, ◌⊎◌, ℕ, ◌^◌, ◌<◌, Bool, cond, true, false, List, [], ◌∷◌, ◌++◌, length, Option, Some, None, refl, sym, ap, subst, ◌∙◌, append_assoc, inl, inr}
+use Rattle.std.specs.Prelude.{is_none, not, ◌==◌, ◌&&◌, IfSome}
+use Rattle.std.specs.List.{flat_map, AllByRecursion}
+use Rattle.mig_mem.specs.RamTable.{RamTable, IsTable}
+use Rattle.mig_stream.specs.declared.item.Frame.TheVariants.{Machine}
+use Rattle.mig_stream.specs.declared.item.Mode.{Mode}
+use Rattle.mig_stream.specs.declared.item.Mode.TheVariants.{Single, Main}
+use Rattle.mig_stream.specs.declared.item.Section.TheVariants as sections
+use Rattle.mig_stream.specs.declared.item.Before.{Before}
+use Rattle.mig_stream.specs.declared.item.Before.TheVariants as before
+use Rattle.mig_stream.specs.declared.item.Due.TheVariants.{FileHeader, TypeByte, RecordHead, StartHead, Nothing}
+use Rattle.mig_stream.specs.Format.{section_type}
+use Rattle.mig_stream.specs.PageRecord.{PageRecord}
+use Rattle.mig_stream.specs.Progress.{StreamProgress, start, table_of}
+use Rattle.mig_stream.specs.Items.{is_single, open_records, is_allowed, is_machine, may_pass, has_tail}
+use Rattle.mig_stream.specs.Reading.{settings, in_frame, Front, IsReading}
+use Rattle.mig_stream.specs.Text.{Record, Follow, HasNoFlush, all_records, body, section, file_header, start_head, size_list}
+use Rattle.mig_stream.specs.Machine.{Command, command, IsCommand, Configuration, configured, IsConfiguration, PartOrCommand, PartOf, CommandOf, part_or_command, IsPartOrCommand, parts_of, IsMachineText}
+use Rattle.mig_stream.specs.Law.{closed}
+use Rattle.mig_stream.proofs.Fronts.{Front-none, Front-append}
+use Rattle.mig_stream.proofs.After.{after_records, after_body, records_behind, FlushesFit, HasNoTail}
+use Rattle.mig_stream.proofs.SectionRounds.{rounds_read}
+use Rattle.mig_stream.proofs.SpelledItems.{type_front, section_front, header_front, configuration_front, start_front}
+use Rattle.mig_stream.proofs.SpelledRecords.{body_front}
+use Rattle.mig_stream.proofs.SpelledList.{list_front}
+use Rattle.mig_stream.proofs.SpelledSections.{FlushesFit-first, FlushesFit-rest, Follow-first, Follow-rest, at_end, part_front}
+use Rattle.mig_stream.proofs.SpelledPassed.{command_front, behind_commands, commands_front, subsections_front}
+
+-- ---- what stands before START
+
+-- behind the configuration, or where there is none
+abbrev before_commands : Option Configuration → Before
+before_commands None = before.FileHeader
+before_commands (Some x) = before.Configuration
+
+configured_front : (c : StreamProgress) (o : Option Configuration) → is_machine c.frame ≡ true → IfSome o (IsConfiguration c.page_size)
+    → Front (record c { due = TypeByte before.FileHeader }) (configured o) (record c { due = TypeByte (before_commands o) })
+configured_front c None machine is = Front-none (record c { due = TypeByte before.FileHeader })
+configured_front c (Some x) machine is = Front-append _ _ _ _ _ (configuration_front c (Some x.name) is.has_name) (subsections_front c x.subsections machine is.are_bodies)
+
+may_command : (o : Option Configuration) → may_pass (before_commands o) 8 ≡ true
+may_command None = refl
+may_command (Some x) = refl
+
+-- START may stand there
+abbrev MayStart : Before → Type 0
+MayStart b = (is_allowed b (section_type sections.Start) ≡ true) × (may_pass b (section_type sections.Start) ≡ false)
+
+start_behind : (xs : List Command) → MayStart (behind_commands before.Command xs)
+start_behind [] = (refl, refl)
+start_behind (x ∷ xs) = start_behind xs
+
+may_start : (o : Option Configuration) (xs : List Command) → MayStart (behind_commands (before_commands o) xs)
+may_start None [] = (refl, refl)
+may_start (Some x) [] = (refl, refl)
+may_start None (x ∷ xs) = start_behind xs
+may_start (Some y) (x ∷ xs) = start_behind xs
+
+opening_front : (c : StreamProgress) (o : Option Configuration) (xs : List Command) (id : ℕ) → is_machine c.frame ≡ true → IfSome o (IsConfiguration c.page_size) → AllByRecursion IsCommand xs → id < 2 ^ 32
+    → Front (record c { due = FileHeader }) (file_header ++ configured o ++ flat_map command xs ++ start_head id) (record c { due = RecordHead; section = sections.Start; section_id = id })
+opening_front c o xs id machine is are small =
+    let d : StreamProgress = record c { section = sections.Start } in
+    let b : Before = behind_commands (before_commands o) xs in
+    let may : MayStart b = may_start o xs in
+    let first : Front (record c { due = TypeByte b }) (section_type sections.Start ∷ []) (record d { due = StartHead }) = type_front c b (section_type sections.Start) may.0 may.1 refl in
+    let passed : Front (record c { due = TypeByte (before_commands o) }) (flat_map command xs) (record c { due = TypeByte b }) = commands_front c (before_commands o) xs machine (may_command o) are in
+    Front-append _ _ _ _ _ (Front-append _ _ _ _ _ (Front-append _ _ _ _ _ (header_front c) (configured_front c o machine is)) passed) (Front-append _ _ _ _ _ first (start_front d id small))
+
+-- ---- what stands behind START's footer
+
+-- behind the last records no FLUSH is missing
+no_tail_left : (mode : Mode) (records : List PageRecord) → HasNoTail mode (open_records mode records) → (not (is_single mode) && not (length records == 0)) ≡ false
+no_tail_left Single records none = refl
+no_tail_left Main records (inl e) = absurd cc
+no_tail_left Main records (inr e) = ap (λ (x : List PageRecord). not (length x == 0)) e
+
+-- END, whose footer closes the text
+end_front_of : (c : StreamProgress) (records : List Record) → is_machine c.frame ≡ true → IsTable (table_of c) → c.section_id < 2 ^ 32 → is_none c.left ≡ false → is_single c.mode ≡ false ⊎ HasNoFlush records
+    → Follow (table_of c) c.named records → HasNoTail c.mode (records_behind c.mode c.records (records ∷ []))
+    → Front (record c { due = TypeByte before.Footer }) (section (table_of c) sections.End c.section_id records) (at_end c (records ∷ []))
+end_front_of c records machine is small begun flushes follow none =
+    let d : StreamProgress = record c { section = sections.End } in
+    let whole : has_tail (is_machine c.frame) (after_records d records) ≡ false = ap (λ (x : Bool). has_tail x (after_records d records)) machine ∙ no_tail_left c.mode (after_records d records).records none in
+    let due : after_body d records ≡ at_end c (records ∷ []) = ap (λ (x : Bool). record (after_body d records) { due = cond x Nothing (TypeByte before.LastFooter) }) machine in
+    let there : Front (record d { due = RecordHead }) (body (table_of c) c.section_id records) (at_end c (records ∷ [])) =
+    subst (λ (x : StreamProgress). Front (record d { due = RecordHead }) (body (table_of c) c.section_id records) x) due (body_front d records is small begun flushes follow whole) in
+    Front-append _ _ _ _ _ (type_front c before.Footer (section_type sections.End) refl refl refl) (Front-append _ _ _ _ _ (section_front d small) there)
+
+-- PARTs and COMMANDs, and END
+others_front : (c : StreamProgress) (others : List PartOrCommand) (last : List Record) → is_machine c.frame ≡ true → AllByRecursion IsPartOrCommand others → IsTable (table_of c) → c.section_id < 2 ^ 32 → is_none c.left ≡ false
+    → FlushesFit c.mode (parts_of others ++ last ∷ []) → Follow (table_of c) c.named (all_records (parts_of others) ++ last) → HasNoTail c.mode (records_behind c.mode c.records (parts_of others ++ last ∷ []))
+    → Front (record c { due = TypeByte before.Footer }) (flat_map (part_or_command (table_of c) c.section_id) others ++ section (table_of c) sections.End c.section_id last) (at_end c (parts_of others ++ last ∷ []))
+others_front c [] last machine may is small begun flushes follow none = end_front_of c last machine is small begun (FlushesFit-first c.mode last [] flushes) follow none
+others_front c (CommandOf x ∷ others) last machine may is small begun flushes follow none =
+    let end : List ℕ = section (table_of c) sections.End c.section_id last in
+    let bytes = append_assoc (command x) (flat_map (part_or_command (table_of c) c.section_id) others) end in
+    let there : StreamProgress = at_end c (parts_of others ++ last ∷ []) in
+    subst (λ (z : List ℕ). Front (record c { due = TypeByte before.Footer }) z there) (sym bytes)
+    (Front-append _ _ _ _ _ (command_front c before.Footer x machine refl may.0) (others_front c others last machine may.1 is small begun flushes follow none))
+others_front c (PartOf records ∷ others) last machine may is small begun flushes follow none =
+    let more : List Record = all_records (parts_of others) ++ last in
+    let all : all_records (records ∷ parts_of others) ++ last ≡ records ++ more = append_assoc records (all_records (parts_of others)) last in
+    let f : Follow (table_of c) c.named (records ++ more) = subst (Follow (table_of c) c.named) all follow in
+    let d : StreamProgress = after_body (record c { section = sections.Part }) records in
+    let end : List ℕ = section (table_of c) sections.End c.section_id last in
+    let one = part_front c records is small begun (FlushesFit-first c.mode records (parts_of others ++ last ∷ []) flushes) (Follow-first (table_of c) c.named records more f) in
+    let rest = others_front d others last machine may.1 is small begun (FlushesFit-rest c.mode records (parts_of others ++ last ∷ []) flushes) (Follow-rest (table_of c) c.named records more f) none in
+    let bytes = append_assoc (section (table_of c) sections.Part c.section_id records) (flat_map (part_or_command (table_of c) c.section_id) others) end in
+    subst (λ (z : List ℕ). Front (record c { due = TypeByte before.Footer }) z (at_end c ((records ∷ parts_of others) ++ last ∷ []))) (sym bytes) (Front-append _ _ _ _ _ one rest)
+
+-- ---- the whole text
+
+-- the parts of a text, put together otherwise
+regroup : (a b c d e f g h : List ℕ) → ((((((a ++ b) ++ c) ++ d) ++ e) ++ f) ++ g) ++ h ≡ (((a ++ b) ++ c) ++ d) ++ (e ++ (f ++ (g ++ h)))
+regroup a b c d e f g h = simp append_assoc refl
+
+-- Each text of a machine's stream is read closed, whatever follows it.
+pub machine_is_read : (mode : Mode) (limit : ℕ) (text rest : List ℕ) (table : RamTable) (rounds : List (List PageRecord)) → IsMachineText mode limit text table rounds
+    → IsReading (in_frame Machine (settings mode table.page_size limit)) (text ++ rest) (closed table rounds)
+machine_is_read mode limit text rest table rounds is =
+    let others : List (List Record) = parts_of is.others ++ is.last ∷ [] in
+    let behind : List Record = all_records (parts_of is.others) ++ is.last in
+    let told = rounds_read mode (is.first ∷ others) rounds is.has_rounds in
+    let follow : Follow table None (is.first ++ behind) = subst (Follow table None) (append_assoc is.first (all_records (parts_of is.others)) is.last) is.follow in
+    let from : StreamProgress = start Machine mode table.page_size limit in
+    let begun : StreamProgress = record from { due = RecordHead; section_id = is.id } in
+    let listed : StreamProgress = record begun { left = Some 0; blocks = table.blocks } in
+    let first : StreamProgress = after_body listed is.first in
+    let opening = opening_front from is.machine is.commands is.id refl is.has_machine is.are_commands is.has_id in
+    let list = list_front begun table is.has_table is.has_limit in
+    let start_body = body_front listed is.first is.has_table is.has_id refl (FlushesFit-first mode is.first others told.0) (Follow-first table None is.first behind follow) refl in
+    let end = others_front first is.others is.last refl is.are_others is.has_table is.has_id refl (FlushesFit-rest mode is.first others told.0) (Follow-rest table None is.first behind follow) told.1 in
+    let spelled = is.is_spelled ∙ regroup file_header (configured is.machine) (flat_map command is.commands) (start_head is.id) (size_list table) (body table is.id is.first) (flat_map (part_or_command table is.id) is.others)
+    (section table sections.End is.id is.last) in
+    let to : StreamProgress = at_end first others in
+    let leads : Front from text to = subst (λ (x : List ℕ). Front from x to) (sym spelled) (Front-append _ _ _ _ _ opening (Front-append _ _ _ _ _ list (Front-append _ _ _ _ _ start_body end))) in
+    record {
+      to = to;
+      rest = rest;
+      reads = record { front = text; has_text = refl; leads = leads; ends = refl };
+      has_table = refl;
+      has_rounds = sym told.2;
+    }

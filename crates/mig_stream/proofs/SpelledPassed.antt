@@ -1,0 +1,146 @@
+-- What is passed over is read as it is spelled: COMMANDs, and the subsections of the configuration.
+use Rattle.std.proofs.Common.{◌≡◌, ℕ, ◌+◌, ◌-◌, ◌^◌, ◌<◌, Bool, true, false, cond, eqb, List, [], ◌∷◌, length, take, Option, Some, None, refl, sym, ap, subst, ◌∙◌, arith}
+use Rattle.std.specs.Prelude.{not, ◌&&◌, ◌||◌}
+use Rattle.std.specs.List.{flat_map, AllByRecursion}
+use Rattle.std.proofs.lemmas.List.{append-nil, take_at}
+use Rattle.std.proofs.lemmas.Nat.{from_be_bytes-to_be_bytes_4}
+use Rattle.std.proofs.lemmas.Bool.{eq-eqb, ne_eqb}
+use Rattle.mig_stream.specs.declared.item.Before.{Before}
+use Rattle.mig_stream.specs.declared.item.Before.TheVariants as before
+use Rattle.mig_stream.specs.declared.item.Subsection.{Subsection}
+use Rattle.mig_stream.specs.declared.item.Subsection.TheVariants as kind
+use Rattle.mig_stream.specs.declared.item.PassedItem.TheVariants as item
+use Rattle.mig_stream.specs.declared.item.Due.{Due}
+use Rattle.mig_stream.specs.declared.item.Due.TheVariants.{TypeByte, Passed}
+use Rattle.mig_stream.specs.declared.fault.StreamFault.{StreamFault}
+use Rattle.mig_stream.specs.declared.fault.StreamFault.TheVariants as fault
+use Rattle.mig_stream.specs.Fields.{be32, counted, be16_at, be32_at}
+use Rattle.mig_stream.specs.Format.{command_type, subsection_type, subsection_name, subsection_version}
+use Rattle.mig_stream.specs.Progress.{StreamProgress}
+use Rattle.mig_mem.specs.First.{first_of}
+use Rattle.mig_stream.specs.Items.{is_allowed, has_tail, id_in, subsection_of, is_machine, may_pass, is_passed, passed_by, behind_command, body_of, capabilities_due, after_type, first_fault, after}
+use Rattle.mig_stream.specs.Reading.{Front}
+use Rattle.mig_stream.specs.Machine.{Command, command_bytes, command, IsCommand, SubsectionBody, PageBits, Uuid, Capabilities, kind_of, body_bytes, IsCapability, IsSubsectionBody, subsection_head, subsection}
+use Rattle.mig_stream.proofs.Fronts.{Front-none, Front-append}
+use Rattle.mig_stream.proofs.SpelledItems.{item_front}
+
+two_free : (a b : Bool) (f g : StreamFault) → a ≡ false → b ≡ false → first_of ((a, f) ∷ (b, g) ∷ []) ≡ None
+two_free a b f g x y = rw (x, y) refl
+
+or_passed : (x y : Bool) → y ≡ true → not (x || y) ≡ false
+or_passed true y e = refl
+or_passed false y e = ap not e
+
+-- the type byte of a COMMAND or of a subsection
+passed_type_front : (c : StreamProgress) (b : Before) (byte : ℕ) → is_machine c.frame ≡ true → may_pass b byte ≡ true → eqb byte 0 ≡ false
+    → Front (record c { due = TypeByte b }) (byte ∷ []) (record c { due = Passed (passed_by b byte) })
+passed_type_front c b byte machine may other =
+    let d : StreamProgress = record c { due = TypeByte b } in
+    let passed : is_passed c.frame b byte ≡ true = ap (λ (x : Bool). x && is_machine c.frame) may ∙ machine in
+    let new : after d (byte ∷ []) ≡ record c { due = Passed (passed_by b byte) } = ap (λ (x : Bool). cond x (record d { due = Passed (passed_by b byte) }) (after_type d byte)) passed in
+    let free : first_fault d (byte ∷ []) ≡ None =
+    two_free (not (is_allowed b byte || is_passed c.frame b byte)) (has_tail (eqb byte 0) c) fault.SectionType fault.Tail (or_passed (is_allowed b byte) (is_passed c.frame b byte) passed) (ap (λ (x : Bool). has_tail x c) other) in
+    subst (λ (x : StreamProgress). Front d (byte ∷ []) x) new (item_front d (byte ∷ []) (λ e. absurd cc) refl free)
+
+-- a COMMAND behind its type byte
+command_bytes_front : (c : StreamProgress) (b : Before) (x : Command) → IsCommand x → Front (record c { due = Passed (item.Command b) }) (command_bytes x) (record c { due = TypeByte b })
+command_bytes_front c b x is =
+    let whole : length (command_bytes x) ≡ 4 + be16_at 2 (command_bytes x) = omega (arith, is.has_length) in
+    let number : be16_at 0 (command_bytes x) ≡ x.number = omega arith in
+    let free : first_fault (record c { due = Passed (item.Command b) }) (command_bytes x) ≡ None = rw (number, is.has_number) refl in
+    item_front (record c { due = Passed (item.Command b) }) (command_bytes x) (λ e. absurd cc) whole free
+
+-- a COMMAND, where one may stand
+pub command_front : (c : StreamProgress) (b : Before) (x : Command) → is_machine c.frame ≡ true → may_pass b command_type ≡ true → IsCommand x
+    → Front (record c { due = TypeByte b }) (command x) (record c { due = TypeByte (behind_command b) })
+command_front c b x machine may is = Front-append _ _ _ _ _ (passed_type_front c b command_type machine may refl) (command_bytes_front c (behind_command b) x is)
+
+-- where the next type byte stands behind COMMANDs
+abbrev pub behind_commands : Before → List Command → Before
+behind_commands b [] = b
+behind_commands b (x ∷ xs) = behind_commands (behind_command b) xs
+
+may_command : (b : Before) → may_pass b command_type ≡ true → may_pass (behind_command b) command_type ≡ true
+may_command before.FileHeader may = refl
+may_command before.Configuration may = refl
+may_command before.Command may = refl
+may_command before.Footer may = refl
+may_command before.LastFooter may = may
+
+pub commands_front : (c : StreamProgress) (b : Before) (xs : List Command) → is_machine c.frame ≡ true → may_pass b command_type ≡ true → AllByRecursion IsCommand xs
+    → Front (record c { due = TypeByte b }) (flat_map command xs) (record c { due = TypeByte (behind_commands b xs) })
+commands_front c b [] machine may is = Front-none (record c { due = TypeByte b })
+commands_front c b (x ∷ xs) machine may is =
+    Front-append _ _ _ _ _ (command_front c b x machine may is.0) (commands_front c (behind_command b) xs machine (may_command b may) is.1)
+
+-- ---- subsections
+
+be32_back : (n : ℕ) → n < 2 ^ 32 → be32_at 0 (be32 n) ≡ n
+unfolding be32_at
+be32_back n small = from_be_bytes-to_be_bytes_4 n small
+
+-- the name and version of a subsection tell what it is
+name_told : (kind : Subsection) → subsection_of (id_in (subsection_head kind)) ≡ Some kind
+unfolding subsection_name
+name_told kind.PageBits = refl
+name_told kind.Uuid = refl
+name_told kind.Capabilities = refl
+
+head_whole : (kind : Subsection) → length (subsection_head kind) ≡ 5 + length (subsection_name kind)
+unfolding subsection_name
+head_whole kind.PageBits = refl
+head_whole kind.Uuid = refl
+head_whole kind.Capabilities = refl
+
+version_told : (kind : Subsection) → be32_at (1 + length (subsection_name kind)) (subsection_head kind) ≡ subsection_version
+unfolding subsection_name be32_at
+version_told kind.PageBits = refl
+version_told kind.Uuid = refl
+version_told kind.Capabilities = refl
+
+head_front : (c : StreamProgress) (kind : Subsection) → Front (record c { due = Passed item.SubsectionHead }) (subsection_head kind) (record c { due = Passed (item.SubsectionBody kind) })
+head_front c kind =
+    let d : StreamProgress = record c { due = Passed item.SubsectionHead } in
+    let new : after d (subsection_head kind) ≡ record c { due = Passed (item.SubsectionBody kind) } = ap (λ (o : Option Subsection). record c { due = body_of o }) (name_told kind) in
+    subst (λ (x : StreamProgress). Front d (subsection_head kind) x) new (item_front d (subsection_head kind) (λ e. absurd cc) (head_whole kind) (rw (name_told kind, version_told kind) refl))
+
+-- the names of capabilities
+names_front : (c : StreamProgress) (names : List (List ℕ)) → AllByRecursion IsCapability names → Front (record c { due = capabilities_due (length names) }) (flat_map counted names) (record c { due = TypeByte before.Configuration })
+names_front c [] is = Front-none (record c { due = TypeByte before.Configuration })
+names_front c (name ∷ names) is =
+    let n : ℕ = length names in
+    let some : eqb (length (name ∷ names)) 0 ≡ false = ne_eqb _ _ (λ e. omega (arith, e)) in
+    let cut : 1 + length name - 1 ≡ length name = omega arith in
+    let own : id_in (counted name) ≡ name = ap (λ (k : ℕ). take k name) cut ∙ ap (take (length name)) (sym (append-nil name)) ∙ take_at name [] (length name) refl in
+    let free : first_fault (record c { due = Passed (item.Capability n) }) (counted name) ≡ None = rw (own, is.0.keeps_layout) refl in
+    let one : Front (record c { due = Passed (item.Capability n) }) (counted name) (record c { due = capabilities_due n }) =
+    item_front (record c { due = Passed (item.Capability n) }) (counted name) (λ e. absurd cc) (omega arith) free in
+    let less : length (name ∷ names) - 1 ≡ n = omega arith in
+    let same : capabilities_due (length (name ∷ names)) ≡ Passed (item.Capability n) =
+    ap (λ (x : Bool). cond x (TypeByte before.Configuration) (Passed (item.Capability (length (name ∷ names) - 1)))) some ∙ ap (λ (k : ℕ). Passed (item.Capability k)) less in
+    let first : Front (record c { due = capabilities_due (length (name ∷ names)) }) (counted name) (record c { due = capabilities_due n }) =
+    subst (λ (d : Due). Front (record c { due = d }) (counted name) (record c { due = capabilities_due n })) (sym same) one in
+    Front-append _ _ _ _ _ first (names_front c names is.1)
+
+-- what a subsection holds
+held_front : (c : StreamProgress) (h : SubsectionBody) → IsSubsectionBody c.page_size h → Front (record c { due = Passed (item.SubsectionBody (kind_of h)) }) (body_bytes h) (record c { due = TypeByte before.Configuration })
+held_front c (PageBits bits) is =
+    let same : 2 ^ be32_at 0 (be32 bits) ≡ c.page_size = ap (λ (n : ℕ). 2 ^ n) (be32_back bits is.0) ∙ is.1 in
+    let free : first_fault (record c { due = Passed (item.SubsectionBody kind.PageBits) }) (be32 bits) ≡ None = rw (eq-eqb _ _ same) refl in
+    item_front (record c { due = Passed (item.SubsectionBody kind.PageBits) }) (be32 bits) (λ e. absurd cc) refl free
+held_front c (Uuid uuid) is = item_front (record c { due = Passed (item.SubsectionBody kind.Uuid) }) uuid (λ e. absurd cc) is refl
+held_front c (Capabilities names) is =
+    let d : StreamProgress = record c { due = Passed (item.SubsectionBody kind.Capabilities) } in
+    let new : after d (be32 (length names)) ≡ record c { due = capabilities_due (length names) } = ap (λ (n : ℕ). record c { due = capabilities_due n }) (be32_back (length names) is.0) in
+    let count : Front d (be32 (length names)) (record c { due = capabilities_due (length names) }) = subst (λ (x : StreamProgress). Front d (be32 (length names)) x) new (item_front d (be32 (length names)) (λ e. absurd cc) refl refl) in
+    Front-append _ _ _ _ _ count (names_front c names is.1)
+
+-- a subsection, behind the configuration
+subsection_front : (c : StreamProgress) (h : SubsectionBody) → is_machine c.frame ≡ true → IsSubsectionBody c.page_size h → Front (record c { due = TypeByte before.Configuration }) (subsection h) (record c { due = TypeByte before.Configuration })
+subsection_front c h machine is =
+    Front-append _ _ _ _ _ (passed_type_front c before.Configuration subsection_type machine refl refl) (Front-append _ _ _ _ _ (head_front c (kind_of h)) (held_front c h is))
+
+pub subsections_front : (c : StreamProgress) (hs : List SubsectionBody) → is_machine c.frame ≡ true → AllByRecursion (IsSubsectionBody c.page_size) hs
+    → Front (record c { due = TypeByte before.Configuration }) (flat_map subsection hs) (record c { due = TypeByte before.Configuration })
+subsections_front c [] machine is = Front-none (record c { due = TypeByte before.Configuration })
+subsections_front c (h ∷ hs) machine is = Front-append _ _ _ _ _ (subsection_front c h machine is.0) (subsections_front c hs machine is.1)

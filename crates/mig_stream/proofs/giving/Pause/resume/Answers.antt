@@ -1,0 +1,10 @@
+use Rattle.std.proofs.Common.{◌++◌, None, refl, ap, ◌∙◌}
+use Rattle.mig_stream.specs.Giving.{Giver, Paused}
+use Rattle.mig_stream.proofs.Giver.{resumed}
+use Rattle.mig_stream.proofs.giving.Pause.resume.Goals as goal
+
+pub returns-clause-gives : goal.returns-clause-gives
+returns-clause-gives g c given text so_far at =
+    let new : Giver = record { progress = c.without_records-progress.result; rest = c.self.inside.pending.items ++ c.args.piece.now; found = None; given = c.no_round-given.result } in
+    resumed given text c.args.piece.now so_far c.args.self new (c.without_records-progress.ensures ∙ ap (λ (p : Paused). p.progress) c.self.view_is)
+    (ap (λ (p : Paused). p.pending ++ c.args.piece.now) c.self.view_is) refl at

@@ -1,0 +1,27 @@
+-- What a writer makes of RAM in a machine's stream: whoever has the devices writes on behind it.
+use Rattle.std.specs.Prelude.{ℕ, ◌≤◌, List, [], ◌∷◌, ◌++◌, length, map, replicate, Option, None, IfSome, All}
+use Rattle.mig_mem.specs.Image.{Page}
+use Rattle.mig_mem.specs.RamTable.{RamTable, IsTable}
+use Rattle.mig_mem.specs.Round.{IsRound}
+use Rattle.mig_stream.specs.declared.item.Mode.TheVariants.{Single, Main}
+use Rattle.mig_stream.specs.declared.item.Section.TheVariants as sections
+use Rattle.mig_stream.specs.Format.{most_name_bytes}
+use Rattle.mig_stream.specs.Text.{body, section, file_header, configuration, start_head, size_list, total_bytes}
+use Rattle.mig_stream.specs.Machine.{IsMachineText}
+use Rattle.mig_stream.specs.Written.{Part, RoundPart, FlushPart, written_id, written_record, written_parts}
+
+-- the machine's name in a configuration, or none; then RAM's START, the parts, and END without an
+-- end byte
+abbrev pub machine_written : Option (List ℕ) → RamTable → List Part → List ℕ
+machine_written name table parts = file_header ++ configuration name ++ start_head written_id ++ size_list table ++ body table written_id []
+    ++ written_parts table None parts ++ section table sections.End written_id []
+
+-- What a writer makes so of rounds, or of FLUSHes, is a machine's text.
+abbrev pub MachineSinglesAreTexts : Type 0
+MachineSinglesAreTexts = (limit : ℕ) (name : Option (List ℕ)) (table : RamTable) (rounds : List (List Page)) → IfSome name (λ bytes. length bytes ≤ most_name_bytes)
+    → IsTable table → total_bytes table ≤ limit → All (IsRound table) rounds
+    → IsMachineText Single limit (machine_written name table (map RoundPart rounds)) table ([] ∷ map (map written_record) rounds ++ [] ∷ [])
+
+abbrev pub MachineMainsAreTexts : Type 0
+MachineMainsAreTexts = (limit : ℕ) (name : Option (List ℕ)) (table : RamTable) (n : ℕ) → IfSome name (λ bytes. length bytes ≤ most_name_bytes)
+    → IsTable table → total_bytes table ≤ limit → IsMachineText Main limit (machine_written name table (replicate n FlushPart)) table (replicate n [])
