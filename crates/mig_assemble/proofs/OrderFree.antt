@@ -64,7 +64,7 @@ same_pages : (table : RamTable) (records : List Page) (ps qs : List Fields) → 
 same_pages table records ps qs bag =
     bag_behind records (flat_map (packet_pages table) ps) (flat_map (packet_pages table) qs) (bag_flat_map (packet_pages table) ps qs bag)
 
-same_double : (xs ys : List Page) → SameBag xs ys → least place_lt (twice place_eq (places_of xs)) ≡ least place_lt (twice place_eq (places_of ys))
+pub same_double : (xs ys : List Page) → SameBag xs ys → least place_lt (twice place_eq (places_of xs)) ≡ least place_lt (twice place_eq (places_of ys))
 same_double xs ys bag =
     let places : SameBag (places_of xs) (places_of ys) = bag_map (λ (x : Page). x.place) xs ys bag in
     least_twice place_lt place_order place_eq places_apart (λ a b. place_eq-true a b) (λ a. place_eq-from a a refl) (places_of xs) (places_of ys)
@@ -133,7 +133,7 @@ last_some (y ∷ xs) x h = elim (contains_cases y xs x h) [
     )
 
 -- the order of pages doesn't matter where no place comes twice
-last_at-same : (p : Place) (xs ys : List Page) → SameBag xs ys → twice place_eq (places_of ys) ≡ [] → last_at p xs ≡ last_at p ys
+pub last_at-same : (p : Place) (xs ys : List Page) → SameBag xs ys → twice place_eq (places_of ys) ≡ [] → last_at p xs ≡ last_at p ys
 last_at-same p xs ys bag once = go (last_at p xs) refl (last_at p ys) refl
   where
     go : (a : Option Page) → last_at p xs ≡ a → (b : Option Page) → last_at p ys ≡ b → last_at p xs ≡ last_at p ys
@@ -152,7 +152,7 @@ last_at-same p xs ys bag once = go (last_at p xs) refl (last_at p ys) refl
         ea ∙ ap (λ (z : Page). Some z) (own_key (λ (x : Page). x.place) place_eq place_eq-from ys once c d (bag.there c x.0) y.0 (x.1 ∙ sym y.1)) ∙ sym eb
 
 -- in a lawful round no place comes twice
-lawful_once : (table : RamTable) (base : ℕ) (records : List Page) (ps : List Fields) → refusal table base records ps ≡ None
+pub lawful_once : (table : RamTable) (base : ℕ) (records : List Page) (ps : List Fields) → refusal table base records ps ≡ None
     → twice place_eq (places_of (all_round_pages table records ps)) ≡ []
 lawful_once table base records ps lawful =
     least_none place_lt (twice place_eq (places_of (all_round_pages table records ps))) (lawful_parts table base records ps lawful).2

@@ -8,3 +8,4 @@ pub mod RoundFaultNumber
 pub mod Sorted
 pub mod Seen
 pub mod PacketPages
+pub mod Arrivals

@@ -47,7 +47,7 @@ fn mark_all<A: Allocator, B: Allocator>(
     requires lawful { All (λ p. place_fault seen.old.table p ≡ None) (map fields packets.now) }
     ensures { HasSeen seen.old.table (places_of (all_round_pages seen.old.table (pages_of_round round.now) (map fields packets.now))) seen.new result }
 {
-    let mut double = mark_records(seen, round);
+    let mut double = mark_records(seen, None, round);
     for packet in packets {
         double = mark_packet(seen, double, packet);
     }
@@ -113,24 +113,25 @@ fn unmark<A: Allocator>(seen: &mut Dirty<A>, place: Place)
     seen.unmark(place);
 }
 
-// Marks the places of records. The least that comes twice is the answer.
-fn mark_records<A: Allocator, B: Allocator>(
+/// Marks the places of records. The least that comes twice so far is handed in and answered.
+pub(crate) fn mark_records<A: Allocator, B: Allocator>(
     seen: &mut Dirty<A>,
+    double: Option<Place>,
     round: &StreamRound<B>,
 ) -> Option<Place>
-    requires seen { seen.old.marked ≡ [] }
     requires fits { Fits seen.old.table round.now }
-    ensures { HasSeen seen.old.table (places_of (pages_of_round round.now)) seen.new result }
+    ensures table { seen.new.table ≡ seen.old.table }
+    ensures seen { SeesMore (places_of (pages_of_round round.now)) seen.old double seen.new result }
 {
-    let mut double = None;
+    let mut double = double;
     for i in 0..round.len() {
         double = mark(seen, double, round.place(i));
     }
     double
 }
 
-// Marks the places of a packet's pages. The least that comes twice so far is handed in and answered.
-fn mark_packet<A: Allocator>(
+/// Marks the places of a packet's pages. The least that comes twice so far is handed in and answered.
+pub(crate) fn mark_packet<A: Allocator>(
     seen: &mut Dirty<A>,
     double: Option<Place>,
     packet: &Packet<'_>,

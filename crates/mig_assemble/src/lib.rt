@@ -5,10 +5,14 @@
 //! (`specs/Judging`), and a round that isn't lawful (`specs/Lawful`) leaves nothing behind. Which texts rounds come from, and what
 //! is answered of a whole load, is for the crates above.
 //!
-//! Definitions to read first, in this order: `Judging`, `Lawful`, `Target`, `Law` (`specs/`). `Sorted`, `Seen` and `PacketPages`
-//! are of the inside: only contracts of private functions name them.
+//! `Arrivals` is for a load that keeps no round: its caller writes each page as it arrives, and `Arrivals` judges the round as
+//! `Target::round` would.
+//!
+//! Definitions to read first, in this order: `Judging`, `Lawful`, `Target`, `Law`, `Arrivals` (`specs/`). `Sorted`, `Seen` and
+//! `PacketPages` are of the inside: only contracts of private functions name them.
 #![tactic(auto)]
 
+mod arrivals;
 mod doubles;
 mod fault;
 mod gathered;
@@ -19,6 +23,7 @@ mod places;
 mod put;
 mod target;
 
+pub use arrivals::{Arrivals, arrivals_make_the_round, heads_are_judged, other_places_stay};
 pub use fault::RoundFault;
 pub use gathered::Gathered;
 pub use laws::{lawful_rounds_lie_in_the_table, packets_come_in_any_order, round_is_lawful};

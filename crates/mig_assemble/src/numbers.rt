@@ -36,7 +36,7 @@ fn numbers_of<A: Allocator>(alloc: A, packets: &[Packet<'_>]) -> Result<Vec<u64,
 
 // Why numbers in any order aren't a run from the base on. It sorts them.
 #[tactic(auto, using(crate::proofs::Rising::judged_sorted))]
-fn unsorted_fault(numbers: &mut [u64], base: u64) -> Option<RoundFault>
+pub(crate) fn unsorted_fault(numbers: &mut [u64], base: u64) -> Option<RoundFault>
     requires { base + length numbers.old ≤ 2 ^ 63 }
     ensures fault { result ≡ number_refusal base numbers.old }
     ensures permutation { IsPermutation numbers.old numbers.new }

@@ -52,7 +52,7 @@ fn lesser_misplaced<'a, A: Allocator>(
 
 // What is wrong with where a packet's pages lie. The id of a packet without pages isn't looked at.
 #[tactic(auto, using(crate::proofs::PacketPlaces::faults))]
-fn place_fault<A: Allocator>(table: &Table<A>, packet: &Packet<'_>) -> Option<RoundFault>
+pub(crate) fn place_fault<A: Allocator>(table: &Table<A>, packet: &Packet<'_>) -> Option<RoundFault>
     requires { packet.now.page_size ≡ table.now.page_size }
     ensures { result ≡ place_fault table.now (fields packet.now) }
 {

@@ -129,16 +129,7 @@ impl<A: Allocator, M: GuestTarget> Target<A, M> {
     pub fn fits<B: Allocator>(&self, round: &StreamRound<B>) -> bool
         ensures { IsTrue result ↔ Fits self.now.memory.table round.now }
     {
-        let table = self.memory.table();
-        if round.page_size() != table.page_size() {
-            return false;
-        }
-        for i in 0..round.len() {
-            if !table.holds(round.place(i)) {
-                return false;
-            }
-        }
-        true
+        fits(self.memory.table(), round)
     }
 
     /// Puts a round of page records into the memory, in the order of the text: of a page that comes more than once the last one
@@ -153,4 +144,19 @@ impl<A: Allocator, M: GuestTarget> Target<A, M> {
         put_records(&mut self.memory, round);
         self.rounds += 1;
     }
+}
+
+/// Whether a round of page records is of a table: it has the table's page size, and its places are the table's.
+pub(crate) fn fits<A: Allocator, B: Allocator>(table: &Table<A>, round: &StreamRound<B>) -> bool
+    ensures { IsTrue result ↔ Fits table.now round.now }
+{
+    if round.page_size() != table.page_size() {
+        return false;
+    }
+    for i in 0..round.len() {
+        if !table.holds(round.place(i)) {
+            return false;
+        }
+    }
+    true
 }

@@ -3,6 +3,7 @@ use Rattle.std.proofs.Common.{ℕ, ◌≡◌, ◌≤◌, ◌<◌, ◌+◌, ◌^�
 use Rattle.std.specs.Prelude.{⊤, IsOk, OnOk, OnErr, Result, Ok, Err}
 use Rattle.std.proofs.lemmas.List.{take-append-le, length-append}
 use Rattle.mig_mem.specs.PageSize.{IsPageSize}
+use Rattle.mig_stream.specs.declared.item.Frame.TheVariants.{Ram}
 use Rattle.mig_stream.specs.declared.item.Mode.TheVariants.{Single}
 use Rattle.mig_stream.specs.PageRecord.{PageRecord}
 use Rattle.mig_stream.specs.declared.item.StreamState.TheVariants.{Reading}
@@ -99,7 +100,7 @@ loads_over p limit r s o text ended step loads = record {
 -- before the first piece
 pub none_yet : (p limit : ℕ) (r : Reader) → IsPageSize p → HasAllSections p limit (loader r None) []
 none_yet p limit r size =
-    let begin : StreamProgress = start Single p limit in
+    let begin : StreamProgress = start Ram Single p limit in
     let reading : StreamReading = record { table = None; rounds = []; state = Reading } in
     none_there p limit [] r size (reading, record { to = begin; rest = []; reads = reads_short begin [] (omega arith); has_table = refl; has_rounds = refl }, refl)
 

@@ -43,3 +43,4 @@ pub mod Advances
 pub mod Sessions
 pub mod Pumped
 pub mod LoadedAtOnce
+pub mod Eager

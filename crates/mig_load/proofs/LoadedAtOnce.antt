@@ -29,12 +29,12 @@ use Rattle.mig_load.proofs.Sections.{pages_in, same_reading, size_is}
 abbrev pub pages_given : ℕ → GivenSoFar → List Page
 pages_given p so_far = all_pages (pages_in p so_far.sections) ++ map (page_of p) so_far.open_section
 
-given_more : (p : ℕ) (so_far : GivenSoFar) (records : List PageRecord) → pages_given p so_far ++ map (page_of p) records ≡ pages_given p (with_more records so_far)
+pub given_more : (p : ℕ) (so_far : GivenSoFar) (records : List PageRecord) → pages_given p so_far ++ map (page_of p) records ≡ pages_given p (with_more records so_far)
 given_more p so_far records =
     let whole : List Page = all_pages (pages_in p so_far.sections) in
     append_assoc whole (map (page_of p) so_far.open_section) (map (page_of p) records) ∙ ap (λ (x : List Page). whole ++ x) (sym (map-append (page_of p) so_far.open_section records))
 
-given_last : (p : ℕ) (so_far : GivenSoFar) (records : List PageRecord) → pages_given p so_far ++ map (page_of p) records ≡ pages_given p (with_last records so_far)
+pub given_last : (p : ℕ) (so_far : GivenSoFar) (records : List PageRecord) → pages_given p so_far ++ map (page_of p) records ≡ pages_given p (with_last records so_far)
 given_last p so_far records =
     let last : List PageRecord = so_far.open_section ++ records in
     given_more p so_far records
@@ -43,7 +43,7 @@ given_last p so_far records =
     ∙ sym (append-nil (all_pages (pages_in p (so_far.sections ++ last ∷ []))))
 
 -- pages that are put behind others
-put_behind : (m : Image) (before pages : List Page) → with_round (with_round m before) pages ≡ with_round m (before ++ pages)
+pub put_behind : (m : Image) (before pages : List Page) → with_round (with_round m before) pages ≡ with_round m (before ++ pages)
 put_behind m before pages =
     ap (λ (x : List Page). with_round (with_round m x) pages) (sym (append-nil before))
     ∙ sym (onto-push m (before ∷ []) pages)
@@ -70,7 +70,7 @@ pub record HasPut (p limit : ℕ) (text : List ℕ) (table : RamTable) (gave : G
   pub is_few : sections + calls gave r ≤ 2 * length text + 1
 
 -- before anything was put
-few_first : (gave : Given) (old new : Giver) → LeavesLess gave old new → calls gave new ≤ left old
+pub few_first : (gave : Given) (old new : Giver) → LeavesLess gave old new → calls gave new ≤ left old
 few_first Records old new less = omega (arith, less)
 few_first Section old new less = omega (arith, less)
 few_first (End found) old new less = omega arith

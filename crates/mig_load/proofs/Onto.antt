@@ -7,6 +7,7 @@ use Rattle.mig_mem.specs.RamTable.{RamTable, IsTable}
 use Rattle.mig_mem.specs.Image.{Page, Image, IsImage}
 use Rattle.mig_mem.specs.Round.{with_round, with_rounds}
 use Rattle.mig_mem.proofs.Rounds.{onto-nil}
+use Rattle.mig_stream.specs.declared.item.Frame.TheVariants.{Ram}
 use Rattle.mig_stream.specs.declared.item.Mode.TheVariants.{Single}
 use Rattle.mig_stream.specs.declared.item.StreamState.{StreamState}
 use Rattle.mig_stream.specs.declared.item.StreamState.TheVariants.{Reading}
@@ -33,7 +34,7 @@ use Rattle.mig_load.proofs.Sections.{pages_in, same_reading, put_table, are_give
 -- ---- whose table a text has
 
 -- not both
-apart : (first : Image) (reading : StreamReading) → IsOfOwnTable first reading → IsOfOtherTable first reading → ⊥
+pub apart : (first : Image) (reading : StreamReading) → IsOfOwnTable first reading → IsOfOtherTable first reading → ⊥
 apart first reading (inl none) other = absurd (let both : Some other.0 ≡ None = sym other.1 ∙ none in cc)
 apart first reading (inr own) other = other.2 (let both : Some other.0 ≡ Some first.table = sym other.1 ∙ own in cc)
 
@@ -175,7 +176,7 @@ fed_over_some r s t step some = record {
 pub onto_nothing : (limit : ℕ) (first : Image) (r : Reader) (t : LoadTarget) → IsTable first.table → IsImage first → Stands (settings_of first limit) nothing_yet r → t ≡ target_over first
     → LoadsOnto limit first (in_place r t) [] false
 onto_nothing limit first r t table image stands is =
-    let begin : StreamProgress = start Single first.table.page_size limit in
+    let begin : StreamProgress = start Ram Single first.table.page_size limit in
     let reading : StreamReading = record { table = None; rounds = []; state = Reading } in
     rw is (record {
       is_table = table;

@@ -10,6 +10,7 @@ use Rattle.mig_mem.specs.PageSize.{IsPageSize}
 use Rattle.mig_mem.specs.RamTable.{RamTable}
 use Rattle.mig_mem.specs.Image.{Image}
 use Rattle.mig_mem.specs.Round.{after}
+use Rattle.mig_stream.specs.declared.item.Frame.TheVariants.{Ram}
 use Rattle.mig_stream.specs.declared.item.Mode.TheVariants.{Main}
 use Rattle.mig_stream.specs.declared.item.StreamState.TheVariants.{Reading}
 use Rattle.mig_stream.specs.Progress.{StreamProgress, start}
@@ -229,7 +230,7 @@ nothing_read = record { table = None; rounds = []; state = Reading }
 
 main_nothing : (p limit : ℕ) (reading : StreamReading) → IsPageSize p → IsMainReading p limit no_text reading → reading ≡ nothing_read
 main_nothing p limit reading size is =
-    let begin : StreamProgress = start Main p limit in
+    let begin : StreamProgress = start Ram Main p limit in
     same_main p limit no_text reading nothing_read size is (record {
       found = nothing_read;
       is_reading = record { to = begin; rest = []; reads = reads_short begin [] (omega arith); has_table = refl; has_rounds = refl };

@@ -15,6 +15,7 @@ pub mod LoadFaultNumber
 pub mod Loader
 pub mod InPlace
 pub mod InPlaceState
+pub mod Eager
 -- sessions: what callers see of them, and then the inside, what is kept of each source
 pub mod Session
 pub mod Sources

@@ -165,7 +165,8 @@ impl Display for FeedFault {
 
 impl Error for FeedFault {}
 
-/// Why a piece wasn't loaded into the memory that it was handed in with. Nothing has changed: the piece can be fed again.
+/// Why a piece wasn't loaded into the memory that it was passed with. For an `InPlaceState` nothing
+/// has changed, and the piece can be fed again. An `EagerState` has failed for good with `NoMemory`.
 #[derive(Clone, Copy, Debug, PartialEq, Eq)]
 pub enum InPlaceFault {
     /// The memory is of another table than the load.

@@ -61,8 +61,8 @@ fn drop_sections<A: Allocator>(reader: &mut StreamReader<'_, A>)
     'sections: while let Ok(Some(_section)) = reader.take_round() {}
 }
 
-// The verdict on a stream of another table.
-fn other_table() -> Result<(), LoadFault>
+/// The verdict on a stream of another table.
+pub(crate) fn other_table() -> Result<(), LoadFault>
     ensures { result ≡ at_main 0 OtherTable }
 {
     Err(LoadFault {

@@ -5,6 +5,9 @@
 //! stream is `mig_stream`'s, and how a round goes into memory `mig_assemble`'s. Of several channels it is a function of the main stream's text
 //! and of theirs (`specs/MultiLoad.antt`), which names neither threads nor queues.
 //!
+//! A load in place writes into memory that is there already: complete sections (`InPlaceState`), or
+//! each page when its bytes have come (`EagerState`, `specs/Eager.antt`).
+//!
 //! A relay hands on the items of channels' texts from one thread for each channel to one that loads: each channel has a `Feeder`, a queue,
 //! and its place in the one `Collector`. What an item is says `mig_packet`; what the two ends promise says `specs/Relay.antt`.
 #![tactic(auto)]
@@ -14,6 +17,7 @@ mod channel;
 mod channel_source;
 mod counts;
 mod cursor;
+mod eager_state;
 mod fault;
 mod feeder;
 mod in_place;
@@ -41,6 +45,7 @@ mod taking;
 mod told;
 mod verdict;
 
+pub use eager_state::{EagerState, eager_keeps_other_places, eager_ok_is_by_sections};
 pub use fault::{Fault, FeedFault, InPlaceFault, LoadFault, Origin};
 pub use feeder::{Fed, Feeder, FeederStep};
 pub use in_place::{InPlaceLoader, sent_is_loaded_in_place};

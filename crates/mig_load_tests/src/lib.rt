@@ -1,6 +1,9 @@
-//! Tests of the relay and of the load on several channels: on one thread and on a thread for each channel, and with each allocation refused.
+//! Tests of the relay and of the load on several channels: on one thread and on a thread for each
+//! channel, and with each allocation refused. Beside them those of the eager load of one stream.
 #![tactic(auto)]
 
+#[cfg(test)]
+mod eager;
 #[cfg(test)]
 mod load_cut;
 #[cfg(test)]
@@ -19,6 +22,8 @@ mod one_thread;
 mod pieces;
 #[cfg(test)]
 mod refused;
+#[cfg(test)]
+mod relay_left;
 #[cfg(test)]
 mod relayed;
 #[cfg(test)]

@@ -1,9 +1,9 @@
-//! What these tests build. Where something can't be had the test fails at once. What a function takes the prover grows fast with
-//! the values that it owns, so each owns few.
+//! What these tests build. Where something can't be had the test fails at once. What a function
+//! takes the prover grows fast with the values that it owns, so each owns few.
 
 use mig_fixtures::{at, places_of, set, table, zeroed};
 use mig_mem::{Dirty, Memory, NoMemory, Place};
-use mig_stream::{StreamReader, StreamWriter};
+use mig_stream::{Frame, StreamReader, StreamWriter};
 use std::alloc::{AllocGlobal, Allocator};
 use std::process::Abort;
 
@@ -49,7 +49,8 @@ pub(crate) fn text_of(
     finished(rt, writer)
 }
 
-/// The text of two rounds: page 0 of `a` as zeros, page 1 with the first byte 7 and page 64 of `pc.ram` as zeros; and that one again.
+/// The text of two rounds: page 0 of `a` as zeros, page 1 with the first byte 7 and page 64 of
+/// `pc.ram` as zeros; and that one again.
 pub(crate) fn two_rounds(rt: &(impl AllocGlobal + Abort)) -> Vec<u8> {
     let image = image_with(rt, 0, 4096);
     text_of(
@@ -57,6 +58,65 @@ pub(crate) fn two_rounds(rt: &(impl AllocGlobal + Abort)) -> Vec<u8> {
         &image,
         &[&[at(0, 0), at(0, 1), at(1, 64)], &[at(1, 64)]],
     )
+}
+
+// What QEMU may write before START: the configuration `pc` with all its subsections, of which the
+// last has one capability, and OPEN_RETURN_PATH.
+const BEFORE_START: [&[u8]; 9] = [
+    b"\x07\x00\x00\x00\x02pc",
+    b"\x05\x1econfiguration/target-page-bits",
+    b"\x00\x00\x00\x01\x00\x00\x00\x0c",
+    b"\x05\x12configuration/uuid",
+    b"\x00\x00\x00\x01\x01\x02\x03\x04\x05\x06\x07\x08\x09\x0a\x0b\x0c\x0d\x0e\x0f\x10",
+    b"\x05\x1aconfiguration/capabilities",
+    b"\x00\x00\x00\x01\x00\x00\x00\x01",
+    b"\x02xy",
+    b"\x08\x00\x01\x00\x00",
+];
+
+/// How many bytes these have.
+pub(crate) const BEFORE_START_LEN: usize = 7 + 40 + 40 + 39 + 5;
+
+const SWITCHOVER_START: &[u8] = b"\x08\x00\x0b\x00\x00";
+
+// The beginning of a device's section, behind RAM's END.
+const DEVICE: &[u8] = b"\x04\x00\x00\x00\x02\x05timer";
+
+/// The text of two rounds in a frame, and what follows where it is closed: in that of a machine
+/// with COMMANDs and a configuration, and a device's section in place of the end byte.
+pub(crate) fn two_rounds_in(
+    rt: &(impl AllocGlobal + Abort),
+    frame: Frame,
+) -> (Vec<u8>, &'static [u8]) {
+    let ram = two_rounds(rt);
+    match frame {
+        Frame::Ram => (ram, &[]),
+        Frame::Machine => (machine_text(rt, &ram), DEVICE),
+    }
+}
+
+// The text of RAM's sections as that of a machine.
+fn machine_text(rt: &(impl AllocGlobal + Abort), ram: &[u8]) -> Vec<u8> {
+    let end = ram.len().saturating_sub(19);
+    let (header, rest) = ram.split_at_checked(8).expect(rt, "a file header");
+    let (sections, end) = rest
+        .split_at_checked(end.saturating_sub(8))
+        .expect(rt, "an END");
+    let mut text = Vec::new(rt.alloc());
+    append(rt, &mut text, header);
+    for piece in BEFORE_START {
+        append(rt, &mut text, piece);
+    }
+    append(rt, &mut text, sections);
+    append(rt, &mut text, SWITCHOVER_START);
+    append(rt, &mut text, end.get(..18).expect(rt, "an END"));
+    append(rt, &mut text, DEVICE);
+    text
+}
+
+/// Appends bytes to a text.
+pub(crate) fn append<A: Allocator>(rt: &impl Abort, text: &mut Vec<u8, A>, piece: &[u8]) {
+    assert!(rt; text.extend_from_slice(piece).is_ok());
 }
 
 /// The text of a stream of those blocks without a PART.

@@ -1,5 +1,5 @@
-//! The loader over bytes that the caller keeps: what it leaves of them, of the guest's stream however it is cut, of a part of it, and
-//! of another table's.
+//! The loader over bytes that the caller keeps: what it leaves of them, of the guest's stream
+//! however it is cut, of a part of it, and of another table's.
 
 use crate::parts::{PIECE, all_of, block_of, feed, send};
 use mig_counting::Counting;
@@ -75,7 +75,8 @@ fn bytes_of(rt: &(impl AllocGlobal + Abort), page_size: u64, block: u64, pages: 
     block_of(rt.alloc(), page_size, block, pages).expect(rt, "bytes")
 }
 
-// A guest of three blocks is loaded as it was sent: of 74 pages, in parts of 16, so that there are START, five parts and END.
+// A guest of three blocks is loaded as it was sent: of 74 pages, in parts of 16, so that there are
+// START, five parts and END.
 fn assert_migrated(rt: &(impl AllocGlobal + Abort), page_size: u64) {
     let table = table_of(rt.alloc(), page_size, &BLOCKS).expect(rt, "a table");
     let first = bytes_of(rt, page_size, 0, 3);
@@ -99,15 +100,17 @@ fn migrated(rt: HostRuntime) {
     assert_migrated(&rt, PAGE_SIZE_8K);
 }
 
-// A part of 64 pages without zeros, and its text: of the guest's first pages also the opening, which has less than 100 bytes.
+// A part of 64 pages without zeros, and its text: of the guest's first pages also the opening,
+// which has less than 100 bytes.
 const PART: u64 = 64 * PAGE_SIZE_4K;
 
 const TEXT: u64 = PART + 64 * 8 + 128;
 
-// Of a guest of 16 MiB, sent in parts of 64 pages, sender and loader hold at once at most: the text that is fed and the buffer
-// of the next one, both of which doubled as they grew, so that each has room for two texts; and the pages of a section until it
-// ends, in buffers of at most 64 KiB. The last of those may be empty but for one page: that is one piece. The marks, the
-// records and an item that a piece cut in two don't take another piece.
+// Of a guest of 16 MiB, sent in parts of 64 pages, sender and loader hold at once at most: the text
+// that is fed and the buffer of the next one, both of which doubled as they grew, so that each has
+// room for two texts; and the pages of a section until it ends, in buffers of at most 64 KiB. The
+// last of those may be empty but for one page: that is one piece. The marks, the records and an
+// item that a piece cut in two don't take another piece.
 #[test]
 fn migrated_in_little_memory(rt: HostRuntime) {
     let most = 2 * (2 * TEXT) + PART + 2 * PIECE as u64;
@@ -166,7 +169,8 @@ fn load<A: Allocator + Copy, M: GuestTarget + Drop>(
 /// Two blocks, of two pages and of three.
 pub(crate) const SMALL: [(&str, u64); 2] = [("a", 2), ("b", 3)];
 
-// The stream of a guest of those blocks, with two rounds: page 1 of each block, and then page 2 of the second one.
+// The stream of a guest of those blocks, with two rounds: page 1 of each block, and then page 2 of
+// the second one.
 fn small_text(rt: &(impl AllocGlobal + Abort), first: &[u8], second: &[u8]) -> Vec<u8> {
     let table = table(rt.alloc(), &SMALL).expect(rt, "a table");
     let guest = both(first, second);
@@ -207,7 +211,8 @@ fn joined(rt: &(impl AllocGlobal + Abort), pages: &[&[u8]]) -> Vec<u8> {
     bytes
 }
 
-// Asserts what a text, fed in pieces of this length, leaves of blocks of other bytes, which are the memory of this table.
+// Asserts what a text, fed in pieces of this length, leaves of blocks of other bytes, which are the
+// memory of this table.
 fn assert_left(
     rt: &(impl AllocGlobal + Abort),
     entries: &[(&str, u64)],
@@ -237,7 +242,8 @@ pub(crate) fn fault_at(round: u64, fault: Fault) -> Answer {
     )
 }
 
-// The guest of the small tests: of the second block page 1 is zeros, and no page that is sent otherwise.
+// The guest of the small tests: of the second block page 1 is zeros, and no page that is sent
+// otherwise.
 fn small_guest(rt: &(impl AllocGlobal + Abort)) -> [Vec<u8>; 2] {
     both(bytes_of(rt, 4096, 0, 2), bytes_of(rt, 4096, 1, 3))
 }
@@ -251,7 +257,8 @@ pub(crate) fn untouched(rt: &(impl AllocGlobal + Abort), answer: Answer) -> Want
     }
 }
 
-/// What is left where page 1 of each block came, and page 2 of the second block or not. Page 0 of both stays.
+/// What is left where page 1 of each block came, and page 2 of the second block or not. Page 0 of
+/// both stays.
 pub(crate) fn left(rt: &(impl AllocGlobal + Abort), answer: Answer, has_last: bool) -> Wanted {
     let [first, second] = small_guest(rt);
     let other = others(rt, 4096, 1);
@@ -266,8 +273,9 @@ pub(crate) fn left(rt: &(impl AllocGlobal + Abort), answer: Answer, has_last: bo
     }
 }
 
-/// The stream of the small guest. Its opening has 66 bytes, of which the size list ends at the 53rd; the first PART, of a page and of
-/// zeros, has 4135; the second, of one page, 4122; and END with the end byte 19.
+/// The stream of the small guest. Its opening has 66 bytes, of which the size list ends at the
+/// 53rd; the first PART, of a page and of zeros, has 4135; the second, of one page, 4122; and END
+/// with the end byte 19.
 pub(crate) fn text_of_small(rt: &(impl AllocGlobal + Abort)) -> Vec<u8> {
     let [first, second] = small_guest(rt);
     let text = small_text(rt, &first, &second);
@@ -312,8 +320,8 @@ fn bad_text(rt: HostRuntime) {
     assert_left(&rt, &SMALL, &text, 100, &wanted);
 }
 
-// Of another table nothing is put: its blocks are as long as the memory's, and one has another id. That is told as soon as the size
-// list is whole.
+// Of another table nothing is put: its blocks are as long as the memory's, and one has another id.
+// That is told as soon as the size list is whole.
 #[test]
 fn another_table(rt: HostRuntime) {
     assert_eq!(rt; Fault::OtherTable.number(), 63);

@@ -1,5 +1,6 @@
-//! The load in place whose memory is handed to each call: what it leaves of bytes that the caller keeps, however the stream is cut; which memory it
-//! takes; the sections that it gives one by one; and allocations refused in turn.
+//! The load in place whose memory is handed to each call: what it leaves of bytes that the caller
+//! keeps, however the stream is cut; which memory it takes; the sections that it gives one by one;
+//! and allocations refused in turn.
 
 use crate::building::{image_with, text_of};
 use crate::in_place::{
@@ -58,7 +59,8 @@ fn load<A: Allocator + Copy, M: GuestTarget + Drop>(
     Some(answer)
 }
 
-// Asserts what a text, fed in pieces of this length, leaves of blocks of other bytes, which are the memory of this table.
+// Asserts what a text, fed in pieces of this length, leaves of blocks of other bytes, which are the
+// memory of this table.
 fn assert_left(
     rt: &(impl AllocGlobal + Abort),
     entries: &[(&str, u64)],
@@ -78,7 +80,8 @@ fn assert_left(
     assert!(rt; two.as_slice() == wanted.second.as_slice());
 }
 
-// However the text is cut, the answer and the bytes are the same; of a front of it the whole sections are there; and nothing of another table.
+// However the text is cut, the answer and the bytes are the same; of a front of it the whole
+// sections are there; and nothing of another table.
 #[test]
 fn cut_anywhere(rt: HostRuntime) {
     let text = text_of_small(&rt);
@@ -116,7 +119,8 @@ fn first_byte(rt: &impl Abort, memory: &Memory, place: Place) -> u8 {
         .expect(rt, "a byte")
 }
 
-// A memory of another table is refused, and changes nothing; a second memory of the same table gets the sections that end in its pieces.
+// A memory of another table is refused, and changes nothing; a second memory of the same table gets
+// the sections that end in its pieces.
 #[test]
 fn another_memory(rt: HostRuntime) {
     assert_eq!(rt; InPlaceFault::OtherTable.number(), 63);
@@ -137,7 +141,8 @@ fn another_memory(rt: HostRuntime) {
     assert!(rt; first_byte(&rt, &two, at(0, 1)) == 0 && first_byte(&rt, &two, at(1, 2)) != 0);
 }
 
-// Sections that wait since a piece was read are put by the next piece that is fed. Until then the verdict counts none of them.
+// Sections that wait since a piece was read are put by the next piece that is fed. Until then the
+// verdict counts none of them.
 #[test]
 fn fed_behind_a_read_piece(rt: HostRuntime) {
     let text = text_of_small(&rt);

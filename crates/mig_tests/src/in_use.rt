@@ -1,11 +1,13 @@
-//! The libraries in use: what a guest writes is sent as a single stream and loaded again. README shows most of it.
+//! The libraries in use: what a guest writes is sent as a single stream and loaded again. README
+//! shows most of it.
 
 use mig_load::load_single;
 use mig_mem::{Dirty, Memory, PAGE_SIZE_4K, Place, Table, first_difference};
 use mig_send::SingleSender;
 use std::alloc::Allocator;
 
-// A guest with one block, of two pages, writes a byte of the second one. None where an allocation was refused.
+// A guest with one block, of two pages, writes a byte of the second one. None where an allocation
+// was refused.
 fn send_and_load<A: Allocator + Copy>(alloc: A) -> Option<bool> {
     let id = Vec::from_slice(alloc, b"pc.ram").ok()?;
     let mut blocks = Vec::new(alloc);
@@ -18,7 +20,8 @@ fn send_and_load<A: Allocator + Copy>(alloc: A) -> Option<bool> {
     is_loaded(alloc, &text, &memory)
 }
 
-// Writes a byte of block 0, and marks its page. `set` and `mark` ask for a byte and a page that there are.
+// Writes a byte of block 0, and marks its page. `set` and `mark` ask for a byte and a page that
+// there are.
 fn write<A: Allocator>(
     memory: &mut Memory<A>,
     dirty: &mut Dirty<A>,

@@ -1,5 +1,5 @@
-//! A guest whose memory is lent as slices: a round of all its pages, a round of a page that was read of it, both drained, and
-//! loaded again.
+//! A guest whose memory is lent as slices: a round of all its pages, a round of a page that was
+//! read of it, both drained, and loaded again.
 
 use mig_load::load_single;
 use mig_mem::{Dirty, LentMemory, Memory, PAGE_SIZE_4K, Place, Table};
@@ -43,7 +43,8 @@ fn put<A: Allocator>(round: &mut OpenRound<A>, place: Place, bytes: &[u8]) -> Op
     round.put_page(place, bytes).ok()
 }
 
-// The stream of a guest lent as these blocks: all its pages, and then others at the last place, the last of them these bytes.
+// The stream of a guest lent as these blocks: all its pages, and then others at the last place, the
+// last of them these bytes.
 fn sent<A: Allocator + Copy>(alloc: A, blocks: &[&[u8]], last: &[u8]) -> Option<Vec<u8, A>> {
     let table = table(alloc)?;
     let lent = LentMemory::new(&table, blocks)?;

@@ -1,5 +1,6 @@
-//! Tests of the stream and of the whole path, from senders to loads: each call that allocates with its allocations refused, and what
-//! a refused round leaves; the libraries in use; and what faults say of themselves.
+//! Tests of the stream and of the whole path, from senders to loads: each call that allocates with
+//! its allocations refused, and what a refused round leaves; the libraries in use; and what faults
+//! say of themselves.
 //!
 //! The worked examples are cases of `mig_rows`.
 #![tactic(auto)]
@@ -16,6 +17,8 @@ mod in_use;
 mod lent;
 #[cfg(test)]
 mod parts;
+#[cfg(test)]
+mod pauses;
 #[cfg(test)]
 mod pieces;
 #[cfg(test)]

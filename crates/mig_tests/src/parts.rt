@@ -1,5 +1,5 @@
-//! The whole path without a second image: a guest whose bytes are lent is sent in parts, each drained as soon as it is made and fed in
-//! pieces into a loader over bytes that the caller keeps.
+//! The whole path without a second image: a guest whose bytes are lent is sent in parts, each
+//! drained as soon as it is made and fed in pieces into a loader over bytes that the caller keeps.
 
 use mig_load::InPlaceLoader;
 use mig_mem::{Dirty, GuestPages, GuestTarget, LentMemory, MAX_TOTAL, Place, Table};
@@ -11,7 +11,8 @@ pub(crate) const PIECE: usize = 65_536;
 
 const FIRST: Place = Place { block: 0, page: 0 };
 
-/// The bytes of a block. Of its pages each third is zeros, and of the others no two that lie near each other are the same.
+/// The bytes of a block. Of its pages each third is zeros, and of the others no two that lie near
+/// each other are the same.
 pub(crate) fn block_of<A: Allocator>(
     alloc: A,
     page_size: u64,
@@ -133,8 +134,8 @@ fn send_part<A: Allocator, B: Allocator>(
     Some(sender)
 }
 
-/// Sends the marked pages of a guest in parts of at most so many, every second one page by page. What each part adds to the stream
-/// is drained into one buffer and fed, and so is the rest.
+/// Sends the marked pages of a guest in parts of at most so many, every second one page by page.
+/// What each part adds to the stream is drained into one buffer and fed, and so is the rest.
 pub(crate) fn send<A: Allocator + Copy, B: Allocator, M: GuestTarget>(
     alloc: A,
     guest: &LentMemory<'_, B>,

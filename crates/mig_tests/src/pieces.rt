@@ -1,5 +1,5 @@
-//! The loader that is fed in pieces: however a text is cut it gives what `load_single` gives, also where allocations were refused on the
-//! way.
+//! The loader that is fed in pieces: however a text is cut it gives what `load_single` gives, also
+//! where allocations were refused on the way.
 
 use crate::building::two_rounds;
 use crate::refused::assert_two_rounds;
@@ -21,7 +21,8 @@ fn feed<A: Allocator + Copy>(
     loader.feed(piece)
 }
 
-// Feeds a piece; where an allocation is refused it is fed again, or its sections are put, as the fault says. Whether an allocation was refused.
+// Feeds a piece; where an allocation is refused it is fed again, or its sections are put, as the
+// fault says. Whether an allocation was refused.
 fn is_refused<A: Allocator + Copy>(
     rt: &impl Abort,
     loader: &mut SingleLoader<A>,
@@ -41,7 +42,8 @@ fn is_refused<A: Allocator + Copy>(
     true
 }
 
-// Feeds a text of two rounds in pieces of this length, and asserts what is loaded. Whether an allocation was refused.
+// Feeds a text of two rounds in pieces of this length, and asserts what is loaded. Whether an
+// allocation was refused.
 fn loads_with_refusal<A: Allocator + Copy>(
     rt: &impl Abort,
     alloc: A,
@@ -70,7 +72,8 @@ fn loaded_in_pieces(rt: HostRuntime) {
     }
 }
 
-// Each allocation is refused in turn, until a run has no refusal. What is loaded is the same each time.
+// Each allocation is refused in turn, until a run has no refusal. What is loaded is the same each
+// time.
 #[test]
 fn loaded_after_refusals(rt: HostRuntime) {
     let heap = Refusing::new(rt.alloc(), 0);

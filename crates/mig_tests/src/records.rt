@@ -1,35 +1,42 @@
-//! The reader that gives page records as they come, beside the one that keeps those of a section: they have the same records in the same
-//! sections, also where each call has its first allocation refused, where records of zero pages are many, and where a text is cut.
+//! The reader that gives page records as they come, beside the one that keeps those of a section:
+//! they have the same records in the same sections, also where each call has its first allocation
+//! refused, where records of zero pages are many, and where a text is cut.
 
-use crate::building::{finished, part, two_rounds};
+use crate::building::{finished, part, two_rounds, two_rounds_in};
 use mig_fixtures::{at, places_of, set, zeroed};
 use mig_load::load_single;
 use mig_mem::{MAX_TOTAL, Memory, NoMemory, PAGE_SIZE_4K, Place, first_difference};
 use mig_refusing::Refusing;
-use mig_stream::{Given, Mode, RecordReader, StreamReader, StreamRound, StreamWriter};
+use mig_stream::{Frame, Given, Mode, RecordReader, StreamReader, StreamRound, StreamWriter};
 use std::alloc::{AllocGlobal, Allocator};
 use std::process::Abort;
 
 /// A block of many pages.
 const MANY: [(&str, u64); 1] = [("pc.ram", 3000)];
 
-// Reads on with the first allocation refused, and then with memory.
-fn read_on(rt: &impl Abort, heap: &Refusing, reader: &mut RecordReader<&Refusing>) -> Given {
-    heap.refuse(1);
-    let answer = reader.read_on();
-    let is_waiting = heap.is_waiting();
-    heap.refuse(0);
-    match answer {
-        Ok(gave) => gave,
-        Err(NoMemory) => {
-            assert!(rt; !is_waiting);
-            reader.read_on().expect(rt, "what was refused")
+/// Reads on with the first allocation refused, then with the second, until none is refused. What
+/// was given stays after a refusal.
+pub(crate) fn read_on(
+    rt: &impl Abort,
+    heap: &Refusing,
+    reader: &mut RecordReader<&Refusing>,
+) -> Given {
+    for nth in 1..100u64 {
+        let len = reader.given().len();
+        heap.refuse(nth);
+        let answer = reader.read_on();
+        let is_waiting = heap.is_waiting();
+        heap.refuse(0);
+        match answer {
+            Ok(gave) => return gave,
+            Err(NoMemory) => assert!(rt; !is_waiting && reader.given().len() == len),
         }
     }
+    panic!(rt; "each call had a refusal");
 }
 
-// Whether what was given are the records of a section from one on.
-fn has_records<A: Allocator, B: Allocator>(
+/// Whether what was given are the records of a section from one on.
+pub(crate) fn has_records<A: Allocator, B: Allocator>(
     section: &StreamRound<A>,
     from: usize,
     given: &StreamRound<B>,
@@ -67,7 +74,8 @@ fn assert_section<A: Allocator>(
     panic!(rt; "the section never ends");
 }
 
-// Asserts that a reader gives the sections that another has, and then none. Tells in how many calls it gave the last but one.
+// Asserts that a reader gives the sections that another has, and then none. Tells in how many calls
+// it gave the last but one.
 fn assert_sections<A: Allocator + Copy>(
     rt: &impl Abort,
     heap: &Refusing,
@@ -90,18 +98,38 @@ fn assert_sections<A: Allocator + Copy>(
     before
 }
 
-// The same of the two readers of a text, which stands as the other says. A cut text leaves records of a section without its end.
-fn assert_given(rt: &(impl AllocGlobal + Abort), text: &[u8], sections: u64) -> u64 {
+// A reader that keeps the records of a text's sections.
+fn kept_of<'a>(rt: &(impl AllocGlobal + Abort), frame: Frame, text: &'a [u8]) -> StreamReader<'a> {
+    StreamReader::of_text_in(
+        rt.alloc(),
+        frame,
+        Mode::Single,
+        PAGE_SIZE_4K,
+        MAX_TOTAL,
+        text,
+    )
+    .expect(rt, "a reader")
+}
+
+// What follows a text where a reader closed it.
+fn rest_of<'a, A: Allocator>(kept: &StreamReader<A>, text: &'a [u8]) -> Option<&'a [u8]> {
+    text.get(kept.closed_at()? as usize..)
+}
+
+// The same of the two readers of a text, which stands as the other says. A cut text leaves records
+// of a section without its end.
+fn assert_given(rt: &(impl AllocGlobal + Abort), frame: Frame, text: &[u8], sections: u64) -> u64 {
     let heap = Refusing::new(rt.alloc(), 0);
-    let kept = StreamReader::of_text(rt.alloc(), Mode::Single, PAGE_SIZE_4K, MAX_TOTAL, text);
-    let mut kept = kept.expect(rt, "a reader");
-    let mut reader = RecordReader::new(&heap, PAGE_SIZE_4K, MAX_TOTAL, text);
+    let mut kept = kept_of(rt, frame, text);
+    let mut reader = RecordReader::new_in(&heap, frame, PAGE_SIZE_4K, MAX_TOTAL, text);
     assert!(rt; reader.given().len() == 0 && reader.table().is_none());
+    assert!(rt; reader.behind().is_none());
     let calls = assert_sections(rt, &heap, &mut reader, &mut kept, sections);
     assert!(rt; reader.table().is_some() == kept.table().is_some());
     for _ in 0..3 {
         if read_on(rt, &heap, &mut reader) == Given::End(kept.state()) {
             assert!(rt; read_on(rt, &heap, &mut reader) == Given::End(kept.state()));
+            assert!(rt; reader.behind() == rest_of(&kept, text));
             return calls;
         }
     }
@@ -110,7 +138,11 @@ fn assert_given(rt: &(impl AllocGlobal + Abort), text: &[u8], sections: u64) -> 
 
 #[test]
 fn two_rounds_given(rt: HostRuntime) {
-    assert_given(&rt, &two_rounds(&rt), 4);
+    for frame in [Frame::Ram, Frame::Machine] {
+        let (text, behind) = two_rounds_in(&rt, frame);
+        assert_given(&rt, frame, &text, 4);
+        assert!(rt; rest_of(&kept_of(&rt, frame, &text), &text) == Some(behind));
+    }
 }
 
 // Without its end byte, without that of END, and without the footer of the second PART.
@@ -119,7 +151,12 @@ fn cut_text_given(rt: HostRuntime) {
     let text = two_rounds(&rt);
     for (cut, sections) in [(1usize, 4u64), (2, 3), (20, 2)] {
         let len = text.len().saturating_sub(cut);
-        assert_given(&rt, text.get(..len).expect(&rt, "a front"), sections);
+        assert_given(
+            &rt,
+            Frame::Ram,
+            text.get(..len).expect(&rt, "a front"),
+            sections,
+        );
     }
 }
 
@@ -152,7 +189,7 @@ fn large(rt: &(impl AllocGlobal + Abort)) -> Memory {
 #[test]
 fn many_zero_pages_given(rt: HostRuntime) {
     let text = text_of_all(&rt, &large(&rt));
-    assert!(rt; assert_given(&rt, &text, 3) > 2);
+    assert!(rt; assert_given(&rt, Frame::Ram, &text, 3) > 2);
 }
 
 #[test]

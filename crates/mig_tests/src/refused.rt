@@ -1,5 +1,6 @@
-//! Each call on senders, targets and loads that allocates, with its first allocation refused, then its second, until a run has no
-//! refusal. A refused run answers `NoMemory` and leaves what it was handed as it was; the run with memory answers as ever.
+//! Each call on senders, targets and loads that allocates, with its first allocation refused, then
+//! its second, until a run has no refusal. A refused run answers `NoMemory` and leaves what it was
+//! handed as it was; the run with memory answers as ever.
 
 ghost use Rattle.std.specs.Prelude.{◌≡◌, All};
 
@@ -103,7 +104,8 @@ fn given_back<'a>(
     run.err()
 }
 
-// Of some texts one is full to its capacity. Its sender is given back, and finishes when there is memory.
+// Of some texts one is full to its capacity. Its sender is given back, and finishes when there is
+// memory.
 #[test]
 fn sender_finish(rt: HostRuntime) {
     let heap = Refusing::new(rt.alloc(), 0);
@@ -148,8 +150,8 @@ fn target_new(rt: HostRuntime) -> Result<(), Fail> {
     assert_new_target(&rt, &heap, &heap, &table)
 }
 
-// A load's answer, or its fault where that is `NoMemory`, found in putting rounds into memory, with no memory and no
-// round.
+// A load's answer, or its fault where that is `NoMemory`, found in putting rounds into memory, with
+// no memory and no round.
 fn load_or_fault<'a>(heap: &'a Refusing, text: &[u8]) -> Result<Loaded<&'a Refusing>, Fault> {
     let loaded = load_single(heap, PAGE_SIZE_4K, text, MAX_TOTAL);
     let refused = LoadFault {
@@ -217,7 +219,8 @@ fn run_of_cut(rt: &impl Abort, heap: &Refusing, text: &[u8], nth: u64) -> Run {
     run
 }
 
-// A text with a fault is read a second time. That lives with one refusal: of a smaller block for the list of three records.
+// A text with a fault is read a second time. That lives with one refusal: of a smaller block for
+// the list of three records.
 #[test]
 fn cut_loads(rt: HostRuntime) {
     let heap = Refusing::new(rt.alloc(), 0);
@@ -261,7 +264,8 @@ fn gathered_push(rt: HostRuntime) {
     assert_pushed(&rt, &heap, packet);
 }
 
-// Whether a round got into a memory with allocation `nth` refused. If not, it answered `NoMemory`, and the memory is as it was.
+// Whether a round got into a memory with allocation `nth` refused. If not, it answered `NoMemory`,
+// and the memory is as it was.
 fn is_put<A: Allocator + Copy>(
     rt: &(impl AllocGlobal + Abort),
     target: &mut Target<A>,

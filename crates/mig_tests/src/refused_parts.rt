@@ -1,5 +1,6 @@
-//! Allocations refused in turn on the path of parts: rounds and parts that are put page by page, and the loader and the target over bytes
-//! that the caller keeps. After a refusal all is as it was, and the end is as if there had been none.
+//! Allocations refused in turn on the path of parts: rounds and parts that are put page by page,
+//! and the loader and the target over bytes that the caller keeps. After a refusal all is as it
+//! was, and the end is as if there had been none.
 
 use crate::building::{BLOCKS, finished, image_with, text_of, two_rounds};
 use mig_assemble::Target;
@@ -77,8 +78,8 @@ fn open_round(rt: HostRuntime) {
     assert!(rt; joined_text(&rt, &drained, sender).as_slice() == wanted.as_slice());
 }
 
-// Ends a round of the first pages of a block, so many of them. Where an allocation is refused there it is ended again, and the text is as if
-// there had been none. Whether one was.
+// Ends a round of the first pages of a block, so many of them. Where an allocation is refused there
+// it is ended again, and the text is as if there had been none. Whether one was.
 fn ends_after_refusal(
     rt: &(impl AllocGlobal + Abort),
     heap: &Refusing,
@@ -141,8 +142,8 @@ fn put_in_part<A: Allocator>(
     panic!(rt; "each run had a refusal");
 }
 
-// A part of the first pages of a block, so many of them, begun and ended with an allocation refused where there is one. Whether there was
-// one at its end.
+// A part of the first pages of a block, so many of them, begun and ended with an allocation refused
+// where there is one. Whether there was one at its end.
 fn part_after_refusals(
     rt: &(impl AllocGlobal + Abort),
     heap: &Refusing,
@@ -314,8 +315,8 @@ fn nines(rt: &(impl AllocGlobal + Abort), pages: usize) -> Vec<u8> {
     vec![in rt.alloc(); 9; pages * 4096].expect(rt, "bytes")
 }
 
-// Asserts that two blocks of nines have the text of two rounds in them: page 0 of the first block zeros, page 1 with the first byte 7,
-// page 64 of the second zeros, and all others as they were.
+// Asserts that two blocks of nines have the text of two rounds in them: page 0 of the first block
+// zeros, page 1 with the first byte 7, page 64 of the second zeros, and all others as they were.
 fn assert_two_rounds(rt: &impl Abort, first: &[u8], second: &[u8]) {
     assert!(rt; first.len() == 8192);
     assert!(rt; first.get(4096) == Some(&7));

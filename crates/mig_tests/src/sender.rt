@@ -36,7 +36,8 @@ fn text_of_round(rt: &(impl AllocGlobal + Abort), image: &Memory, dirty: &Dirty)
     finished(rt, writer)
 }
 
-// Asserts that a sender that refused rounds of other tables sends a round as if there had been none.
+// Asserts that a sender that refused rounds of other tables sends a round as if there had been
+// none.
 fn assert_sends_as_ever(rt: &(impl AllocGlobal + Abort), image: &Memory, dirty: &Dirty) {
     let mut sender = SingleSender::new(rt.alloc(), image.table()).expect(rt, "a sender");
     assert_others_refused(rt, &mut sender, image, dirty);

@@ -1,14 +1,15 @@
-//! Each call on streams that allocates, with its first allocation refused, then its second, until a run has no refusal. A refused
-//! run answers `NoMemory` and leaves what it was handed as it was; the run with memory answers as ever.
+//! Each call on streams that allocates, with its first allocation refused, then its second, until a
+//! run has no refusal. A refused run answers `NoMemory` and leaves what it was handed as it was;
+//! the run with memory answers as ever.
 
 use crate::building::{
-    BLOCKS, Run, dirty_of, empty_text, feed, finished, image_with, part, run_of, text_of,
-    two_rounds,
+    BLOCKS, Run, append, dirty_of, empty_text, feed, finished, image_with, part, run_of, text_of,
+    two_rounds_in,
 };
 use mig_fixtures::{at, table};
 use mig_mem::{MAX_TOTAL, Memory, NoMemory, PAGE_SIZE_4K, Place, Table};
 use mig_refusing::{Refusing, with_each_allocation_refused};
-use mig_stream::{Mode, StreamReader, StreamRound, StreamState, StreamWriter};
+use mig_stream::{Frame, Mode, StreamReader, StreamRound, StreamState, StreamWriter};
 use std::alloc::{AllocGlobal, Allocator};
 use std::process::Abort;
 use std::test::Fail;
@@ -55,7 +56,8 @@ fn assert_part(
     });
 }
 
-// A refused part leaves the text and the block named last as they were: the next one has the same bytes.
+// A refused part leaves the text and the block named last as they were: the next one has the same
+// bytes.
 #[test]
 fn writer_part(rt: HostRuntime) -> Result<(), Fail> {
     let heap = Refusing::new(rt.alloc(), 0);
@@ -105,7 +107,8 @@ fn flush_until_refused<A: Allocator>(writer: &mut StreamWriter<A>) -> usize {
     count
 }
 
-// A writer whose text is full to its capacity refuses the FLUSH that doesn't fit, and takes it when there is memory.
+// A writer whose text is full to its capacity refuses the FLUSH that doesn't fit, and takes it when
+// there is memory.
 #[test]
 fn writer_flush(rt: HostRuntime) {
     let heap = Refusing::new(rt.alloc(), 0);
@@ -128,7 +131,8 @@ fn given_back<'a>(
     run.err()
 }
 
-// Of some texts one is full to its capacity. Its writer is given back, and finishes when there is memory.
+// Of some texts one is full to its capacity. Its writer is given back, and finishes when there is
+// memory.
 #[test]
 fn writer_finish(rt: HostRuntime) {
     let heap = Refusing::new(rt.alloc(), 0);
@@ -141,7 +145,67 @@ fn writer_finish(rt: HostRuntime) {
     panic!(rt; "no text was full");
 }
 
-// Whether the next round has these pages: each a place and the first byte of its content, None where it is a zero record.
+// Asserts that an open text is another one without its end byte, and is closed as a machine's with
+// anything behind it.
+fn assert_open(rt: &(impl AllocGlobal + Abort), mode: Mode, open: &[u8], whole: &[u8]) {
+    assert!(rt; whole.strip_suffix(b"\x00") == Some(open));
+    let mut text = Vec::new(rt.alloc());
+    append(rt, &mut text, open);
+    append(rt, &mut text, b"\x04\x00 anything");
+    let frame = Frame::Machine;
+    let reader = StreamReader::of_text_in(rt.alloc(), frame, mode, PAGE_SIZE_4K, MAX_TOTAL, &text);
+    let reader = reader.expect(rt, "a reader");
+    assert!(rt; reader.state() == StreamState::Closed);
+    assert!(rt; reader.closed_at() == Some(open.len() as u64));
+}
+
+// Leaves the text of so many FLUSHes open with its last allocation refused; whether it took one.
+// The writer is given back then.
+fn is_refused_open(rt: &(impl AllocGlobal + Abort), heap: &Refusing, count: usize) -> bool {
+    let writer = flushed(rt, heap, count);
+    heap.refuse(1);
+    let run = writer.finish_open();
+    heap.refuse(0);
+    match run {
+        Ok(open) => {
+            let whole = finished(rt, flushed(rt, heap, count));
+            assert_open(rt, Mode::Main, &open, &whole);
+            false
+        }
+        Err(writer) => {
+            assert_flushes(rt, heap, writer, count);
+            true
+        }
+    }
+}
+
+// Of some texts one is full to its capacity.
+#[test]
+fn writer_finish_open(rt: HostRuntime) {
+    let heap = Refusing::new(rt.alloc(), 0);
+    for count in 0..100 {
+        if is_refused_open(&rt, &heap, count) {
+            return;
+        }
+    }
+    panic!(rt; "no text was full");
+}
+
+// A text with pages, left open.
+#[test]
+fn writer_finish_open_with_pages(rt: HostRuntime) {
+    let image = image_with(&rt, 0, 4096);
+    let places: &[Place] = &[at(0, 0), at(0, 1), at(1, 64)];
+    let mut writer = StreamWriter::new(rt.alloc(), image.table()).expect(&rt, "a writer");
+    assert!(rt; part(&rt, &mut writer, &image, &dirty_of(&rt, places)) == Ok(()));
+    match writer.finish_open() {
+        Ok(open) => assert_open(&rt, Mode::Single, &open, &text_of(&rt, &image, &[places])),
+        Err(_) => panic!(rt; "no text"),
+    }
+}
+
+// Whether the next round has these pages: each a place and the first byte of its content, None
+// where it is a zero record.
 fn has_round<A: Allocator + Copy>(
     reader: &mut StreamReader<A>,
     pages: &[(Place, Option<u8>)],
@@ -172,15 +236,17 @@ fn has_no_round<A: Allocator + Copy>(reader: &mut StreamReader<A>) -> bool {
     }
 }
 
-// Whether a reader was fed 40 bytes, is reading, and has no table and no round.
-fn has_read_40_bytes<A: Allocator + Copy>(reader: &mut StreamReader<A>) -> bool {
-    reader.fed() == 40
+// Whether a reader was fed so many bytes, is reading, and has no table and no round.
+fn has_read<A: Allocator + Copy>(reader: &mut StreamReader<A>, fed: u64) -> bool {
+    reader.fed() == fed
         && reader.state() == StreamState::Reading
+        && reader.closed_at().is_none()
         && reader.table().is_none()
         && has_no_round(reader)
 }
 
-// Whether a reader is closed and has the two rounds of `reader_feed`, between START's and END's, and no other.
+// Whether a reader is closed and has the two rounds of `reader_feed`, between START's and END's,
+// and no other.
 fn has_both_rounds<A: Allocator + Copy>(reader: &mut StreamReader<A>) -> bool {
     let first = [(at(0, 0), None), (at(0, 1), Some(7)), (at(1, 64), None)];
     reader.state() == StreamState::Closed
@@ -191,8 +257,8 @@ fn has_both_rounds<A: Allocator + Copy>(reader: &mut StreamReader<A>) -> bool {
         && has_no_round(reader)
 }
 
-// Feeds a reader of 40 bytes the rest of the text with allocation `nth` refused, and where that is refused leaves it as it was, once
-// more. It has both rounds then.
+// Feeds a reader of no table the rest of the text with allocation `nth` refused, and where that is
+// refused leaves it as it was, once more. It has both rounds then.
 fn run_of_feed(
     rt: &(impl AllocGlobal + Abort),
     heap: &Refusing,
@@ -200,12 +266,13 @@ fn run_of_feed(
     nth: u64,
     rest: &[u8],
 ) -> Run {
+    let fed = reader.fed();
     heap.refuse(nth);
     let is_read = feed(rt, reader, rest).is_ok();
     let run = run_of(rt, is_read, heap.is_waiting());
     heap.refuse(0);
     if !is_read {
-        assert!(rt; has_read_40_bytes(reader));
+        assert!(rt; has_read(reader, fed));
         assert!(rt; feed(rt, reader, rest) == Ok(()));
     }
     assert!(rt; has_both_rounds(reader));
@@ -213,19 +280,27 @@ fn run_of_feed(
 }
 
 // The same of a reader that is made for it.
-fn run_in_pieces(rt: &(impl AllocGlobal + Abort), nth: u64, front: &[u8], rest: &[u8]) -> Run {
+fn run_in_pieces(
+    rt: &(impl AllocGlobal + Abort),
+    frame: Frame,
+    nth: u64,
+    front: &[u8],
+    rest: &[u8],
+) -> Run {
     let heap = Refusing::new(rt.alloc(), 0);
-    let mut reader = StreamReader::new(&heap, Mode::Single, PAGE_SIZE_4K, MAX_TOTAL);
+    let mut reader = StreamReader::new_in(&heap, frame, Mode::Single, PAGE_SIZE_4K, MAX_TOTAL);
     assert!(rt; feed(rt, &mut reader, front) == Ok(()));
     run_of_feed(rt, &heap, &mut reader, nth, rest)
 }
 
-// Reads the text of two rounds in two pieces, the second one with each of its allocations refused. It lives with one refusal: that of
-// a smaller block for the list of three records.
-fn assert_read_in_pieces(rt: &(impl AllocGlobal + Abort), front: &[u8], rest: &[u8]) {
+// Reads the text of two rounds in two pieces, the second one with each of its allocations refused.
+// It lives with one refusal: that of a smaller block for the list of three records.
+fn assert_read_in_pieces(rt: &(impl AllocGlobal + Abort), frame: Frame, len: usize) {
+    let (text, _behind) = two_rounds_in(rt, frame);
+    let (front, rest) = text.split_at_checked(len).expect(rt, "two pieces");
     let mut survived = 0u64;
     for nth in 1..1000u64 {
-        match run_in_pieces(rt, nth, front, rest) {
+        match run_in_pieces(rt, frame, nth, front, rest) {
             Run::Refused => {}
             Run::Survived => survived = survived.saturating_add(1),
             Run::Whole => {
@@ -238,13 +313,14 @@ fn assert_read_in_pieces(rt: &(impl AllocGlobal + Abort), front: &[u8], rest: &[
     panic!(rt; "each run had a refusal");
 }
 
-// A refused piece leaves the reader as it was, also where many items of the piece were taken before the allocation; fed again
-// with memory, it is read as ever.
+// A refused piece leaves the reader as it was, also where many items of the piece were taken before
+// the allocation; fed again with memory, it is read as ever. The first piece ends in the size list,
+// and of a machine also in the UUID.
 #[test]
 fn reader_feed(rt: HostRuntime) {
-    let text = two_rounds(&rt);
-    let (front, rest) = text.split_at_checked(40).expect(&rt, "two pieces");
-    assert_read_in_pieces(&rt, front, rest);
+    assert_read_in_pieces(&rt, Frame::Ram, 40);
+    assert_read_in_pieces(&rt, Frame::Machine, 80);
+    assert_read_in_pieces(&rt, Frame::Machine, 171);
 }
 
 // Whether two rounds have the same page records, byte for byte.
@@ -277,13 +353,15 @@ fn have_same_round<A: Allocator + Copy, B: Allocator + Copy>(
 // Asserts that a reader has what one has that was fed the text of two rounds.
 fn assert_as_fed<A: Allocator + Copy>(
     rt: &(impl AllocGlobal + Abort),
+    frame: Frame,
     mut reader: StreamReader<A>,
     text: &[u8],
 ) {
-    let mut fed = StreamReader::new(rt.alloc(), Mode::Single, PAGE_SIZE_4K, MAX_TOTAL);
+    let mut fed = StreamReader::new_in(rt.alloc(), frame, Mode::Single, PAGE_SIZE_4K, MAX_TOTAL);
     assert!(rt; feed(rt, &mut fed, text) == Ok(()));
     assert!(rt; reader.fed() == fed.fed());
     assert!(rt; reader.state() == fed.state());
+    assert!(rt; reader.closed_at() == fed.closed_at());
     for _ in 0..4 {
         assert!(rt; have_same_round(&mut reader, &mut fed));
     }
@@ -294,33 +372,44 @@ fn assert_as_fed<A: Allocator + Copy>(
 // A reader made of a text.
 fn reader_of<'a>(
     heap: &'a Refusing,
+    frame: Frame,
     text: &'a [u8],
 ) -> Result<StreamReader<'a, &'a Refusing>, NoMemory> {
-    StreamReader::of_text(heap, Mode::Single, PAGE_SIZE_4K, MAX_TOTAL, text)
+    match frame {
+        Frame::Ram => StreamReader::of_text(heap, Mode::Single, PAGE_SIZE_4K, MAX_TOTAL, text),
+        Frame::Machine => {
+            StreamReader::of_text_in(heap, frame, Mode::Single, PAGE_SIZE_4K, MAX_TOTAL, text)
+        }
+    }
 }
 
 // Makes a reader of the text with allocation `nth` refused. Where there is one, it has the same.
-fn run_of_text(rt: &(impl AllocGlobal + Abort), heap: &Refusing, text: &[u8], nth: u64) -> Run {
+fn run_of_text(
+    rt: &(impl AllocGlobal + Abort),
+    heap: &Refusing,
+    frame: Frame,
+    text: &[u8],
+    nth: u64,
+) -> Run {
     heap.refuse(nth);
-    let answer = reader_of(heap, text);
+    let answer = reader_of(heap, frame, text);
     let run = run_of(rt, answer.is_ok(), heap.is_waiting());
     heap.refuse(0);
     match answer {
-        Ok(reader) => assert_as_fed(rt, reader, text),
+        Ok(reader) => assert_as_fed(rt, frame, reader, text),
         Err(fault) => assert_eq!(rt; fault.number(), 60),
     }
     run
 }
 
-// A refused allocation leaves no reader, but for that of a smaller block for the list of three records; with memory it reads the text as
-// if it had been fed.
-#[test]
-fn reader_of_text(rt: HostRuntime) {
+// Makes readers of the text of two rounds, with each allocation refused. One refusal leaves a
+// reader: that of a smaller block for the list of three records.
+fn assert_read_of_text(rt: &(impl AllocGlobal + Abort), frame: Frame) {
     let heap = Refusing::new(rt.alloc(), 0);
-    let text = two_rounds(&rt);
+    let (text, _behind) = two_rounds_in(rt, frame);
     let mut survived = 0u64;
     for nth in 1..1000u64 {
-        match run_of_text(&rt, &heap, &text, nth) {
+        match run_of_text(rt, &heap, frame, &text, nth) {
             Run::Refused => {}
             Run::Survived => survived = survived.saturating_add(1),
             Run::Whole => {
@@ -331,4 +420,11 @@ fn reader_of_text(rt: HostRuntime) {
         }
     }
     panic!(rt; "each run had a refusal");
+}
+
+// With memory the text is read as if it had been fed.
+#[test]
+fn reader_of_text(rt: HostRuntime) {
+    assert_read_of_text(&rt, Frame::Ram);
+    assert_read_of_text(&rt, Frame::Machine);
 }

@@ -1,0 +1,208 @@
+//! Judging a round from what arrives of it, part by part, for a load that writes each page as it
+//! arrives and keeps none.
+//!
+//! `Target::round` is given a whole round and writes it only after judging it. `Arrivals` is told
+//! of each group of page records and of each packet, in any order, and gives the verdict of
+//! `Target::round` once the last one is there. Its caller writes the pages himself.
+
+ghost use Rattle.std.specs.Prelude.{◌≡◌, ◌+◌, ◌≤◌, ◌^◌, ◌↔◌, [], ◌∷◌, length, None, Some, IsTrue, OnOk, OnErr, IfOk, IfErr};
+ghost use Rattle.std.specs.Option.{option_map};
+ghost use Rattle.mig_mem.specs.First.{first_some};
+ghost use Rattle.mig_packet.specs.Lent.{fields};
+ghost use Rattle.mig_assemble.specs.declared.fault.RoundFault.TheVariants.{DoublePage};
+ghost use Rattle.mig_assemble.specs.Target.{Fits, pages_of_round};
+ghost use Rattle.mig_assemble.specs.Arrivals.{Records, OnePacket, lesser_misplaced, HasCome, AlsoHas, HasSame, IsJudged};
+ghost use Rattle.mig_assemble.specs.Arrivals.{ArrivalsMakeTheRound, OtherPlacesStay, HeadsAreJudged};
+
+use crate::RoundFault;
+use crate::doubles::{mark_packet, mark_records};
+use crate::numbers::unsorted_fault;
+use crate::places::place_fault;
+use crate::target::fits;
+use mig_mem::{Dirty, NoMemory, Place, Table};
+use mig_packet::Packet;
+use mig_stream::StreamRound;
+use std::alloc::{Allocator, Global};
+use std::marker::Model;
+
+// A packet whose pages lie wrong: its number, and what is wrong.
+#[derive(Clone, Copy)]
+pub(crate) struct WrongPacket {
+    pub(crate) number: u64,
+    pub(crate) fault: RoundFault,
+}
+
+/// What arrived so far of a round that isn't judged yet, without the pages' contents: a mark for
+/// each page of the table, and a number for each packet.
+#[derive(Drop)]
+pub struct Arrivals<A: Allocator = Global> {
+    numbers: Vec<u64, A>,
+    // the packet of least number whose pages lie wrong
+    misplaced: Option<WrongPacket>,
+    // the least place that arrived twice
+    double: Option<Place>,
+    seen: Dirty<A>,
+}
+
+impl<A: Allocator> Model for Arrivals<A> {
+    ghost use Rattle.mig_assemble.specs.Arrivals.{RoundSoFar};
+
+    ghost Value = { RoundSoFar };
+
+    ghost view = { λ a. record { numbers = a.numbers.items; misplaced = a.misplaced; double = a.double; seen = a.seen } };
+}
+
+impl<A: Allocator + Copy> Arrivals<A> {
+    /// Creates an empty list of arrivals, for rounds of `table`. It takes a bit for each page of
+    /// the table.
+    ///
+    /// # Errors
+    /// `NoMemory` where there is no room for these bits.
+    pub fn new<B: Allocator>(alloc: A, table: &Table<B>) -> Result<Arrivals<A>, NoMemory>
+        ensures { IfOk result (λ a. HasCome table.now [] a) }
+    {
+        Ok(Arrivals {
+            numbers: Vec::new(alloc),
+            misplaced: None,
+            double: None,
+            seen: Dirty::none(alloc, table)?,
+        })
+    }
+}
+
+impl<A: Allocator> Arrivals<A> {
+    /// Returns the table of the rounds.
+    pub fn table(&self) -> &Table<A>
+        ensures { result.now ≡ self.now.seen.table }
+    {
+        self.seen.table()
+    }
+
+    /// Returns the number of packets that arrived, which may be 0.
+    #[allow(clippy::len_without_is_empty)]
+    pub fn len(&self) -> usize
+        ensures { result ≡ length self.now.numbers }
+    {
+        self.numbers.len()
+    }
+
+    /// Returns whether records are of the table: its page size, and places that it has.
+    pub fn fits<B: Allocator>(&self, round: &StreamRound<B>) -> bool
+        ensures { IsTrue result ↔ Fits self.now.seen.table round.now }
+    {
+        fits(self.seen.table(), round)
+    }
+
+    /// Adds the page records of `round`. Their caller has tested them with `fits`.
+    pub fn records<B: Allocator>(&mut self, round: &StreamRound<B>)
+        requires fits { Fits self.old.seen.table round.now }
+        ensures come { AlsoHas (Records (pages_of_round round.now)) self.old self.new }
+    {
+        self.double = mark_records(&mut self.seen, self.double, round);
+    }
+
+    /// Adds a packet, whatever its number and wherever its pages lie.
+    ///
+    /// # Errors
+    /// `NoMemory` where there is no room for its number. Nothing has changed then.
+    pub fn packet(&mut self, packet: &Packet<'_>) -> Result<(), NoMemory>
+        requires page_size { packet.now.page_size ≡ self.old.seen.table.page_size }
+        ensures come { OnOk result (AlsoHas (OnePacket (fields packet.now)) self.old self.new) }
+        ensures err { OnErr result (self.new ≡ self.old) }
+    {
+        self.numbers.push(packet.number())?;
+        match place_fault(self.seen.table(), packet) {
+            Some(fault) => {
+                let new = WrongPacket {
+                    number: packet.number(),
+                    fault,
+                };
+                self.misplaced = lesser_misplaced(self.misplaced, new);
+            }
+            None => self.double = mark_packet(&mut self.seen, self.double, packet),
+        }
+        Ok(())
+    }
+
+    /// Judges all that arrived as one whole round, whose packets have to be numbered from `base`
+    /// on. It may be called again, also after more has arrived: judging forgets nothing. It
+    /// allocates nothing.
+    ///
+    /// # Errors
+    /// The first that applies of `Foreign`, `Doubled` and `Missing`, each with the least such
+    /// number; `UnknownBlock` or `Offset` of the packet of least number whose pages lie wrong;
+    /// `DoublePage` with the least place that arrived twice. It is never `NoMemory`.
+    pub fn judge(&mut self, base: u64) -> Result<(), RoundFault>
+        requires room { base + length self.old.numbers ≤ 2 ^ 63 }
+        ensures lawful { OnOk result (IsJudged base self.old None) }
+        ensures refused { IfErr result (λ fault. IsJudged base self.old (Some fault)) }
+        ensures same { HasSame self.old self.new }
+    {
+        let wrong_number = unsorted_fault(&mut self.numbers, base);
+        match first_fault(wrong_number, self.misplaced, self.double) {
+            Some(fault) => Err(fault),
+            None => Ok(()),
+        }
+    }
+
+    /// Forgets all that arrived, for the next round. It walks the marks of the whole table.
+    pub fn clear(&mut self)
+        ensures { HasCome self.old.seen.table [] self.new }
+    {
+        self.numbers.clear();
+        self.misplaced = None;
+        self.double = None;
+        self.seen.clear();
+    }
+}
+
+// The first of what is wrong with a round: with its numbers, with where a packet's pages lie, and
+// with what arrived twice.
+fn first_fault(
+    wrong_number: Option<RoundFault>,
+    misplaced: Option<WrongPacket>,
+    double: Option<Place>,
+) -> Option<RoundFault>
+    ensures { result ≡ first_some (
+        wrong_number ∷ option_map (λ m. m.fault) misplaced ∷ option_map DoublePage double ∷ []) }
+{
+    match (wrong_number, misplaced, double) {
+        (Some(fault), _, _) => Some(fault),
+        (None, Some(packet), _) => Some(packet.fault),
+        (None, None, Some(place)) => Some(RoundFault::DoublePage(place)),
+        (None, None, None) => None,
+    }
+}
+
+// The one of lesser number.
+fn lesser_misplaced(found: Option<WrongPacket>, new: WrongPacket) -> Option<WrongPacket>
+    ensures { result ≡ lesser_misplaced found new }
+{
+    match found {
+        None => Some(new),
+        Some(old) => {
+            if new.number < old.number {
+                Some(new)
+            } else {
+                Some(old)
+            }
+        }
+    }
+}
+
+/// Pages of a lawful round that are written in the order in which they arrived make the same memory
+/// as the round.
+pub fn arrivals_make_the_round()
+    ensures { ArrivalsMakeTheRound }
+{}
+
+/// Pages that are written as they arrive, of a lawful round or of another, change no place but
+/// their own.
+pub fn other_places_stay()
+    ensures { OtherPlacesStay }
+{}
+
+/// A round is judged by the heads of its packets alone: what their pages hold makes no difference.
+pub fn heads_are_judged()
+    ensures { HeadsAreJudged }
+{}

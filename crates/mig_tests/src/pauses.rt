@@ -1,0 +1,223 @@
+//! The reader that gives page records as they come, with pauses: at each byte of a stream the same
+//! records in the same sections, and each allocation of a pause refused.
+
+use crate::building::{BEFORE_START_LEN, BLOCKS, two_rounds_in};
+use crate::records::{has_records, read_on};
+use mig_fixtures::table;
+use mig_mem::{MAX_TOTAL, NoMemory, PAGE_SIZE_4K, Table};
+use mig_refusing::Refusing;
+use mig_stream::{Frame, Given, Mode, Pause, RecordReader, StreamReader, StreamRound, StreamState};
+use std::alloc::{AllocGlobal, Allocator};
+use std::process::Abort;
+
+// How many bytes the text of two rounds has up to its table's last entry: the file header, what
+// stands before START, its head, the size list's head, and an entry for each block.
+fn table_len(frame: Frame) -> usize {
+    let before = match frame {
+        Frame::Ram => 0,
+        Frame::Machine => BEFORE_START_LEN,
+    };
+    8 + before + 17 + 8 + (1 + 1 + 8) + (1 + 6 + 8)
+}
+
+// What a reader with pauses is to give: the sections of the text, and what follows them. It has
+// given the sections before one of them, and of that so many records.
+#[derive(Drop)]
+struct Wanted<'a> {
+    sections: Vec<StreamRound<'a>>,
+    behind: &'static [u8],
+    section: usize,
+    records: usize,
+}
+
+// What a reader of the text of two rounds is to give.
+fn wanted_of<'a>(
+    rt: &(impl AllocGlobal + Abort),
+    frame: Frame,
+    text: &'a [u8],
+    behind: &'static [u8],
+) -> Wanted<'a> {
+    let mode = Mode::Single;
+    let reader = StreamReader::of_text_in(rt.alloc(), frame, mode, PAGE_SIZE_4K, MAX_TOTAL, text);
+    let mut reader = reader.expect(rt, "a reader");
+    let mut sections = Vec::new(rt.alloc());
+    for _ in 0..4 {
+        match reader.take_round() {
+            Ok(Some(section)) => assert!(rt; sections.push(section).is_ok()),
+            _ => panic!(rt; "no section"),
+        }
+    }
+    Wanted {
+        sections,
+        behind,
+        section: 0,
+        records: 0,
+    }
+}
+
+impl<'a> Wanted<'a> {
+    // Asserts that records come next, which may end a section.
+    fn assert_next<A: Allocator>(
+        &mut self,
+        rt: &impl Abort,
+        given: &StreamRound<A>,
+        ends_section: bool,
+    ) {
+        let section = self.sections.get(self.section).expect(rt, "a section");
+        assert!(rt; has_records(section, self.records, given));
+        self.records = self.records.saturating_add(given.len());
+        if ends_section {
+            assert_eq!(rt; self.records, section.len());
+            self.section = self.section.saturating_add(1);
+            self.records = 0;
+        }
+    }
+}
+
+// Reads all that a reader has, with each allocation refused.
+fn read_all(
+    rt: &impl Abort,
+    heap: &Refusing,
+    reader: &mut RecordReader<&Refusing>,
+    wanted: &mut Wanted,
+) {
+    for _ in 0..1000u64 {
+        match read_on(rt, heap, reader) {
+            Given::Records => wanted.assert_next(rt, reader.given(), false),
+            Given::Section => wanted.assert_next(rt, reader.given(), true),
+            Given::End(_) => return,
+        }
+    }
+    panic!(rt; "the text never ends");
+}
+
+// Pauses behind all that a reader gave, where the text goes on.
+fn pause_of<'a, A: Allocator + Copy>(
+    rt: &impl Abort,
+    mut reader: RecordReader<'a, A>,
+) -> Result<Pause<A>, NoMemory> {
+    match reader.read_on()? {
+        Given::End(StreamState::Reading) => reader.pause(),
+        _ => panic!(rt; "the text doesn't go on"),
+    }
+}
+
+// Asserts that a pause has the table, or none.
+fn assert_table<A: Allocator, B: Allocator>(
+    rt: &impl Abort,
+    pause: &Pause<A>,
+    has_table: bool,
+    wanted: &Table<B>,
+) {
+    match pause.table() {
+        Some(table) => assert!(rt; has_table && table.same(wanted)),
+        None => assert!(rt; !has_table),
+    }
+}
+
+// A reader of a text's first bytes: where there are none, behind a pause before the text.
+fn first_reader<'a>(
+    heap: &'a Refusing,
+    frame: Frame,
+    front: &'a [u8],
+) -> RecordReader<'a, &'a Refusing> {
+    if front.is_empty() {
+        return Pause::new_in(heap, frame, PAGE_SIZE_4K, MAX_TOTAL).resume(front);
+    }
+    RecordReader::new_in(heap, frame, PAGE_SIZE_4K, MAX_TOTAL, front)
+}
+
+// Reads a text up to where it is closed: its first bytes, then pieces of a length, with a pause
+// between each two.
+fn assert_paused(
+    rt: &(impl AllocGlobal + Abort),
+    frame: Frame,
+    text: &[u8],
+    first: usize,
+    len: usize,
+    wanted: &mut Wanted,
+) {
+    let heap = Refusing::new(rt.alloc(), 0);
+    let table = table(rt.alloc(), &BLOCKS).expect(rt, "a table");
+    let closed_at = text.len().saturating_sub(wanted.behind.len());
+    let (front, rest) = text.split_at_checked(first).expect(rt, "two pieces");
+    let mut reader = first_reader(&heap, frame, front);
+    wanted.section = 0;
+    wanted.records = 0;
+    read_all(rt, &heap, &mut reader, wanted);
+    let mut fed = first;
+    for piece in rest.chunks(len.max(1)) {
+        if fed >= closed_at {
+            break;
+        }
+        assert!(rt; reader.behind().is_none());
+        let pause = pause_of(rt, reader).expect(rt, "a pause");
+        assert_table(rt, &pause, fed >= table_len(frame), &table);
+        reader = pause.resume(piece);
+        assert!(rt; reader.given().len() == 0);
+        read_all(rt, &heap, &mut reader, wanted);
+        fed = fed.saturating_add(piece.len());
+    }
+    assert!(rt; reader.behind() == text.get(closed_at..fed));
+    assert!(rt; wanted.section == wanted.sections.len() && wanted.records == 0);
+}
+
+// With a pause at any byte, and at every byte.
+fn assert_paused_anywhere(rt: &(impl AllocGlobal + Abort), frame: Frame) {
+    let (text, behind) = two_rounds_in(rt, frame);
+    let mut wanted = wanted_of(rt, frame, &text, behind);
+    for first in 0..=text.len() {
+        assert_paused(rt, frame, &text, first, text.len(), &mut wanted);
+    }
+    assert_paused(rt, frame, &text, 0, 1, &mut wanted);
+    assert_paused(rt, frame, &text, 0, 7, &mut wanted);
+}
+
+#[test]
+fn paused_anywhere(rt: HostRuntime) {
+    assert_paused_anywhere(&rt, Frame::Ram);
+}
+
+#[test]
+fn machine_paused_anywhere(rt: HostRuntime) {
+    assert_paused_anywhere(&rt, Frame::Machine);
+}
+
+// Pauses behind a text's first bytes with allocation `nth` refused. Whether there was no such
+// allocation.
+fn is_paused(rt: &(impl AllocGlobal + Abort), frame: Frame, front: &[u8], nth: u64) -> bool {
+    let heap = Refusing::new(rt.alloc(), 0);
+    let mut reader = RecordReader::new_in(&heap, frame, PAGE_SIZE_4K, MAX_TOTAL, front);
+    skip_all(rt, &mut reader);
+    heap.refuse(nth);
+    let is_whole = pause_of(rt, reader).is_ok();
+    assert!(rt; heap.is_waiting() == is_whole);
+    is_whole
+}
+
+// Reads all that a reader has.
+fn skip_all<'a, A: Allocator + Copy>(rt: &impl Abort, reader: &mut RecordReader<'a, A>) {
+    for _ in 0..1000u64 {
+        match reader.read_on() {
+            Ok(Given::End(_)) => return,
+            Ok(_) => {}
+            Err(NoMemory) => panic!(rt; "no memory"),
+        }
+    }
+    panic!(rt; "the text never ends");
+}
+
+// Pauses behind the file header, which leaves nothing to be kept, and inside of items: of RAM's
+// sections an entry of the size list, a record's id and a page; of a machine a subsection's name, the
+// UUID and a page.
+#[test]
+fn refused_pause(rt: HostRuntime) {
+    for frame in [Frame::Ram, Frame::Machine] {
+        let (text, _behind) = two_rounds_in(&rt, frame);
+        for (len, is_cut) in [(8usize, false), (40, true), (85, true), (1000, true)] {
+            let front = text.get(..len).expect(&rt, "a front");
+            assert!(rt; is_paused(&rt, frame, front, 1) == !is_cut);
+            assert!(rt; is_paused(&rt, frame, front, 2));
+        }
+    }
+}
