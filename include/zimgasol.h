@@ -10,7 +10,9 @@
  *  - A handle is all zeros before its `_new`, and from then on as the last call left it. It is never copied and never written to.
  *    Each call but `_new` is handed a handle whose `_new` answered ZIMGASOL_DONE and that wasn't freed since; `_new` one that is all zeros,
  *    which it is again after `_free`, and after a `_new` that was refused.
- *  - One call at a time works on a handle, and a handle stays on one thread. No call is made from a signal handler.
+ *  - One call at a time works on a handle. A handle may pass to another thread, if a lock, the
+ *    start or the join of a thread, or a sequentially consistent atomic orders the calls before and
+ *    after. Calls on different handles may run at once. No call is made from a signal handler.
  *  - A buffer is valid for its length, and nobody writes to it while the call runs; two buffers of one call don't overlap. A pointer is never
  *    null, also where the length is 0.
  *  - `malloc`, `realloc` and `free` are one allocator.

@@ -2,3 +2,4 @@ pub mod Values
 pub mod Handles
 pub mod Sends
 pub mod HeldBlocks
+pub mod Crosses

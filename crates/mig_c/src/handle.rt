@@ -27,6 +27,11 @@ impl Model for Handle {
     ghost also_owns = { λ p. owned p.at p.value };
 }
 
+// A handle owns its object alone, and no object has a part that belongs to one thread. The proof is
+// `send` in `proofs/handle/Handle/TheSendSync/Send.antt`, by `handle_send` in
+// `proofs/Crosses.antt`.
+unsafe impl Send for Handle {}
+
 // A handle without an object.
 fn none() -> Handle
     ensures { result.value ≡ None }
@@ -124,4 +129,25 @@ pub struct SessionHandle {
 pub struct SenderHandle {
     /// What is behind it.
     pub handle: Handle,
+}
+
+// Asks the prover, wherever it is called, for the proof that values of the type may go to another
+// thread. The line `unsafe impl Send` asks for none.
+fn crosses<T: Send>(_: &T) {}
+
+/// Shows that each kind of handle may go to another thread, by the proof for `Handle`. Nothing calls
+/// it. So C may pass a handle to another thread: it orders the calls on the handle by a lock, a
+/// thread's start or join, or a sequentially consistent atomic, and makes one call on it at a time.
+pub(crate) fn all_cross(
+    table: &TableHandle,
+    loader: &LoaderHandle,
+    in_place: &InPlaceHandle,
+    session: &SessionHandle,
+    sender: &SenderHandle,
+) {
+    crosses(table);
+    crosses(loader);
+    crosses(in_place);
+    crosses(session);
+    crosses(sender);
 }
