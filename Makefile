@@ -1,49 +1,45 @@
-# `make run` runs the tool on its stored scenario, from its source and unproved where it wasn't built yet; `make run SCENARIO=FILE`
-# runs it on another, and `make run WORDS='..'` with words.
-# `make build` proves the tool and what it stands on, and builds it.
-# `make lib` proves the library for callers in C and builds it: out/libzimgasol.a, whose header is include/zimgasol.h; `make install PREFIX=DIR`
-# puts both and a pkg-config file below DIR. `make example` builds the programs of examples/c against it and runs them, and `make header` compares
-# the header with the library's exports.
-# `make test` is the gate: every proof that hasn't passed on this machine, the tests and the programs, and the planted bugs that are new or whose texts
-# changed since they were tried. `make edits` tries those alone and records them; `make gate` is the
-# gate with all of them, and records them.
+# `make help` prints what stands behind each `##` below. The times are those of docs/BENCHMARKS.md.
 
 SCENARIO ?= crates/mig_tool/stdin
 WORDS ?=
+CRATES ?=
 PREFIX ?= /usr/local
 
-.PHONY: run build lib header install example documents test edits gate
+.PHONY: help run check build lib install example header documents test gate
 
-run:
+help: ## at once | lists the targets
+	@echo "Times on 4 processors, from a fresh clone:"
+	@sed -n 's/^\([a-z]*\):.*## \(.*\) | \(.*\)/\1|\2|\3/p' $(MAKEFILE_LIST) | \
+		awk -F '|' '{printf "  make %-10s %-23s  %s\n", $$1, $$2, $$3}'
+
+run: ## about a minute | runs the tool, proved or not; SCENARIO=FILE WORDS='..'
 	@tools/run.sh "$(SCENARIO)" $(WORDS)
 
-build:
-	@cd crates/mig_tool && rt run < stdin
-	@echo "proved and built: crates/mig_tool/out/mig_tool"
+check: ## up to 10 minutes | runs tests, stored runs and cases, unproved; CRATES='..'
+	@tools/check.py $(CRATES)
 
-lib: header
+build: ## half an hour and more | proves and builds the tool: crates/mig_tool/out/mig_tool
+	@tools/prove.py mig_tool "half an hour and more"
+	@echo "built: crates/mig_tool/out/mig_tool"
+
+lib: header ## half an hour and more | proves and builds the library for C: out/libzimgasol.a
 	@tools/lib.sh
 
-header:
-	@tools/header.py
-
-install:
+install: ## at once, after lib | puts library, header and .pc file below PREFIX=DIR
 	@tools/install.sh "$(PREFIX)"
 
-example: lib
+example: lib ## a minute, after lib | builds and runs the C programs of examples/c
 	@tools/example.py
 
-# (the header is compared with the library's exports, the lists of cases in docs/EXAMPLES.md with the data, and README's quotations with the code)
-documents:
+header: ## at once | compares include/zimgasol.h with the library's exports
 	@tools/header.py
+
+documents: header ## at once | compares header, case lists and quotations with the code
 	@tools/case_lists.py --check
 	@tools/quotes.py
 
-test: documents
-	@tools/gate.py test
+test: ## some two hours | the gate: all proofs, planted bugs, tests and programs
+	@.ci/run
 
-edits:
-	@tools/gate.py edits
-
-gate: documents
-	@tools/gate.py gate
+gate: ## some two hours | the gate, taking nothing from earlier runs
+	@.ci/run --anew

@@ -31,7 +31,7 @@ def part(file):
     listed = groups((PROGRAM / "data" / file).read_text())
     lines = [f"### `{file}`: {sum(len(names) for _, names in listed)} cases\n\n"]
     for heading, names in listed:
-        lines.append(textwrap.fill(f"- **{heading}:** {'; '.join(names)}", 140, subsequent_indent="  ", break_on_hyphens=False) + "\n")
+        lines.append(textwrap.fill(f"- **{heading}:** {'; '.join(names)}", 100, subsequent_indent="  ", break_on_hyphens=False) + "\n")
     return "".join(lines)
 
 

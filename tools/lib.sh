@@ -1,9 +1,9 @@
 #!/bin/sh -e
-# Proves crates/mig_c and what it stands on, and builds out/libzimgasol.a: the library, with the heap's three functions over malloc, realloc and
-# free, so that it links with nothing but the C library.
+# Proves crates/mig_c and what it stands on, and builds out/libzimgasol.a: the library, with the heap's
+# three functions over malloc, realloc and free, so that it links with nothing but the C library.
 cd "$(dirname "$0")/.."
 top=$PWD
-(cd crates/mig_c && rt lib)
+tools/prove.py mig_c "half an hour and more"
 kit=$(dirname "$(rt doc)")
 rm -rf out/objects && mkdir -p out/objects
 cd out/objects

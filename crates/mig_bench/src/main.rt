@@ -7,6 +7,7 @@
 #![tactic(auto)]
 
 mod deal;
+mod eager;
 mod guest;
 mod hostile;
 mod in_place;
@@ -46,6 +47,7 @@ fn run<R: Clock + Print + Files + AllocGlobal + Threads + Wait + Sync>(
         Some("stream") => stream::run(rt, alloc, 1 << 16),
         Some("load") => load::run(rt, alloc, 1 << 18),
         Some("in_place") => in_place::run(rt, alloc, 1 << 18),
+        Some("eager") => eager::run(rt, alloc, 1 << 16),
         Some("packet") => packet::run(rt, alloc, 1 << 9),
         Some("pack") => pack::run(rt, alloc, 1 << 17),
         Some("multi") => multi::run(rt, alloc, 1 << 18),

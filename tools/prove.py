@@ -1,0 +1,62 @@
+#!/usr/bin/env python3
+"""Proves the crates below one, lowest first, and then proves and builds that one.
+
+    tools/prove.py CRATE TIME
+
+TIME is told at the beginning: about how long it takes. A crate that hasn't changed since it was proved
+here isn't proved again. What the toolchain says goes to out/prove.log; of a step that fails the last
+lines are shown, and its status is returned.
+
+Each finds the crates below it built. Asked for CRATE alone, rt begins with a quick pass over all
+sources, also of functions that CRATE doesn't reach. For these it prints error[unsupported-theorem] at
+each of the 39 exports of mig_c, though no proof fails.
+"""
+import subprocess
+import sys
+import time
+
+from crates import CRATES, TOP, below, is_program, uses
+
+LOG = TOP / "out" / "prove.log"
+
+
+def prove(name, log):
+    """Proves and builds a crate. A program runs on its stored input, and its output is shown."""
+    crate = CRATES / name
+    if not is_program(name):
+        how = {"stdin": subprocess.DEVNULL, "stdout": log, "stderr": log}
+        return subprocess.run(["rt", "lib"], cwd=crate, **how).returncode
+    with open(crate / "stdin", "rb") as stdin:
+        return subprocess.run(["rt", "run"], cwd=crate, stdin=stdin, stderr=log).returncode
+
+
+def failed(name, status, text):
+    print("\n".join(text.splitlines()[-40:]))
+    print(f"{name} FAILED, with status {status}; all that was said is in {LOG.relative_to(TOP)}")
+    return status if status > 0 else 128 - status
+
+
+def main(name, how_long):
+    names = [*below(name, uses()), name]
+    print(f"proves {len(names)} crates: {', '.join(names)}")
+    print(f"from nothing this takes {how_long} on 4 processors", flush=True)
+    LOG.parent.mkdir(exist_ok=True)
+    with open(LOG, "w+") as log:
+        for count, it in enumerate(names, 1):
+            begin, start = log.seek(0, 2), time.monotonic()
+            status = prove(it, log)
+            if status:
+                log.seek(begin)
+                return failed(it, status, log.read())
+            minutes, seconds = divmod(round(time.monotonic() - start), 60)
+            print(f"{count} of {len(names)}: {it} proved ({minutes} min {seconds} s)", flush=True)
+    return 0
+
+
+if __name__ == "__main__":
+    if len(sys.argv) != 3:
+        sys.exit(__doc__)
+    try:
+        sys.exit(main(*sys.argv[1:]))
+    except KeyboardInterrupt:
+        sys.exit(130)
