@@ -29,7 +29,7 @@ abbrev pub pages_of_round : RoundOfRecords → List Page
 pages_of_round round = map (page_of round.page_size) round.records
 
 -- the records are of pages of the table
-pub record Fits (table : RamTable) (round : RoundOfRecords) : Type 0 where
+pub record FitsTable (table : RamTable) (round : RoundOfRecords) : Type 0 where
   pub has_page_size : round.page_size ≡ table.page_size
   pub has_places : All (λ r. IsPlace table r.place) round.records
 

@@ -10,7 +10,7 @@ ghost use Rattle.std.specs.Option.{option_map};
 ghost use Rattle.mig_mem.specs.First.{first_some};
 ghost use Rattle.mig_packet.specs.Lent.{fields};
 ghost use Rattle.mig_assemble.specs.declared.fault.RoundFault.TheVariants.{DoublePage};
-ghost use Rattle.mig_assemble.specs.Target.{Fits, pages_of_round};
+ghost use Rattle.mig_assemble.specs.Target.{FitsTable, pages_of_round};
 ghost use Rattle.mig_assemble.specs.Arrivals.{Records, OnePacket, lesser_misplaced, HasCome, AlsoHas, HasSame, IsJudged};
 ghost use Rattle.mig_assemble.specs.Arrivals.{ArrivalsMakeTheRound, OtherPlacesStay, HeadsAreJudged};
 
@@ -88,14 +88,14 @@ impl<A: Allocator> Arrivals<A> {
 
     /// Returns whether records are of the table: its page size, and places that it has.
     pub fn fits<B: Allocator>(&self, round: &StreamRound<B>) -> bool
-        ensures { IsTrue result ↔ Fits self.now.seen.table round.now }
+        ensures { IsTrue result ↔ FitsTable self.now.seen.table round.now }
     {
         fits(self.seen.table(), round)
     }
 
     /// Adds the page records of `round`. Their caller has tested them with `fits`.
     pub fn records<B: Allocator>(&mut self, round: &StreamRound<B>)
-        requires fits { Fits self.old.seen.table round.now }
+        requires fits { FitsTable self.old.seen.table round.now }
         ensures come { AlsoHas (Records (pages_of_round round.now)) self.old self.new }
     {
         self.double = mark_records(&mut self.seen, self.double, round);

@@ -7,7 +7,7 @@ ghost use Rattle.mig_mem.specs.Place.{IsPlace, place_eq, place_lt};
 ghost use Rattle.mig_packet.specs.Lent.{fields};
 ghost use Rattle.mig_assemble.specs.Judging.{offsets, is_outside, place_fault, pages_in, packet_pages, all_round_pages, places_of, least, lesser, twice};
 ghost use Rattle.mig_assemble.specs.Seen.{HasSeen, SeesMore, SeesLess};
-ghost use Rattle.mig_assemble.specs.Target.{Fits, pages_of_round};
+ghost use Rattle.mig_assemble.specs.Target.{FitsTable, pages_of_round};
 
 use crate::places::{offset, page_count};
 use mig_mem::{Dirty, Place};
@@ -23,7 +23,7 @@ pub(crate) fn double_place<A: Allocator, B: Allocator>(
     packets: &[Packet<'_>],
 ) -> Option<Place>
     requires seen { seen.old.marked ≡ [] }
-    requires fits { Fits seen.old.table round.now }
+    requires fits { FitsTable seen.old.table round.now }
     requires page_sizes { All (λ p. p.page_size ≡ seen.old.table.page_size) packets.now }
     requires lawful { All (λ p. place_fault seen.old.table p ≡ None) (map fields packets.now) }
     ensures double { result ≡ least place_lt (twice place_eq (places_of (all_round_pages seen.old.table (pages_of_round round.now) (map fields packets.now)))) }
@@ -42,7 +42,7 @@ fn mark_all<A: Allocator, B: Allocator>(
     packets: &[Packet<'_>],
 ) -> Option<Place>
     requires seen { seen.old.marked ≡ [] }
-    requires fits { Fits seen.old.table round.now }
+    requires fits { FitsTable seen.old.table round.now }
     requires page_sizes { All (λ p. p.page_size ≡ seen.old.table.page_size) packets.now }
     requires lawful { All (λ p. place_fault seen.old.table p ≡ None) (map fields packets.now) }
     ensures { HasSeen seen.old.table (places_of (all_round_pages seen.old.table (pages_of_round round.now) (map fields packets.now))) seen.new result }
@@ -56,7 +56,7 @@ fn mark_all<A: Allocator, B: Allocator>(
 
 // Takes the marks of records away.
 fn unmark_records<A: Allocator, B: Allocator>(seen: &mut Dirty<A>, round: &StreamRound<B>)
-    requires fits { Fits seen.old.table round.now }
+    requires fits { FitsTable seen.old.table round.now }
     ensures table { seen.new.table ≡ seen.old.table }
     ensures seen { SeesLess (places_of (pages_of_round round.now)) seen.old seen.new }
 {
@@ -119,7 +119,7 @@ pub(crate) fn mark_records<A: Allocator, B: Allocator>(
     double: Option<Place>,
     round: &StreamRound<B>,
 ) -> Option<Place>
-    requires fits { Fits seen.old.table round.now }
+    requires fits { FitsTable seen.old.table round.now }
     ensures table { seen.new.table ≡ seen.old.table }
     ensures seen { SeesMore (places_of (pages_of_round round.now)) seen.old double seen.new result }
 {

@@ -4,7 +4,7 @@ ghost use Rattle.std.specs.Prelude.{◌≡◌, ◌+◌, ◌≤◌, ◌^◌, ◌�
 ghost use Rattle.mig_packet.specs.Lent.{fields};
 ghost use Rattle.mig_assemble.specs.declared.fault.RoundFault.TheVariants.{NoMemory as fault_no_memory};
 ghost use Rattle.mig_assemble.specs.Judging.{refusal};
-ghost use Rattle.mig_assemble.specs.Target.{Fits, pages_of_round};
+ghost use Rattle.mig_assemble.specs.Target.{FitsTable, pages_of_round};
 
 use crate::RoundFault;
 use crate::doubles::double_place;
@@ -26,7 +26,7 @@ pub(crate) fn judge<A: Allocator + Copy, B: Allocator>(
     packets: &[Packet<'_>],
 ) -> Result<(), RoundFault>
     requires seen { seen.old.marked ≡ [] }
-    requires fits { Fits seen.old.table round.now }
+    requires fits { FitsTable seen.old.table round.now }
     requires page_sizes { All (λ p. p.page_size ≡ seen.old.table.page_size) packets.now }
     requires room { base + length packets.now ≤ 2 ^ 63 }
     ensures lawful { OnOk result (refusal seen.old.table base (pages_of_round round.now) (map fields packets.now) ≡ None) }

@@ -8,7 +8,7 @@ ghost use Rattle.mig_mem.specs.Image.{zero_page, with_page};
 ghost use Rattle.mig_mem.specs.Round.{with_round};
 ghost use Rattle.mig_packet.specs.Lent.{fields};
 ghost use Rattle.mig_assemble.specs.Judging.{place_fault, packet_pages};
-ghost use Rattle.mig_assemble.specs.Target.{pages_of_round, Fits};
+ghost use Rattle.mig_assemble.specs.Target.{pages_of_round, FitsTable};
 ghost use Rattle.mig_assemble.specs.PacketPages.{normal_pages, zero_pages, LiesIn};
 
 use mig_mem::{GuestTarget, Place};
@@ -19,7 +19,7 @@ use std::alloc::Allocator;
 /// Puts a round of page records into a memory, in the order of the text, as `Target::section` does. It counts nothing: it is for a load
 /// whose memory is handed to each call. The round is of that memory, as `Target::fits` tests it.
 pub fn put_records<M: GuestTarget, B: Allocator>(memory: &mut M, round: &StreamRound<B>)
-    requires { Fits (M.image memory.old).table round.now }
+    requires { FitsTable (M.image memory.old).table round.now }
     ensures { M.image memory.new ≡ with_round (M.image memory.old) (pages_of_round round.now) }
 {
     // for what `table` tells of the memory (`IsImage`): each of its contents has the page size

@@ -5,7 +5,7 @@ ghost use Rattle.mig_mem.specs.Round.{with_round};
 ghost use Rattle.mig_packet.specs.Lent.{fields};
 ghost use Rattle.mig_assemble.specs.declared.fault.RoundFault.TheVariants.{NoMemory as fault_no_memory};
 ghost use Rattle.mig_assemble.specs.Judging.{refusal};
-ghost use Rattle.mig_assemble.specs.Target.{new_target, target_over, pages_of_round, Fits, after_round};
+ghost use Rattle.mig_assemble.specs.Target.{new_target, target_over, pages_of_round, FitsTable, after_round};
 
 use crate::judge::judge;
 use crate::put::{put_packets, put_records};
@@ -77,7 +77,7 @@ impl<A: Allocator + Copy, M: GuestTarget> Target<A, M> {
         round: &StreamRound<B>,
         gathered: &Gathered<'_, C>,
     ) -> Result<(), RoundFault>
-        requires fits { Fits self.old.memory.table round.now }
+        requires fits { FitsTable self.old.memory.table round.now }
         requires page_sizes { All (λ p. p.page_size ≡ self.old.memory.table.page_size) gathered.now }
         requires room { self.old.base + length gathered.now ≤ 2 ^ 63 }
         requires rounds { self.old.rounds < 2 ^ 63 }
@@ -127,7 +127,7 @@ impl<A: Allocator, M: GuestTarget> Target<A, M> {
 
     /// Whether a round is of this memory: its pages have the table's page size, and lie in the table.
     pub fn fits<B: Allocator>(&self, round: &StreamRound<B>) -> bool
-        ensures { IsTrue result ↔ Fits self.now.memory.table round.now }
+        ensures { IsTrue result ↔ FitsTable self.now.memory.table round.now }
     {
         fits(self.memory.table(), round)
     }
@@ -135,7 +135,7 @@ impl<A: Allocator, M: GuestTarget> Target<A, M> {
     /// Puts a round of page records into the memory, in the order of the text: of a page that comes more than once the last one
     /// counts. `fits` is the test of the round.
     pub fn section<B: Allocator>(&mut self, round: &StreamRound<B>)
-        requires fits { Fits self.old.memory.table round.now }
+        requires fits { FitsTable self.old.memory.table round.now }
         requires room { self.old.rounds < 2 ^ 63 }
         ensures memory { self.new.memory ≡ with_round self.old.memory (pages_of_round round.now) }
         ensures rounds { self.new.rounds ≡ self.old.rounds + 1 }
@@ -148,7 +148,7 @@ impl<A: Allocator, M: GuestTarget> Target<A, M> {
 
 /// Whether a round of page records is of a table: it has the table's page size, and its places are the table's.
 pub(crate) fn fits<A: Allocator, B: Allocator>(table: &Table<A>, round: &StreamRound<B>) -> bool
-    ensures { IsTrue result ↔ Fits table.now round.now }
+    ensures { IsTrue result ↔ FitsTable table.now round.now }
 {
     if round.page_size() != table.page_size() {
         return false;

@@ -23,13 +23,13 @@ use Rattle.mig_stream.specs.PageRecord.{PageRecord, page_of}
 use Rattle.mig_stream.specs.Reading.{StreamReading}
 use Rattle.mig_stream.specs.Reader.{IsSettled, HasRound, waiting}
 use Rattle.mig_stream.specs.Round.{RoundOfRecords, record_at}
-use Rattle.mig_assemble.specs.Target.{Fits, pages_of_round}
+use Rattle.mig_assemble.specs.Target.{FitsTable, pages_of_round}
 use Rattle.mig_assemble.proofs.Putting.{put_none, put_after, put_page_more}
 use Rattle.mig_load.specs.InPlace.{settings_of, IsOfOwnTable}
 use Rattle.mig_load.specs.InPlaceState.{InPlaceState, first_sections, FedWith, LoadsWith}
 use Rattle.mig_load.proofs.Sections.{same_reading}
 use Rattle.mig_load.proofs.InPlaceStates.{fed_with, round_longer, sections_longer}
-use Rattle.mig_c.specs.InPlace.{held_load, whole_rounds, EndsSection, LacksPart, LacksDue, Holds, is_of, front_of, behind, with_content, with_pages, Begins, FeedsInPlace, Puts, EndsInPlace, records_pages, due_pages, AreDue, LiesIn}
+use Rattle.mig_c.specs.InPlace.{held_load, whole_rounds, EndsSection, LacksPart, LacksDue, Holds, is_of, front_of, behind, with_content, with_pages, Begins, FeedsInPlace, Puts, EndsInPlace, records_pages, due_pages, AreDue, IsInBlock}
 
 -- ---- a page is written
 
@@ -112,13 +112,13 @@ behind_off section b i lt other =
     ap (λ (l : List Page). behind b l) (pages_on section i lt) ∙ behind-other b x (records_pages section (i + 1)) here ∙ sym (pages_on section i lt)
 
 -- the first record lies in its block's bytes, and the others do
-pub lies_first : (section : RoundOfRecords) (b i len : ℕ) → i < length section.records → All (LiesIn section.page_size b len) (drop i section.records)
-    → LiesIn section.page_size b len (record_at section.records i) × All (LiesIn section.page_size b len) (drop (i + 1) section.records)
+pub lies_first : (section : RoundOfRecords) (b i len : ℕ) → i < length section.records → All (IsInBlock section.page_size b len) (drop i section.records)
+    → IsInBlock section.page_size b len (record_at section.records i) × All (IsInBlock section.page_size b len) (drop (i + 1) section.records)
 lies_first section b i len lt all =
     let r : PageRecord = record_at section.records i in
-    let both : All (LiesIn section.page_size b len) (r ∷ drop (i + 1) section.records) =
-    subst (λ (l : List PageRecord). All (LiesIn section.page_size b len) l) (drop_more section.records i (record { place = place_at 0 0; content = None }) lt) all in
-    (All-head (LiesIn section.page_size b len) r (drop (i + 1) section.records) both, All-tail (LiesIn section.page_size b len) r (drop (i + 1) section.records) both)
+    let both : All (IsInBlock section.page_size b len) (r ∷ drop (i + 1) section.records) =
+    subst (λ (l : List PageRecord). All (IsInBlock section.page_size b len) l) (drop_more section.records i (record { place = place_at 0 0; content = None }) lt) all in
+    (All-head (IsInBlock section.page_size b len) r (drop (i + 1) section.records) both, All-tail (IsInBlock section.page_size b len) r (drop (i + 1) section.records) both)
 
 -- what holds of the records from one on holds of those from a later one on
 pub all_behind : {X : Type 0} (P : X → Type 0) (xs : List X) (from to : ℕ) → from ≤ to → All P (drop from xs) → All P (drop to xs)
@@ -240,7 +240,7 @@ part_over memory limit first s new due text ended same over lacks = record {
 }
 
 -- a section was taken, and none of its pages is put
-pub part_taken : (memory : Image) (limit : ℕ) (first : Image) (s new : InPlaceState) (section : RoundOfRecords) (text : List ℕ) (ended : Bool) → IsImage memory → Fits s.table section
+pub part_taken : (memory : Image) (limit : ℕ) (first : Image) (s new : InPlaceState) (section : RoundOfRecords) (text : List ℕ) (ended : Bool) → IsImage memory → FitsTable s.table section
     → FedWith memory limit first s text ended → FedWith (with_round memory (pages_of_round section)) limit first new text ended → new.rounds ≡ s.rounds + 1
     → HasRound (settings_of first limit) text s.rounds section.records → LacksPart memory limit first new (pages_of_round section) text ended
 part_taken memory limit first s new section text ended is fits fed taken more has = record {
@@ -307,7 +307,7 @@ rounds_but_one taken [] some = absurd (some refl)
 rounds_but_one taken (x ∷ due) some = refl
 
 -- the pages at the front are of the table
-are_of : (table : RamTable) (b : ℕ) (section : RoundOfRecords) → Fits table section
+are_of : (table : RamTable) (b : ℕ) (section : RoundOfRecords) → FitsTable table section
     → All (λ x. (x.place.block ≡ b) × (length x.content ≡ section.page_size)) (front_of b (pages_of_round section)) → All (IsPageOf table b) (front_of b (pages_of_round section))
 are_of table b section fits pages =
     let places : All (λ (x : Page). IsPlace table x.place) (front_of b (pages_of_round section)) =

@@ -10,7 +10,7 @@ use Rattle.mig_stream.specs.PageRecord.{PageRecord, page_of}
 use Rattle.mig_stream.specs.Reading.{StreamReading, IsReading}
 use Rattle.mig_stream.specs.Reader.{IsSettled, HasRound, waiting}
 use Rattle.mig_stream.specs.Round.{RoundOfRecords}
-use Rattle.mig_assemble.specs.Target.{Fits, pages_of_round}
+use Rattle.mig_assemble.specs.Target.{FitsTable, pages_of_round}
 use Rattle.mig_load.specs.declared.fault.LoadFault.{LoadFault}
 use Rattle.mig_load.specs.InPlace.{settings_of, IsOfOwnTable, HasVerdictOnto}
 use Rattle.mig_load.specs.InPlaceState.{InPlaceState, first_sections, FedWith, LoadsWith}
@@ -180,9 +180,9 @@ due_pages (Some section) = pages_of_round section
 
 -- Its pages are some, of a table.
 pub record AreDue (table : RamTable) (section : RoundOfRecords) : Type 0 where
-  pub fits : Fits table section
+  pub fits : FitsTable table section
   pub some : section.records ≢ []
 
 -- A record of a block is of a page in its bytes.
-abbrev pub LiesIn : ℕ → ℕ → ℕ → PageRecord → Type 0
-LiesIn size b len r = r.place.block ≡ b → r.place.page * size + size ≤ len
+abbrev pub IsInBlock : ℕ → ℕ → ℕ → PageRecord → Type 0
+IsInBlock size b len r = r.place.block ≡ b → r.place.page * size + size ≤ len

@@ -6,8 +6,8 @@ ghost use Rattle.mig_mem.specs.PageSize.{IsPageSize};
 ghost use Rattle.mig_mem.specs.RamTable.{RamTable};
 ghost use Rattle.mig_mem.specs.Image.{zero_page};
 ghost use Rattle.mig_mem.specs.Parts.{part_at};
-ghost use Rattle.mig_assemble.specs.Target.{Fits, pages_of_round};
-ghost use Rattle.mig_c.specs.InPlace.{due_block, front_of, behind, with_content, with_pages, LiesIn, records_pages};
+ghost use Rattle.mig_assemble.specs.Target.{FitsTable, pages_of_round};
+ghost use Rattle.mig_c.specs.InPlace.{due_block, front_of, behind, with_content, with_pages, IsInBlock, records_pages};
 
 use mig_stream::StreamRound;
 use std::alloc::Global;
@@ -78,7 +78,7 @@ fn put_page(bytes: &mut [u8], size: u64, page: u64, content: Option<&[u8]>)
 fn put_front(section: &StreamRound<Global>, from: usize, block: usize, bytes: &mut [u8]) -> usize
     requires from { from ≤ length section.now.records }
     requires size { IsPageSize section.now.page_size }
-    requires room { All (LiesIn section.now.page_size block (length bytes.old)) (drop from section.now.records) }
+    requires room { All (IsInBlock section.now.page_size block (length bytes.old)) (drop from section.now.records) }
     ensures bytes { bytes.new ≡ with_pages section.now.page_size bytes.old (front_of block (records_pages section.now from)) }
     ensures rest { records_pages section.now result ≡ behind block (records_pages section.now from) }
     ensures pages { All (λ x. (x.place.block ≡ block) × (length x.content ≡ section.now.page_size)) (front_of block (records_pages section.now from)) }
@@ -142,11 +142,11 @@ impl DueSection {
     /// Writes the pages that are due first, as long as they are of a block, into that block's bytes.
     pub(crate) fn put(&mut self, block: usize, bytes: &mut [u8])
         requires size { IsPageSize self.old.page_size }
-        requires room { All (LiesIn self.old.page_size block (length bytes.old)) self.old.records }
+        requires room { All (IsInBlock self.old.page_size block (length bytes.old)) self.old.records }
         ensures bytes { bytes.new ≡ with_pages self.old.page_size bytes.old (front_of block (pages_of_round self.old)) }
         ensures rest { pages_of_round self.new ≡ behind block (pages_of_round self.old) }
         ensures pages { All (λ x. (x.place.block ≡ block) × (length x.content ≡ self.old.page_size)) (front_of block (pages_of_round self.old)) }
-        ensures fits { (table : RamTable) → Fits table self.old → Fits table self.new }
+        ensures fits { (table : RamTable) → FitsTable table self.old → FitsTable table self.new }
     {
         self.put = put_front(&self.section, self.put, block, bytes);
     }

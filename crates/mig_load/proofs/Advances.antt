@@ -20,7 +20,7 @@ use Rattle.mig_packet.specs.Packet.{Fields}
 use Rattle.mig_packet.specs.declared.packet.Packet.{Packet}
 use Rattle.mig_assemble.specs.declared.fault.RoundFault.{RoundFault}
 use Rattle.mig_assemble.specs.Judging.{refusal}
-use Rattle.mig_assemble.specs.Target.{LoadTarget, Fits, new_target, pages_of_round, after_round}
+use Rattle.mig_assemble.specs.Target.{LoadTarget, FitsTable, new_target, pages_of_round, after_round}
 use Rattle.mig_load.specs.declared.fault.Origin.TheVariants as origin
 use Rattle.mig_load.specs.declared.fault.Fault.TheVariants as fault
 use Rattle.mig_load.specs.declared.fault.LoadFault.{LoadFault}
@@ -31,7 +31,7 @@ use Rattle.mig_load.specs.Status.{main_status, stream_end, is_whole}
 use Rattle.mig_load.specs.Texts.{Readings}
 use Rattle.mig_load.specs.Rounds.{packets_at, refusal_at, memory_at, pages_at}
 use Rattle.mig_load.specs.MultiLoad.{main_at, channels_at, passes, failed, verdict_at}
-use Rattle.mig_load.specs.Relayed.{HasLoaded, IsRefused}
+use Rattle.mig_load.specs.Relayed.{HasLoaded, IsRoundError}
 use Rattle.mig_load.specs.Sources.{FedSources, IsMainRound, Holds, HaveRound, TellsAll, packets_of_all, IsOfSize}
 use Rattle.mig_load.specs.Session.{rounds_loaded}
 use Rattle.mig_load.specs.Advancing.{Feeding, HasPutRounds, HasRounds, Advances, TellsVerdict, HasAdvanced, IsDue, RoundIsDue, PutsOrRefuses}
@@ -76,7 +76,7 @@ table_size f s t comes =
 
 -- the records that wait are of pages of the table, and the reading's
 pub fits_here : (f : Feeding) (s : FedSources) (t : LoadTarget) (round : RoundOfRecords) → RoundIsDue f s t → Some round ≡ s.main.round
-    → Fits t.memory.table round × IsNext f.readings t round
+    → FitsTable t.memory.table round × IsNext f.readings t round
 fits_here f s t round comes is =
     let p : ℕ = f.page_size in
     let given = main_settings Main p f.limit in
@@ -134,7 +134,7 @@ goes_in f s t new round packets x comes is are lawful after few =
 
 -- one that isn't ends the load, and so does a refused allocation
 pub stays_out : (f : Feeding) (s : FedSources) (t new : LoadTarget) (round : RoundOfRecords) (packets : List Fields) (found : LoadFault) → RoundIsDue f s t → Some round ≡ s.main.round
-    → packets ≡ packets_of_all s.channels → IsRefused t.rounds (refusal t.memory.table t.base (pages_of_round round) packets) (Err found) → new ≡ t → PutsOrRefuses f t (Err found) new
+    → packets ≡ packets_of_all s.channels → IsRoundError t.rounds (refusal t.memory.table t.base (pages_of_round round) packets) (Err found) → new ≡ t → PutsOrRefuses f t (Err found) new
 stays_out f s t new round packets found comes is are refused same = elim refused [
   | inl without ↦ (same, inr (let e : found ≡ record { round = t.rounds; source = origin.Round; fault = fault.NoMemory } = cc in ap (λ (x : LoadFault). x.fault) e))
   | inr w ↦
@@ -219,7 +219,7 @@ zeros_advance f s table t advances is_table is = rw is (record {
 -- what the judging leaves, whichever it is
 pub judged : (f : Feeding) (s : FedSources) (t new : LoadTarget) (round : RoundOfRecords) (packets : List Fields) (result : Result ⊤ LoadFault) → RoundIsDue f s t → Some round ≡ s.main.round
     → packets ≡ packets_of_all s.channels → OnOk result (refusal t.memory.table t.base (pages_of_round round) packets ≡ None) → OnOk result (new ≡ after_round t round packets)
-    → OnOk result (new.base ≤ 2 ^ 63) → IsRefused t.rounds (refusal t.memory.table t.base (pages_of_round round) packets) result → OnErr result (new ≡ t) → PutsOrRefuses f t result new
+    → OnOk result (new.base ≤ 2 ^ 63) → IsRoundError t.rounds (refusal t.memory.table t.base (pages_of_round round) packets) result → OnErr result (new ≡ t) → PutsOrRefuses f t result new
 judged f s t new round packets (Ok x) comes is are lawful after few refused same = goes_in f s t new round packets x comes is are lawful after few
 judged f s t new round packets (Err found) comes is are lawful after few refused same = stays_out f s t new round packets found comes is are refused same
 

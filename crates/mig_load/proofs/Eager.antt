@@ -33,7 +33,7 @@ use Rattle.mig_stream.proofs.Exists.{one_reading_law}
 use Rattle.mig_stream.proofs.Feeding.{reads_short}
 use Rattle.mig_stream.proofs.Longer.{longer_law}
 use Rattle.mig_stream.proofs.Giver.{none_before_table, few_sections, table_each, paused_table, same_page_size}
-use Rattle.mig_assemble.specs.Target.{Fits, pages_of_round}
+use Rattle.mig_assemble.specs.Target.{FitsTable, pages_of_round}
 use Rattle.mig_load.specs.declared.eager_state.LoadState.{LoadState}
 use Rattle.mig_load.specs.declared.eager_state.LoadState.TheVariants as load_state
 use Rattle.mig_load.specs.declared.fault.LoadFault.{LoadFault}
@@ -108,7 +108,7 @@ gave_before limit table text so_far gave r next none =
 
 -- ---- putting
 
-pub put_fits : (limit : ℕ) (table : RamTable) (text : List ℕ) (so_far : GivenSoFar) (gave : Given) (r : Giver) (n : ℕ) → (IsEnd gave → ⊥) → PutsNext limit table text so_far gave r n → Fits table r.given
+pub put_fits : (limit : ℕ) (table : RamTable) (text : List ℕ) (so_far : GivenSoFar) (gave : Given) (r : Giver) (n : ℕ) → (IsEnd gave → ⊥) → PutsNext limit table text so_far gave r n → FitsTable table r.given
 put_fits limit table text so_far gave r n more puts =
     elim puts.has_table [
       | inl end ↦ absurd (more end)

@@ -24,7 +24,7 @@ use Rattle.mig_load.specs.declared.log.Log.{Log}
 use Rattle.mig_load.specs.declared.message.Message.{Message}
 use Rattle.mig_load.specs.declared.message.Message.TheVariants as message
 use Rattle.mig_load.specs.RelayItems.{as_channel_item, IsOfPageSize, given, HasItems, BeginsItems, QueueEnd, queue_end, one_more, IsThrough, IsOnTheWay}
-use Rattle.mig_load.specs.Messages.{item_in, item_of_message, AreMessages, BeginsMessages, LiesIn, is_last}
+use Rattle.mig_load.specs.Messages.{item_in, item_of_message, AreMessages, BeginsMessages, IsMessageIn, is_last}
 use Rattle.mig_load.specs.Queue.{feeding, collecting, items_in}
 use Rattle.mig_load.specs.Cursor.{text_of, Finds}
 use Rattle.mig_load.specs.Ends.{IsFeeding, IsCollecting}
@@ -33,7 +33,7 @@ use Rattle.mig_load.proofs.Places.{some_messages, items_law, items_begin, lies_i
 
 -- ---- a message is made an item
 
-found_there : (page_size : ℕ) (text : List ℕ) (at len : ℕ) (r : PacketRead) → LiesIn page_size text (message.Page at len)
+found_there : (page_size : ℕ) (text : List ℕ) (at len : ℕ) (r : PacketRead) → IsMessageIn page_size text (message.Page at len)
     → ((front more : List ℕ) (said : Fields) → take (at + len - at) (drop at text) ≡ front ++ more → IsPacket page_size front said → FindsPacket front said r)
     → FindsPacket (take len (drop at text)) (fields_of page_size (take len (drop at text))) r
 found_there page_size text at len r lies told =
@@ -45,18 +45,18 @@ not_there : (front : List ℕ) (said : Fields) (r : PacketRead) → FindsPacket 
 not_there front said r found (inl e) = subst (FindsPacket front said) e found
 not_there front said r found (inr e) = subst (FindsPacket front said) e.1 found
 
-pub never_cut : (page_size : ℕ) (text : List ℕ) (m : Message) (at len : ℕ) (r : PacketRead) → m ≡ message.Page at len → LiesIn page_size text m
+pub never_cut : (page_size : ℕ) (text : List ℕ) (m : Message) (at len : ℕ) (r : PacketRead) → m ≡ message.Page at len → IsMessageIn page_size text m
     → ((front more : List ℕ) (said : Fields) → take (at + len - at) (drop at text) ≡ front ++ more → IsPacket page_size front said → FindsPacket front said r)
     → (r ≡ packet.Cut) ⊎ ((fault : ChannelFault) × (r ≡ packet.Bad fault)) → ⊥
 never_cut page_size text m at len r is lies told e =
-    not_there _ _ r (found_there page_size text at len r (subst (LiesIn page_size text) is lies) told) e
+    not_there _ _ r (found_there page_size text at len r (subst (IsMessageIn page_size text) is lies) told) e
 
-pub made_item : (page_size : ℕ) (text : List ℕ) (m : Message) (at len : ℕ) (r : PacketRead) (found : Packet) (n : ℕ) → m ≡ message.Page at len → LiesIn page_size text m
+pub made_item : (page_size : ℕ) (text : List ℕ) (m : Message) (at len : ℕ) (r : PacketRead) (found : Packet) (n : ℕ) → m ≡ message.Page at len → IsMessageIn page_size text m
     → ((front more : List ℕ) (said : Fields) → take (at + len - at) (drop at text) ≡ front ++ more → IsPacket page_size front said → FindsPacket front said r)
     → r ≡ packet.Whole found n → Page (fields found) ≡ item_in page_size text m
 made_item page_size text m at len r found n is lies told e =
     let front = take len (drop at text) in
-    let said = subst (FindsPacket front (fields_of page_size front)) e (found_there page_size text at len r (subst (LiesIn page_size text) is lies) told) in
+    let said = subst (FindsPacket front (fields_of page_size front)) e (found_there page_size text at len r (subst (IsMessageIn page_size text) is lies) told) in
     ap Page said.2 ∙ ap (item_in page_size text) (sym is)
 
 -- ---- what an end shows after a step
@@ -149,9 +149,9 @@ feeds_first k text v size_is at_start e =
 
 -- what was popped lies in the text
 pub lies : (page_size : ℕ) (text : List ℕ) (items : List Item) (over : Bool) (v : Log) (m : Message) → IsCollecting page_size text items over v
-    → BeginsMessages v.source (v.done ++ m ∷ []) → LiesIn page_size text m
+    → BeginsMessages v.source (v.done ++ m ∷ []) → IsMessageIn page_size text m
 lies page_size text items over v m k b =
-    subst (λ (x : ℕ × List ℕ). LiesIn x.0 x.1 m) (λ i. (k.of_page_size i, k.of_text i)) (lies_in v.source v.done m b)
+    subst (λ (x : ℕ × List ℕ). IsMessageIn x.0 x.1 m) (λ i. (k.of_page_size i, k.of_text i)) (lies_in v.source v.done m b)
 
 pub collects_none : (page_size : ℕ) (text : List ℕ) (source : ChannelText) (items : List Item) (v : Log) → IsPageSize page_size → source.page_size ≡ page_size → source.text ≡ text
     → v ≡ collecting source [] → items ≡ [] → IsCollecting page_size text items false v

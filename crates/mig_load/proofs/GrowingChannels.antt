@@ -1,20 +1,18 @@
 -- What is read of a channel's text stays read where more bytes follow, or it ends.
-use Rattle.std.proofs.Common.{◌≡◌, ◌≢◌, ◌⊎◌, ℕ, zero, suc, ◌+◌, ◌<◌, Bool, true, false, cond, List, [], ◌∷◌, ◌++◌, length, take, drop, get_or, Option, Some, None, refl, sym, ap, subst, ◌∙◌, inl, inr, append_assoc, arith}
-use Rattle.std.proofs.lemmas.Bool.{cases_lt, cases_Bool}
-use Rattle.std.proofs.lemmas.List.{append-nil, length-append, take-append-drop, get_or_append_left}
+use Rattle.std.proofs.Common.{◌≡◌, ◌≢◌, ◌⊎◌, ℕ, ◌+◌, ◌<◌, Bool, true, false, cond, List, [], ◌∷◌, ◌++◌, length, get_or, Option, Some, None, refl, sym, ap, subst, ◌∙◌, inl, inr, arith}
+use Rattle.std.proofs.lemmas.Bool.{cases_Bool}
+use Rattle.std.proofs.lemmas.List.{append-nil, length-append, get_or_append_left}
 use Rattle.mig_mem.specs.PageSize.{IsPageSize}
 use Rattle.mig_packet.specs.declared.state.ChannelState.{ChannelState}
 use Rattle.mig_packet.specs.declared.state.ChannelState.TheVariants.{Reading, Closed, Bad}
-use Rattle.mig_packet.specs.declared.fault.ChannelFault.{ChannelFault}
 use Rattle.mig_packet.specs.Packet.{is_sync}
-use Rattle.mig_packet.specs.Progress.{ChannelProgress, start, judged_len, item_len, first_fault, due_fault, after_item, after}
-use Rattle.mig_packet.specs.Reading.{IsItem, after_all, Front, Reads, state_at, Settings, ChannelReading, IsReading}
+use Rattle.mig_packet.specs.Progress.{ChannelProgress, start, after_item, after}
+use Rattle.mig_packet.specs.Reading.{after_all, Front, Reads, state_at, Settings, ChannelReading, IsReading}
 use Rattle.mig_packet.specs.Reader.{with_taken, HasRound}
-use Rattle.mig_packet.proofs.Fronts.{Front-none, Front-push, no_head, no_item, item_at, due_is, faultless_front}
 use Rattle.mig_packet.proofs.Later.{Reads-on, Reads-more}
 use Rattle.mig_packet.proofs.Limits.{limits_law}
 use Rattle.mig_packet.proofs.Unique.{one_reading}
-use Rattle.mig_packet.proofs.Exists.{one_reading_law}
+use Rattle.mig_packet.proofs.Exists.{some_reading, one_reading_law}
 use Rattle.mig_load.specs.Texts.{Text}
 use Rattle.mig_load.specs.Growing.{GoesOn}
 
@@ -26,51 +24,6 @@ pub record ChannelStays (before now : ChannelReading) : Type 0 where
   pub same_hello : before.hello ≢ None → now.hello ≡ before.hello
   pub same_once_over : before.state ≢ Reading → now ≡ before
   pub has_hello_first : before.hello ≡ None → before.rounds ≡ []
-
--- ---- a text has a reading from anywhere
-
--- some reading of a text from here
-abbrev SomeReading : ChannelProgress → List ℕ → Type 0
-SomeReading from text = (to : ChannelProgress) × (rest : List ℕ) × (state : ChannelState) × Reads from text to rest state
-
--- whether a fault is due
-faulty : (o : Option ChannelFault) → (o ≡ None) ⊎ ((fault : ChannelFault) × (o ≡ Some fault))
-faulty None = inl refl
-faulty (Some fault) = inr (fault, refl)
-
--- no item is empty
-some_bytes : (p : ℕ) (h : Option ℕ) (bytes : List ℕ) → 0 < item_len p h bytes
-some_bytes p None bytes = omega arith
-some_bytes p (Some id) bytes = omega arith
-
--- however far a text has been read, it can be read on, since each item is a step forward
-read_on : (fuel : ℕ) (from c : ChannelProgress) (text front rest : List ℕ) → length rest < fuel → text ≡ front ++ rest → Front from front c
-    → SomeReading from text
-read_on zero from c text front rest few e so_far = absurd (omega arith)
-read_on (suc fuel) from c text front rest few e so_far =
-    elim (faulty (due_fault c rest)) [
-      | inr found ↦ (c, rest, Bad found.0, record { front = front; has_text = e; leads = so_far; ends = found.1 })
-      | inl none ↦ elim (cases_lt (length rest) (judged_len c.page_size c.hello)) [
-        | inl early ↦ (c, rest, Reading, record { front = front; has_text = e; leads = so_far; ends = (none, no_head c.page_size c.hello rest early) })
-        | inr judged ↦ elim (cases_lt (length rest) (item_len c.page_size c.hello rest)) [
-          | inl short ↦ (c, rest, Reading, record { front = front; has_text = e; leads = so_far; ends = (none, no_item c.page_size c.hello rest short) })
-          | inr le ↦
-              let n : ℕ = item_len c.page_size c.hello rest in
-              let item : List ℕ = take n rest in
-              let more : List ℕ = drop n rest in
-              let parts : item ++ more ≡ rest = take-append-drop n rest in
-              let is : IsItem c.page_size c.hello item = item_at c.page_size c.hello rest le in
-              let free : first_fault c item ≡ None = faultless_front c rest item more (sym (due_is c rest judged) ∙ none) (sym parts) is in
-              let lens : length item + length more ≡ length rest = sym (length-append item more) ∙ ap length parts in
-              let some : 0 < length item = omega (arith, is, some_bytes c.page_size c.hello item) in
-              let text_is : text ≡ (front ++ item) ++ more = e ∙ ap (λ (x : List ℕ). front ++ x) (sym parts) ∙ sym (append_assoc front item more) in
-              read_on fuel from (after c item) text (front ++ item) more (omega (arith, few, lens, some)) text_is (Front-push from c front item so_far is free)
-        ]
-      ]
-    ]
-
-reads_from : (from : ChannelProgress) (text : List ℕ) → SomeReading from text
-reads_from from text = read_on (suc (length text)) from from text [] text (omega arith) refl (Front-none from)
 
 -- ---- a hello stays
 
@@ -149,7 +102,7 @@ stays_on : (given : Settings) (text more : List ℕ) (ended : Bool) (a b : Chann
 stays_on given text more ended a b first_hello open_ is_a is_b =
     let c : ChannelProgress = is_a.to in
     let mid : ChannelProgress = roundless c in
-    let next = reads_from mid (is_a.rest ++ more) in
+    let next = some_reading mid (is_a.rest ++ more) in
     let found : is_a.found ≡ Reading = sym is_a.has_state ∙ open_ in
     let first : Reads (from given) text (with_taken c.rounds mid) is_a.rest Reading =
     subst (λ (s : ChannelState). Reads (from given) text (with_taken c.rounds mid) is_a.rest s) found

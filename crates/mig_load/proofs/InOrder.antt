@@ -9,7 +9,7 @@ use Rattle.mig_load.specs.declared.log.ChannelText.{ChannelText}
 use Rattle.mig_load.specs.declared.log.Log.{Log}
 use Rattle.mig_load.specs.declared.message.Message.{Message}
 use Rattle.mig_load.specs.Messages.{AreMessages, BeginsMessages}
-use Rattle.mig_load.specs.Queue.{no_channel_text, fresh, feeding, collecting, Fits, IsInOrder, TellsPush, TellsPop}
+use Rattle.mig_load.specs.Queue.{no_channel_text, fresh, feeding, collecting, LogHolds, IsInOrder, TellsPush, TellsPop}
 use Rattle.mig_load.proofs.Places.{some_messages}
 
 at_end : (l : List Log) (a b : Log) (j : ℕ) → get_elem? l j ≢ some b → get_elem? (l ++ a ∷ []) j ≡ some b → j ≡ length l
@@ -37,7 +37,7 @@ begins = (
   [],
   refl,
   some_messages no_channel_text (inl refl),
-  all_set (Fits 0 0 no_channel_text [] []) (fresh ∷ []) 0 fresh ((λ _. (refl, refl, refl)), λ _. (refl, refl, refl))
+  all_set (LogHolds 0 0 no_channel_text [] []) (fresh ∷ []) 0 fresh ((λ _. (refl, refl, refl)), λ _. (refl, refl, refl))
       (λ j u other e. absurd (other (at_end [] fresh u j (λ x. some-ne-none u (sym x)) e))),
 )
 
@@ -56,7 +56,7 @@ pushes n pass v x may next items views _ h at =
         h.4,
         ap (λ (l : List Message). l ++ x ∷ []) h.5 ∙ append_assoc h.4 items (x ∷ []),
         subst (λ (p : ChannelText × List Message). BeginsMessages p.0 (p.1 ++ x ∷ [])) (λ i. (mine.1 i, mine.2 i)) next,
-        all_set (Fits h.0 h.1 h.2 pushed h.4) views pass w
+        all_set (LogHolds h.0 h.1 h.2 pushed h.4) views pass w
             ((λ _. (mine.0, mine.1, ap (λ (l : List Message). l ++ x ∷ []) mine.2)), λ p. absurd (true≢false (sym p)))
             (λ j u other e. ((λ p. absurd (other (((h.7 j u e).0 p).0 ∙ sym mine.0))), (h.7 j u e).1)),
       ),
@@ -81,7 +81,7 @@ pops pass v may x items views h at =
         popped,
         split,
         h.6,
-        all_set (Fits h.0 h.1 h.2 h.3 popped) views pass w
+        all_set (LogHolds h.0 h.1 h.2 h.3 popped) views pass w
             ((λ p. absurd (true≢false (sym p))), λ _. (mine.0, mine.1, ap (λ (l : List Message). l ++ x ∷ []) mine.2))
             (λ j u other e. ((h.7 j u e).0, λ p. absurd (other (((h.7 j u e).1 p).0 ∙ sym mine.0)))),
       ),

@@ -18,7 +18,7 @@ use Rattle.mig_stream.specs.Round.{RoundOfRecords}
 use Rattle.mig_stream.specs.Law.{StaysRead}
 use Rattle.mig_stream.proofs.Exists.{one_reading_law}
 use Rattle.mig_stream.proofs.Longer.{longer_law}
-use Rattle.mig_assemble.specs.Target.{Fits, pages_of_round}
+use Rattle.mig_assemble.specs.Target.{FitsTable, pages_of_round}
 use Rattle.mig_load.specs.Loader.{put_so_far, HasPutSections}
 use Rattle.mig_load.specs.InPlace.{settings_of, IsOfOwnTable, IsOfOtherTable, LoadsOnto, StandsAtAll}
 use Rattle.mig_load.specs.InPlaceState.{InPlaceState, in_place_state, memory_with, loader_with, LoadsWith, FedWith, AreSections, first_sections, PutsAlike, LoadsWithMemory, FedWithSome}
@@ -221,7 +221,7 @@ section_is memory limit first r table streamed n section text ended tells same g
     (gives (settings_of first limit) (put_so_far text ended n) put.stands).1
 
 pub section_fits : (r : Reader) (table streamed : RamTable) (n : ℕ) (section : RoundOfRecords) → FedWithSome (in_place_state r table n) → TellsTable r streamed → streamed ≡ table
-    → GivesSection r section → GivesPlaces r section → Fits table section
+    → GivesSection r section → GivesPlaces r section → FitsTable table section
 section_fits r table streamed n section some tells same gives places =
     let stood = of_some_text (in_place_state r table n) some in
     let first : Image = some.fed.first in
@@ -229,7 +229,7 @@ section_fits r table streamed n section some tells same gives places =
     let text : List ℕ = some.fed.text in
     let put = put_with some.memory limit first r table streamed n text some.fed.ended stood tells same in
     let so_far = put_so_far text some.fed.ended n in
-    subst (λ (x : RamTable). Fits x section) some.same_table
+    subst (λ (x : RamTable). FitsTable x section) some.same_table
     (fits_is first.table.page_size limit first text some.fed.ended r (memory_with some.memory n) section put (gives (settings_of first limit) so_far put.stands).0
     (places (settings_of first limit) so_far put.stands first.table put.has_first.has_table))
 

@@ -18,7 +18,7 @@ use Rattle.mig_stream.specs.Reading.{settings, StreamReading, IsReading}
 use Rattle.mig_stream.specs.Reader.{HasTable}
 use Rattle.mig_stream.specs.Round.{RoundOfRecords}
 use Rattle.mig_stream.specs.Giving.{Giver, GivenSoFar, none_given, with_more, with_last, with_given, Gives, GivesOn, GiverTells, EndsSo, HasReading, left, LeavesLess}
-use Rattle.mig_assemble.specs.Target.{pages_of_round, Fits}
+use Rattle.mig_assemble.specs.Target.{pages_of_round, FitsTable}
 use Rattle.mig_load.specs.declared.loaded.Loaded.{Loaded}
 use Rattle.mig_load.specs.SingleLoad.{memory_after, verdict_of, IsSingleAnswer}
 use Rattle.mig_load.proofs.Sections.{pages_in, same_reading, size_is}
@@ -100,7 +100,7 @@ put_first p limit text table gave old new m size first long step has zeros =
     }
 
 -- what is put next is of the memory
-pub put_fits : (p limit : ℕ) (text : List ℕ) (table : RamTable) (gave : Given) (r : Giver) (m : Image) (sections : ℕ) → HasPut p limit text table gave r m sections → Fits m.table r.given
+pub put_fits : (p limit : ℕ) (text : List ℕ) (table : RamTable) (gave : Given) (r : Giver) (m : Image) (sections : ℕ) → HasPut p limit text table gave r m sections → FitsTable m.table r.given
 put_fits p limit text table gave r m sections h =
     let same : m.table ≡ table = ap (λ (x : Image). x.table) h.has_memory in record {
       has_page_size = h.is_size ∙ sym (size_is p limit text table h.is_page_size h.has_table) ∙ ap (λ (t : RamTable). t.page_size) (sym same);

@@ -23,7 +23,7 @@ use Rattle.mig_load.specs.declared.log.ChannelText.{ChannelText}
 use Rattle.mig_load.specs.declared.message.Message.{Message}
 use Rattle.mig_load.specs.declared.message.Message.TheVariants as message
 use Rattle.mig_load.specs.RelayItems.{given, HasItems, BeginsItems}
-use Rattle.mig_load.specs.Messages.{item_in, item_of_message, hello_message, places, stop_message, front_messages, AreMessages, BeginsMessages, LiesIn, is_last}
+use Rattle.mig_load.specs.Messages.{item_in, item_of_message, hello_message, places, stop_message, front_messages, AreMessages, BeginsMessages, IsMessageIn, is_last}
 
 -- some text's messages begin with none
 pub some_messages : (source : ChannelText) → IsPageSize source.page_size → BeginsMessages source []
@@ -148,7 +148,7 @@ read_places p at text front rest (packet ∷ packets) e is =
 abbrev WellMade : ℕ → List ℕ → List Message → Type 0
 WellMade p text [] = ⊥
 WellMade p text (message.Hello id ∷ l) = WellMade p text l
-WellMade p text (message.Page at len ∷ l) = LiesIn p text (message.Page at len) × WellMade p text l
+WellMade p text (message.Page at len ∷ l) = IsMessageIn p text (message.Page at len) × WellMade p text l
 WellMade p text (message.Stop end ∷ []) = Unit {0}
 WellMade p text (message.Stop end ∷ (x ∷ l)) = ⊥
 
@@ -246,7 +246,7 @@ items_begin source front b =
 
 -- ---- what is known of a message by its place among the text's
 
-lies_there : (p : ℕ) (text : List ℕ) (done : List Message) (m : Message) (more : List Message) → WellMade p text ((done ++ m ∷ []) ++ more) → LiesIn p text m
+lies_there : (p : ℕ) (text : List ℕ) (done : List Message) (m : Message) (more : List Message) → WellMade p text ((done ++ m ∷ []) ++ more) → IsMessageIn p text m
 lies_there p text [] (message.Hello id) more made = tt
 lies_there p text [] (message.Page at len) more made = made.0
 lies_there p text [] (message.Stop end) more made = tt
@@ -255,7 +255,7 @@ lies_there p text (message.Page at len ∷ done) m more made = lies_there p text
 lies_there p text (message.Stop end ∷ []) m more made = absurd made
 lies_there p text (message.Stop end ∷ (x ∷ done)) m more made = absurd made
 
-pub lies_in : (source : ChannelText) (done : List Message) (m : Message) → BeginsMessages source (done ++ m ∷ []) → LiesIn source.page_size source.text m
+pub lies_in : (source : ChannelText) (done : List Message) (m : Message) → BeginsMessages source (done ++ m ∷ []) → IsMessageIn source.page_size source.text m
 lies_in source done m b = lies_there source.page_size source.text done m b.0 (well_made source ((done ++ m ∷ []) ++ b.0) b.1)
 
 none_behind : (p : ℕ) (text : List ℕ) (done : List Message) (m : Message) (more : List Message) → is_last m ≡ true → WellMade p text ((done ++ m ∷ []) ++ more) → more ≡ []

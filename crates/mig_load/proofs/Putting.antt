@@ -19,7 +19,7 @@ use Rattle.mig_stream.proofs.Limits.{limits_law}
 use Rattle.mig_packet.specs.Packet.{Fields, fields_of}
 use Rattle.mig_packet.specs.Reading.{ChannelReading}
 use Rattle.mig_assemble.specs.Judging.{refusal, all_round_pages}
-use Rattle.mig_assemble.specs.Target.{LoadTarget, Fits, pages_of_round, after_round}
+use Rattle.mig_assemble.specs.Target.{LoadTarget, FitsTable, pages_of_round, after_round}
 use Rattle.mig_load.specs.Texts.{Text, Readings, IsMainReading}
 use Rattle.mig_load.specs.Rounds.{record_pages_at, channel_packets_at, packets_at, packet_count_at, base_at, refusal_of, refusal_at, pages_at, memory_at}
 use Rattle.mig_load.specs.Relayed.{HasLoaded}
@@ -50,14 +50,14 @@ abbrev pub IsNext : Readings → LoadTarget → RoundOfRecords → Type 0
 IsNext readings target round = round.records ≡ get_or readings.main.rounds target.rounds []
 
 -- its pages of records
-pages_are : (readings : Readings) (target : LoadTarget) (round : RoundOfRecords) → Fits target.memory.table round → IsNext readings target round
+pages_are : (readings : Readings) (target : LoadTarget) (round : RoundOfRecords) → FitsTable target.memory.table round → IsNext readings target round
     → pages_of_round round ≡ record_pages_at target.memory.table.page_size target.rounds readings
 pages_are readings target round fits next =
     ap (λ (n : ℕ). map (page_of n) round.records) fits.has_page_size ∙ ap (map (page_of target.memory.table.page_size)) next
 
 -- why it is refused
 pub refusal_of_round : (p : ℕ) (readings : Readings) (target : LoadTarget) (round : RoundOfRecords) (packets : List Fields) → target.memory.table.page_size ≡ p
-    → HasLoaded target.rounds readings target → Fits target.memory.table round → IsNext readings target round → packets ≡ packets_at p target.rounds readings
+    → HasLoaded target.rounds readings target → FitsTable target.memory.table round → IsNext readings target round → packets ≡ packets_at p target.rounds readings
     → refusal_at target.rounds readings ≡ refusal target.memory.table target.base (pages_of_round round) packets
 refusal_of_round p readings target round packets size has fits next are =
     let table : RamTable = target.memory.table in
@@ -88,7 +88,7 @@ one_round_more table rounds round =
 
 -- with it one round more is loaded
 pub round_is_put : (p : ℕ) (readings : Readings) (target new : LoadTarget) (round : RoundOfRecords) (packets : List Fields) → target.memory.table.page_size ≡ p
-    → HasLoaded target.rounds readings target → Fits target.memory.table round → IsNext readings target round → packets ≡ packets_at p target.rounds readings
+    → HasLoaded target.rounds readings target → FitsTable target.memory.table round → IsNext readings target round → packets ≡ packets_at p target.rounds readings
     → new ≡ after_round target round packets → HasLoaded (target.rounds + 1) readings new
 round_is_put p readings target new round packets size has fits next are is =
     let table : RamTable = target.memory.table in

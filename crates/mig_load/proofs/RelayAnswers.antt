@@ -25,7 +25,7 @@ use Rattle.mig_load.specs.Texts.{AreReadings, ended_texts}
 use Rattle.mig_load.specs.Rounds.{pages_at, memory_at}
 use Rattle.mig_load.specs.MultiLoad.{passes, IsFirstStop, verdict_at, as_verdict}
 use Rattle.mig_load.specs.Received.{round_count}
-use Rattle.mig_load.specs.RelayItems.{channel_text, QueueEnd, IsThrough}
+use Rattle.mig_load.specs.RelayItems.{with_settings, QueueEnd, IsThrough}
 use Rattle.mig_load.specs.Relayed.{IsRelayOf, Continues, HasReceived, AreAtRound, Load, HaveRounds, HasEnded, EndsAt, Goes, Begins, IsAnswerOf}
 use Rattle.mig_load.proofs.OneAnswer.{some_readings}
 use Rattle.mig_load.proofs.Relays.{sizes_are}
@@ -140,7 +140,7 @@ are_at_start (p ∷ ends) = (
 pub relay_size : (page_size n : ℕ) (uuid : List ℕ) (texts : List (List ℕ)) (ends : List QueueEnd) → IsRelayOf page_size uuid texts ends → All (λ p. p.source.page_size ≡ n) ends → n ≡ page_size
 relay_size page_size n uuid texts [] is all =
     let some = is.has_some in
-    absurd (omega (arith, some, ap (λ (l : List ChannelText). length l) is.has_sources, length-map texts (channel_text page_size uuid (length texts))))
+    absurd (omega (arith, some, ap (λ (l : List ChannelText). length l) is.has_sources, length-map texts (with_settings page_size uuid (length texts))))
 relay_size page_size n uuid texts (p ∷ ends) is all =
     sym (All-head (λ (p : QueueEnd). p.source.page_size ≡ n) p ends all)
     ∙ All-head (λ (p : QueueEnd). p.source.page_size ≡ page_size) p ends (sizes_are page_size uuid (length texts) texts (p ∷ ends) is.has_sources)

@@ -24,17 +24,17 @@ use Rattle.mig_load.specs.Status.{main_status, is_whole, is_clean, is_pending, f
 use Rattle.mig_load.specs.Rounds.{refusal_at}
 use Rattle.mig_load.specs.MultiLoad.{Standing, main_standing, sources_at, hello_ids, repeated_hello, passes, verdicts_told, failed, failed_at_first, failed_with_own}
 use Rattle.mig_load.specs.Received.{round_count, hello_in, end_in, status_in, IsEnough, TellsAllChannels}
-use Rattle.mig_load.specs.RelayItems.{given, channel_text, QueueEnd, IsThrough}
-use Rattle.mig_load.specs.Relayed.{received_of, Continues, HasEnough, standings, HaveGone, TellsSources, repeated_at, Load, Loading, ToldAt}
+use Rattle.mig_load.specs.RelayItems.{given, with_settings, QueueEnd, IsThrough}
+use Rattle.mig_load.specs.Relayed.{received_of, Continues, HasEnough, standings, HaveGone, repeated_at, Load, Loading, ToldAt}
 use Rattle.mig_load.proofs.Statuses.{status_whole, first_is}
 use Rattle.mig_load.proofs.ReceivedTogether.{together_law}
 use Rattle.mig_load.proofs.Relays.{source_of, of_relay}
-use Rattle.mig_load.proofs.ToldSources.{told_stops, told_refused, told_passes, told_whole}
+use Rattle.mig_load.proofs.ToldSources.{TellsSources, told_stops, told_refused, told_passes, told_whole}
 
 -- ---- what was received tells
 
 -- a channel that was gone through a round has enough of its text
-enough : (k : ℕ) (p : QueueEnd) (page_size : ℕ) (uuid : List ℕ) (n : ℕ) (text : List ℕ) → p.source ≡ channel_text page_size uuid n text → HasEnough k p
+enough : (k : ℕ) (p : QueueEnd) (page_size : ℕ) (uuid : List ℕ) (n : ℕ) (text : List ℕ) → p.source ≡ with_settings page_size uuid n text → HasEnough k p
     → IsEnough (settings page_size uuid n) k text p.passed
 enough k p page_size uuid n text is told = elim told.1 [
   | inl more ↦ record {
@@ -51,14 +51,14 @@ enough k p page_size uuid n text is told = elim told.1 [
   }
 ]
 
-all_enough : (k page_size : ℕ) (uuid : List ℕ) (n : ℕ) (texts : List (List ℕ)) (ends : List QueueEnd) → map source_of ends ≡ map (channel_text page_size uuid n) texts
+all_enough : (k page_size : ℕ) (uuid : List ℕ) (n : ℕ) (texts : List (List ℕ)) (ends : List QueueEnd) → map source_of ends ≡ map (with_settings page_size uuid n) texts
     → All (HasEnough k) ends → AllZip (IsEnough (settings page_size uuid n) k) texts (received_of ends)
 all_enough k page_size uuid n [] [] e told = tt
 all_enough k page_size uuid n [] (p ∷ ends) e told = absurd cc
 all_enough k page_size uuid n (text ∷ texts) [] e told = absurd cc
 all_enough k page_size uuid n (text ∷ texts) (p ∷ ends) e told =
-    let here : p.source ≡ channel_text page_size uuid n text = cc in
-    let there : map source_of ends ≡ map (channel_text page_size uuid n) texts = cc in (
+    let here : p.source ≡ with_settings page_size uuid n text = cc in
+    let there : map source_of ends ≡ map (with_settings page_size uuid n) texts = cc in (
       enough k p page_size uuid n text here (All-head (HasEnough k) p ends told),
       all_enough k page_size uuid n texts ends there (All-tail (HasEnough k) p ends told),
     )

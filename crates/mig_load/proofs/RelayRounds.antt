@@ -40,7 +40,7 @@ use Rattle.mig_load.specs.Rounds.{record_pages_at, channel_packets_at, packets_a
 use Rattle.mig_load.specs.MultiLoad.{passes, as_verdict}
 use Rattle.mig_load.specs.Received.{round_count, rounds_in, ends_round}
 use Rattle.mig_load.specs.RelayItems.{QueueEnd}
-use Rattle.mig_load.specs.Relayed.{Continues, IsAtRound, AreAtRound, Load, Loading, HasLoaded, ToldAt, IsAnswered, IsRefused, HaveRounds, HasEnded, EndsAt, ComesToRound}
+use Rattle.mig_load.specs.Relayed.{Continues, IsAtRound, AreAtRound, Load, Loading, HasLoaded, ToldAt, IsAnswered, IsRoundError, HaveRounds, HasEnded, EndsAt, ComesToRound}
 use Rattle.mig_load.proofs.Statuses.{status_whole, status_end, stream_ends}
 use Rattle.mig_load.proofs.Putting.{table_is, size_of_table, refusal_of_round, round_is_put}
 use Rattle.mig_load.proofs.Received.{counted_law}
@@ -131,7 +131,7 @@ main_whole l k below = sym (status_whole k (length l.readings.main.rounds) (stre
 -- a round that isn't lawful ends the load
 pub ends_refused : (l : Load) (target : LoadTarget) (f : LoadFault) (places places_now : List ℕ) (ends now : List QueueEnd) (round : RoundOfRecords) (packets : List Fields)
     → ComesToRound l target places ends round → AllZip Continues ends now → ToldAt l target.rounds Whole None places_now now packets
-    → IsRefused target.rounds (refusal target.memory.table target.base (pages_of_round round) packets) (Err f) → HasEnded l target.rounds (Err f) now
+    → IsRoundError target.rounds (refusal target.memory.table target.base (pages_of_round round) packets) (Err f) → HasEnded l target.rounds (Err f) now
 ends_refused l target f places places_now ends now round packets comes zip told refused = elim refused [
   | inl without ↦ ends_without l target.rounds (Err f) places ends now comes.loading zip without
   | inr w ↦

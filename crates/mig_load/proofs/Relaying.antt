@@ -11,7 +11,7 @@ use Rattle.mig_send.proofs.ReadBack.{sendings_are_read_back}
 use Rattle.mig_load.specs.declared.loaded.Loaded.{Loaded}
 use Rattle.mig_load.specs.SingleLoad.{unloaded}
 use Rattle.mig_load.specs.Texts.{Texts, ended_texts}
-use Rattle.mig_load.specs.MultiLoad.{Answer, IsAnswer, IsWithoutMemory, answer_of}
+use Rattle.mig_load.specs.MultiLoad.{Answer, IsAnswer, IsWithoutMemory, IsAnswerOrWithoutMemory, answer_of}
 use Rattle.mig_load.specs.Sent.{IsSentInAnyOrder, sent_answer, SendingsAreLoaded}
 use Rattle.mig_load.specs.RelayItems.{QueueEnd}
 use Rattle.mig_load.specs.Multi.{AnswersRelay}
@@ -42,7 +42,7 @@ pub sendings_are_loaded : SendingsAreLoaded
 sendings_are_loaded = sendings_law (sendings_are_read_back (λ limit table n is room. written_main table n limit is room) spelled_law)
 
 pub sending_is_loaded : (p : ℕ) (uuid : List ℕ) (limit : ℕ) (main : List ℕ) (channels : List (List ℕ)) (answer : Answer)
-    → IsAnswer p uuid limit (ended_texts main channels) answer ⊎ IsWithoutMemory p uuid limit (ended_texts main channels) answer
+    → IsAnswerOrWithoutMemory p uuid limit (ended_texts main channels) answer
     → (table : RamTable) (rounds : List DealtRound) → IsSentInAnyOrder table uuid rounds main channels → table.page_size ≡ p → total_bytes table ≤ limit
     → (answer ≡ sent_answer table rounds) ⊎ IsWithoutMemory p uuid limit (ended_texts main channels) answer
 sending_is_loaded p uuid limit main channels answer (inl is) = λ table rounds sent size room.

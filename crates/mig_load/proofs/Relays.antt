@@ -7,7 +7,7 @@ use Rattle.std.proofs.lemmas.Simd.{map-map}
 use Rattle.std.proofs.lemmas.List.Elements.{All-nil, All-cons}
 use Rattle.mig_packet.specs.ChannelItems.{ChannelItem}
 use Rattle.mig_load.specs.declared.log.ChannelText.{ChannelText}
-use Rattle.mig_load.specs.RelayItems.{channel_text, QueueEnd}
+use Rattle.mig_load.specs.RelayItems.{with_settings, QueueEnd}
 use Rattle.mig_mem.specs.declared.fault.NoMemory.{NoMemory}
 use Rattle.mig_load.specs.Relay.{so_far, at_start, Takes, TakesAt}
 use Rattle.mig_load.specs.MultiLoad.{bytes_of}
@@ -48,22 +48,22 @@ relay_starts page_size uuid texts ends some start =
     let n : ℕ = length texts in
     let items : Vec ℕ _ → List ℕ = λ text. text.items in
     let front : ChannelText × List ChannelItem → ChannelText = λ s. s.0 in
-    let sources : map source_of ends ≡ map (λ text. channel_text page_size uuid n (items text)) texts =
+    let sources : map source_of ends ≡ map (λ text. with_settings page_size uuid n (items text)) texts =
     sym (map-map front so_far ends) ∙ ap (map front) start ∙ map-map front (at_start page_size uuid n) texts in
     record {
       has_some = omega (arith, some, length-map texts items);
-      has_sources = sources ∙ sym (map-map (channel_text page_size uuid n) items texts)
-          ∙ ap (λ (m : ℕ). map (channel_text page_size uuid m) (bytes_of texts)) (sym (length-map texts items));
+      has_sources = sources ∙ sym (map-map (with_settings page_size uuid n) items texts)
+          ∙ ap (λ (m : ℕ). map (with_settings page_size uuid m) (bytes_of texts)) (sym (length-map texts items));
     }
 
 -- all packets have its page size
-pub sizes_are : (page_size : ℕ) (uuid : List ℕ) (n : ℕ) (texts : List (List ℕ)) (ends : List QueueEnd) → map source_of ends ≡ map (channel_text page_size uuid n) texts
+pub sizes_are : (page_size : ℕ) (uuid : List ℕ) (n : ℕ) (texts : List (List ℕ)) (ends : List QueueEnd) → map source_of ends ≡ map (with_settings page_size uuid n) texts
     → All (λ p. p.source.page_size ≡ page_size) ends
 sizes_are page_size uuid n texts [] e = All-nil (λ (p : QueueEnd). p.source.page_size ≡ page_size)
 sizes_are page_size uuid n [] (p ∷ ends) e = absurd cc
 sizes_are page_size uuid n (text ∷ texts) (p ∷ ends) e =
-    let here : p.source ≡ channel_text page_size uuid n text = cc in
-    let there : map source_of ends ≡ map (channel_text page_size uuid n) texts = cc in
+    let here : p.source ≡ with_settings page_size uuid n text = cc in
+    let there : map source_of ends ≡ map (with_settings page_size uuid n) texts = cc in
     All-cons (λ (p : QueueEnd). p.source.page_size ≡ page_size) p ends (ap (λ (s : ChannelText). s.page_size) here) (sizes_are page_size uuid n texts ends there)
 
 -- what a call of one channel leaves
@@ -83,6 +83,6 @@ relay_sizes ends first is e n same =
     let all : All (λ p. p.source.page_size ≡ is.page_size) ends = sizes_are is.page_size is.uuid (length is.texts) is.texts ends is.is_relay.has_sources in
     let some : 0 < length ends =
     let has = is.is_relay.has_some in
-    omega (arith, has, ap (λ (l : List ChannelText). length l) is.is_relay.has_sources, length-map ends source_of, length-map is.texts (channel_text is.page_size is.uuid (length is.texts))) in
+    omega (arith, has, ap (λ (l : List ChannelText). length l) is.is_relay.has_sources, length-map ends source_of, length-map is.texts (with_settings is.page_size is.uuid (length is.texts))) in
     let here : n ≡ is.page_size = same ∙ ap (λ (p : QueueEnd). p.source.page_size) e ∙ all 0 first some in
     subst (λ (m : ℕ). All (λ p. p.source.page_size ≡ m) ends) (sym here) all

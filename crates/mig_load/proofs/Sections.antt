@@ -29,7 +29,7 @@ use Rattle.mig_stream.proofs.Limits.{limits_law}
 use Rattle.mig_stream.proofs.SpelledText.{spelled_law}
 use Rattle.mig_stream.proofs.WrittenText.{written_single}
 use Rattle.mig_stream.proofs.WrittenPages.{written_pages}
-use Rattle.mig_assemble.specs.Target.{LoadTarget, new_target, pages_of_round, Fits}
+use Rattle.mig_assemble.specs.Target.{LoadTarget, new_target, pages_of_round, FitsTable}
 use Rattle.mig_load.specs.declared.loaded.Loaded.{Loaded}
 use Rattle.mig_load.specs.declared.fault.LoadFault.{LoadFault}
 use Rattle.mig_load.specs.SingleLoad.{memory_after, verdict_of, IsSingleAnswer, IsSingleWithoutMemory, loaded, unloaded}
@@ -72,7 +72,7 @@ pub put_table : (p limit : ℕ) (first : Image) (text : List ℕ) (t : LoadTarge
 put_table p limit first text t has = ap (λ (m : Image). m.table) (has.has_memory has.has_table.0 has.has_table.1)
 
 pub fits_is : (p limit : ℕ) (first : Image) (text : List ℕ) (ended : Bool) (r : Reader) (t : LoadTarget) (round : RoundOfRecords) → HasPutSections p limit first text ended r t
-    → round.page_size ≡ p → All (λ x. IsPlace first.table x.place) round.records → Fits t.memory.table round
+    → round.page_size ≡ p → All (λ x. IsPlace first.table x.place) round.records → FitsTable t.memory.table round
 fits_is p limit first text ended r t round put is places =
     rw (put_table p limit first text t put.has_first) (record {
       has_page_size = is ∙ sym (size_is p limit text first.table put.is_page_size put.has_first.has_table);

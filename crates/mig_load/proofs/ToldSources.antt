@@ -25,9 +25,15 @@ use Rattle.mig_load.specs.Status.{main_status, stream_end, is_whole, is_clean, i
 use Rattle.mig_load.specs.Texts.{Text, Readings, AreReadings, ended_text, ended_texts}
 use Rattle.mig_load.specs.Rounds.{refusal_at}
 use Rattle.mig_load.specs.MultiLoad.{Standing, main_standing, main_at, channels_at, sources_at, hello_ids, repeated_hello, passes, IsFirstStop, failed, failed_at_first, failed_with_own, verdicts_told, verdicts_at, verdict_at}
-use Rattle.mig_load.specs.Relayed.{standings, TellsSources}
+use Rattle.mig_load.specs.Relayed.{standings}
 use Rattle.mig_load.proofs.Statuses.{stream_ends, sound, passes_all, finds_none, first_none, first_is}
 use Rattle.mig_load.proofs.Judged.{IsWhole, IsSettled, reached, has_round, over_settles, whole_at, channels_settled, no_fault, all_clean, all_whole, none_found, then_none, map_none, all_told}
+
+-- These say how the sources stand at round k, and which hello comes again.
+pub record TellsSources (k : ℕ) (readings : Readings) (main : Status) (channels : List Status) (repeated : Option ℕ) : Type 0 where
+  pub has_main : main ≡ main_status k readings.main
+  pub has_channels : standings channels ≡ channels_at k readings
+  pub has_repeated : repeated ≡ repeated_hello (hello_ids readings)
 
 -- ---- the first of some answers and more
 

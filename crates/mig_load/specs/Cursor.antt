@@ -9,11 +9,11 @@ use Rattle.mig_packet.specs.ChannelItems.{all_packets}
 use Rattle.mig_load.specs.declared.cursor.Cursor.{Cursor}
 use Rattle.mig_load.specs.declared.log.ChannelText.{ChannelText}
 use Rattle.mig_load.specs.declared.message.Message.{Message}
-use Rattle.mig_load.specs.RelayItems.{channel_text}
+use Rattle.mig_load.specs.RelayItems.{with_settings}
 use Rattle.mig_load.specs.Messages.{front_messages, BeginsMessages, is_last}
 
 abbrev pub text_of : Cursor → List ℕ → ChannelText
-text_of k text = channel_text k.page_size k.uuid k.channels text
+text_of k text = with_settings k.page_size k.uuid k.channels text
 
 -- where the bytes behind a hello and these packets begin
 abbrev pub place_behind : ChannelProgress → ℕ

@@ -57,10 +57,10 @@ BeginsMessages source front = (more : List Message) × AreMessages source (front
 -- ---- one message
 
 -- the message's bytes lie in the text, and are a packet
-abbrev pub LiesIn : ℕ → List ℕ → Message → Type 0
-LiesIn page_size text (message.Hello id) = ⊤
-LiesIn page_size text (message.Page at len) = (at + len ≤ length text) × IsPacketText page_size (take len (drop at text))
-LiesIn page_size text (message.Stop end) = ⊤
+abbrev pub IsMessageIn : ℕ → List ℕ → Message → Type 0
+IsMessageIn page_size text (message.Hello id) = ⊤
+IsMessageIn page_size text (message.Page at len) = (at + len ≤ length text) × IsPacketText page_size (take len (drop at text))
+IsMessageIn page_size text (message.Stop end) = ⊤
 
 -- nothing comes after it
 abbrev pub is_last : Message → Bool

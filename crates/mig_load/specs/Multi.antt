@@ -1,13 +1,13 @@
 -- The load of what a relay brings, from a main stream's text that is over: the answer on the texts of the relay, or that where memory
 -- was refused.
-use Rattle.std.specs.Prelude.{ℕ, ◌⊎◌, List}
+use Rattle.std.specs.Prelude.{ℕ, List}
 use Rattle.mig_mem.specs.PageSize.{IsPageSize}
 use Rattle.mig_load.specs.declared.loaded.Loaded.{Loaded}
 use Rattle.mig_load.specs.Texts.{ended_texts}
-use Rattle.mig_load.specs.MultiLoad.{IsAnswer, IsWithoutMemory, answer_of}
+use Rattle.mig_load.specs.MultiLoad.{IsAnswerOrWithoutMemory, answer_of}
 use Rattle.mig_load.specs.RelayItems.{QueueEnd}
 use Rattle.mig_load.specs.Relayed.{IsRelayOf}
 
 abbrev pub AnswersRelay : {A : Type 0} → ℕ → List ℕ → List QueueEnd → Loaded A → Type 0
 AnswersRelay limit main ends loaded = (page_size : ℕ) (uuid : List ℕ) (texts : List (List ℕ)) → IsPageSize page_size → IsRelayOf page_size uuid texts ends
-    → IsAnswer page_size uuid limit (ended_texts main texts) (answer_of loaded) ⊎ IsWithoutMemory page_size uuid limit (ended_texts main texts) (answer_of loaded)
+    → IsAnswerOrWithoutMemory page_size uuid limit (ended_texts main texts) (answer_of loaded)

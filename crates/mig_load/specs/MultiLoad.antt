@@ -134,6 +134,11 @@ pub record IsWithoutMemory (page_size : ℕ) (uuid : List ℕ) (limit : ℕ) (te
   pub has_memory : (answer.memory ≡ memory_at answer.rounds readings) ⊎ ((answer.memory ≡ None) × (answer.rounds ≡ 0))
   pub has_verdict : answer.verdict ≡ failed answer.rounds origin.Round fault.NoMemory
 
+-- What a load may answer: the answer on its texts, or, where an allocation was refused, one without memory.
+abbrev pub IsAnswerOrWithoutMemory : ℕ → List ℕ → ℕ → Texts → Answer → Type 0
+IsAnswerOrWithoutMemory page_size uuid limit texts answer =
+    IsAnswer page_size uuid limit texts answer ⊎ IsWithoutMemory page_size uuid limit texts answer
+
 -- the answer that a load gave
 abbrev pub as_verdict : Result ⊤ LoadFault → Verdict
 as_verdict (Ok x) = Done

@@ -6,7 +6,7 @@ use Rattle.mig_packet.specs.ChannelItems.{ChannelItem}
 use Rattle.mig_load.specs.declared.log.ChannelText.{ChannelText}
 use Rattle.mig_load.specs.declared.log.Log.{Log}
 use Rattle.mig_load.specs.declared.message.Message.{Message}
-use Rattle.mig_load.specs.RelayItems.{channel_text}
+use Rattle.mig_load.specs.RelayItems.{with_settings}
 use Rattle.mig_load.specs.Messages.{item_of_message, BeginsMessages}
 
 -- ---- what a pass knows
@@ -16,7 +16,7 @@ log feeds collects source done = record { feeds = feeds; collects = collects; so
 
 -- a text of no bytes, as long as the pass knows of none
 abbrev pub no_channel_text : ChannelText
-no_channel_text = channel_text 4096 [] 0 []
+no_channel_text = with_settings 4096 [] 0 []
 
 -- the pass before it is split
 abbrev pub fresh : Log
@@ -37,8 +37,8 @@ items_in v = map (item_of_message v.source) v.done
 -- ---- the rule
 
 -- what this pass knows is so, where these passes push and pop
-abbrev pub Fits : ℕ → ℕ → ChannelText → List Message → List Message → ℕ → Log → Type 0
-Fits feeder collector source pushed popped pass v =
+abbrev pub LogHolds : ℕ → ℕ → ChannelText → List Message → List Message → ℕ → Log → Type 0
+LogHolds feeder collector source pushed popped pass v =
     (v.feeds ≡ true → (pass ≡ feeder) × (v.source ≡ source) × (v.done ≡ pushed))
     × (v.collects ≡ true → (pass ≡ collector) × (v.source ≡ source) × (v.done ≡ popped))
 
@@ -46,7 +46,7 @@ Fits feeder collector source pushed popped pass v =
 abbrev pub IsInOrder : List Message → List Log → Type 0
 IsInOrder items views = (feeder : ℕ) × (collector : ℕ) × (source : ChannelText) × (pushed : List Message) × (popped : List Message)
     × (pushed ≡ popped ++ items) × BeginsMessages source pushed
-    × ((pass : ℕ) (v : Log) → get_elem? views pass ≡ some v → Fits feeder collector source pushed popped pass v)
+    × ((pass : ℕ) (v : Log) → get_elem? views pass ≡ some v → LogHolds feeder collector source pushed popped pass v)
 
 -- ---- what the steps tell
 

@@ -4,7 +4,7 @@ use Rattle.mig_packet.specs.ChannelItems.{ChannelItem}
 use Rattle.mig_load.specs.declared.feeder.FeederStep.{FeederStep}
 use Rattle.mig_load.specs.declared.feeder.FeederStep.TheVariants.{More, Ended}
 use Rattle.mig_load.specs.declared.log.ChannelText.{ChannelText}
-use Rattle.mig_load.specs.RelayItems.{channel_text, QueueEnd, one_more, BeginsItems, IsThrough, IsOnTheWay}
+use Rattle.mig_load.specs.RelayItems.{with_settings, QueueEnd, one_more, BeginsItems, IsThrough, IsOnTheWay}
 
 -- One item more was pushed. The feeder goes on where a further one is left, and else it was the stop.
 abbrev pub PushesOne : {A : Type 0} → QueueEnd → FeederStep A → Type 0
@@ -26,4 +26,4 @@ so_far p = (p.source, p.passed)
 
 -- a text of which nothing was pushed or popped
 abbrev pub at_start : {A : Type 0} → ℕ → List ℕ → ℕ → Vec ℕ A → ChannelText × List ChannelItem
-at_start page_size uuid channels text = (channel_text page_size uuid channels text.items, [])
+at_start page_size uuid channels text = (with_settings page_size uuid channels text.items, [])

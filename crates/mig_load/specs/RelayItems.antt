@@ -30,8 +30,8 @@ IsOfPageSize page_size (item.Stop end) = ⊤
 
 -- ---- the items of a text that is over
 
-abbrev pub channel_text : ℕ → List ℕ → ℕ → List ℕ → ChannelText
-channel_text page_size uuid channels text = record { page_size = page_size; uuid = uuid; channels = channels; text = text }
+abbrev pub with_settings : ℕ → List ℕ → ℕ → List ℕ → ChannelText
+with_settings page_size uuid channels text = record { page_size = page_size; uuid = uuid; channels = channels; text = text }
 
 abbrev pub given : ChannelText → Settings
 given source = settings source.page_size source.uuid source.channels

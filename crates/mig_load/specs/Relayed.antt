@@ -7,7 +7,7 @@ use Rattle.mig_packet.specs.Packet.{Fields}
 use Rattle.mig_packet.specs.declared.packet.Packet.{Packet}
 use Rattle.mig_packet.specs.ChannelItems.{ChannelItem}
 use Rattle.mig_assemble.specs.declared.fault.RoundFault.{RoundFault}
-use Rattle.mig_assemble.specs.Target.{LoadTarget, Fits}
+use Rattle.mig_assemble.specs.Target.{LoadTarget, FitsTable}
 use Rattle.mig_stream.specs.Reader.{Reader, Stands}
 use Rattle.mig_stream.specs.Reading.{settings as main_settings}
 use Rattle.mig_stream.specs.Round.{RoundOfRecords}
@@ -16,7 +16,6 @@ use Rattle.mig_stream.specs.declared.item.Mode.TheVariants.{Main}
 use Rattle.mig_load.specs.declared.fault.Origin.TheVariants as origin
 use Rattle.mig_load.specs.declared.status.Status.{Status}
 use Rattle.mig_load.specs.declared.status.Status.TheVariants.{Whole, Clean, Bad, Pending}
-use Rattle.mig_load.specs.Status.{main_status}
 use Rattle.mig_load.specs.declared.fault.LoadFault.{LoadFault}
 use Rattle.mig_load.specs.declared.loaded.Loaded.{Loaded}
 use Rattle.mig_load.specs.declared.verdict.Verdict.{Verdict}
@@ -24,20 +23,20 @@ use Rattle.mig_load.specs.declared.verdict.Verdict.TheVariants.{Running, Done}
 use Rattle.mig_load.specs.SingleLoad.{no_memory_at}
 use Rattle.mig_load.specs.Texts.{Readings, AreReadings, ended_texts}
 use Rattle.mig_load.specs.Rounds.{memory_at, base_at, packets_at, refusal_at}
-use Rattle.mig_load.specs.MultiLoad.{Standing, channels_at, hello_ids, repeated_hello, passes, IsFirstStop, failed, verdict_at, as_verdict, answer_of, IsAnswer, IsWithoutMemory}
+use Rattle.mig_load.specs.MultiLoad.{Standing, repeated_hello, passes, IsFirstStop, failed, verdict_at, as_verdict, answer_of, IsAnswerOrWithoutMemory}
 use Rattle.mig_load.specs.Received.{round_count, rounds_in, end_in, hello_in, status_in, channel_packets_in, packets_in, IsFront}
 use Rattle.mig_load.specs.declared.item.ChannelEnd.{ChannelEnd}
 use Rattle.mig_load.specs.declared.item.ChannelEnd.TheVariants as channel_end
 use Rattle.mig_load.specs.declared.item.Item.{Item}
 use Rattle.mig_load.specs.declared.fault.Fault.TheVariants as fault
-use Rattle.mig_load.specs.RelayItems.{as_channel_item, IsOfPageSize, channel_text, QueueEnd, BeginsItems, IsThrough}
+use Rattle.mig_load.specs.RelayItems.{as_channel_item, IsOfPageSize, with_settings, QueueEnd, BeginsItems, IsThrough}
 
 -- ---- the relay of some texts
 
 -- these are the ends that pop of the queues of these texts, at pages of this size and under this UUID
 pub record IsRelayOf (page_size : ℕ) (uuid : List ℕ) (texts : List (List ℕ)) (ends : List QueueEnd) : Type 0 where
   pub has_some : 1 ≤ length texts
-  pub has_sources : map (λ p. p.source) ends ≡ map (channel_text page_size uuid (length texts)) texts
+  pub has_sources : map (λ p. p.source) ends ≡ map (with_settings page_size uuid (length texts)) texts
 
 -- they are of the queues of some texts
 pub record IsRelay (ends : List QueueEnd) : Type 0 where
@@ -138,12 +137,6 @@ pub record HaveGone (k : ℕ) (places : List ℕ) (ends : List QueueEnd) (status
 
 -- ---- the round that is judged
 
--- These say how the sources stand at round k, and which hello comes again.
-pub record TellsSources (k : ℕ) (readings : Readings) (main : Status) (channels : List Status) (repeated : Option ℕ) : Type 0 where
-  pub has_main : main ≡ main_status k readings.main
-  pub has_channels : standings channels ≡ channels_at k readings
-  pub has_repeated : repeated ≡ repeated_hello (hello_ids readings)
-
 -- the least channel whose hello names an earlier one's id, which the first round alone tells
 abbrev pub repeated_at : ℕ → List QueueEnd → Option ℕ
 repeated_at k ends = if k == 0 then repeated_hello (map hello_in (received_of ends)) else None
@@ -204,7 +197,7 @@ pub record ComesToRound (l : Load) (target : LoadTarget) (places : List ℕ) (en
   pub few_rounds : target.rounds < 2 ^ 63
   pub has_round : target.rounds < length l.readings.main.rounds
   pub is_round : round.records ≡ get_or l.readings.main.rounds target.rounds []
-  pub fits : Fits target.memory.table round
+  pub fits : FitsTable target.memory.table round
 
 -- What the judging of a round leaves: with None it is in the memory, and the next one is due; else the load has ended, and the memory stays.
 abbrev pub HasJudged : Load → LoadTarget → Option (Result ⊤ LoadFault) → LoadTarget → List ℕ → List QueueEnd → Type 0
@@ -219,9 +212,9 @@ pub record EndsAt (l : Load) (k : ℕ) (state : StreamState) (places : List ℕ)
   pub has_state : l.readings.main.state ≡ state
 
 -- an `Err` that a round has: `NoMemory`, or why it is refused
-abbrev pub IsRefused : ℕ → Option RoundFault → Result ⊤ LoadFault → Type 0
-IsRefused k refused (Ok x) = ⊤
-IsRefused k refused (Err found) = (Err found ≡ no_memory_at k)
+abbrev pub IsRoundError : ℕ → Option RoundFault → Result ⊤ LoadFault → Type 0
+IsRoundError k refused (Ok x) = ⊤
+IsRoundError k refused (Err found) = (Err found ≡ no_memory_at k)
     ⊎ ((why : RoundFault) × (refused ≡ Some why) × (found ≡ record { round = k; source = origin.Round; fault = fault.Round why }))
 
 -- a load has put the first rounds of the main stream, of which the reader gives the others, into the memory
@@ -241,5 +234,4 @@ pub record Begins (l : Load) (reader : Reader) (places : List ℕ) (ends : List 
 -- the answer of a load: that on its texts, or the one without memory
 abbrev pub IsAnswerOf : {A : Type 0} → Load → Loaded A → Type 0
 IsAnswerOf l loaded =
-    IsAnswer l.page_size l.uuid l.limit (ended_texts l.main l.texts) (answer_of loaded)
-    ⊎ IsWithoutMemory l.page_size l.uuid l.limit (ended_texts l.main l.texts) (answer_of loaded)
+    IsAnswerOrWithoutMemory l.page_size l.uuid l.limit (ended_texts l.main l.texts) (answer_of loaded)

@@ -7,7 +7,7 @@ ghost use Rattle.mig_mem.specs.Round.{with_round};
 ghost use Rattle.mig_stream.specs.declared.item.Mode.TheVariants.{Single};
 ghost use Rattle.mig_stream.specs.Reading.{settings};
 ghost use Rattle.mig_stream.specs.Reader.{IsSettled, HasRound, waiting};
-ghost use Rattle.mig_assemble.specs.Target.{Fits, pages_of_round};
+ghost use Rattle.mig_assemble.specs.Target.{FitsTable, pages_of_round};
 ghost use Rattle.mig_load.specs.declared.fault.Fault.TheVariants.{OtherTable};
 ghost use Rattle.mig_load.specs.declared.fault.InPlaceFault.TheVariants as in_place_fault;
 ghost use Rattle.mig_load.specs.SingleLoad.{at_main};
@@ -162,7 +162,7 @@ impl<A: Allocator> InPlaceState<A> {
     /// The next section that waits, for a caller that puts it into the memory himself, in the order in which they are taken, and page after
     /// page; None where no section waits. Those of another table are dropped. It allocates nothing.
     pub fn take_section(&mut self) -> Option<StreamRound<'static, A>>
-        ensures fits { IfSome result (λ section. Fits self.old.table section) }
+        ensures fits { IfSome result (λ section. FitsTable self.old.table section) }
         ensures round { IfSome result (λ section. WhereFed self.old (λ memory limit first text ended.
             HasRound (settings_of first limit) text self.old.rounds section.records)) }
         ensures rounds { IfSome result (λ section. self.new.rounds ≡ self.old.rounds + 1) }

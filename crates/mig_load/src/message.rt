@@ -4,7 +4,7 @@
 ghost use Rattle.std.specs.Prelude.{◌≡◌};
 ghost use Rattle.mig_packet.specs.PageSize.{IsPageSize};
 ghost use Rattle.mig_load.specs.RelayItems.{as_channel_item, IsOfPageSize};
-ghost use Rattle.mig_load.specs.Messages.{LiesIn, is_last, item_in};
+ghost use Rattle.mig_load.specs.Messages.{IsMessageIn, is_last, item_in};
 
 use crate::item::{ChannelEnd, Item};
 use mig_packet::{PacketRead, read_packet};
@@ -32,7 +32,7 @@ impl Message {
 /// The item that lies there.
 pub(crate) fn item_of<'a>(page_size: u64, text: &'a [u8], message: Message) -> Item<'a>
     requires page_size { IsPageSize page_size }
-    requires lies { LiesIn page_size text.now message }
+    requires lies { IsMessageIn page_size text.now message }
     ensures piece { as_channel_item result ≡ item_in page_size text.now message }
     ensures page_size { IsOfPageSize page_size result }
 {

@@ -6,7 +6,7 @@ ghost use Rattle.mig_mem.specs.RamTable.{RamTable};
 ghost use Rattle.mig_stream.specs.Text.{total_bytes};
 ghost use Rattle.mig_send.specs.DealtRounds.{DealtRound};
 ghost use Rattle.mig_load.specs.Texts.{ended_texts};
-ghost use Rattle.mig_load.specs.MultiLoad.{IsAnswer, IsWithoutMemory, answer_of, bytes_of};
+ghost use Rattle.mig_load.specs.MultiLoad.{IsWithoutMemory, IsAnswerOrWithoutMemory, answer_of, bytes_of};
 ghost use Rattle.mig_load.specs.Sent.{IsSentInAnyOrder, sent_answer};
 ghost use Rattle.mig_load.specs.RelayItems.{IsThrough};
 ghost use Rattle.mig_load.specs.Multi.{AnswersRelay};
@@ -49,8 +49,8 @@ pub fn load_multi<
     requires page_size { IsPageSize page_size }
     requires channels { (1 ≤ length channels.now) × (length channels.now ≤ 255) }
     requires limit { limit ≤ 2 ^ 40 }
-    ensures answer { IsAnswer page_size uuid.now limit (ended_texts main.now (bytes_of channels.now)) (answer_of result)
-        ⊎ IsWithoutMemory page_size uuid.now limit (ended_texts main.now (bytes_of channels.now)) (answer_of result) }
+    ensures answer { IsAnswerOrWithoutMemory page_size uuid.now limit (ended_texts main.now (bytes_of channels.now))
+        (answer_of result) }
     ensures sent { (table : RamTable) (rounds : List DealtRound) → IsSentInAnyOrder table uuid.now rounds main.now (bytes_of channels.now)
         → table.page_size ≡ page_size → total_bytes table ≤ limit
         → (answer_of result ≡ sent_answer table rounds)

@@ -4,7 +4,7 @@ ghost use Rattle.std.specs.Prelude.{◌≡◌, ◌<◌, true, [], ◌∷◌, ◌
 ghost use Rattle.crossbeam_channel.specs.Claims.{view, IsSeatAt};
 ghost use Rattle.crossbeam_channel.specs.Ends.{sends_on, receives_on};
 ghost use Rattle.mig_packet.specs.PageSize.{IsPageSize};
-ghost use Rattle.mig_load.specs.RelayItems.{channel_text};
+ghost use Rattle.mig_load.specs.RelayItems.{with_settings};
 ghost use Rattle.mig_load.specs.Messages.{BeginsMessages};
 ghost use Rattle.mig_load.specs.Queue.{fresh, feeding, collecting};
 
@@ -35,9 +35,9 @@ fn cut<Q: Carries, A: Allocator>(
     requires page_size { IsPageSize page_size }
     requires seat { IsSeatAt (sends_on sender.now) pass.old }
     requires first { view pass.old ≡ fresh }
-    requires source { Q.source ≡ channel_text page_size uuid.now channels text.now }
-    ensures feeder { IsSeatAt (sends_on sender.now) pass.new × (view pass.new ≡ feeding (channel_text page_size uuid.now channels text.now) []) }
-    ensures collector { IsSeatAt (sends_on sender.now) result × (view result ≡ collecting (channel_text page_size uuid.now channels text.now) []) }
+    requires source { Q.source ≡ with_settings page_size uuid.now channels text.now }
+    ensures feeder { IsSeatAt (sends_on sender.now) pass.new × (view pass.new ≡ feeding (with_settings page_size uuid.now channels text.now) []) }
+    ensures collector { IsSeatAt (sends_on sender.now) result × (view result ≡ collecting (with_settings page_size uuid.now channels text.now) []) }
 {
     let _numbers = (page_size, channels);
     let _uuid = uuid;
@@ -57,8 +57,8 @@ pub(crate) fn queue_for<A: Allocator + Copy>(
     requires page_size { IsPageSize page_size }
     requires capacity { 0 < capacity }
     ensures same { IfOk result (λ r. r.1.table_id ≡ r.3.table_id) }
-    ensures feeder { IfOk result (λ r. IsSeatAt (sends_on r.0) r.1 × (view r.1 ≡ feeding (channel_text page_size uuid.now channels text.now) [])) }
-    ensures collector { IfOk result (λ r. IsSeatAt (receives_on r.2) r.3 × (view r.3 ≡ collecting (channel_text page_size uuid.now channels text.now) [])) }
+    ensures feeder { IfOk result (λ r. IsSeatAt (sends_on r.0) r.1 × (view r.1 ≡ feeding (with_settings page_size uuid.now channels text.now) [])) }
+    ensures collector { IfOk result (λ r. IsSeatAt (receives_on r.2) r.3 × (view r.3 ≡ collecting (with_settings page_size uuid.now channels text.now) [])) }
 {
     let (sender, receiver, mut pass) = bounded_with::<Message, Log, InOrder, A>(alloc, capacity)?;
     let other = cut::<Brand, A>(&sender, &mut pass, page_size, uuid, channels, text);

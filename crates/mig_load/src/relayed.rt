@@ -1,15 +1,15 @@
 //! The load of what a relay brings, round by round: `load_multi` calls it beside its workers, and so may callers with a relay of their own.
 
-ghost use Rattle.std.specs.Prelude.{ℕ, ◌≡◌, ◌≢◌, ◌<◌, ◌≤◌, ◌^◌, ◌⊎◌, [], List, None, length, map, replicate, is_ok, IsTrue, All, IfOk, OnOk, OnErr};
+ghost use Rattle.std.specs.Prelude.{ℕ, ◌≡◌, ◌≢◌, ◌<◌, ◌≤◌, ◌^◌, [], List, None, length, map, replicate, is_ok, IsTrue, All, IfOk, OnOk, OnErr};
 ghost use Rattle.std.specs.List.{AllZip};
 ghost use Rattle.mig_packet.specs.Lent.{fields};
 ghost use Rattle.mig_assemble.specs.Judging.{refusal};
-ghost use Rattle.mig_assemble.specs.Target.{Fits, pages_of_round, after_round};
+ghost use Rattle.mig_assemble.specs.Target.{FitsTable, pages_of_round, after_round};
 ghost use Rattle.mig_load.specs.declared.verdict.Verdict.TheVariants.{Running as running};
 ghost use Rattle.mig_load.specs.Status.{main_status};
 ghost use Rattle.mig_load.specs.Texts.{ended_texts};
-ghost use Rattle.mig_load.specs.MultiLoad.{IsAnswer, IsWithoutMemory, passes, as_verdict, answer_of};
-ghost use Rattle.mig_load.specs.Relayed.{IsRelayOf, HasReceived, Continues, AreAtRound, Load, Loading, HasLoaded, ToldAt, repeated_at, IsRefused, ComesToRound, HasJudged, HasEnded, EndsAt, Goes, Begins, IsAnswerOf};
+ghost use Rattle.mig_load.specs.MultiLoad.{IsAnswerOrWithoutMemory, passes, as_verdict, answer_of};
+ghost use Rattle.mig_load.specs.Relayed.{IsRelayOf, HasReceived, Continues, AreAtRound, Load, Loading, HasLoaded, ToldAt, repeated_at, IsRoundError, ComesToRound, HasJudged, HasEnded, EndsAt, Goes, Begins, IsAnswerOf};
 
 use crate::relay::Collector;
 use crate::settle::{no_memory, without_memory};
@@ -80,13 +80,13 @@ pub(crate) fn put<A: Allocator + Copy>(
     round: &StreamRound<'_, A>,
     gathered: &Gathered<'_, A>,
 ) -> Result<(), LoadFault>
-    requires fits { Fits target.old.memory.table round.now }
+    requires fits { FitsTable target.old.memory.table round.now }
     requires page_sizes { All (λ p. p.page_size ≡ target.old.memory.table.page_size) gathered.now }
     requires packets { target.old.base ≤ 2 ^ 63 }
     ensures lawful { OnOk result (refusal target.old.memory.table target.old.base (pages_of_round round.now) (map fields gathered.now) ≡ None) }
     ensures ok { OnOk result (target.new ≡ after_round target.old round.now (map fields gathered.now)) }
     ensures few { OnOk result (target.new.base ≤ 2 ^ 63) }
-    ensures refused { IsRefused target.old.rounds (refusal target.old.memory.table target.old.base (pages_of_round round.now) (map fields gathered.now)) result }
+    ensures refused { IsRoundError target.old.rounds (refusal target.old.memory.table target.old.base (pages_of_round round.now) (map fields gathered.now)) result }
     ensures err { OnErr result (target.new ≡ target.old) }
 {
     let rounds = target.rounds();
@@ -256,8 +256,7 @@ pub fn load_relayed<'a, R: Wait, A: Allocator + Copy>(
 ) -> Loaded<A>
     requires limit { limit ≤ 2 ^ 40 }
     ensures answer { (page_size : ℕ) (uuid : List ℕ) (texts : List (List ℕ)) → IsRelayOf page_size uuid texts collector.old
-        → IsAnswer page_size uuid limit (ended_texts main.now texts) (answer_of result)
-        ⊎ IsWithoutMemory page_size uuid limit (ended_texts main.now texts) (answer_of result) }
+        → IsAnswerOrWithoutMemory page_size uuid limit (ended_texts main.now texts) (answer_of result) }
     ensures received { AllZip (HasReceived result.rounds (is_ok result.verdict)) collector.old collector.new }
 {
     let page_size = collector.page_size();

@@ -15,8 +15,8 @@ use Rattle.mig_packet.proofs.Unique.{one_reading}
 
 -- ---- a text has a reading
 
--- some reading of a text from here
-abbrev SomeReading : ChannelProgress → List ℕ → Type 0
+-- Some reading of a text from here.
+abbrev pub SomeReading : ChannelProgress → List ℕ → Type 0
 SomeReading from text = (to : ChannelProgress) × (rest : List ℕ) × (state : ChannelState) × Reads from text to rest state
 
 -- whether a fault is due
@@ -55,7 +55,8 @@ read_on (suc fuel) from c text front rest few e so_far =
       ]
     ]
 
-some_reading : (from : ChannelProgress) (text : List ℕ) → SomeReading from text
+-- A text has a reading from anywhere.
+pub some_reading : (from : ChannelProgress) (text : List ℕ) → SomeReading from text
 some_reading from text = read_on (suc (length text)) from from text [] text (omega arith) refl (Front-none from)
 
 -- ---- and no other

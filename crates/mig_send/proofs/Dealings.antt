@@ -9,7 +9,7 @@ use Rattle.std.proofs.lemmas.List.Elements.{All-nil, All-cons, All-head, All-tai
 use Rattle.std.proofs.lemmas.Slice.Zip.{AllZip-long}
 use Rattle.std.proofs.lemmas.List.{length-map}
 use Rattle.std.proofs.lemmas.Result.{IfOk-weaker}
-use Rattle.mig_deal.specs.Deal.{DealView, SeatView, times, new_seat, all_drawn, end_of_work, end_of_deal}
+use Rattle.mig_deal.specs.Deal.{DealView, SeatView, HasEachOnce, times, new_seat, all_drawn, end_of_work, end_of_deal}
 use Rattle.mig_deal.proofs.Counts.{count_by-append, count_by-cons}
 use Rattle.mig_send.specs.Work.{Share, HasShare}
 use Rattle.mig_mem.specs.Image.{Image}
@@ -17,7 +17,7 @@ use Rattle.mig_send.specs.declared.worker.Worked.{Worked}
 use Rattle.mig_send.specs.Batches.{BatchOfPages}
 use Rattle.mig_send.specs.Packing.{PackedBatch}
 use Rattle.mig_send.specs.Work.{HasWorked, claimed_packet}
-use Rattle.mig_send.specs.Dealing.{SharesAreDealt, WorkersMakeADealing, IsSent, sync_packet, share_text, answer_text}
+use Rattle.mig_send.specs.Dealing.{IsDealing, WorkersMakeADealing, IsSent, sync_packet, share_text, answer_text}
 
 abbrev numbers_of : List Share → List ℕ
 numbers_of shares = flat_map (λ (share : Share). share.numbers) shares
@@ -98,7 +98,9 @@ all_rise deal (s ∷ spents) [] zip = absurd zip
 all_rise deal (s ∷ spents) (x ∷ shares) zip =
     All-cons (λ (share : Share). AllPairs (λ a b. a < b) share.numbers) x shares zip.0.rise (all_rise deal spents shares zip.1)
 
-pub shares_are_dealt : SharesAreDealt
+-- Spent seats' shares are a dealing: where the seats had drawn nothing, are as many as the deal has, and together drew each number once.
+pub shares_are_dealt : (deal : DealView) (spents : List SeatView) (shares : List Share) → AllZip (HasShare (new_seat deal)) spents shares
+    → length spents ≡ deal.seats → HasEachOnce deal.base (end_of_deal deal) (all_drawn spents) → IsDealing deal.base deal.batches shares
 shares_are_dealt deal spents shares zip many once =
     let long : length shares ≡ length spents = AllZip-long (HasShare (new_seat deal)) spents shares zip in
     let end : end_of_work deal + length shares ≡ end_of_deal deal = omega (arith, long, many) in

@@ -3,11 +3,11 @@ use Rattle.std.specs.Prelude.{ℕ, ◌≡◌, ◌+◌, ◌<◌, true, List, [], 
 use Rattle.std.specs.List.{AllZip}
 use Rattle.mig_mem.specs.Image.{Image}
 use Rattle.mig_packet.specs.Written.{written_packet}
-use Rattle.mig_deal.specs.Deal.{DealView, SeatView, HasEachOnce, new_seat, all_drawn, end_of_deal}
+use Rattle.mig_deal.specs.Deal.{DealView, HasEachOnce, new_seat, all_drawn, end_of_deal}
 use Rattle.mig_send.specs.declared.worker.Worked.{Worked}
 use Rattle.mig_send.specs.Batches.{BatchOfPages}
 use Rattle.mig_send.specs.Packing.{PackedBatch}
-use Rattle.mig_send.specs.Work.{Share, HasShare, HasWorked, claimed_packet}
+use Rattle.mig_send.specs.Work.{Share, HasWorked, claimed_packet}
 
 -- A dealing of so many batches whose numbers begin at a base: the number of each batch is in one of the shares, once; the numbers
 -- behind these, as many as there are shares, are the last ones, each of one share; and in each share numbers rise. Any share may
@@ -16,12 +16,6 @@ pub record IsDealing (base batches : ℕ) (shares : List Share) : Type 0 where
   pub has_batches : HasEachOnce base (base + batches) (flat_map (λ (share : Share). share.numbers) shares)
   pub has_lasts : HasEachOnce (base + batches) (base + batches + length shares) (map (λ (share : Share). share.last) shares)
   pub rise : All (λ (share : Share). AllPairs (λ a b. a < b) share.numbers) shares
-
--- the same of spent seats: where these had drawn nothing, are as many as the deal has, and hold together what its end says, their
--- shares are a dealing of its batches
-abbrev pub SharesAreDealt : Type 0
-SharesAreDealt = (deal : DealView) (spents : List SeatView) (shares : List Share) → AllZip (HasShare (new_seat deal)) spents shares → length spents ≡ deal.seats
-    → HasEachOnce deal.base (end_of_deal deal) (all_drawn spents) → IsDealing deal.base deal.batches shares
 
 -- ---- what is sent of it
 

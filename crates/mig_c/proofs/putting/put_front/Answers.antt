@@ -5,7 +5,7 @@ use Rattle.std.proofs.lemmas.List.Elements.{All-cons}
 use Rattle.mig_mem.specs.Image.{Page, zero_page}
 use Rattle.mig_stream.specs.PageRecord.{PageRecord, page_of}
 use Rattle.mig_stream.specs.Round.{RoundOfRecords, record_at}
-use Rattle.mig_c.specs.InPlace.{LiesIn, front_of, with_content, with_pages, records_pages}
+use Rattle.mig_c.specs.InPlace.{IsInBlock, front_of, with_content, with_pages, records_pages}
 use Rattle.mig_c.proofs.HeldBlocks.{front_on, behind_on, lies_first, content_len, record_size}
 use Rattle.mig_c.proofs.putting.put_front.Goals as goal
 
@@ -47,6 +47,6 @@ loop-i-preserved c =
       rest = sym (behind_on section b i lt here) ∙ c.loop-i.invariant.rest;
       pages = λ all. c.loop-i.invariant.pages (subst (λ (l : List Page). All (λ x. (x.place.block ≡ b) × (length x.content ≡ size)) l) (sym front)
           (All-cons (λ x. (x.place.block ≡ b) × (length x.content ≡ size)) x (front_of b rest) (here, len) all));
-      room = subst (λ (n : ℕ). All (LiesIn size b n) (drop (i + 1) section.records)) (sym same) lies.1;
+      room = subst (λ (n : ℕ). All (IsInBlock size b n) (drop (i + 1) section.records)) (sym same) lies.1;
       len = same ∙ c.loop-i.invariant.len;
     }

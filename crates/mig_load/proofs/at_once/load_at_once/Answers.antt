@@ -6,7 +6,7 @@ use Rattle.mig_stream.specs.declared.item.Mode.TheVariants.{Single}
 use Rattle.mig_stream.specs.Reading.{settings}
 use Rattle.mig_stream.specs.Round.{RoundOfRecords}
 use Rattle.mig_stream.specs.Giving.{none_given}
-use Rattle.mig_assemble.specs.Target.{pages_of_round, Fits}
+use Rattle.mig_assemble.specs.Target.{pages_of_round, FitsTable}
 use Rattle.mig_load.proofs.LoadedAtOnce.{calls, Gave, HasPut, put_first, put_fits, put_records_more, put_section_more, fewer_records, fewer_section, answers_each}
 use Rattle.mig_load.proofs.at_once.load_at_once.Goals as goal
 use Rattle.mig_load.proofs.at_once.load_at_once.Goals.{in-Records, in-Section}
@@ -24,7 +24,7 @@ pieces-init g c =
 
 pub put_records-requires : goal.put_records-requires
 put_records-requires g c =
-    subst (λ (x : RoundOfRecords). Fits c.pieces.memory.table x) (sym c.given.ensures)
+    subst (λ (x : RoundOfRecords). FitsTable c.pieces.memory.table x) (sym c.given.ensures)
     (put_fits c.args.page_size c.args.limit c.args.text.now c.pieces.invariant.0 c.pieces.gave c.pieces.reader c.pieces.memory c.pieces.sections c.pieces.invariant.1)
 
 pub pieces-smaller : goal.pieces-smaller

@@ -5,7 +5,7 @@ use Rattle.mig_stream.specs.declared.giving.Given.{Given}
 use Rattle.mig_stream.specs.Round.{RoundOfRecords}
 use Rattle.mig_assemble.specs.Target.{pages_of_round}
 use Rattle.mig_mem.specs.RamTable.{RamTable}
-use Rattle.mig_assemble.specs.Target.{Fits}
+use Rattle.mig_assemble.specs.Target.{FitsTable}
 use Rattle.mig_load.specs.Eager.{IsEnd}
 use Rattle.mig_load.proofs.Eager.{Step, one_more, put_fits, few_more, some_on, puts_on, gives_on, puts_none, gives_none, puts_some, any_err, no_end_records, no_end_section}
 use Rattle.mig_load.proofs.eager_state.put_given.Goals as goal
@@ -50,8 +50,8 @@ put_records-requires g c =
     let some = c.records.invariant.some in
     let table : RamTable = (g.M.GuestTarget.image c.args.memory.now).table in
     let more : IsEnd gave → ⊥ = elim c.match-gave.branch [ in-Records w ↦ no_end_records gave w.in-Records.is | in-Section w ↦ no_end_section gave w.in-Section.is ] in
-    let fits : Fits table c.records.reader.given = put_fits some.limit table some.text some.so_far gave c.records.reader c.records.sections more some.puts in
-    subst (λ (t : RamTable). Fits t c.given.result.now) (sym c.records.invariant.same) (subst (λ (x : RoundOfRecords). Fits table x) (sym c.given.ensures) fits)
+    let fits : FitsTable table c.records.reader.given = put_fits some.limit table some.text some.so_far gave c.records.reader c.records.sections more some.puts in
+    subst (λ (t : RamTable). FitsTable t c.given.result.now) (sym c.records.invariant.same) (subst (λ (x : RoundOfRecords). FitsTable table x) (sym c.given.ensures) fits)
 
 pub returns-in_err-gave-clause-err : goal.returns-in_err-gave-clause-err
 returns-in_err-gave-clause-err g c =

@@ -1,6 +1,6 @@
 use Rattle.std.proofs.Common.{ℕ, ◌≡◌, ◌∙◌, ap, subst, sym, refl}
 use Rattle.mig_mem.specs.RamTable.{RamTable}
-use Rattle.mig_assemble.specs.Target.{Fits, pages_of_round}
+use Rattle.mig_assemble.specs.Target.{FitsTable, pages_of_round}
 use Rattle.mig_load.proofs.Sections.{of_some}
 use Rattle.mig_load.specs.InPlaceState.{AreSections}
 use Rattle.mig_load.proofs.InPlaceStates.{alike_table, alike_more, alike_so, alike_none, sections_none, sections_more}
@@ -11,7 +11,7 @@ sections-init g c = record { put = alike_none _ _ (λ kept limit first text ende
 
 pub put_records-requires : goal.put_records-requires
 put_records-requires g c =
-    subst (λ (x : RamTable). Fits x c.in-Some.section)
+    subst (λ (x : RamTable). FitsTable x c.in-Some.section)
     (c.sections.invariant.table ∙ sym c.requires ∙ sym (alike_table _ _ _ c.sections.invariant.put)) c.in-Some.ensures.fits
 
 pub sections-preserved : goal.sections-preserved

@@ -6,7 +6,7 @@ use Rattle.mig_assemble.specs.Target.{pages_of_round}
 use Rattle.mig_load.specs.declared.fault.LoadFault.{LoadFault}
 use Rattle.mig_load.specs.SingleLoad.{no_memory_at}
 use Rattle.mig_load.specs.declared.status.Status.TheVariants.{Whole}
-use Rattle.mig_load.specs.Relayed.{IsRefused}
+use Rattle.mig_load.specs.Relayed.{IsRoundError}
 use Rattle.mig_load.proofs.RelayRounds.{told_now, ends_told, ends_without, sizes_of_packets, ends_refused, goes_in}
 use Rattle.mig_load.proofs.relayed.load_round.Goals as goal
 
@@ -39,7 +39,7 @@ returns-in-Err-clause-judged g c = λ l comes.
     let told = told_now l c.rounds-rounds.result c.args.target.now c.in-Ok.told None c.args.places.now.items c.told_at.new.places.items c.args.collector.now
     c.told_at.new.collector c.args.round.now packets c.rounds-rounds.ensures c.in_default-told.is comes (c.in-Ok.ensures.told l) in
     let target = c.args.target.now in
-    let refused = subst (λ (r : Result ⊤ LoadFault). IsRefused target.rounds (refusal target.memory.table target.base (pages_of_round c.args.round.now) packets) r) c.in-Err.is c.put.ensures.refused in (
+    let refused = subst (λ (r : Result ⊤ LoadFault). IsRoundError target.rounds (refusal target.memory.table target.base (pages_of_round c.args.round.now) packets) r) c.in-Err.is c.put.ensures.refused in (
       c.in-Err.ensures.err,
       ends_refused l target c.in-Err.fault c.args.places.now.items c.told_at.new.places.items c.args.collector.now c.told_at.new.collector c.args.round.now packets comes
           c.told_at.ensures.continues told refused,

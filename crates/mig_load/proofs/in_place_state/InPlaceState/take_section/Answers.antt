@@ -3,7 +3,7 @@ use Rattle.std.specs.Prelude.{Ok}
 use Rattle.mig_stream.specs.declared.round.StreamRound.{StreamRound}
 use Rattle.mig_stream.specs.Reader.{HasRound}
 use Rattle.mig_load.specs.InPlace.{settings_of}
-use Rattle.mig_assemble.specs.Target.{Fits, pages_of_round}
+use Rattle.mig_assemble.specs.Target.{FitsTable, pages_of_round}
 use Rattle.mig_mem.specs.Round.{with_round}
 use Rattle.mig_load.specs.InPlaceState.{InPlaceState, LoadsWith, FedWith}
 use Rattle.mig_load.proofs.Sections.{of_some, of_none}
@@ -58,7 +58,7 @@ pub returns-clause-fits : goal.returns-clause-fits
 returns-clause-fits g c =
     let gives = of_some _ c.in-Ok-Some.field-0 c.in-Ok-Some.section c.in-Ok-Some.field-0-is c.in-Ok-Some.ensures.round in
     let places = of_some _ c.in-Ok-Some.field-0 c.in-Ok-Some.section c.in-Ok-Some.field-0-is c.in-Ok-Some.ensures.places in
-    subst (λ (s : InPlaceState). Fits s.table c.in-Ok-Some.section) c.self.view_is
+    subst (λ (s : InPlaceState). FitsTable s.table c.in-Ok-Some.section) c.self.view_is
     (section_fits c.self.inside.reader c.self.inside.table c.in-Some.streamed.now c.self.inside.rounds c.in-Ok-Some.section c.self.invariant c.in-Some.ensures
     (c.same.ensures.0 c.if-not-same.false) gives places)
 

@@ -1,6 +1,6 @@
 use Rattle.std.proofs.Common.{ℕ, length, List, ◌∷◌, [], ◌++◌, sym, ap, ◌∙◌, map}
 use Rattle.mig_load.specs.MultiLoad.{bytes_of}
-use Rattle.mig_load.specs.RelayItems.{channel_text}
+use Rattle.mig_load.specs.RelayItems.{with_settings}
 use Rattle.mig_load.specs.Relay.{so_far, at_start}
 use Rattle.std.proofs.lemmas.List.{take_all}
 use Rattle.mig_load.proofs.Ends.{one_started}
@@ -12,7 +12,7 @@ loop-j-preserved g c =
     let n : ℕ = length c.args.texts.now in (
       one_started so_far (at_start c.args.page_size c.args.uuid.now n) c.loop-j.channels.items c.push-in-loop-j.new.self.items c.in_ok-feeder.channel
           c.args.texts.now c.loop-j.j c.index-texts-j.result c.loop-j.invariant.0 c.in_ok-push-2.ensures.items c.loop-j-test.true c.index-texts-j.is
-          (c.in_ok-feeder.ensures.start ∙ ap (λ (text : List ℕ). (channel_text c.args.page_size c.args.uuid.now n text, [])) c.as_slice.ensures.value),
+          (c.in_ok-feeder.ensures.start ∙ ap (λ (text : List ℕ). (with_settings c.args.page_size c.args.uuid.now n text, [])) c.as_slice.ensures.value),
       c.in_ok-push.ensures.items ∙ (λ i. c.loop-j.invariant.1 i ++ c.in_ok-feeder.ensures.same i ∷ []) ∙ sym c.in_ok-push-2.ensures.items,
     )
 
