@@ -25,7 +25,7 @@ MEMORY = 2 << 30
 # The seconds that a program or a test may take. Without this flag `rt try` stops it after 60.
 SECONDS = "900"
 # These take longest, so they begin first.
-LONG = ("mig_session_tests", "mig_rows", "mig_guests")
+LONG = ("mig_session_tests", "mig_rows")
 ENDED = re.compile(rb"^run=ended status=(\d+) ", re.M)
 TESTS = re.compile(rb"^test result: ok\. ([1-9]\d*) passed; 0 failed; 0 ignored; 0 filtered out$", re.M)
 PASSED_TEST = re.compile(rb"^test \S+ \.\.\. ok\n", re.M)

@@ -6,7 +6,6 @@
 
 use crate::guest::{Guest, fill};
 use crate::measure::{Measured, Ratio, best_of_five, peak, reset_peak};
-use crate::stream::feed_pieces;
 use mig_load::load_single;
 use mig_mem::{MAX_TOTAL, PAGE_SIZE_4K, Table};
 use mig_send::SingleSender;
@@ -179,10 +178,21 @@ fn report_loading<R: Clock + Print + Files + AllocGlobal>(
 // How many rounds and records a text has that is fed in pieces, its rounds taken at the end; 0 where it isn't read.
 fn items_read(alloc: Global, mode: Mode, text: &[u8]) -> usize {
     let mut reader = StreamReader::new(alloc, mode, PAGE_SIZE_4K, MAX_TOTAL);
-    if !feed_pieces(&mut reader, text, PIECE_LEN) {
+    if !feed_pieces(&mut reader, text) {
         return 0;
     }
     take_items(&mut reader, text.len())
+}
+
+// Feeds a text in pieces. Returns whether the reader took them all.
+fn feed_pieces(reader: &mut StreamReader, text: &[u8]) -> bool {
+    for piece in text.chunks(PIECE_LEN) {
+        let has_room = reader.fed().checked_add(piece.len() as u64).is_some();
+        if reader.ended() || !has_room || reader.feed(piece).is_err() {
+            return false;
+        }
+    }
+    true
 }
 
 // Takes the rounds that were read, at most so many, and counts them and their records.

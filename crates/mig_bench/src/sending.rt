@@ -1,12 +1,15 @@
 //! A guest's sender on several channels, and a round of all pages as it sends it.
 
 use crate::guest::Guest;
-use crate::pack::LIMIT;
+use crate::yardstick::PAGE_SIZE;
 use mig_packet::{Gate, OpenGate};
 use mig_send::{MultiSender, Sent};
 use std::alloc::Global;
 use std::thread::Threads;
 use uuid::Uuid;
+
+// How many pages a packet may have, at this page size.
+const LIMIT: usize = 524_288 / PAGE_SIZE;
 
 /// A sender of no round yet; None where an allocation is refused.
 pub fn sender(alloc: Global, guest: &Guest, channels: usize) -> Option<MultiSender> {

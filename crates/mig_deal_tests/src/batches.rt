@@ -2,9 +2,8 @@
 ghost use Rattle.std.specs.Prelude.{◌≡◌, All, IfOk};
 ghost use Rattle.mig_send.specs.Batches.{IsBatch};
 
-use mig_fixtures::{at, places_of, put_page_and_zeros, set, table, zeroed};
+use mig_fixtures::{TestHeap, at, places_of, put_page_and_zeros, set, table, zeroed};
 use mig_mem::{Dirty, Memory, NoMemory, Place, Table};
-use mig_refusing::Refusing;
 use mig_send::{Batch, Packed, cut, pack};
 use std::alloc::{AllocGlobal, Allocator};
 use std::process::Abort;
@@ -69,7 +68,7 @@ fn are<A: Allocator>(batches: &[Batch<A>], wanted: &[(usize, &[u64])]) -> bool {
 // Cuts the set of some places, a page to a batch, with allocation `nth` refused, which comes.
 fn assert_cut_refused(
     rt: &(impl AllocGlobal + Abort),
-    heap: &Refusing,
+    heap: &TestHeap,
     nth: u64,
     table: &Table,
     places: &[Place],
@@ -84,7 +83,7 @@ fn assert_cut_refused(
 // The same where allocation `nth` doesn't come: asserts the batches.
 fn assert_cut(
     rt: &(impl AllocGlobal + Abort),
-    heap: &Refusing,
+    heap: &TestHeap,
     nth: u64,
     table: &Table,
     places: &[Place],
@@ -100,7 +99,7 @@ fn assert_cut(
 // The list of batches takes one allocation, and each batch one; an empty set takes none.
 #[test]
 fn cut_with_each_allocation_refused(rt: HostRuntime) {
-    let heap = Refusing::new(rt.alloc(), 0);
+    let heap = TestHeap::new(rt.alloc());
     let table = table(rt.alloc(), &[("a", 3), ("b", 2)]).expect(&rt, "a table");
     let places = [at(0, 0), at(0, 2), at(1, 1)];
     for nth in 1..=4u64 {
@@ -127,7 +126,7 @@ fn pack_first<A: Allocator + Copy>(
 // and the packet's text one.
 #[test]
 fn pack_with_each_allocation_refused(rt: HostRuntime) {
-    let heap = Refusing::new(rt.alloc(), 0);
+    let heap = TestHeap::new(rt.alloc());
     let memory = memory_of(&rt, &[("a", 2)]);
     for nth in 1..=3u64 {
         heap.refuse(nth);

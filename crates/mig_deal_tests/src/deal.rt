@@ -5,7 +5,7 @@ ghost use Rattle.std.specs.Prelude.{◌≡◌, ◌+◌, ◌<◌, ◌≤◌, [], 
 
 use crate::workers::{Hall, gather, put, seat_all, work_all};
 use mig_deal::{Deal, Drawn, NoMemory, Seat, Spent};
-use mig_refusing::Refusing;
+use mig_fixtures::TestHeap;
 use std::alloc::{AllocGlobal, Allocator};
 use std::process::Abort;
 use std::sync::Arc;
@@ -199,7 +199,7 @@ fn end_of_a_deal_in_an_arc(rt: HostRuntime) -> Result<(), Fail> {
 // the word, and the block of the table's slots, which is empty. Drawing and closing allocate nothing.
 #[test]
 fn allocations_refused(rt: HostRuntime) {
-    let heap = Refusing::new(rt.alloc(), 0);
+    let heap = TestHeap::new(rt.alloc());
     for nth in 1..1000u64 {
         heap.refuse(nth);
         match Deal::new(&heap, 5, 1, 2) {

@@ -3,10 +3,9 @@
 //! are drained between the rounds.
 
 use crate::batches::{cut_at, memory_of};
-use mig_fixtures::{at, places_of, set, table, table_of};
+use mig_fixtures::{TestHeap, at, places_of, set, table, table_of};
 use mig_mem::{Dirty, Memory, Table};
 use mig_packet::{Gate, OpenGate, Step, hello, put_packet};
-use mig_refusing::Refusing;
 use mig_send::{MultiSender, SendFault, Sent, pack};
 use mig_stream::StreamWriter;
 use std::alloc::{AllocGlobal, Allocator};
@@ -307,9 +306,9 @@ fn refused_rounds(rt: HostRuntime) {
 // A sender on so many channels, whose allocations were each refused before.
 fn sender_in<'a>(
     rt: &(impl AllocGlobal + Abort),
-    heap: &'a Refusing,
+    heap: &'a TestHeap,
     channels: usize,
-) -> MultiSender<&'a Refusing> {
+) -> MultiSender<&'a TestHeap> {
     let table = table(rt.alloc(), &[("a", 3), ("b", 3)]).expect(rt, "a table");
     for nth in 1..1000u64 {
         heap.refuse(nth);
@@ -328,8 +327,8 @@ fn sender_in<'a>(
 // its channels and its table as before.
 fn send_in<R: AllocGlobal + Abort + Threads + Sync>(
     rt: &R,
-    heap: &Refusing,
-    sender: &mut MultiSender<&Refusing>,
+    heap: &TestHeap,
+    sender: &mut MultiSender<&TestHeap>,
     round: &Round,
 ) {
     let before = counts(sender);
@@ -352,9 +351,9 @@ fn send_in<R: AllocGlobal + Abort + Threads + Sync>(
 // gives the sender back.
 fn finish_in<'a>(
     rt: &impl Abort,
-    heap: &'a Refusing,
-    mut sender: MultiSender<&'a Refusing>,
-) -> Sent<&'a Refusing> {
+    heap: &'a TestHeap,
+    mut sender: MultiSender<&'a TestHeap>,
+) -> Sent<&'a TestHeap> {
     let before = counts(&sender);
     let mut main = Vec::new(heap);
     sender.drain_main(&mut main);
@@ -375,9 +374,9 @@ fn finish_in<'a>(
 // The texts of both rounds, each of whose allocations was refused before.
 fn sent_in<'a, R: AllocGlobal + Abort + Threads + Sync>(
     rt: &R,
-    heap: &'a Refusing,
+    heap: &'a TestHeap,
     channels: usize,
-) -> Sent<&'a Refusing> {
+) -> Sent<&'a TestHeap> {
     let mut sender = sender_in(rt, heap, channels);
     send_in(rt, heap, &mut sender, &first_round(rt));
     send_in(rt, heap, &mut sender, &second_round(rt));
@@ -387,7 +386,7 @@ fn sent_in<'a, R: AllocGlobal + Abort + Threads + Sync>(
 // What was refused leaves no trace in the texts.
 #[test]
 fn allocations_refused(rt: HostRuntime) {
-    let heap = Refusing::new(rt.alloc(), 0);
+    let heap = TestHeap::new(rt.alloc());
     let sent = sent_in(&rt, &heap, 1);
     assert_sent(&rt, &sent);
 }
@@ -395,7 +394,7 @@ fn allocations_refused(rt: HostRuntime) {
 // With two workers the schedule decides whose allocation is refused.
 #[test]
 fn allocations_of_two_workers_refused(rt: HostRuntime) {
-    let heap = Refusing::new(rt.alloc(), 0);
+    let heap = TestHeap::new(rt.alloc());
     let sent = sent_in(&rt, &heap, 2);
     assert_two_channels(&rt, &sent);
 }

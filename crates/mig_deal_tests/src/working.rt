@@ -2,10 +2,9 @@
 
 use crate::alone::{Alone, work_alone};
 use crate::batches::{assert_page_and_zeros, batches_of, memory_of};
-use mig_fixtures::at;
+use mig_fixtures::{TestHeap, at};
 use mig_mem::{Memory, NoMemory, Place};
 use mig_packet::{Gate, Step};
-use mig_refusing::Refusing;
 use mig_send::Packed;
 use std::alloc::{AllocGlobal, Allocator};
 use std::process::Abort;
@@ -180,10 +179,10 @@ fn no_batch(rt: HostRuntime) {
 // The packets of two batches of a page each, where the worker tells these steps.
 fn two_packets<'a>(
     rt: &(impl AllocGlobal + Abort),
-    heap: &'a Refusing,
+    heap: &'a TestHeap,
     memory: &Memory,
     steps: &[u64],
-) -> Result<Vec<Packed<&'a Refusing>, &'a Refusing>, NoMemory> {
+) -> Result<Vec<Packed<&'a TestHeap>, &'a TestHeap>, NoMemory> {
     let places = [at(0, 0), at(0, 1)];
     let run = Run {
         base: 0,
@@ -199,7 +198,7 @@ fn two_packets<'a>(
 // A worker takes three allocations for each packet and one for the list of two. After a refused one it draws on and packs no more.
 #[test]
 fn work_with_each_allocation_refused(rt: HostRuntime) {
-    let heap = Refusing::new(rt.alloc(), 0);
+    let heap = TestHeap::new(rt.alloc());
     let memory = memory_of(&rt, &[("a", 2)]);
     for nth in 1..=7u64 {
         let steps: &[u64] = if nth < 4 { &[0, 2, 4] } else { &[0, 1, 2, 4] };

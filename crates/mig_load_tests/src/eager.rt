@@ -2,10 +2,9 @@
 //! refused.
 
 use crate::load_texts::LIMIT;
-use mig_fixtures::{at, places_of, set, table, zeroed};
+use mig_fixtures::{TestHeap, at, places_of, set, table, zeroed};
 use mig_load::{EagerState, Fault, InPlaceFault, InPlaceState, LoadFault, Origin, SingleLoader};
 use mig_mem::{Memory, Place};
-use mig_refusing::Refusing;
 use mig_send::SingleSender;
 use mig_stream::StreamFault;
 use std::alloc::{AllocGlobal, Allocator};
@@ -256,8 +255,8 @@ fn feed_until_refused<A: Allocator + Copy>(
 // writes.
 fn feed_rest(
     rt: &impl Abort,
-    heap: &Refusing,
-    state: &mut EagerState<&Refusing>,
+    heap: &TestHeap,
+    state: &mut EagerState<&TestHeap>,
     memory: &mut Memory,
     rest: &[u8],
 ) {
@@ -274,7 +273,7 @@ fn feed_rest(
 }
 
 // Loads the stream with allocation `nth` refused. Returns whether there was none.
-fn load_refused(rt: &(impl AllocGlobal + Abort), heap: &Refusing, text: &[u8], nth: u64) -> bool {
+fn load_refused(rt: &(impl AllocGlobal + Abort), heap: &TestHeap, text: &[u8], nth: u64) -> bool {
     let mut memory = fives(rt, rt.alloc(), "a");
     heap.refuse(nth);
     let Ok(mut state) = EagerState::new(heap, memory.table(), LIMIT) else {
@@ -295,7 +294,7 @@ fn load_refused(rt: &(impl AllocGlobal + Abort), heap: &Refusing, text: &[u8], n
 #[test]
 fn each_allocation_refused(rt: HostRuntime) {
     let text = stream(&rt);
-    let heap = Refusing::new(rt.alloc(), 0);
+    let heap = TestHeap::new(rt.alloc());
     for nth in 1..1000u64 {
         if load_refused(&rt, &heap, &text, nth) {
             return;

@@ -3,9 +3,9 @@
 use crate::load_texts::{
     assert_done, assert_failed, assert_full, main_of, one, sevens_then_zeros, syncs_of, two,
 };
+use mig_fixtures::TestHeap;
 use mig_load::{Fault, Loaded, Origin, load_multi};
 use mig_packet::OpenGate;
-use mig_refusing::Refusing;
 use std::alloc::AllocGlobal;
 use std::process::Abort;
 use std::sync::Wait;
@@ -15,10 +15,10 @@ use uuid::Uuid;
 // Loads texts with what memory the allocator has.
 fn load_in<'a, R: AllocGlobal + Abort + Threads + Wait + Sync>(
     rt: &R,
-    heap: &'a Refusing,
+    heap: &'a TestHeap,
     main: &[u8],
     channels: &[Vec<u8>],
-) -> Loaded<&'a Refusing> {
+) -> Loaded<&'a TestHeap> {
     assert!(rt; 1 <= channels.len() && channels.len() <= 255);
     load_multi(
         rt,
@@ -34,7 +34,7 @@ fn load_in<'a, R: AllocGlobal + Abort + Threads + Wait + Sync>(
 
 /// Asserts what a refused load tells: the memory is that after the rounds counted, where `bytes` has what fills the only page after
 /// each number of rounds. Before the first round there may be none.
-pub(crate) fn assert_no_memory(rt: &impl Abort, loaded: &Loaded<&Refusing>, bytes: &[u8]) {
+pub(crate) fn assert_no_memory(rt: &impl Abort, loaded: &Loaded<&TestHeap>, bytes: &[u8]) {
     let rounds = loaded.rounds;
     assert_failed(rt, loaded, rounds, Origin::Round, Fault::NoMemory);
     if rounds == 0 && loaded.memory.is_none() {
@@ -53,7 +53,7 @@ fn assert_allocations<R: AllocGlobal + Abort + Threads + Wait + Sync>(
     channels: &[Vec<u8>],
     bytes: &[u8],
 ) {
-    let heap = Refusing::new(rt.alloc(), 0);
+    let heap = TestHeap::new(rt.alloc());
     for nth in 1..10_000u64 {
         heap.refuse(nth);
         let loaded = load_in(rt, &heap, main, channels);

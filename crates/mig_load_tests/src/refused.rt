@@ -2,9 +2,9 @@
 
 use crate::pieces::{Seen, assert_over, assert_received, feed};
 use crate::texts::{put_text, syncs};
+use mig_fixtures::TestHeap;
 use mig_load::{ChannelEnd, Collector, Feeder, Relay};
 use mig_packet::OpenGate;
-use mig_refusing::Refusing;
 use std::alloc::AllocGlobal;
 use std::process::Abort;
 use std::sync::Wait;
@@ -39,11 +39,11 @@ const NONE: [Seen; 2] = [Seen::Hello(0), Seen::Stop(ChannelEnd::Clean)];
 // A relay of two texts, with whatever memory the allocator has.
 #[derive(Drop)]
 struct Started<'a> {
-    feeders: Vec<Feeder<'a, &'a Refusing>, &'a Refusing>,
-    collector: Collector<'a, &'a Refusing>,
+    feeders: Vec<Feeder<'a, &'a TestHeap>, &'a TestHeap>,
+    collector: Collector<'a, &'a TestHeap>,
 }
 
-fn start<'a>(rt: &impl Abort, heap: &'a Refusing, texts: &'a [Vec<u8>]) -> Option<Started<'a>> {
+fn start<'a>(rt: &impl Abort, heap: &'a TestHeap, texts: &'a [Vec<u8>]) -> Option<Started<'a>> {
     assert!(rt; texts.len() == 2);
     match Relay::start(heap, 4096, &Uuid::nil(), texts, 64) {
         Ok((feeders, collector)) => Some(Started { feeders, collector }),
@@ -57,9 +57,9 @@ fn start<'a>(rt: &impl Abort, heap: &'a Refusing, texts: &'a [Vec<u8>]) -> Optio
 // The feeders allocate nothing.
 fn feed_all<'a, R: Wait + Abort>(
     rt: &R,
-    heap: &Refusing,
+    heap: &TestHeap,
     started: Started<'a>,
-) -> Collector<'a, &'a Refusing> {
+) -> Collector<'a, &'a TestHeap> {
     let Started { feeders, collector } = started;
     assert!(rt; feeders.len() == 2 && collector.len() == 2);
     heap.refuse(1);
@@ -74,7 +74,7 @@ fn feed_all<'a, R: Wait + Abort>(
 // Takes so many items of a channel, each refused one again with memory. A refused call has taken nothing.
 fn take_again<R: Wait + Abort>(
     rt: &R,
-    collector: &mut Collector<'_, &Refusing>,
+    collector: &mut Collector<'_, &TestHeap>,
     channel: usize,
     wanted: &[Seen],
 ) {
@@ -96,7 +96,7 @@ fn take_again<R: Wait + Abort>(
 #[test]
 fn start_with_each_allocation_refused(rt: HostRuntime) {
     let texts = two_texts(&rt);
-    let heap = Refusing::new(rt.alloc(), 0);
+    let heap = TestHeap::new(rt.alloc());
     for nth in 1..1000u64 {
         heap.refuse(nth);
         let run = start(&rt, &heap, &texts);
@@ -119,8 +119,8 @@ fn start_with_each_allocation_refused(rt: HostRuntime) {
 // memory, nor does the drain.
 fn take_all_refused<R: Wait + Abort>(
     rt: &R,
-    heap: &Refusing,
-    mut collector: Collector<'_, &Refusing>,
+    heap: &TestHeap,
+    mut collector: Collector<'_, &TestHeap>,
     nth: u64,
 ) -> bool {
     heap.refuse(nth);
@@ -140,7 +140,7 @@ fn take_all_refused<R: Wait + Abort>(
 #[test]
 fn next_with_each_allocation_refused(rt: HostRuntime) {
     let texts = two_texts(&rt);
-    let heap = Refusing::new(rt.alloc(), 0);
+    let heap = TestHeap::new(rt.alloc());
     for nth in 1..1000u64 {
         let started = start(&rt, &heap, &texts).expect(&rt, "a relay");
         let collector = feed_all(&rt, &heap, started);

@@ -7,9 +7,9 @@ use crate::load_texts::{
     page_and_zeros, sevens_then_zeros,
 };
 use crate::pieces::{Seen, assert_over, assert_received, feed, take};
+use mig_fixtures::TestHeap;
 use mig_load::{ChannelEnd, Collector, Fault, Origin, Relay, load_relayed};
 use mig_packet::OpenGate;
-use mig_refusing::Refusing;
 use std::alloc::Allocator;
 use std::process::Abort;
 use std::sync::Wait;
@@ -86,7 +86,7 @@ fn round_that_the_main_stream_lacks(rt: HostRuntime) {
 fn each_allocation_refused(rt: HostRuntime) {
     let texts = one(&rt, sevens_then_zeros(&rt));
     let main = main_of(&rt, 1, 2);
-    let heap = Refusing::new(rt.alloc(), 0);
+    let heap = TestHeap::new(rt.alloc());
     for nth in 1..1000u64 {
         let mut collector = relayed(&rt, &heap, &texts);
         heap.refuse(nth);

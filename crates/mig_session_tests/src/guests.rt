@@ -8,7 +8,7 @@ use crate::feeding::{feed_next, source_at, text_of};
 use crate::telling::{assert_as_loaded, is_same};
 use mig_fixtures::{at, set, table_of};
 use mig_load::{Loaded, Verdict, load_multi, load_single};
-use mig_mem::{Dirty, Memory, PAGE_SIZE_4K, PAGE_SIZE_8K, Table, is_page_size};
+use mig_mem::{Dirty, Memory, PAGE_SIZE_4K, PAGE_SIZE_8K, Place, Table, is_page_size};
 use mig_packet::OpenGate;
 use mig_send::{MultiSender, Sent, SingleSender};
 use rand_core::Rng;
@@ -19,7 +19,8 @@ use std::sync::Wait;
 use std::thread::Threads;
 use uuid::Uuid;
 
-const LIMIT: u64 = 1 << 40;
+/// That of the blocks' bytes together.
+pub(crate) const LIMIT: u64 = 1 << 40;
 
 // What kind of guests are drawn, and in what pieces their texts are fed.
 #[derive(Clone, Copy)]
@@ -56,8 +57,8 @@ const LARGE: Kind = Kind {
     piece: Some(65_536),
 };
 
-// A number below `n`; 0 where `n` is 0.
-fn below(random: &mut Pcg32, n: u64) -> u64
+/// A number below `n`; 0 where `n` is 0.
+pub(crate) fn below(random: &mut Pcg32, n: u64) -> u64
     ensures { (result < n) ⊎ (result ≡ 0) }
 {
     random.next_u64().checked_rem(n).unwrap_or(0)
@@ -65,20 +66,86 @@ fn below(random: &mut Pcg32, n: u64) -> u64
 
 // ---- what a guest's rounds are sent as
 
-// A guest's memory after its rounds, and what they were sent as.
+/// A guest's memory after its rounds, and what they were sent as.
 #[derive(Drop)]
-struct Sendings {
-    memory: Memory,
-    single: Vec<u8>,
-    several: Sent,
+pub(crate) struct Sendings {
+    pub(crate) memory: Memory,
+    pub(crate) single: Vec<u8>,
+    pub(crate) several: Sent,
 }
 
-// The block and the page of the page of this number, where the blocks' pages are numbered one block after the other.
-fn place_of(kind: Kind, number: u64) -> (usize, u64) {
-    match number.checked_sub(kind.pages[0]) {
-        None => (0, number),
-        Some(page) => (1, page),
+/// A guest's senders, of a single stream and on several channels.
+#[derive(Drop)]
+pub(crate) struct Senders {
+    single: SingleSender,
+    several: MultiSender,
+}
+
+impl Senders {
+    pub(crate) fn new(
+        rt: &(impl AllocGlobal + Abort),
+        table: &Table,
+        uuid: Uuid,
+        channels: usize,
+        limit: usize,
+    ) -> Senders {
+        let single = SingleSender::new(rt.alloc(), table).expect(rt, "a sender");
+        let several = MultiSender::new(rt.alloc(), table, uuid, channels, limit);
+        Senders {
+            single,
+            several: several.expect(rt, "a sender"),
+        }
     }
+
+    /// Sends a round both ways.
+    pub(crate) fn round<R: Abort + Threads + Sync>(
+        &mut self,
+        rt: &R,
+        memory: &Memory,
+        dirty: &Dirty,
+    ) {
+        assert!(rt; self.single.round(memory, dirty).is_ok());
+        assert!(rt; self.several.round(rt, memory, dirty, &OpenGate).is_ok());
+    }
+
+    /// What was sent, of a guest with this memory now.
+    pub(crate) fn finish(self, rt: &impl Abort, memory: Memory) -> Sendings {
+        Sendings {
+            memory,
+            single: self.single.finish().ok().expect(rt, "a text"),
+            several: self.several.finish().ok().expect(rt, "texts"),
+        }
+    }
+}
+
+// The place of the page of this number, where the blocks' pages are numbered one block after the other.
+fn place_of(kind: Kind, number: u64) -> Place {
+    match number.checked_sub(kind.pages[0]) {
+        None => at(0, number),
+        Some(page) => at(1, page),
+    }
+}
+
+/// The guest writes a byte to a page, or makes it zeros, and the page is marked.
+pub(crate) fn write_page(
+    rt: &impl Abort,
+    memory: &mut Memory,
+    dirty: &mut Dirty,
+    place: Place,
+    random: &mut Pcg32,
+) {
+    assert!(rt; memory.table().holds(place) && dirty.table().holds(place));
+    assert!(rt; dirty.mark(place).is_ok());
+    if below(random, 3) == 0 {
+        memory.put_zero_page(place);
+        return;
+    }
+    let size = memory.table().page_size();
+    let offset = place
+        .page
+        .wrapping_mul(size)
+        .wrapping_add(below(random, size));
+    assert!(rt; set(memory, place.block, offset, (random.next_u32() % 256) as u8));
 }
 
 // The guest writes to some pages, or makes them zeros, and they are marked.
@@ -91,17 +158,8 @@ fn write_some(
 ) {
     let pages = kind.pages[0].wrapping_add(kind.pages[1]);
     for _ in 0..kind.least.wrapping_add(below(random, kind.more)) {
-        let (block, page) = place_of(kind, below(random, pages));
-        let place = at(block, page);
-        assert!(rt; memory.table().holds(place) && dirty.table().holds(place));
-        assert!(rt; dirty.mark(place).is_ok());
-        if below(random, 3) == 0 {
-            memory.put_zero_page(place);
-            continue;
-        }
-        let size = memory.table().page_size();
-        let offset = page.wrapping_mul(size).wrapping_add(below(random, size));
-        assert!(rt; set(memory, block, offset, (random.next_u32() % 256) as u8));
+        let place = place_of(kind, below(random, pages));
+        write_page(rt, memory, dirty, place, random);
     }
 }
 
@@ -116,31 +174,22 @@ fn send<R: AllocGlobal + Abort + Threads + Sync>(
 ) -> Sendings {
     let limit = 1 + below(random, kind.packet) as usize;
     let mut memory = Memory::zeroed(rt.alloc(), table).expect(rt, "a memory");
-    let mut single = SingleSender::new(rt.alloc(), table).expect(rt, "a sender");
-    let made = MultiSender::new(rt.alloc(), table, Uuid::nil(), channels, limit);
-    let mut several = made.expect(rt, "a sender");
+    let mut senders = Senders::new(rt, table, Uuid::nil(), channels, limit);
     for _ in 0..rounds {
         let mut dirty = Dirty::none(rt.alloc(), table).expect(rt, "a set");
         write_some(rt, kind, &mut memory, &mut dirty, random);
-        assert!(rt; single.round(&memory, &dirty).is_ok());
-        assert!(rt; several.round(rt, &memory, &dirty, &OpenGate).is_ok());
+        senders.round(rt, &memory, &dirty);
     }
-    let (Ok(single), Ok(several)) = (single.finish(), several.finish()) else {
-        panic!(rt; "memory")
-    };
-    Sendings {
-        memory,
-        single,
-        several,
-    }
+    senders.finish(rt, memory)
 }
 
 // ---- their loads
 
-// Loads the whole texts of several channels.
-fn load<R: AllocGlobal + Abort + Threads + Wait + Sync>(
+/// Loads the whole texts of several channels.
+pub(crate) fn load<R: AllocGlobal + Abort + Threads + Wait + Sync>(
     rt: &R,
     page_size: u64,
+    uuid: &Uuid,
     texts: &Sent,
 ) -> Loaded {
     let channels = texts.channels.as_slice();
@@ -150,7 +199,7 @@ fn load<R: AllocGlobal + Abort + Threads + Wait + Sync>(
         rt,
         rt.alloc(),
         page_size,
-        &Uuid::nil(),
+        uuid,
         &texts.main,
         channels,
         LIMIT,
@@ -222,7 +271,7 @@ fn assert_loaded_alike<R: AllocGlobal + Abort + Threads + Wait + Sync>(
     let table = table_of(rt.alloc(), page_size, &blocks).expect(rt, "a table");
     let sendings = send(rt, kind, &table, channels, rounds, random);
     assert!(rt; bytes_of(&sendings.several) >= rounds.wrapping_mul(kind.bytes));
-    let loaded = load(rt, page_size, &sendings.several);
+    let loaded = load(rt, page_size, &Uuid::nil(), &sendings.several);
     assert!(rt; loaded.rounds == rounds && loaded.verdict == Ok(()));
     assert!(rt; is_page_size(page_size));
     let single = load_single(rt.alloc(), page_size, &sendings.single, LIMIT);

@@ -4,7 +4,7 @@ use crate::checked::CheckedSession;
 use crate::feeding::source_at;
 use crate::telling::assert_tells;
 use crate::texts::{hello_of, main_of, put_page, put_sync};
-use mig_counting::Counting;
+use mig_fixtures::TestHeap;
 use mig_load::{Source, Verdict};
 use std::alloc::AllocGlobal;
 use std::process::Abort;
@@ -16,7 +16,7 @@ const PAGES: u64 = 4;
 // Feeds what a channel has of a round: two of the four pages, and a SYNC packet. Each round has six packets.
 fn feed_round(
     rt: &(impl AllocGlobal + Abort),
-    session: &mut CheckedSession<&Counting>,
+    session: &mut CheckedSession<&TestHeap>,
     channel: u8,
     round: u64,
 ) {
@@ -43,7 +43,7 @@ fn feed_round(
 }
 
 // Feeds the part of the main stream that ends with a round's flush, which is byte 69 for the first one and 26 bytes more for each other one.
-fn feed_main(rt: &impl Abort, session: &mut CheckedSession<&Counting>, main: &[u8], round: u64) {
+fn feed_main(rt: &impl Abort, session: &mut CheckedSession<&TestHeap>, main: &[u8], round: u64) {
     let to = round.wrapping_mul(26).wrapping_add(69) as usize;
     let from = session.fed(rt, Source::Main) as usize;
     let part = main.get(from..to).expect(rt, "a part");
@@ -53,8 +53,8 @@ fn feed_main(rt: &impl Abort, session: &mut CheckedSession<&Counting>, main: &[u
 // Ends all three sources behind the rounds. The session is done, and holds the guest and small lists alone.
 fn assert_given_back(
     rt: &impl Abort,
-    heap: &Counting,
-    mut session: CheckedSession<&Counting>,
+    heap: &TestHeap,
+    mut session: CheckedSession<&TestHeap>,
     main: &[u8],
 ) {
     let rest = main
@@ -88,7 +88,7 @@ fn assert_given_back(
 #[test]
 fn rounds_one_by_one(rt: HostRuntime) {
     let main = main_of(&rt, PAGES, ROUNDS);
-    let heap = Counting::new(rt.alloc());
+    let heap = TestHeap::new(rt.alloc());
     let mut session = CheckedSession::new(&rt, &heap, 4096, 2).expect(&rt, "a session");
     let mut after_two = 0u64;
     for round in 0..ROUNDS {

@@ -5,8 +5,8 @@ use crate::feeding::{feed_text, source_at, text_of};
 use crate::refuses::Refuses;
 use crate::telling::{assert_page_and_zeros, assert_tells, failed};
 use crate::texts::page_and_zeros;
+use mig_fixtures::TestHeap;
 use mig_load::{Fault, Origin, PumpFault, Source, Verdict};
-use mig_refusing::Refusing;
 use mig_send::Sent;
 use std::alloc::{AllocGlobal, Allocator};
 use std::io::{self, Read};
@@ -215,7 +215,7 @@ fn is_pump_refused<A: Refuses>(
 #[test]
 fn each_allocation_refused(rt: HostRuntime) {
     let texts = page_and_zeros(&rt);
-    let heap = Refusing::new(rt.alloc(), 0);
+    let heap = TestHeap::new(rt.alloc());
     for number in 0..2usize {
         let text = text_of(&rt, &texts, source_at(number));
         let mut refusals = 0u64;

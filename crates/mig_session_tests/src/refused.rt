@@ -6,8 +6,8 @@ use crate::refuses::Refuses;
 use crate::settled::assert_only_counted;
 use crate::telling::{assert_full, assert_tells, failed};
 use crate::texts::{sevens_then_zeros, sevens_then_zeros_on_two};
+use mig_fixtures::TestHeap;
 use mig_load::{Fault, Origin, Source, Verdict};
-use mig_refusing::Refusing;
 use mig_send::Sent;
 use std::alloc::{AllocGlobal, Allocator};
 use std::process::Abort;
@@ -26,7 +26,7 @@ fn is_made<A: Allocator + Copy>(rt: &impl Abort, alloc: A) -> bool {
 
 #[test]
 fn new_with_each_allocation_refused(rt: HostRuntime) {
-    let heap = Refusing::new(rt.alloc(), 0);
+    let heap = TestHeap::new(rt.alloc());
     for nth in 1..1000u64 {
         heap.refuse(nth);
         let is_made = is_made(&rt, &heap);
@@ -140,7 +140,7 @@ fn rounds_when_refused<A: Refuses>(
 
 // Each allocation is refused in turn, up to the first session that has no refusal. Some of the refused ones have the first round.
 fn assert_allocations(rt: &(impl AllocGlobal + Abort), texts: &Sent, len: usize) {
-    let heap = Refusing::new(rt.alloc(), 0);
+    let heap = TestHeap::new(rt.alloc());
     let mut most = 0u64;
     for nth in 1..10_000u64 {
         heap.refuse(0);

@@ -1,10 +1,10 @@
 //! An allocator that refuses one allocation, as tests hand it on.
 
-use mig_refusing::Refusing;
+use mig_fixtures::TestHeap;
 use std::alloc::Allocator;
 
 /// A reference to an allocator that refuses one allocation. What is generic in it the checker's borrow rules cover, and not what names
-/// `&Refusing`.
+/// `&TestHeap`.
 pub(crate) trait Refuses: Allocator + Copy {
     /// Refuses allocation number `nth` from here on, and none if `nth` is 0.
     fn refuse(&self, nth: u64);
@@ -13,7 +13,7 @@ pub(crate) trait Refuses: Allocator + Copy {
     fn is_waiting(&self) -> bool;
 }
 
-impl Refuses for &Refusing {
+impl Refuses for &TestHeap {
     fn refuse(&self, nth: u64) {
         (**self).refuse(nth);
     }

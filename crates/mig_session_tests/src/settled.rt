@@ -6,9 +6,9 @@ use crate::refuses::Refuses;
 use crate::telling::{assert_full, assert_page_and_zeros, assert_tells, failed};
 use crate::texts::{page_and_zeros, set_byte};
 use mig_assemble::RoundFault;
+use mig_fixtures::TestHeap;
 use mig_load::{Fault, Origin, Source, Verdict};
 use mig_packet::ChannelFault;
-use mig_refusing::Refusing;
 use mig_send::Sent;
 use std::process::Abort;
 
@@ -60,7 +60,7 @@ fn assert_done<A: Refuses>(rt: &impl Abort, heap: A, texts: &Sent) {
 
 #[test]
 fn pieces_behind_a_load_that_is_done(rt: HostRuntime) {
-    let heap = Refusing::new(rt.alloc(), 0);
+    let heap = TestHeap::new(rt.alloc());
     assert_done(&rt, &heap, &page_and_zeros(&rt));
 }
 
@@ -84,7 +84,7 @@ fn pieces_behind_a_load_that_failed(rt: HostRuntime) {
         let mut texts = page_and_zeros(&rt);
         let channel = texts.channels.get_mut(0).expect(&rt, "a channel");
         set_byte(&rt, channel, at, byte);
-        let heap = Refusing::new(rt.alloc(), 0);
+        let heap = TestHeap::new(rt.alloc());
         assert_failed(&rt, &heap, &texts, failed(0, source, fault));
     }
 }

@@ -2,8 +2,7 @@
 //! however it is cut, of a part of it, and of another table's.
 
 use crate::parts::{PIECE, all_of, block_of, feed, send};
-use mig_counting::Counting;
-use mig_fixtures::{at, places_of, table, table_of};
+use mig_fixtures::{TestHeap, at, places_of, table, table_of};
 use mig_load::{Fault, InPlaceLoader, LoadFault, Origin};
 use mig_mem::{
     Dirty, GuestPages, GuestTarget, LentMemory, LentMemoryMut, MAX_TOTAL, PAGE_SIZE_4K,
@@ -117,7 +116,7 @@ fn migrated_in_little_memory(rt: HostRuntime) {
     let table = table(rt.alloc(), &[("pc.ram", 4096)]).expect(&rt, "a table");
     let bytes = others(&rt, 4096, 4096);
     let mut onto = vec![in rt.alloc(); 0u8; bytes.len()].expect(&rt, "bytes");
-    let heap = Counting::new(rt.alloc());
+    let heap = TestHeap::new(rt.alloc());
     let answer = migrate_all(
         &heap,
         &table,

@@ -7,10 +7,9 @@ use crate::in_place::{
     Answer, SMALL, Wanted, both, fault_at, left, others, text_of_small, untouched,
 };
 use crate::parts::PIECE;
-use mig_fixtures::{at, has_byte, set, table};
+use mig_fixtures::{TestHeap, at, has_byte, set, table};
 use mig_load::{Fault, InPlaceFault, InPlaceState};
 use mig_mem::{GuestTarget, LentMemoryMut, MAX_TOTAL, Memory, Place};
-use mig_refusing::Refusing;
 use mig_stream::{StreamFault, StreamRound};
 use std::alloc::{AllocGlobal, Allocator};
 use std::process::Abort;
@@ -214,7 +213,7 @@ fn section_by_section(rt: HostRuntime) {
 // Feeds a piece after refused allocations, each of which changed nothing. How many there were.
 fn feed_refused<A: Allocator + Copy>(
     rt: &impl Abort,
-    heap: &Refusing,
+    heap: &TestHeap,
     state: &mut InPlaceState<A>,
     memory: &mut Memory,
     piece: &[u8],
@@ -237,7 +236,7 @@ fn feed_refused<A: Allocator + Copy>(
 
 #[test]
 fn refused(rt: HostRuntime) {
-    let heap = Refusing::new(rt.alloc(), 0);
+    let heap = TestHeap::new(rt.alloc());
     let text = text_of_small(&rt);
     let mut memory = zeros(&rt, &SMALL);
     heap.refuse(1);

@@ -3,9 +3,8 @@
 
 use crate::building::{BEFORE_START_LEN, BLOCKS, two_rounds_in};
 use crate::records::{has_records, read_on};
-use mig_fixtures::table;
+use mig_fixtures::{TestHeap, table};
 use mig_mem::{MAX_TOTAL, NoMemory, PAGE_SIZE_4K, Table};
-use mig_refusing::Refusing;
 use mig_stream::{Frame, Given, Mode, Pause, RecordReader, StreamReader, StreamRound, StreamState};
 use std::alloc::{AllocGlobal, Allocator};
 use std::process::Abort;
@@ -77,8 +76,8 @@ impl<'a> Wanted<'a> {
 // Reads all that a reader has, with each allocation refused.
 fn read_all(
     rt: &impl Abort,
-    heap: &Refusing,
-    reader: &mut RecordReader<&Refusing>,
+    heap: &TestHeap,
+    reader: &mut RecordReader<&TestHeap>,
     wanted: &mut Wanted,
 ) {
     for _ in 0..1000u64 {
@@ -117,10 +116,10 @@ fn assert_table<A: Allocator, B: Allocator>(
 
 // A reader of a text's first bytes: where there are none, behind a pause before the text.
 fn first_reader<'a>(
-    heap: &'a Refusing,
+    heap: &'a TestHeap,
     frame: Frame,
     front: &'a [u8],
-) -> RecordReader<'a, &'a Refusing> {
+) -> RecordReader<'a, &'a TestHeap> {
     if front.is_empty() {
         return Pause::new_in(heap, frame, PAGE_SIZE_4K, MAX_TOTAL).resume(front);
     }
@@ -137,7 +136,7 @@ fn assert_paused(
     len: usize,
     wanted: &mut Wanted,
 ) {
-    let heap = Refusing::new(rt.alloc(), 0);
+    let heap = TestHeap::new(rt.alloc());
     let table = table(rt.alloc(), &BLOCKS).expect(rt, "a table");
     let closed_at = text.len().saturating_sub(wanted.behind.len());
     let (front, rest) = text.split_at_checked(first).expect(rt, "two pieces");
@@ -186,7 +185,7 @@ fn machine_paused_anywhere(rt: HostRuntime) {
 // Pauses behind a text's first bytes with allocation `nth` refused. Whether there was no such
 // allocation.
 fn is_paused(rt: &(impl AllocGlobal + Abort), frame: Frame, front: &[u8], nth: u64) -> bool {
-    let heap = Refusing::new(rt.alloc(), 0);
+    let heap = TestHeap::new(rt.alloc());
     let mut reader = RecordReader::new_in(&heap, frame, PAGE_SIZE_4K, MAX_TOTAL, front);
     skip_all(rt, &mut reader);
     heap.refuse(nth);

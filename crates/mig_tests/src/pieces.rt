@@ -3,9 +3,9 @@
 
 use crate::building::two_rounds;
 use crate::refused::assert_two_rounds;
+use mig_fixtures::TestHeap;
 use mig_load::{FeedFault, SingleLoader};
 use mig_mem::{MAX_TOTAL, PAGE_SIZE_4K};
-use mig_refusing::Refusing;
 use std::alloc::Allocator;
 use std::process::Abort;
 
@@ -76,7 +76,7 @@ fn loaded_in_pieces(rt: HostRuntime) {
 // time.
 #[test]
 fn loaded_after_refusals(rt: HostRuntime) {
-    let heap = Refusing::new(rt.alloc(), 0);
+    let heap = TestHeap::new(rt.alloc());
     let text = two_rounds(&rt);
     for nth in 1..1000u64 {
         heap.refuse(nth);

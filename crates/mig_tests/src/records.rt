@@ -3,10 +3,9 @@
 //! refused, where records of zero pages are many, and where a text is cut.
 
 use crate::building::{finished, part, two_rounds, two_rounds_in};
-use mig_fixtures::{at, places_of, set, zeroed};
+use mig_fixtures::{TestHeap, at, places_of, set, zeroed};
 use mig_load::load_single;
 use mig_mem::{MAX_TOTAL, Memory, NoMemory, PAGE_SIZE_4K, Place, first_difference};
-use mig_refusing::Refusing;
 use mig_stream::{Frame, Given, Mode, RecordReader, StreamReader, StreamRound, StreamWriter};
 use std::alloc::{AllocGlobal, Allocator};
 use std::process::Abort;
@@ -18,8 +17,8 @@ const MANY: [(&str, u64); 1] = [("pc.ram", 3000)];
 /// was given stays after a refusal.
 pub(crate) fn read_on(
     rt: &impl Abort,
-    heap: &Refusing,
-    reader: &mut RecordReader<&Refusing>,
+    heap: &TestHeap,
+    reader: &mut RecordReader<&TestHeap>,
 ) -> Given {
     for nth in 1..100u64 {
         let len = reader.given().len();
@@ -56,8 +55,8 @@ pub(crate) fn has_records<A: Allocator, B: Allocator>(
 // Asserts that a reader gives a section next. Tells in how many calls.
 fn assert_section<A: Allocator>(
     rt: &impl Abort,
-    heap: &Refusing,
-    reader: &mut RecordReader<&Refusing>,
+    heap: &TestHeap,
+    reader: &mut RecordReader<&TestHeap>,
     section: &StreamRound<A>,
 ) -> u64 {
     let mut count = 0usize;
@@ -78,8 +77,8 @@ fn assert_section<A: Allocator>(
 // it gave the last but one.
 fn assert_sections<A: Allocator + Copy>(
     rt: &impl Abort,
-    heap: &Refusing,
-    reader: &mut RecordReader<&Refusing>,
+    heap: &TestHeap,
+    reader: &mut RecordReader<&TestHeap>,
     kept: &mut StreamReader<A>,
     sections: u64,
 ) -> u64 {
@@ -119,7 +118,7 @@ fn rest_of<'a, A: Allocator>(kept: &StreamReader<A>, text: &'a [u8]) -> Option<&
 // The same of the two readers of a text, which stands as the other says. A cut text leaves records
 // of a section without its end.
 fn assert_given(rt: &(impl AllocGlobal + Abort), frame: Frame, text: &[u8], sections: u64) -> u64 {
-    let heap = Refusing::new(rt.alloc(), 0);
+    let heap = TestHeap::new(rt.alloc());
     let mut kept = kept_of(rt, frame, text);
     let mut reader = RecordReader::new_in(&heap, frame, PAGE_SIZE_4K, MAX_TOTAL, text);
     assert!(rt; reader.given().len() == 0 && reader.table().is_none());

@@ -7,11 +7,10 @@ ghost use Rattle.std.specs.Prelude.{◌≡◌, All};
 use crate::building::{BLOCKS, Run, dirty_of, empty_text, image_with, run_of, text_of, two_rounds};
 use crate::rounds::{both_packets, next_packet, put_round, records, text_of_packets};
 use mig_assemble::{Gathered, RoundFault, Target};
-use mig_fixtures::{at, has_byte, is_full, table};
+use mig_fixtures::{TestHeap, at, has_byte, is_full, table, with_each_allocation_refused};
 use mig_load::{Fault, LoadFault, Loaded, Origin, load_single};
 use mig_mem::{MAX_TOTAL, Memory, NoMemory, PAGE_SIZE_4K, Place, Table};
 use mig_packet::Packet;
-use mig_refusing::{Refusing, with_each_allocation_refused};
 use mig_send::SingleSender;
 use mig_stream::{StreamFault, StreamRound};
 use std::alloc::{AllocGlobal, Allocator};
@@ -33,8 +32,8 @@ pub(crate) fn assert_text<A: Allocator>(
 // Asserts that a sender of a table, made after refused allocations, has an empty text.
 fn assert_new_sender(
     rt: &(impl AllocGlobal + Abort),
-    heap: &Refusing,
-    table: &Table<&Refusing>,
+    heap: &TestHeap,
+    table: &Table<&TestHeap>,
 ) -> Result<(), Fail> {
     with_each_allocation_refused!(rt, heap, SingleSender::new(heap, table), sender => {
         assert_text(rt, sender, &empty_text(rt));
@@ -43,7 +42,7 @@ fn assert_new_sender(
 
 #[test]
 fn sender_new(rt: HostRuntime) -> Result<(), Fail> {
-    let heap = Refusing::new(rt.alloc(), 0);
+    let heap = TestHeap::new(rt.alloc());
     let table = table(&heap, &BLOCKS).expect(&rt, "a table");
     assert_new_sender(&rt, &heap, &table)
 }
@@ -51,8 +50,8 @@ fn sender_new(rt: HostRuntime) -> Result<(), Fail> {
 // Asserts the text of a sender of one round, sent after refused allocations.
 fn assert_round(
     rt: &(impl AllocGlobal + Abort),
-    heap: &Refusing,
-    mut sender: SingleSender<&Refusing>,
+    heap: &TestHeap,
+    mut sender: SingleSender<&TestHeap>,
     image: &Memory,
     places: &[Place],
 ) -> Result<(), Fail> {
@@ -65,7 +64,7 @@ fn assert_round(
 // A refused round can be sent again: the text is as if it had been sent once.
 #[test]
 fn sender_round(rt: HostRuntime) -> Result<(), Fail> {
-    let heap = Refusing::new(rt.alloc(), 0);
+    let heap = TestHeap::new(rt.alloc());
     let image = image_with(&rt, 1, 262_144);
     let sender = SingleSender::new(&heap, image.table()).expect(&rt, "a sender");
     assert_round(&rt, &heap, sender, &image, &[at(0, 1), at(1, 64)])
@@ -74,10 +73,10 @@ fn sender_round(rt: HostRuntime) -> Result<(), Fail> {
 // A sender of so many rounds without a page.
 fn sent<'a>(
     rt: &(impl AllocGlobal + Abort),
-    heap: &'a Refusing,
+    heap: &'a TestHeap,
     image: &Memory,
     count: usize,
-) -> SingleSender<&'a Refusing> {
+) -> SingleSender<&'a TestHeap> {
     let dirty = dirty_of(rt, &[]);
     let mut sender = SingleSender::new(heap, image.table()).expect(rt, "a sender");
     for _ in 0..count {
@@ -95,9 +94,9 @@ fn empty_rounds(rt: &(impl AllocGlobal + Abort), image: &Memory, count: usize) -
 
 // A sender that is given back since its last allocation is refused; None where it takes none.
 fn given_back<'a>(
-    heap: &'a Refusing,
-    sender: SingleSender<&'a Refusing>,
-) -> Option<SingleSender<&'a Refusing>> {
+    heap: &'a TestHeap,
+    sender: SingleSender<&'a TestHeap>,
+) -> Option<SingleSender<&'a TestHeap>> {
     heap.refuse(1);
     let run = sender.finish();
     heap.refuse(0);
@@ -108,7 +107,7 @@ fn given_back<'a>(
 // memory.
 #[test]
 fn sender_finish(rt: HostRuntime) {
-    let heap = Refusing::new(rt.alloc(), 0);
+    let heap = TestHeap::new(rt.alloc());
     let image = image_with(&rt, 0, 0);
     for count in 0..100 {
         if let Some(sender) = given_back(&heap, sent(&rt, &heap, &image, count)) {
@@ -134,7 +133,7 @@ fn assert_no_round<A: Allocator, B: Allocator>(
 // Asserts that a target of a table, made after refused allocations, has no round.
 fn assert_new_target<A: Allocator + Copy, B: Allocator>(
     rt: &impl Abort,
-    heap: &Refusing,
+    heap: &TestHeap,
     alloc: A,
     table: &Table<B>,
 ) -> Result<(), Fail> {
@@ -145,14 +144,14 @@ fn assert_new_target<A: Allocator + Copy, B: Allocator>(
 
 #[test]
 fn target_new(rt: HostRuntime) -> Result<(), Fail> {
-    let heap = Refusing::new(rt.alloc(), 0);
+    let heap = TestHeap::new(rt.alloc());
     let table = table(&heap, &BLOCKS).expect(&rt, "a table");
     assert_new_target(&rt, &heap, &heap, &table)
 }
 
 // A load's answer, or its fault where that is `NoMemory`, found in putting rounds into memory, with
 // no memory and no round.
-fn load_or_fault<'a>(heap: &'a Refusing, text: &[u8]) -> Result<Loaded<&'a Refusing>, Fault> {
+fn load_or_fault<'a>(heap: &'a TestHeap, text: &[u8]) -> Result<Loaded<&'a TestHeap>, Fault> {
     let loaded = load_single(heap, PAGE_SIZE_4K, text, MAX_TOTAL);
     let refused = LoadFault {
         round: 0,
@@ -189,7 +188,7 @@ fn assert_both_rounds<A: Allocator>(rt: &impl Abort, loaded: &Loaded<A>) {
 // Loads that text after refused allocations.
 fn assert_loaded(
     rt: &(impl AllocGlobal + Abort),
-    heap: &Refusing,
+    heap: &TestHeap,
     text: &[u8],
 ) -> Result<(), Fail> {
     with_each_allocation_refused!(rt, heap, load_or_fault(heap, text), loaded => {
@@ -199,12 +198,12 @@ fn assert_loaded(
 
 #[test]
 fn loads(rt: HostRuntime) -> Result<(), Fail> {
-    let heap = Refusing::new(rt.alloc(), 0);
+    let heap = TestHeap::new(rt.alloc());
     assert_loaded(&rt, &heap, &two_rounds(&rt))
 }
 
 // Loads that text, cut short, with allocation `nth` refused.
-fn run_of_cut(rt: &impl Abort, heap: &Refusing, text: &[u8], nth: u64) -> Run {
+fn run_of_cut(rt: &impl Abort, heap: &TestHeap, text: &[u8], nth: u64) -> Run {
     heap.refuse(nth);
     let answer = load_or_fault(heap, text);
     let run = run_of(rt, answer.is_ok(), heap.is_waiting());
@@ -223,7 +222,7 @@ fn run_of_cut(rt: &impl Abort, heap: &Refusing, text: &[u8], nth: u64) -> Run {
 // the list of three records.
 #[test]
 fn cut_loads(rt: HostRuntime) {
-    let heap = Refusing::new(rt.alloc(), 0);
+    let heap = TestHeap::new(rt.alloc());
     let mut text = two_rounds(&rt);
     text.truncate(text.len().saturating_sub(1));
     let mut survived = 0u64;
@@ -242,7 +241,7 @@ fn cut_loads(rt: HostRuntime) {
 }
 
 // Gathers a packet, after a refused allocation that leaves the list as it was.
-fn assert_pushed(rt: &(impl AllocGlobal + Abort), heap: &Refusing, packet: Packet<'_>) {
+fn assert_pushed(rt: &(impl AllocGlobal + Abort), heap: &TestHeap, packet: Packet<'_>) {
     let mut gathered = Gathered::new(heap);
     assert!(rt; gathered.len() == 0);
     heap.refuse(1);
@@ -258,7 +257,7 @@ fn assert_pushed(rt: &(impl AllocGlobal + Abort), heap: &Refusing, packet: Packe
 // A packet gathered takes one allocation at first; after a refused one the list is as it was.
 #[test]
 fn gathered_push(rt: HostRuntime) {
-    let heap = Refusing::new(rt.alloc(), 0);
+    let heap = TestHeap::new(rt.alloc());
     let text = text_of_packets(&rt);
     let (packet, _rest) = next_packet(&rt, &text);
     assert_pushed(&rt, &heap, packet);
@@ -269,7 +268,7 @@ fn gathered_push(rt: HostRuntime) {
 fn is_put<A: Allocator + Copy>(
     rt: &(impl AllocGlobal + Abort),
     target: &mut Target<A>,
-    heap: &Refusing,
+    heap: &TestHeap,
     nth: u64,
     round: &StreamRound,
     packets: &Gathered<'_>,
@@ -295,7 +294,7 @@ fn is_put<A: Allocator + Copy>(
 // Puts a round into a memory, after runs that were refused.
 fn put_after_refusals<A: Allocator + Copy>(
     rt: &(impl AllocGlobal + Abort),
-    heap: &Refusing,
+    heap: &TestHeap,
     alloc: A,
     round: &StreamRound,
     packets: &Gathered<'_>,
@@ -315,7 +314,7 @@ fn put_after_refusals<A: Allocator + Copy>(
 
 #[test]
 fn target_round(rt: HostRuntime) {
-    let heap = Refusing::new(rt.alloc(), 0);
+    let heap = TestHeap::new(rt.alloc());
     let text = text_of_packets(&rt);
     put_after_refusals(&rt, &heap, &heap, &records(&rt), &both_packets(&rt, &text));
 }

@@ -4,10 +4,9 @@
 
 use crate::building::{BLOCKS, finished, image_with, text_of, two_rounds};
 use mig_assemble::Target;
-use mig_fixtures::{at, table};
+use mig_fixtures::{TestHeap, at, table};
 use mig_load::InPlaceLoader;
 use mig_mem::{GuestTarget, LentMemoryMut, MAX_TOTAL, Memory, PAGE_SIZE_4K, Place};
-use mig_refusing::Refusing;
 use mig_send::{OpenRound, SingleSender};
 use mig_stream::{Mode, OpenPart, StreamReader, StreamWriter};
 use std::alloc::{AllocGlobal, Allocator};
@@ -16,7 +15,7 @@ use std::process::Abort;
 // Puts a page of an image into a round, after refused allocations. How many there were.
 fn put_in_round<A: Allocator>(
     rt: &impl Abort,
-    heap: &Refusing,
+    heap: &TestHeap,
     round: &mut OpenRound<A>,
     image: &Memory,
     place: Place,
@@ -40,7 +39,7 @@ fn put_in_round<A: Allocator>(
 // Begins a round of a sender whose text has no room, after a refused allocation.
 fn begin_round<A: Allocator>(
     rt: &impl Abort,
-    heap: &Refusing,
+    heap: &TestHeap,
     sender: SingleSender<A>,
 ) -> OpenRound<A> {
     heap.refuse(1);
@@ -65,7 +64,7 @@ fn joined_text<A: Allocator>(
 
 #[test]
 fn open_round(rt: HostRuntime) {
-    let heap = Refusing::new(rt.alloc(), 0);
+    let heap = TestHeap::new(rt.alloc());
     let image = image_with(&rt, 1, 262_144);
     let mut sender = SingleSender::new(&heap, image.table()).expect(&rt, "a sender");
     let drained = sender.drain();
@@ -82,7 +81,7 @@ fn open_round(rt: HostRuntime) {
 // it is ended again, and the text is as if there had been none. Whether one was.
 fn ends_after_refusal(
     rt: &(impl AllocGlobal + Abort),
-    heap: &Refusing,
+    heap: &TestHeap,
     image: &Memory,
     count: u64,
 ) -> bool {
@@ -108,7 +107,7 @@ fn ends_after_refusal(
 // Of some rounds the text is full to its capacity.
 #[test]
 fn end_round(rt: HostRuntime) {
-    let heap = Refusing::new(rt.alloc(), 0);
+    let heap = TestHeap::new(rt.alloc());
     let image = image_with(&rt, 0, 0);
     for count in 0..65 {
         if ends_after_refusal(&rt, &heap, &image, count) {
@@ -121,7 +120,7 @@ fn end_round(rt: HostRuntime) {
 // Puts a page of an image into a part, after refused allocations. How many there were.
 fn put_in_part<A: Allocator>(
     rt: &impl Abort,
-    heap: &Refusing,
+    heap: &TestHeap,
     part: &mut OpenPart<A>,
     image: &Memory,
     place: Place,
@@ -146,7 +145,7 @@ fn put_in_part<A: Allocator>(
 // where there is one. Whether there was one at its end.
 fn part_after_refusals(
     rt: &(impl AllocGlobal + Abort),
-    heap: &Refusing,
+    heap: &TestHeap,
     image: &Memory,
     count: u64,
 ) -> bool {
@@ -178,7 +177,7 @@ fn part_after_refusals(
 
 #[test]
 fn open_part(rt: HostRuntime) {
-    let heap = Refusing::new(rt.alloc(), 0);
+    let heap = TestHeap::new(rt.alloc());
     let image = image_with(&rt, 1, 0);
     let mut refused = 0u64;
     for count in 0..65 {
@@ -190,7 +189,7 @@ fn open_part(rt: HostRuntime) {
 // A loader over a memory, made after refused allocations, each of which gave the memory back.
 fn new_loader<A: Allocator + Copy, M: GuestTarget + Drop>(
     rt: &impl Abort,
-    heap: &Refusing,
+    heap: &TestHeap,
     alloc: A,
     mut memory: M,
 ) -> InPlaceLoader<A, M> {
@@ -213,7 +212,7 @@ fn new_loader<A: Allocator + Copy, M: GuestTarget + Drop>(
 // Feeds a piece after refused allocations, each of which changed nothing. How many there were.
 fn feed<A: Allocator + Copy, M: GuestTarget>(
     rt: &impl Abort,
-    heap: &Refusing,
+    heap: &TestHeap,
     loader: &mut InPlaceLoader<A, M>,
     piece: &[u8],
 ) -> u64 {
@@ -240,7 +239,7 @@ fn feed<A: Allocator + Copy, M: GuestTarget>(
 // Loads a text of two rounds onto a memory, with each allocation refused on the way.
 fn load_after_refusals<A: Allocator + Copy, M: GuestTarget + Drop>(
     rt: &impl Abort,
-    heap: &Refusing,
+    heap: &TestHeap,
     alloc: A,
     memory: M,
     text: &[u8],
@@ -260,7 +259,7 @@ fn load_after_refusals<A: Allocator + Copy, M: GuestTarget + Drop>(
 // A target over a memory, made after refused allocations, each of which gave the memory back.
 fn new_target<A: Allocator + Copy, M: GuestTarget + Drop>(
     rt: &impl Abort,
-    heap: &Refusing,
+    heap: &TestHeap,
     alloc: A,
     mut memory: M,
 ) -> Target<A, M> {
@@ -283,7 +282,7 @@ fn new_target<A: Allocator + Copy, M: GuestTarget + Drop>(
 // Puts the sections of a text of two rounds into a target over a memory.
 fn put_after_refusals<A: Allocator + Copy, M: GuestTarget + Drop>(
     rt: &(impl AllocGlobal + Abort),
-    heap: &Refusing,
+    heap: &TestHeap,
     alloc: A,
     memory: M,
     text: &[u8],
@@ -329,7 +328,7 @@ fn assert_two_rounds(rt: &impl Abort, first: &[u8], second: &[u8]) {
 
 #[test]
 fn loader(rt: HostRuntime) {
-    let heap = Refusing::new(rt.alloc(), 0);
+    let heap = TestHeap::new(rt.alloc());
     let table = table(rt.alloc(), &BLOCKS).expect(&rt, "a table");
     let text = two_rounds(&rt);
     let mut first = nines(&rt, 2);
@@ -344,7 +343,7 @@ fn loader(rt: HostRuntime) {
 
 #[test]
 fn target(rt: HostRuntime) {
-    let heap = Refusing::new(rt.alloc(), 0);
+    let heap = TestHeap::new(rt.alloc());
     let table = table(rt.alloc(), &BLOCKS).expect(&rt, "a table");
     let text = two_rounds(&rt);
     let mut first = nines(&rt, 2);

@@ -6,9 +6,8 @@ use crate::building::{
     BLOCKS, Run, append, dirty_of, empty_text, feed, finished, image_with, part, run_of, text_of,
     two_rounds_in,
 };
-use mig_fixtures::{at, table};
+use mig_fixtures::{TestHeap, at, table, with_each_allocation_refused};
 use mig_mem::{MAX_TOTAL, Memory, NoMemory, PAGE_SIZE_4K, Place, Table};
-use mig_refusing::{Refusing, with_each_allocation_refused};
 use mig_stream::{Frame, Mode, StreamReader, StreamRound, StreamState, StreamWriter};
 use std::alloc::{AllocGlobal, Allocator};
 use std::process::Abort;
@@ -26,8 +25,8 @@ fn assert_text<A: Allocator>(
 // Asserts that a writer of a table, made after refused allocations, has an empty text.
 fn assert_new_writer(
     rt: &(impl AllocGlobal + Abort),
-    heap: &Refusing,
-    table: &Table<&Refusing>,
+    heap: &TestHeap,
+    table: &Table<&TestHeap>,
 ) -> Result<(), Fail> {
     with_each_allocation_refused!(rt, heap, StreamWriter::new(heap, table), writer => {
         assert!(rt; writer.table().same(table));
@@ -37,7 +36,7 @@ fn assert_new_writer(
 
 #[test]
 fn writer_new(rt: HostRuntime) -> Result<(), Fail> {
-    let heap = Refusing::new(rt.alloc(), 0);
+    let heap = TestHeap::new(rt.alloc());
     let table = table(&heap, &BLOCKS).expect(&rt, "a table");
     assert_new_writer(&rt, &heap, &table)
 }
@@ -45,8 +44,8 @@ fn writer_new(rt: HostRuntime) -> Result<(), Fail> {
 // Asserts the text of a writer of one PART, written after refused allocations.
 fn assert_part(
     rt: &(impl AllocGlobal + Abort),
-    heap: &Refusing,
-    mut writer: StreamWriter<&Refusing>,
+    heap: &TestHeap,
+    mut writer: StreamWriter<&TestHeap>,
     image: &Memory,
     places: &[Place],
 ) -> Result<(), Fail> {
@@ -60,7 +59,7 @@ fn assert_part(
 // bytes.
 #[test]
 fn writer_part(rt: HostRuntime) -> Result<(), Fail> {
-    let heap = Refusing::new(rt.alloc(), 0);
+    let heap = TestHeap::new(rt.alloc());
     let image = image_with(&rt, 1, 262_144);
     assert_part(
         &rt,
@@ -74,9 +73,9 @@ fn writer_part(rt: HostRuntime) -> Result<(), Fail> {
 // A writer of so many FLUSHes.
 fn flushed<'a>(
     rt: &(impl AllocGlobal + Abort),
-    heap: &'a Refusing,
+    heap: &'a TestHeap,
     count: usize,
-) -> StreamWriter<&'a Refusing> {
+) -> StreamWriter<&'a TestHeap> {
     let table = table(heap, &BLOCKS).expect(rt, "a table");
     let mut writer = StreamWriter::new(heap, &table).expect(rt, "a writer");
     for _ in 0..count {
@@ -88,8 +87,8 @@ fn flushed<'a>(
 // Asserts that a writer's text is that of so many FLUSHes.
 fn assert_flushes<'a>(
     rt: &(impl AllocGlobal + Abort),
-    heap: &'a Refusing,
-    writer: StreamWriter<&'a Refusing>,
+    heap: &'a TestHeap,
+    writer: StreamWriter<&'a TestHeap>,
     count: usize,
 ) {
     assert_text(rt, writer, &finished(rt, flushed(rt, heap, count)));
@@ -111,7 +110,7 @@ fn flush_until_refused<A: Allocator>(writer: &mut StreamWriter<A>) -> usize {
 // there is memory.
 #[test]
 fn writer_flush(rt: HostRuntime) {
-    let heap = Refusing::new(rt.alloc(), 0);
+    let heap = TestHeap::new(rt.alloc());
     let mut writer = flushed(&rt, &heap, 0);
     heap.refuse(1);
     let count = flush_until_refused(&mut writer);
@@ -122,9 +121,9 @@ fn writer_flush(rt: HostRuntime) {
 
 // A writer that is given back since its last allocation is refused; None where it takes none.
 fn given_back<'a>(
-    heap: &'a Refusing,
-    writer: StreamWriter<&'a Refusing>,
-) -> Option<StreamWriter<&'a Refusing>> {
+    heap: &'a TestHeap,
+    writer: StreamWriter<&'a TestHeap>,
+) -> Option<StreamWriter<&'a TestHeap>> {
     heap.refuse(1);
     let run = writer.finish();
     heap.refuse(0);
@@ -135,7 +134,7 @@ fn given_back<'a>(
 // memory.
 #[test]
 fn writer_finish(rt: HostRuntime) {
-    let heap = Refusing::new(rt.alloc(), 0);
+    let heap = TestHeap::new(rt.alloc());
     for count in 0..100 {
         if let Some(writer) = given_back(&heap, flushed(&rt, &heap, count)) {
             assert_flushes(&rt, &heap, writer, count);
@@ -161,7 +160,7 @@ fn assert_open(rt: &(impl AllocGlobal + Abort), mode: Mode, open: &[u8], whole: 
 
 // Leaves the text of so many FLUSHes open with its last allocation refused; whether it took one.
 // The writer is given back then.
-fn is_refused_open(rt: &(impl AllocGlobal + Abort), heap: &Refusing, count: usize) -> bool {
+fn is_refused_open(rt: &(impl AllocGlobal + Abort), heap: &TestHeap, count: usize) -> bool {
     let writer = flushed(rt, heap, count);
     heap.refuse(1);
     let run = writer.finish_open();
@@ -182,7 +181,7 @@ fn is_refused_open(rt: &(impl AllocGlobal + Abort), heap: &Refusing, count: usiz
 // Of some texts one is full to its capacity.
 #[test]
 fn writer_finish_open(rt: HostRuntime) {
-    let heap = Refusing::new(rt.alloc(), 0);
+    let heap = TestHeap::new(rt.alloc());
     for count in 0..100 {
         if is_refused_open(&rt, &heap, count) {
             return;
@@ -261,8 +260,8 @@ fn has_both_rounds<A: Allocator + Copy>(reader: &mut StreamReader<A>) -> bool {
 // refused leaves it as it was, once more. It has both rounds then.
 fn run_of_feed(
     rt: &(impl AllocGlobal + Abort),
-    heap: &Refusing,
-    reader: &mut StreamReader<&Refusing>,
+    heap: &TestHeap,
+    reader: &mut StreamReader<&TestHeap>,
     nth: u64,
     rest: &[u8],
 ) -> Run {
@@ -287,7 +286,7 @@ fn run_in_pieces(
     front: &[u8],
     rest: &[u8],
 ) -> Run {
-    let heap = Refusing::new(rt.alloc(), 0);
+    let heap = TestHeap::new(rt.alloc());
     let mut reader = StreamReader::new_in(&heap, frame, Mode::Single, PAGE_SIZE_4K, MAX_TOTAL);
     assert!(rt; feed(rt, &mut reader, front) == Ok(()));
     run_of_feed(rt, &heap, &mut reader, nth, rest)
@@ -371,10 +370,10 @@ fn assert_as_fed<A: Allocator + Copy>(
 
 // A reader made of a text.
 fn reader_of<'a>(
-    heap: &'a Refusing,
+    heap: &'a TestHeap,
     frame: Frame,
     text: &'a [u8],
-) -> Result<StreamReader<'a, &'a Refusing>, NoMemory> {
+) -> Result<StreamReader<'a, &'a TestHeap>, NoMemory> {
     match frame {
         Frame::Ram => StreamReader::of_text(heap, Mode::Single, PAGE_SIZE_4K, MAX_TOTAL, text),
         Frame::Machine => {
@@ -386,7 +385,7 @@ fn reader_of<'a>(
 // Makes a reader of the text with allocation `nth` refused. Where there is one, it has the same.
 fn run_of_text(
     rt: &(impl AllocGlobal + Abort),
-    heap: &Refusing,
+    heap: &TestHeap,
     frame: Frame,
     text: &[u8],
     nth: u64,
@@ -405,7 +404,7 @@ fn run_of_text(
 // Makes readers of the text of two rounds, with each allocation refused. One refusal leaves a
 // reader: that of a smaller block for the list of three records.
 fn assert_read_of_text(rt: &(impl AllocGlobal + Abort), frame: Frame) {
-    let heap = Refusing::new(rt.alloc(), 0);
+    let heap = TestHeap::new(rt.alloc());
     let (text, _behind) = two_rounds_in(rt, frame);
     let mut survived = 0u64;
     for nth in 1..1000u64 {

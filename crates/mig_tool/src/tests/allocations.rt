@@ -5,7 +5,7 @@ use crate::tests::files::{assert_script, words_in};
 use crate::tests::folder::Folder;
 use crate::tests::texts::BEFORE;
 use crate::tests::{SCENARIO, SCENARIO_ANSWER, answer_in, assert_answer, words_of};
-use mig_refusing::Refusing;
+use mig_fixtures::TestHeap;
 use std::alloc::AllocGlobal;
 use std::fs::Files;
 use std::process::Abort;
@@ -31,7 +31,7 @@ fn assert_each_allocation<H: AllocGlobal + Files + Threads + Wait + Sync + Abort
     wanted: &[u8],
 ) {
     let words = words_of(rt, texts);
-    let heap = Refusing::new(rt.alloc(), 0);
+    let heap = TestHeap::new(rt.alloc());
     for nth in 1..1000u64 {
         heap.refuse(nth);
         let answer = answer_in(rt, &heap, &words, SCENARIO);
@@ -105,7 +105,7 @@ fn assert_kept_at_each_allocation<H: AllocGlobal + Files + Threads + Wait + Sync
     wanted: &[u8],
 ) {
     let words = words_in(rt, folder, line);
-    let heap = Refusing::new(rt.alloc(), 0);
+    let heap = TestHeap::new(rt.alloc());
     for nth in 1..1000u64 {
         folder.put(rt, "i", BEFORE);
         heap.refuse(nth);

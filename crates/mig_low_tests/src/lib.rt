@@ -1,0 +1,23 @@
+//! Tests of guest memory, packets and channels: each call that allocates with its allocations
+//! refused, calls that allocate nothing, the gate that does nothing, and rounds that are judged as
+//! they arrive. And tests of the allocator that refuses.
+//!
+//! The worked examples are cases of `mig_rows`.
+#![tactic(auto)]
+
+#[cfg(test)]
+mod arrivals;
+#[cfg(test)]
+mod compared;
+#[cfg(test)]
+mod heap;
+#[cfg(test)]
+mod lent_mut;
+#[cfg(test)]
+mod memory_refused;
+#[cfg(test)]
+mod packets_refused;
+#[cfg(test)]
+mod rounds;
+#[cfg(test)]
+mod threaded;
