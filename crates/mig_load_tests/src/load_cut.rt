@@ -1,11 +1,10 @@
-//! Loads of one channel's texts that are cut, or whose numbers are at the ends of their types: a round of page 1 with the first byte 9,
-//! and page 0 as zeros.
+//! Loads of one channel's stream and of the main stream beside it, each cut at each of its bytes: a
+//! round of page 1 with the first byte 9, and page 0 as zeros.
 
 use crate::load_texts::{
     assert_done, assert_failed, assert_full, assert_page_and_zeros, cut, load, main_of, one,
     page_and_zeros,
 };
-use mig_assemble::RoundFault;
 use mig_load::{Fault, Origin};
 use mig_packet::ChannelFault;
 use mig_stream::StreamFault;
@@ -65,32 +64,4 @@ fn channel_that_is_cut(rt: HostRuntime) {
         };
         assert_cut(&rt, &main, &text, len, fault);
     }
-}
-
-// Asserts what the load tells where the channel has these bytes from a place on.
-fn assert_changed<R: AllocGlobal + Abort + Threads + Wait + Sync>(
-    rt: &R,
-    from: usize,
-    bytes: &[u8],
-    fault: RoundFault,
-) {
-    let whole = page_and_zeros(rt);
-    let mut text = Vec::from_slice(rt.alloc(), cut(rt, &whole, from)).expect(rt, "a text");
-    assert!(rt; text.extend_from_slice(bytes).is_ok());
-    assert!(rt; text.len() <= whole.len());
-    assert!(rt; text.extend_from_slice(&whole[text.len()..]).is_ok());
-    let loaded = load(rt, &main_of(rt, 2, 1), &one(rt, text));
-    assert_failed(rt, &loaded, 0, Origin::Round, Fault::Round(fault));
-    assert_full(rt, &loaded, 2, 0);
-}
-
-#[test]
-fn greatest_packet_number(rt: HostRuntime) {
-    assert_changed(&rt, 88, &[0xff; 8], RoundFault::Missing(0));
-}
-
-#[test]
-fn greatest_page_offset(rt: HostRuntime) {
-    let offset = [0xff, 0xff, 0xff, 0xff, 0xff, 0xff, 0xf0, 0];
-    assert_changed(&rt, 384, &offset, RoundFault::Offset(0, 0));
 }
