@@ -5,7 +5,7 @@ WORDS ?=
 CRATES ?=
 PREFIX ?= /usr/local
 
-.PHONY: help run check build lib install example header documents test gate
+.PHONY: help run check build lib install example header try documents test gate
 
 help: ## at once | lists the targets
 	@echo "Times on 4 processors, from a fresh clone:"
@@ -34,8 +34,13 @@ example: lib ## a minute, after lib | builds and runs the C programs of examples
 header: ## at once | compares include/zimgasol.h with the library's exports
 	@tools/header.py
 
-documents: header ## at once | compares header, case lists and quotations with the code
+try: ## a minute, after build | runs the built tool in a shell: docs/TOOL.md, pipes, closed streams
+	@tools/try_tool.py
+
+documents: header ## at once | compares header, case lists, examples and quotations with the code
 	@tools/case_lists.py --check
+	@tools/tool_page.py --check
+	@cmp crates/mig_tool/src/main.rt crates/mig_tool_words/src/main.rt
 	@tools/quotes.py
 
 test: ## some two hours | the gate: all proofs, planted bugs, tests and programs

@@ -1,5 +1,5 @@
 #!/usr/bin/env python3
-"""The lists of cases in docs/EXAMPLES.md, made from the case names in crates/mig_rows/data.
+"""The lists of cases in docs/EXAMPLES.md, made from the names in the data of mig_rows and of mig_tool_cases.
 
     tools/case_lists.py            writes them between the two marks there
     tools/case_lists.py --check    compares them, and fails where they aren't the files' own
@@ -9,7 +9,8 @@ import textwrap
 from pathlib import Path
 
 TOP = Path(__file__).resolve().parent.parent
-PROGRAM = TOP / "crates" / "mig_rows"
+# The programs that play cases, each with what the headings say of its files.
+PROGRAMS = ((TOP / "crates" / "mig_rows", ""), (TOP / "crates" / "mig_tool_cases", " of the tool"))
 PAGE = TOP / "docs" / "EXAMPLES.md"
 BEGIN = "<!-- made by tools/case_lists.py -->\n"
 END = "<!-- end of what is made -->\n"
@@ -27,30 +28,36 @@ def groups(text):
     return [(heading, names) for heading, names in found if names]
 
 
-def part(file):
-    listed = groups((PROGRAM / "data" / file).read_text())
-    lines = [f"### `{file}`: {sum(len(names) for _, names in listed)} cases\n\n"]
+def part(file, whose):
+    listed = groups(file.read_text())
+    lines = [f"### `{file.name}`{whose}: {sum(len(names) for _, names in listed)} cases\n\n"]
     for heading, names in listed:
-        lines.append(textwrap.fill(f"- **{heading}:** {'; '.join(names)}", 100, subsequent_indent="  ", break_on_hyphens=False) + "\n")
+        names = f"- **{heading}:** {'; '.join(names)}"
+        lines.append(textwrap.fill(names, 100, subsequent_indent="  ", break_on_hyphens=False) + "\n")
     return "".join(lines)
+
+
+def parts(program, whose):
+    """The lists of the files that a program's stored run names, which have to be all that it has."""
+    files = [Path(it).name for it in (program / "args").read_text().split()]
+    unrun = sorted({it.name for it in (program / "data").glob("*.txt")} - set(files))
+    if unrun:
+        sys.exit(f"crates/{program.name}/args doesn't name {', '.join(unrun)}")
+    return [part(program / "data" / file, whose) for file in files]
 
 
 def main(words):
     if words not in ([], ["--check"]):
         sys.exit(__doc__)
-    files = (PROGRAM / "args").read_text().split()
-    unrun = sorted({it.name for it in (PROGRAM / "data").glob("*.txt")} - {Path(it).name for it in files})
-    if unrun:
-        sys.exit(f"crates/mig_rows/args doesn't name {', '.join(unrun)}")
     page = PAGE.read_text()
     if BEGIN not in page or END not in page:
         sys.exit("docs/EXAMPLES.md lacks the marks of the part that is made")
     before, behind = page[:page.index(BEGIN)], page[page.index(END) + len(END):]
-    made = before + BEGIN + "\n" + "\n".join(part(Path(it).name) for it in files) + "\n" + END + behind
+    made = before + BEGIN + "\n" + "\n".join(it for program in PROGRAMS for it in parts(*program)) + "\n" + END + behind
     if not words:
         PAGE.write_text(made)
     elif made != page:
-        sys.exit("docs/EXAMPLES.md doesn't list the cases of crates/mig_rows/data as they are: run tools/case_lists.py")
+        sys.exit("docs/EXAMPLES.md doesn't list the cases as they are: run tools/case_lists.py")
 
 
 if __name__ == "__main__":

@@ -1,10 +1,10 @@
 //! Worked examples as data: what a case is. A file of cases and its words; the guest and the texts
 //! that a case's lines build; and the questions that guest memory and packets answer.
 //!
-//! `mig_rows` runs such files: it adds rounds, streams and loads, and compares the answers.
-//! `docs/EXAMPLES.md` has all the lines. The two are crates of their own because this one stands on
-//! guest memory and packets alone, and is proved beside the stream. It is no part of the product,
-//! and no function here has a contract.
+//! `mig_rows` runs such files: it adds rounds, streams and loads. `mig_tool_cases` runs files whose
+//! questions are the tool's words. `Count` compares the answers, for both. `docs/EXAMPLES.md` has
+//! all the lines. This crate stands on guest memory and packets alone, and is proved beside the
+//! stream. It is no part of the product, and no function here has a contract.
 #![tactic(auto)]
 
 mod book;
@@ -13,6 +13,7 @@ mod fields;
 mod guest;
 mod of_memory;
 mod of_packets;
+mod play;
 mod show;
 mod texts;
 mod trouble;
@@ -23,6 +24,9 @@ pub use case::Case;
 pub use guest::Guest;
 pub use of_memory::{ask_memory, difference};
 pub use of_packets::{agree, ask_packets, put_fed, reader_of_channel};
-pub use show::{Pages, put_memory, put_number, put_packet, put_place, put_table};
+pub use play::{Count, Line};
+pub use show::{
+    Pages, put_bytes, put_memory, put_number, put_packet, put_place, put_table, same_bytes,
+};
 pub use trouble::{Done, Trouble};
 pub use words::{Words, bytes_of};

@@ -1,6 +1,7 @@
 //! How answers about guest memory and packets are written down.
 
 use crate::trouble::Done;
+use crate::words::bytes_of;
 use mig_mem::{Memory, Place, Table, TableFault};
 use mig_packet::{ChannelFault, ChannelState, Packet};
 use sha1::Sha1;
@@ -22,7 +23,7 @@ fn put_hex(out: &mut String, byte: u8) -> Done {
 
 /// Bytes as runs of one byte, `09,00*4095`, or as the beginning of their SHA-1 sum in hexadecimal
 /// digits.
-pub(crate) fn put_bytes(out: &mut String, bytes: &[u8]) -> Done {
+pub fn put_bytes(out: &mut String, bytes: &[u8]) -> Done {
     let mut runs = String::new(*out.allocator());
     let mut rest = bytes;
     for i in 0..MOST_RUNS {
@@ -55,6 +56,28 @@ fn put_sum(out: &mut String, bytes: &[u8]) -> Done {
     for byte in Sha1::digest(bytes).iter().take(4) {
         put_hex(out, *byte)?;
     }
+    Ok(())
+}
+
+/// Whether bytes are those that are wanted, in hexadecimal digits: writes what is wanted where they
+/// are, else what they are.
+pub fn same_bytes(out: &mut String, bytes: &[u8], wanted: &str) -> Done {
+    let other = bytes_of(*out.allocator(), wanted)?;
+    if bytes == other.as_slice() {
+        return Ok(out.push_str(wanted)?);
+    }
+    put_other_bytes(out, bytes, &other)
+}
+
+// What bytes are that aren't those that are wanted.
+fn put_other_bytes(out: &mut String, bytes: &[u8], wanted: &[u8]) -> Done {
+    for (i, (one, other)) in bytes.iter().zip(wanted).enumerate() {
+        if one != other {
+            write!(out, "{} bytes, of which byte {i} is {one:02x}", bytes.len())?;
+            return Ok(());
+        }
+    }
+    write!(out, "{} bytes in place of {}", bytes.len(), wanted.len())?;
     Ok(())
 }
 

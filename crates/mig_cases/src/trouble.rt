@@ -1,4 +1,4 @@
-//! Why a line of a case can't be followed: what every module here answers, and `mig_rows` prints.
+//! Why a line of a case can't be followed: what every module here answers, and `play` prints.
 
 use mig_mem::NoMemory;
 use std::alloc::{AllocError, AllocFailed};

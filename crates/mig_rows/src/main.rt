@@ -17,7 +17,8 @@ mod several;
 mod show;
 mod streams;
 
-use crate::run::{Count, run_file};
+use crate::run::play_file;
+use mig_cases::Count;
 use std::alloc::AllocGlobal;
 use std::io::{self, BufWriter, Read, Write};
 use std::process::ExitCode;
@@ -40,14 +41,14 @@ fn texts(rt: &HostRuntime) -> io::Result<Vec<String>> {
     Ok(texts)
 }
 
-fn run_all<R: AllocGlobal + Files + Threads + Wait + Sync, W: Write>(
+fn play_all<R: AllocGlobal + Files + Threads + Wait + Sync, W: Write>(
     rt: &R,
     out: &mut W,
     texts: &[String],
     count: &mut Count,
 ) -> io::Result<()> {
     for text in texts {
-        run_file(rt, rt.alloc(), out, text, count)?;
+        play_file(rt, rt.alloc(), out, text, count)?;
     }
     Ok(())
 }
@@ -56,12 +57,8 @@ fn main(rt: HostRuntime) -> io::Result<ExitCode> {
     let texts = texts(&rt)?;
     let mut count = Count::none();
     let mut out = BufWriter::new(rt.alloc(), io::writer(&rt))?;
-    run_all(&rt, &mut out, &texts, &mut count)?;
-    write!(out, "{} cases, {} answers, ", count.cases, count.answers)?;
-    match count.wrong {
-        0 => writeln!(out, "none wrong")?,
-        wrong => writeln!(out, "{wrong} wrong")?,
-    }
+    play_all(&rt, &mut out, &texts, &mut count)?;
+    count.put(&mut out)?;
     out.flush()?;
     Ok(ExitCode::from(u8::from(count.wrong > 0)))
 }

@@ -1,12 +1,12 @@
-//! The cases of a file, one after another: each question is asked, and its answer compared with the
-//! one that stands beside it.
+//! The playing of a file of cases with rounds: what each line builds, or asks.
 
 use crate::judge::{judge, sections};
 use crate::rounds::Rounds;
 use crate::several::load_several;
 use crate::streams::ask_stream;
 use mig_cases::{
-    Book, Case, Done, Section, Trouble, Words, ask_memory, ask_packets, bytes_of, difference,
+    Book, Case, Count, Done, Line, Section, Trouble, Words, ask_memory, ask_packets, difference,
+    same_bytes,
 };
 use std::alloc::Global;
 use std::io::{self, Write};
@@ -14,56 +14,28 @@ use std::rt::Files;
 use std::sync::Wait;
 use std::thread::Threads;
 
-/// How many cases there were, how many answers, and how many of these were wrong.
-#[derive(Clone, Copy)]
-pub struct Count {
-    pub cases: u64,
-    pub answers: u64,
-    pub wrong: u64,
-}
-
-impl Count {
-    pub fn none() -> Count {
-        Count {
-            cases: 0,
-            answers: 0,
-            wrong: 0,
-        }
-    }
-
-    fn add(&mut self, is_right: bool) {
-        self.answers = self.answers.saturating_add(1);
-        if !is_right {
-            self.wrong = self.wrong.saturating_add(1);
-        }
-    }
-}
-
-/// Runs the cases of a file.
-pub fn run_file<R: Files + Threads + Wait + Sync, W: Write>(
+/// Plays the cases of a file.
+pub fn play_file<R: Files + Threads + Wait + Sync, W: Write>(
     rt: &R,
     alloc: Global,
     out: &mut W,
     text: &str,
     count: &mut Count,
 ) -> io::Result<()> {
-    let Ok(book) = Book::new(alloc, text) else {
-        count.add(false);
-        return writeln!(
-            out,
-            "the file can't be read: a line before any case, or a name that isn't there"
-        );
+    let Some(book) = count.book(alloc, out, text)? else {
+        return Ok(());
     };
     for section in &book.sections {
         if section.is_case {
-            count.cases = count.cases.saturating_add(1);
-            run_case(rt, alloc, out, &book, section, count)?;
+            count.begin();
+            play_case(rt, alloc, out, &book, section, count)?;
         }
     }
     Ok(())
 }
 
-fn run_case<R: Files + Threads + Wait + Sync, W: Write>(
+// Follows the lines of a case, up to one that can't be followed.
+fn play_case<R: Files + Threads + Wait + Sync, W: Write>(
     rt: &R,
     alloc: Global,
     out: &mut W,
@@ -71,97 +43,35 @@ fn run_case<R: Files + Threads + Wait + Sync, W: Write>(
     section: &Section<'_>,
     count: &mut Count,
 ) -> io::Result<()> {
-    match Rounds::new(alloc) {
-        Ok(mut built) => run_lines(rt, out, book, &mut built, section, count),
-        Err(_) => {
-            count.add(false);
-            writeln!(out, "{}: no memory", section.name)
-        }
-    }
-}
-
-// Follows the lines of a case, up to one that can't be followed.
-fn run_lines<R: Files + Threads + Wait + Sync, W: Write>(
-    rt: &R,
-    out: &mut W,
-    book: &Book<'_>,
-    built: &mut Rounds,
-    section: &Section<'_>,
-    count: &mut Count,
-) -> io::Result<()> {
+    let mut built = match Rounds::new(alloc) {
+        Ok(built) => built,
+        Err(trouble) => return count.refuse(out, section.name, trouble),
+    };
     for line in &section.lines {
-        if !run_line(rt, out, book, built, section.name, line, count)? {
+        let line = Line::new(line);
+        let mut answer = String::new(alloc);
+        let asked = follow(&mut answer, rt, book, &mut built, line);
+        if !count.take(out, section.name, line, asked, &answer)? {
             break;
         }
     }
     Ok(())
 }
 
-// Follows a line of a case; false where it can't be followed.
-fn run_line<R: Files + Threads + Wait + Sync, W: Write>(
-    rt: &R,
-    out: &mut W,
-    book: &Book<'_>,
-    built: &mut Rounds,
-    name: &str,
-    line: &str,
-    count: &mut Count,
-) -> io::Result<bool> {
-    let (question, wanted) = match line.split_once(" = ") {
-        Some((question, wanted)) => (question, Some(wanted)),
-        None => (line, None),
-    };
-    let mut answer = String::new(built.case.alloc);
-    match follow(&mut answer, rt, book, built, question, wanted) {
-        Ok(false) => {}
-        Ok(true) => put_answer(out, name, question, wanted, &answer, count)?,
-        Err(trouble) => {
-            count.add(false);
-            writeln!(out, "{name}: {question}: {}", trouble.text())?;
-            return Ok(false);
-        }
-    }
-    Ok(true)
-}
-
-// Counts an answer, and writes it where it is wrong, or where none is expected.
-fn put_answer<W: Write>(
-    out: &mut W,
-    name: &str,
-    question: &str,
-    wanted: Option<&str>,
-    answer: &str,
-    count: &mut Count,
-) -> io::Result<()> {
-    let answer = answer.trim_start();
-    match wanted {
-        None => writeln!(out, "{name}: {answer}"),
-        Some(wanted) if wanted == answer => {
-            count.add(true);
-            Ok(())
-        }
-        Some(wanted) => {
-            count.add(false);
-            writeln!(out, "{name}: {question}: expected {wanted}, came {answer}")
-        }
-    }
-}
-
-// Follows a line: writes down what it asks is answered; false where it asks nothing.
+// Follows a line: writes down what it asks is answered. Returns false where it asks nothing.
 fn follow<R: Files + Threads + Wait + Sync>(
     out: &mut String,
     rt: &R,
     book: &Book<'_>,
     built: &mut Rounds,
-    line: &str,
-    wanted: Option<&str>,
+    line: Line<'_>,
 ) -> Result<bool, Trouble> {
-    let mut words = Words::new(line);
+    let mut words = Words::new(line.text);
     let name = words.word()?;
     if name == "each" {
-        each(out, &mut built.case, words, wanted)?;
-    } else if let (true, Some(wanted)) = (name == "bytes", wanted) {
-        same_bytes(out, &built.case, wanted)?;
+        each(out, &mut built.case, words, line.wanted)?;
+    } else if let (true, Some(wanted)) = (name == "bytes", line.wanted) {
+        same_bytes(out, built.case.texts.last().ok_or(Trouble::Line)?, wanted)?;
     } else if built.take(rt, name, words)? {
         return Ok(false);
     } else {
@@ -245,28 +155,6 @@ fn build<R: Files + Threads + Wait + Sync>(
             return Err(Trouble::Line);
         }
     }
-    Ok(())
-}
-
-// Whether the text is these bytes: what was expected where it is, else what it is.
-fn same_bytes(out: &mut String, case: &Case, wanted: &str) -> Done {
-    let bytes = bytes_of(case.alloc, wanted)?;
-    let text = case.texts.last().ok_or(Trouble::Line)?;
-    if text.as_slice() == bytes.as_slice() {
-        return Ok(out.push_str(wanted)?);
-    }
-    put_other_bytes(out, text, &bytes)
-}
-
-// What a text is that isn't the bytes that were expected.
-fn put_other_bytes(out: &mut String, text: &[u8], wanted: &[u8]) -> Done {
-    for (i, (one, other)) in text.iter().zip(wanted).enumerate() {
-        if one != other {
-            write!(out, "{} bytes, of which byte {i} is {one:02x}", text.len())?;
-            return Ok(());
-        }
-    }
-    write!(out, "{} bytes in place of {}", text.len(), wanted.len())?;
     Ok(())
 }
 

@@ -1,34 +1,12 @@
-//! The tool: it sends the rounds of a scenario, loads what was sent, and says whether the memory is the same.
+//! The tool: it sends the rounds of a scenario, loads what was sent, and says whether the memory is
+//! the same.
 //!
-//! `main` hands its words and the standard streams to `run`, which tests call too. The formats and their definitions are the
-//! libraries'; here are the command line (`specs/Words`), the scenario (`specs/Line`, `Scenario`, `Guest`), files, and what is
-//! printed (`specs/Report`, `Answer`).
+//! `main` passes its words and the standard streams to `run` of `mig_command`, where the command
+//! line and files are. What a scenario is stands in `mig_scenario`.
 #![tactic(auto)]
 
-mod answer;
-mod check;
-mod comparing;
-mod comparison;
-mod fault;
-mod files;
-mod guest;
-mod image;
-mod input;
-mod judge;
-mod laws;
-mod line;
-mod loading;
-mod print;
-mod request;
-mod run;
-mod senders;
-mod sending;
-#[cfg(test)]
-mod tests;
-mod words;
-
-use crate::answer::Answer;
-use crate::fault::{ScenarioFault, ToolFault};
+use mig_command::{Answer, ToolFault, end_with, run};
+use mig_scenario::ScenarioFault;
 use std::process::ExitCode;
 use std::{env, io};
 
@@ -59,8 +37,8 @@ fn unread(error: &io::Error) -> Answer {
 fn main(rt: HostRuntime) -> ExitCode {
     let mut output = rt.stdout();
     let status = match words_given(&rt) {
-        Ok(words) => run::run(&rt, rt.alloc(), &words, &mut rt.stdin(), &mut output),
-        Err(answer) => run::end_with(&mut output, answer),
+        Ok(words) => run(&rt, rt.alloc(), &words, &mut rt.stdin(), &mut output),
+        Err(answer) => end_with(&mut output, answer),
     };
     ExitCode::from(status)
 }

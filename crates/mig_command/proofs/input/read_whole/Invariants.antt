@@ -1,0 +1,5 @@
+use Rattle.std.specs.Io.KnownBytes.{Consumes}
+use Rattle.mig_command.proofs.input.read_whole.Given as goal
+
+abbrev pub invariant-loop : goal.invariant-loop
+invariant-loop g l = Consumes (g.R.Read.remaining l.fn.input) (g.R.Read.remaining l.input) l.text.items

@@ -1,0 +1,46 @@
+//! The comparison of a scenario's file with the file of a memory.
+
+ghost use Rattle.std.specs.Prelude.{◌≡◌, IfOk};
+ghost use Rattle.mig_command.specs.Answer.{IsComparison};
+
+use crate::answer::Answer;
+use crate::comparison::compared;
+use crate::fault::ToolFault;
+use crate::files::read_file;
+use crate::request::CompareRequest;
+use mig_image::memory_of;
+use mig_mem::{Memory, NoMemory};
+use mig_scenario::{Senders, judge, play};
+use std::alloc::Allocator;
+use std::fs::Files;
+use std::thread::Threads;
+
+// The answer on two memories of one table.
+fn answer_on<H: Threads + Sync, A: Allocator + Copy + Send + Sync>(
+    rt: &H,
+    alloc: A,
+    a: &Memory<A>,
+    b: &Memory<A>,
+) -> Result<Answer, NoMemory>
+    requires { a.now.table ≡ b.now.table }
+    ensures { IfOk result (IsComparison a.now b.now) }
+{
+    Ok(Answer::Compared(compared(rt, alloc, a, b)?))
+}
+
+/// Compares the memory that a scenario makes with that of a file, and gives the answer. An `Err` is
+/// one too: that of the first fault.
+pub(crate) fn compare<H: Files + Threads + Sync, A: Allocator + Copy + Send + Sync>(
+    rt: &H,
+    alloc: A,
+    request: &CompareRequest,
+) -> Result<Answer, Answer> {
+    let text = read_file(rt, alloc, request.scenario)?;
+    let bytes = read_file(rt, alloc, request.image)?;
+    let scenario = judge(alloc, request.page_size.bytes(), &text)?;
+    let played = play(rt, alloc, &scenario.table, &scenario.lines, Senders::none())?;
+    let Some(memory) = memory_of(alloc, &scenario.table, &bytes)? else {
+        return Err(Answer::Failed(ToolFault::ImageLen));
+    };
+    Ok(answer_on(rt, alloc, &played.image, &memory)?)
+}

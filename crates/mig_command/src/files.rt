@@ -1,0 +1,64 @@
+//! Files: they are read whole, and written from their front to their end.
+
+ghost use Rattle.std.specs.Prelude.{◌≡◌, ◌++◌, IfOk, codes, decimal, string_bytes};
+
+use crate::answer::Answer;
+use crate::fault::ToolFault;
+use crate::input::{MAX_LEN, read_whole};
+use itoa::Buffer;
+use mig_mem::NoMemory;
+use std::alloc::Allocator;
+use std::fs::{File, Files, OpenFile};
+use std::io::{self, Write};
+
+/// Opens a file for reading.
+pub(crate) fn open<H: Files>(rt: &H, name: &str) -> Result<H::File, ToolFault> {
+    File::open(rt, name).map_err(|_| ToolFault::Unread)
+}
+
+// How many bytes a file is expected to have, which is only a hint: it can be 0, and the file can
+// change.
+fn expected_len<F: OpenFile>(file: &F) -> usize {
+    match file.metadata() {
+        Ok(metadata) if metadata.is_file() => metadata.len().min(MAX_LEN) as usize,
+        _ => 0,
+    }
+}
+
+/// The bytes of a file up to its end, or the answer where they can't be had.
+pub(crate) fn read_file<H: Files, A: Allocator + Copy>(
+    rt: &H,
+    alloc: A,
+    name: &str,
+) -> Result<Vec<u8, A>, Answer> {
+    let mut file = open(rt, name)?;
+    let room = expected_len(&file);
+    read_whole(alloc, &mut file, room)
+}
+
+/// Writes bytes into a file, which is made where there is none, and has nothing else afterwards.
+pub(crate) fn write_file<H: Files>(rt: &H, name: &str, bytes: &[u8]) -> Result<(), ToolFault> {
+    write_to(rt, name, bytes).map_err(|_| ToolFault::Unwritten)
+}
+
+fn write_to<H: Files>(rt: &H, name: &str, bytes: &[u8]) -> io::Result<()> {
+    let mut file = File::create(rt, name)?;
+    file.write_all(bytes)?;
+    file.flush()
+}
+
+/// The name of the file of a channel's text, beside that of the main stream: `MAIN.0` and so on.
+pub(crate) fn channel_name<A: Allocator>(
+    alloc: A,
+    main: &str,
+    channel: usize,
+) -> Result<String<A>, NoMemory>
+    ensures { IfOk result (λ name. string_bytes name ≡ main.now ++ codes "." ++ decimal channel) }
+{
+    let mut name = String::new(alloc);
+    let mut buffer = Buffer::new();
+    name.push_str(main)?;
+    name.push_str(".")?;
+    name.push_str(buffer.format(channel))?;
+    Ok(name)
+}

@@ -1,0 +1,75 @@
+//! The reading of an input, for `run`: whole, in so many reads at most.
+
+ghost use Rattle.std.specs.Prelude.{◌≡◌, ◌<◌, length, IfOk, IfErr};
+ghost use Rattle.std.specs.Io.KnownBytes.{Consumes, IsAtEnd};
+ghost use Rattle.mig_command.specs.Inputs.{HasRead};
+ghost use Rattle.mig_command.specs.Answer.{IsUnread};
+
+use crate::answer::Answer;
+use crate::fault::ToolFault;
+use mig_scenario::ScenarioFault;
+use std::alloc::Allocator;
+use std::io::Read;
+
+/// The most reads that an input may take, the one that finds its end among them.
+const MAX_READS: usize = 65_536;
+
+/// The most bytes of one read.
+const MAX_READ_LEN: usize = 65_536;
+
+/// The most bytes that an input can have.
+pub(crate) const MAX_LEN: u64 = 65_535 * 65_536;
+
+// A buffer of so many bytes.
+fn buffer_of<A: Allocator>(alloc: A, len: usize) -> Result<Vec<u8, A>, Answer>
+    ensures ok { IfOk result (λ v. length v.items ≡ len) }
+    ensures err { IfErr result IsUnread }
+{
+    match vec![in alloc; 0u8; len] {
+        Ok(buffer) => Ok(buffer),
+        Err(_) => Err(Answer::Refused(ScenarioFault::NoMemory)),
+    }
+}
+
+// Reads once, and appends what came. Gives the number of bytes, which is 0 at the end of the input.
+fn read_more<A: Allocator, R: Read>(
+    input: &mut R,
+    buffer: &mut [u8],
+    text: &mut Vec<u8, A>,
+) -> Result<usize, Answer>
+    requires { 0 < length buffer.old }
+    ensures len { length buffer.new ≡ length buffer.old }
+    ensures err { IfErr result IsUnread }
+    ensures more { IfOk result (λ n. HasRead (R.remaining input.old) (R.remaining input.new) text.old.items text.new.items n) }
+{
+    let len = match input.read(buffer) {
+        Ok(len) => len,
+        Err(_) => return Err(Answer::Failed(ToolFault::Unread)),
+    };
+    match text.extend_from_slice(&buffer[..len]) {
+        Ok(()) => Ok(len),
+        Err(_) => Err(Answer::Refused(ScenarioFault::NoMemory)),
+    }
+}
+
+/// The bytes of an input up to its end, or the answer where it can't be had. There is room for some
+/// from the start.
+pub(crate) fn read_whole<A: Allocator + Copy, R: Read>(
+    alloc: A,
+    input: &mut R,
+    room: usize,
+) -> Result<Vec<u8, A>, Answer>
+    ensures err { IfErr result IsUnread }
+    ensures ok { IfOk result (λ text. Consumes (R.remaining input.old) (R.remaining input.new) text.items × IsAtEnd (R.remaining input.new)) }
+{
+    let mut buffer = buffer_of(alloc, MAX_READ_LEN)?;
+    let Ok(mut text) = Vec::with_capacity(alloc, room) else {
+        return Err(Answer::Refused(ScenarioFault::NoMemory));
+    };
+    for _ in 0..MAX_READS {
+        if read_more(input, &mut buffer, &mut text)? == 0 {
+            return Ok(text);
+        }
+    }
+    Err(Answer::Failed(ToolFault::TooManyReads))
+}

@@ -1,0 +1,62 @@
+//! The sending of a scenario's file into files.
+
+ghost use Rattle.std.specs.Prelude.{◌≡◌, ◌^◌, ◌-◌, min, sum_by, length};
+ghost use Rattle.mig_send.specs.MultiSending.{texts_of};
+ghost use Rattle.mig_scenario.specs.Layout.{HasRoom};
+
+use crate::answer::Answer;
+use crate::files::{channel_name, read_file, write_file};
+use crate::request::SendRequest;
+use mig_scenario::{Played, Senders, Texts, judge, play};
+use mig_send::Sent;
+use std::alloc::Allocator;
+use std::fs::Files;
+use std::thread::Threads;
+
+/// How many bytes the channels' texts have together, as far as 64 bits count.
+pub(crate) fn total_len<A: Allocator>(channels: &[Vec<u8, A>]) -> u64
+    ensures { result ≡ min (sum_by length (texts_of channels.now)) (2 ^ 64 - 1) }
+{
+    let mut total = 0u64;
+    for text in channels {
+        total = total.saturating_add(text.len() as u64);
+    }
+    total
+}
+
+// Writes the main stream, and each channel's text beside it.
+fn write_several<H: Files, A: Allocator + Copy>(
+    rt: &H,
+    alloc: A,
+    name: &str,
+    sent: &Sent<A>,
+) -> Result<Answer, Answer> {
+    write_file(rt, name, &sent.main)?;
+    for (channel, text) in sent.channels.iter().enumerate() {
+        let name = channel_name(alloc, name, channel)?;
+        write_file(rt, &name, text)?;
+    }
+    Ok(Answer::Sent(sent.main.len(), total_len(&sent.channels)))
+}
+
+/// Sends what a request says, into its files, and gives the answer. An `Err` is one too: that of
+/// the first fault.
+pub(crate) fn send<H: Files + Threads + Sync, A: Allocator + Copy + Send + Sync>(
+    rt: &H,
+    alloc: A,
+    request: &SendRequest,
+) -> Result<Answer, Answer>
+    requires { HasRoom request.now.layout }
+{
+    let text = read_file(rt, alloc, request.scenario)?;
+    let scenario = judge(alloc, request.layout.page_size.bytes(), &text)?;
+    let senders = Senders::one(alloc, &scenario.table, request.layout, request.uuid)?;
+    let Played { image: _, texts } = play(rt, alloc, &scenario.table, &scenario.lines, senders)?;
+    let Texts { single, several } = texts;
+    if let Some(sent) = several {
+        return write_several(rt, alloc, request.output, &sent);
+    }
+    let text = single.unwrap_or(Vec::new(alloc));
+    write_file(rt, request.output, &text)?;
+    Ok(Answer::Sent(text.len(), 0))
+}

@@ -1,0 +1,50 @@
+//! Why a text is no scenario, by name and number.
+
+ghost use Rattle.std.specs.Prelude.{◌≡◌};
+ghost use Rattle.mig_scenario.specs.FaultNumber.{scenario_number};
+
+use mig_mem::{NoMemory, TableFault};
+
+/// Why a text is no scenario. A line is told by its number, from 1.
+#[derive(Clone, Copy, Debug, PartialEq, Eq)]
+pub enum ScenarioFault {
+    /// A line has no form.
+    Syntax(usize),
+    /// A block stands after a step.
+    Order(usize),
+    /// The blocks make no table.
+    Table(TableFault),
+    /// A line names a block, a page, an offset or a byte that there isn't.
+    Range(usize),
+    /// A step stands after the last round.
+    Unsent(usize),
+    /// An allocation was refused.
+    NoMemory,
+}
+
+impl ScenarioFault {
+    /// The fault's number in documents and in the tool's output.
+    pub fn number(self) -> u8
+        ensures { result ≡ scenario_number self }
+    {
+        match self {
+            ScenarioFault::Unsent(_) => 80,
+            ScenarioFault::Syntax(_) => 81,
+            ScenarioFault::Table(_) => 82,
+            ScenarioFault::Range(_) => 83,
+            ScenarioFault::Order(_) => 84,
+            ScenarioFault::NoMemory => NoMemory.number(),
+        }
+    }
+}
+
+impl From<NoMemory> for ScenarioFault {
+    ghost use Rattle.std.specs.Prelude.{◌≡◌};
+    ghost use Rattle.mig_scenario.specs.declared.fault.ScenarioFault.TheVariants.{NoMemory as fault_no_memory};
+
+    ghost from_gives = { λ _ e. e ≡ fault_no_memory };
+
+    fn from(_: NoMemory) -> ScenarioFault {
+        ScenarioFault::NoMemory
+    }
+}

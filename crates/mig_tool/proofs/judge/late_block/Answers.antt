@@ -1,7 +1,0 @@
-use Rattle.std.proofs.Common.{map}
-use Rattle.mig_tool.specs.Seen.{seen}
-use Rattle.mig_tool.proofs.Turns.{late_is}
-use Rattle.mig_tool.proofs.judge.late_block.Goals as goal
-
-pub loop-i-init : goal.loop-i-init
-loop-i-init c = late_is (map seen c.args.lines.now)

@@ -1,8 +1,0 @@
-use Rattle.std.proofs.Common.{◌≡◌, map, take}
-use Rattle.mig_mem.specs.RamTable.{entry_block}
-use Rattle.mig_tool.specs.Scenario.{blocks_of}
-use Rattle.mig_tool.specs.Seen.{seen}
-use Rattle.mig_tool.proofs.judge.table_of.Given as goal
-
-abbrev pub invariant-loop-line : goal.invariant-loop-line
-invariant-loop-line g l = map entry_block l.blocks.items ≡ blocks_of (map seen (take l.line-index l.lines))

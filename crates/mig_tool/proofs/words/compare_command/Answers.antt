@@ -1,9 +1,0 @@
-use Rattle.std.proofs.lemmas.Result.{IfOk-weaker}
-use Rattle.mig_tool.proofs.CommandLine.{with_arg}
-use Rattle.mig_tool.proofs.words.compare_command.Goals as goal
-
-pub returns : goal.returns
-returns c =
-    let step-1 = with_arg _ _ _ _ _ (record { has_app = c.new.ensures.app; has_no_globals = c.new.ensures.local }) c.file_name.ensures c.in_ok-arg.ensures in
-    let step-2 = with_arg _ _ _ _ _ step-1 c.file_name-2.ensures c.in_ok-arg-2.ensures in
-    IfOk-weaker c.arg-3.result _ _ (λ r h. with_arg _ _ _ _ r step-2 c.page_option.ensures h) c.arg-3.ensures

@@ -1,0 +1,50 @@
+//! The bytes that a load holds: with `--feed` it holds no stream whole.
+
+use crate::folder::Folder;
+use crate::script::{answer_in, assert_answer, assert_script, words_in};
+use mig_fixtures::TestHeap;
+use std::alloc::AllocGlobal;
+use std::fs::Files;
+use std::io::Write;
+use std::process::Abort;
+use std::sync::Wait;
+use std::thread::Threads;
+
+/// How many rounds the guest's only page is sent in.
+const ROUNDS: u64 = 300;
+
+/// The bytes on the channel: a hello, and in each round a packet with a page and one of SYNC.
+const CHANNEL_LEN: u64 = 64 + ROUNDS * (1344 + 4096 + 1344);
+
+// Returns the most bytes that a load on the words of `line` holds at once.
+fn peak_of<H: AllocGlobal + Files + Threads + Wait + Sync + Abort>(
+    rt: &H,
+    folder: &Folder,
+    line: &str,
+) -> u64 {
+    let heap = TestHeap::new(rt.alloc());
+    let words = words_in(rt, folder, line);
+    let answer = answer_in(rt, &heap, &words, b"");
+    assert_answer(rt, answer, (0, b"loaded rounds 300\n"));
+    assert_eq!(rt; heap.held(), 0);
+    heap.peak()
+}
+
+// A load that reads the streams whole holds them all. With `--feed` it holds less than a quarter of
+// what comes on the channel.
+#[test]
+fn streams_that_are_held(rt: HostRuntime) {
+    let folder = Folder::new(&rt, "held");
+    let mut scenario = Vec::from_slice(rt.alloc(), b"block 1 a\n").expect(&rt, "a text");
+    for round in 0..ROUNDS {
+        assert!(rt; write!(scenario, "fill 0 0 {}\nround\n", 1 + round % 255).is_ok());
+    }
+    folder.put(&rt, "s", &scenario);
+    let line = "send @s @m --channels 1";
+    assert_script(&rt, &folder, line, (0, b"sent 7875 2035264\n"));
+    let whole = peak_of(&rt, &folder, "load @m @i --channels 1");
+    assert!(rt; whole > CHANNEL_LEN);
+    let fed = peak_of(&rt, &folder, "load @m @i --channels 1 --feed");
+    assert!(rt; fed < CHANNEL_LEN / 4);
+    folder.remove(&rt);
+}

@@ -1,0 +1,90 @@
+//! The order in which files are opened, read to their end, changed and flushed. It is what lets two
+//! tools run at the same time with pipes between them: neither waits for a pipe to which the other
+//! comes later.
+
+use crate::fake_files::{Plan, outcome_of};
+use crate::folder::Folder;
+use crate::script::{SCENARIO, assert_script, plain_words};
+use std::alloc::AllocGlobal;
+use std::fs::Files;
+use std::process::Abort;
+use std::sync::Wait;
+use std::thread::Threads;
+
+// Runs the tool on the words of a line, with files of these bytes, and asserts what is printed and
+// the log.
+fn assert_order<H: AllocGlobal + Files + Threads + Wait + Sync + Abort>(
+    rt: &H,
+    plan: Plan,
+    cases: &[(&str, &[u8], u64)],
+) {
+    for (line, text, log) in cases {
+        let outcome = outcome_of(rt, &plain_words(rt, line), plan);
+        assert_eq!(rt; outcome.answer.1.as_slice(), *text);
+        assert_eq!(rt; outcome.log, *log, "{line}");
+        assert!(rt; !outcome.has_other_len, "{line}");
+    }
+}
+
+// In the logs the scenario `s` has the digit 5, the main or single stream `m` has 1, the channels
+// `m.0` and `m.1` have 2 and 3, and the memory `i` has 4.
+#[test]
+fn order_of_sending(rt: HostRuntime) {
+    let lawful: [(&str, &[u8], u64); 2] = [
+        ("send s m", b"sent 4199 0\n", 0x5d_189),
+        (
+            "send s m --channels 2",
+            b"sent 101 8256\n",
+            0x5d_189_28a_38b,
+        ),
+    ];
+    assert_order(&rt, Plan::good(SCENARIO), &lawful);
+    // no file is opened for writing before the scenario is judged
+    let refused: [(&str, &[u8], u64); 2] = [
+        ("send s m", b"fault 80 line 2\n", 0x5d),
+        ("send s m --channels 2", b"fault 80 line 2\n", 0x5d),
+    ];
+    assert_order(&rt, Plan::good(b"block 1 a\ntouch 0 0"), &refused);
+}
+
+#[test]
+fn order_of_reading(rt: HostRuntime) {
+    // faulty streams are read to their ends, and the memory's file isn't opened
+    let faulty: [(&str, &[u8], u64); 4] = [
+        ("load m i", b"fault 11 round 0 in main\n", 0x19),
+        (
+            "load m i --channels 2",
+            b"fault 11 round 0 in main\n",
+            0x19_2a_3b,
+        ),
+        (
+            "load m i --channels 2 --feed",
+            b"fault 11 round 0 in main\n",
+            0x19_2a_3b,
+        ),
+        ("compare s i", b"fault 85\n", 0x5d_4c),
+    ];
+    assert_order(&rt, Plan::good(SCENARIO), &faulty);
+    let folder = Folder::new(&rt, "order");
+    folder.put(&rt, "s", SCENARIO);
+    assert_script(&rt, &folder, "send @s @o", (0, b"sent 4199 0\n"));
+    let line = "send @s @m --channels 1";
+    assert_script(&rt, &folder, line, (0, b"sent 101 6848\n"));
+    let single = folder.bytes(&rt, "o");
+    let main = folder.bytes(&rt, "m");
+    let channel = folder.bytes(&rt, "m.0");
+    folder.remove(&rt);
+    let lines: [(&str, &[u8], u64); 1] = [("load m i", b"loaded sections 3\n", 0x19_48c)];
+    assert_order(&rt, Plan::good(&single), &lines);
+    let mut plan = Plan::good(&main);
+    plan.channel = &channel;
+    let lines: [(&str, &[u8], u64); 2] = [
+        ("load m i --channels 1", b"loaded rounds 1\n", 0x19_2a_48c),
+        (
+            "load m i --channels 1 --feed",
+            b"loaded rounds 1\n",
+            0x19_2a_48c,
+        ),
+    ];
+    assert_order(&rt, plan, &lines);
+}

@@ -1,0 +1,75 @@
+//! What the tests run: words, and what the tool answers on them.
+
+use crate::folder::Folder;
+use mig_command::run;
+use std::alloc::{AllocGlobal, Allocator};
+use std::fs::Files;
+use std::process::Abort;
+use std::sync::Wait;
+use std::thread::Threads;
+
+/// A scenario of one page.
+pub(crate) const SCENARIO: &[u8] = b"block 1 a\nset 0 0 7\nround\n";
+
+/// What the tool writes of it.
+pub(crate) const SCENARIO_ANSWER: &[u8] = b"single 4199 sections 3\nsame\n";
+
+/// The words of a line, as a run takes them.
+pub(crate) fn plain_words(rt: &(impl AllocGlobal + Abort), line: &str) -> Vec<String> {
+    let mut words = Vec::new(rt.alloc());
+    for word in line.split(' ') {
+        let word = String::from_str(rt.alloc(), word).expect(rt, "a word");
+        assert!(rt; words.push(word).is_ok());
+    }
+    words
+}
+
+/// The words of a line: none where it is empty. A word behind `@` is a file of the folder.
+pub(crate) fn words_in(
+    rt: &(impl AllocGlobal + Abort),
+    folder: &Folder,
+    line: &str,
+) -> Vec<String> {
+    let mut words = Vec::new(rt.alloc());
+    if line.is_empty() {
+        return words;
+    }
+    for word in line.split(' ') {
+        let word = match word.strip_prefix("@") {
+            Some(name) => folder.path(rt, name),
+            None => String::from_str(rt.alloc(), word).expect(rt, "a word"),
+        };
+        assert!(rt; words.push(word).is_ok());
+    }
+    words
+}
+
+/// Runs the tool with words, in memory of an allocator. Gives the status, and what it wrote.
+pub(crate) fn answer_in<
+    H: AllocGlobal + Files + Threads + Wait + Sync,
+    A: Allocator + Copy + Send + Sync,
+>(rt: &H, alloc: A, words: &[String], scenario: &[u8]) -> (u8, Vec<u8>) {
+    let mut input = scenario;
+    let mut output = Vec::new(rt.alloc());
+    let status = run(rt, alloc, words, &mut input, &mut output);
+    (status, output)
+}
+
+/// Asserts that an answer is the one that is wanted.
+pub(crate) fn assert_answer(rt: &impl Abort, answer: (u8, Vec<u8>), wanted: (u8, &[u8])) {
+    assert_eq!(rt; answer.0, wanted.0);
+    assert_eq!(rt; answer.1.as_slice(), wanted.1);
+}
+
+/// Runs the tool on the words of a line and asserts what it writes, and the status.
+pub(crate) fn assert_script<H: AllocGlobal + Files + Threads + Wait + Sync + Abort>(
+    rt: &H,
+    folder: &Folder,
+    line: &str,
+    wanted: (u8, &[u8]),
+) {
+    let words = words_in(rt, folder, line);
+    let answer = answer_in(rt, rt.alloc(), &words, b"");
+    let is_right = answer.0 == wanted.0 && answer.1.as_slice() == wanted.1;
+    assert!(rt; is_right, "{line}");
+}

@@ -1,0 +1,173 @@
+//! Outputs that fail.
+
+use crate::folder::Folder;
+use crate::script::{SCENARIO, SCENARIO_ANSWER, words_in};
+use mig_command::run;
+use std::alloc::{AllocGlobal, Global};
+use std::fs::Files;
+use std::io::{self, Write};
+use std::process::Abort;
+use std::sync::Wait;
+use std::thread::Threads;
+
+// Takes at most so many bytes at a write, fails where so many writes were made, and at a flush if
+// it is to.
+#[derive(Drop)]
+struct Halting {
+    text: Vec<u8>,
+    most: usize,
+    good: usize,
+    fails_at_flush: bool,
+    has_failed: bool,
+}
+
+impl Write for Halting {
+    fn write(&mut self, buf: &[u8]) -> io::Result<usize> {
+        if self.good == 0 {
+            self.has_failed = true;
+            return Err(io::Error::from(io::ErrorKind::Other));
+        }
+        self.good -= 1;
+        let len = buf.len().min(self.most);
+        self.text.extend_from_slice(&buf[..len])?;
+        Ok(len)
+    }
+
+    fn flush(&mut self) -> io::Result<()> {
+        if self.fails_at_flush {
+            self.has_failed = true;
+            return Err(io::Error::from(io::ErrorKind::Other));
+        }
+        Ok(())
+    }
+}
+
+// An output that takes at most so many bytes at a write, and fails where so many writes were made.
+fn output_of(alloc: Global, most: usize, good: usize) -> Halting {
+    Halting {
+        text: Vec::new(alloc),
+        most,
+        good,
+        fails_at_flush: false,
+        has_failed: false,
+    }
+}
+
+// What a run is handed, and what comes of it where the output doesn't fail.
+#[derive(Clone, Copy)]
+struct Expected<'a> {
+    words: &'a [String],
+    scenario: &'a [u8],
+    text: &'a [u8],
+    status: u8,
+}
+
+// Runs the tool, and says whether it answered as it should: 3 where the output failed.
+fn answers<H: AllocGlobal + Files + Threads + Wait + Sync>(
+    rt: &H,
+    expected: Expected,
+    output: &mut Halting,
+) -> bool {
+    let mut input = expected.scenario;
+    let status = run(rt, rt.alloc(), expected.words, &mut input, output);
+    if output.has_failed {
+        status == 3
+    } else {
+        status == expected.status && output.text.as_slice() == expected.text
+    }
+}
+
+// Runs the tool with each write failing in turn, until a run has no failure.
+fn assert_each_write<H: AllocGlobal + Files + Threads + Wait + Sync + Abort>(
+    rt: &H,
+    expected: Expected,
+    most: usize,
+) {
+    for good in 0..100 {
+        let mut output = output_of(rt.alloc(), most, good);
+        assert!(rt; answers(rt, expected, &mut output), "after {good} writes");
+        if !output.has_failed {
+            assert!(rt; good > 0);
+            return;
+        }
+    }
+    panic!(rt; "each run had a failure");
+}
+
+// Runs the tool with a flush that fails.
+fn assert_flush<H: AllocGlobal + Files + Threads + Wait + Sync + Abort>(
+    rt: &H,
+    expected: Expected,
+) {
+    let mut output = output_of(rt.alloc(), usize::MAX, usize::MAX);
+    output.fails_at_flush = true;
+    assert!(rt; answers(rt, expected, &mut output));
+    assert!(rt; output.has_failed, "there was no flush");
+}
+
+// Runs the tool with each write failing, of whole lines and of single bytes, and with a flush that
+// fails.
+fn assert_output<H: AllocGlobal + Files + Threads + Wait + Sync + Abort>(
+    rt: &H,
+    folder: &Folder,
+    line: &str,
+    scenario: &[u8],
+    wanted: (u8, &[u8]),
+) {
+    let words = words_in(rt, folder, line);
+    let expected = Expected {
+        words: &words,
+        scenario,
+        text: wanted.1,
+        status: wanted.0,
+    };
+    assert_each_write(rt, expected, usize::MAX);
+    assert_each_write(rt, expected, 1);
+    assert_flush(rt, expected);
+}
+
+// Lawful, with a fault of each kind of line, and with words.
+#[test]
+fn each_output(rt: HostRuntime) {
+    let folder = Folder::new(&rt, "output");
+    let cases: [(&str, &[u8], (u8, &[u8])); 6] = [
+        ("", SCENARIO, (0, SCENARIO_ANSWER)),
+        ("", b"block 0 a", (1, b"fault 82 table 5\n")),
+        ("", b"block 1 a\n\r", (1, b"fault 81 line 2\n")),
+        ("", b"block 1 a\ntouch 0 0", (1, b"fault 80 line 2\n")),
+        ("frob", SCENARIO, (2, b"fault 88\n")),
+        (
+            "check --channels 2",
+            SCENARIO,
+            (
+                0,
+                b"single 4199 sections 3\nmulti 101 8256 rounds 1\nsame\n",
+            ),
+        ),
+    ];
+    for (line, scenario, wanted) in cases {
+        assert_output(&rt, &folder, line, scenario, wanted);
+    }
+    folder.remove(&rt);
+}
+
+// The answers of the words that read and write files.
+#[test]
+fn each_output_on_files(rt: HostRuntime) {
+    let folder = Folder::new(&rt, "outputs");
+    folder.put(&rt, "s", SCENARIO);
+    folder.put(&rt, "t", b"block 1 a\nset 0 0 8\nround\n");
+    let cases: [(&str, (u8, &[u8])); 7] = [
+        ("send @s @o", (0, b"sent 4199 0\n")),
+        ("load @o @i", (0, b"loaded sections 3\n")),
+        ("compare @s @i", (0, b"same\n")),
+        ("compare @t @i", (4, b"differs 1 first 0 0\n")),
+        ("load @s @i", (1, b"fault 11 round 0 in main\n")),
+        ("send @none/o @o", (3, b"fault 90\n")),
+        ("send @s @none/o", (3, b"fault 91\n")),
+    ];
+    for (line, wanted) in cases {
+        assert_output(&rt, &folder, line, b"", wanted);
+    }
+    folder.remove(&rt);
+}
