@@ -34,7 +34,7 @@ example: lib ## a minute, after lib | builds and runs the C programs of examples
 header: ## at once | compares include/zimgasol.h with the library's exports
 	@tools/header.py
 
-try: ## a minute, after build | runs the built tool in a shell: docs/TOOL.md, pipes, closed streams
+try: ## at once, after build | runs the built tool in a shell: docs/TOOL.md, pipes, closed streams
 	@tools/try_tool.py
 
 documents: header ## at once | compares header, case lists, examples and quotations with the code

@@ -10,6 +10,7 @@ pipes, and outputs and inputs that are closed or fail.
 """
 import os
 import shlex
+import signal
 import subprocess
 import sys
 import tempfile
@@ -19,7 +20,7 @@ from pathlib import Path
 from tool_page import BEYOND, OTHERS, PAGE, TOP, scenario_of
 
 BUILT = TOP / "crates" / "mig_tool" / "out" / "mig_tool"
-SECONDS = 120
+SECONDS = 20
 PROMPTS = {"    $ ": "one", "    here$ ": "here", "    there$ ": "there"}
 SSH = """#!/bin/sh
 shift
@@ -65,7 +66,8 @@ class Shell:
     def __init__(self, folder, path):
         env = {**os.environ, "PATH": f"{path}:{os.environ['PATH']}"}
         pipes = {"stdin": subprocess.PIPE, "stdout": subprocess.PIPE}
-        self.bash = subprocess.Popen(["bash"], cwd=folder, env=env, text=True, **pipes)
+        how = {"cwd": folder, "env": env, "text": True, "start_new_session": True}
+        self.bash = subprocess.Popen(["bash"], **how, **pipes)
         self.printed, self.has_ended = [[]], threading.Condition()
         self.reader = threading.Thread(target=self.read, daemon=True)
         self.reader.start()
@@ -78,6 +80,11 @@ class Shell:
                     self.has_ended.notify_all()
                 else:
                     self.printed[-1].append(line)
+
+    def end(self):
+        """Ends the shell, with all that it began."""
+        os.killpg(self.bash.pid, signal.SIGKILL)
+        self.bash.wait()
 
     def begin(self, command):
         """Gives the shell a command, after which its status is that command's."""
@@ -125,6 +132,15 @@ def run_page(folder, path):
         place.mkdir()
         (place / "s").write_text(scenario_of(text).replace("\\n", "\n"))
     shells = {name: Shell(place, path) for name, place in places.items()}
+    try:
+        return run_examples(text, places, shells)
+    finally:
+        for shell in shells.values():
+            shell.end()
+
+
+def run_examples(text, places, shells):
+    """Runs the examples in the shells of their machines. Returns what run_page returns."""
     begun = {name: 0 for name in places}
     pending, wrong, count = [], [], 0
     for name, command, wanted in examples(text):
@@ -165,6 +181,8 @@ def main(words):
     program = words or [str(BUILT)]
     if not words and not BUILT.is_file():
         sys.exit("the tool isn't built: make build")
+    if Path(program[0]).is_file():
+        program[0] = str(Path(program[0]).resolve())
     with tempfile.TemporaryDirectory() as made:
         folder = Path(made)
         path = folder / "path"
