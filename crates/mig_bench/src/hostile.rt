@@ -6,9 +6,9 @@
 
 use crate::guest::{Guest, fill};
 use crate::measure::{Measured, Ratio, best_of_five, peak, reset_peak};
-use mig_load::load_single;
 use mig_mem::{MAX_TOTAL, PAGE_SIZE_4K, Table};
 use mig_send::SingleSender;
+use mig_single_load::load_single;
 use mig_stream::{Mode, StreamReader, StreamWriter};
 use std::alloc::Global;
 use std::io;

@@ -3,9 +3,9 @@ ghost use Rattle.std.specs.Prelude.{◌≤◌, ◌*◌, ◌^◌};
 
 use crate::guest::{Guest, ZERO_TENTHS, fill};
 use crate::yardstick::{PAGE_SIZE, Yardstick, put_title, report};
-use mig_load::{Loaded, load_single};
 use mig_mem::{MAX_TOTAL, Memory, PAGE_SIZE_4K, Place};
 use mig_send::SingleSender;
+use mig_single_load::{Loaded, load_single};
 use std::alloc::Global;
 use std::io;
 use std::rt::Clock;

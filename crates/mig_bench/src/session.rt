@@ -1,11 +1,11 @@
 //! A session that is fed the texts of a sender on several channels.
 ghost use Rattle.std.specs.Prelude.{◌≡◌, IsTrue, length};
-ghost use Rattle.mig_load.specs.Sources.{Counts};
-ghost use Rattle.mig_load.specs.Session.{HasSource};
+ghost use Rattle.mig_session.specs.Sources.{Counts};
+ghost use Rattle.mig_session.specs.Session.{HasSource};
 
-use mig_load::{Session, Source};
 use mig_mem::{MAX_TOTAL, PAGE_SIZE_4K};
 use mig_send::Sent;
+use mig_session::{Session, Source};
 use std::alloc::Global;
 use std::marker::Model;
 use uuid::Uuid;

@@ -25,10 +25,10 @@ use Rattle.mig_stream.specs.Reader.{IsSettled, HasRound, waiting}
 use Rattle.mig_stream.specs.Round.{RoundOfRecords, record_at}
 use Rattle.mig_assemble.specs.Target.{FitsTable, pages_of_round}
 use Rattle.mig_assemble.proofs.Putting.{put_none, put_after, put_page_more}
-use Rattle.mig_load.specs.InPlace.{settings_of, IsOfOwnTable}
-use Rattle.mig_load.specs.InPlaceState.{InPlaceState, first_sections, FedWith, LoadsWith}
-use Rattle.mig_load.proofs.Sections.{same_reading}
-use Rattle.mig_load.proofs.InPlaceStates.{fed_with, round_longer, sections_longer}
+use Rattle.mig_single_load.specs.InPlace.{settings_of, IsOfOwnTable}
+use Rattle.mig_single_load.specs.InPlaceState.{InPlaceState, first_sections, FedWith, LoadsWith}
+use Rattle.mig_single_load.proofs.Sections.{same_reading}
+use Rattle.mig_single_load.proofs.InPlaceStates.{fed_with, round_longer, sections_longer}
 use Rattle.mig_c.specs.InPlace.{held_load, whole_rounds, EndsSection, LacksPart, LacksDue, Holds, is_of, front_of, behind, with_content, with_pages, Begins, FeedsInPlace, Puts, EndsInPlace, records_pages, due_pages, AreDue, IsInBlock}
 
 -- ---- a page is written

@@ -11,9 +11,9 @@ use Rattle.mig_stream.specs.Reading.{StreamReading, IsReading}
 use Rattle.mig_stream.specs.Reader.{IsSettled, HasRound, waiting}
 use Rattle.mig_stream.specs.Round.{RoundOfRecords}
 use Rattle.mig_assemble.specs.Target.{FitsTable, pages_of_round}
-use Rattle.mig_load.specs.declared.fault.LoadFault.{LoadFault}
-use Rattle.mig_load.specs.InPlace.{settings_of, IsOfOwnTable, HasVerdictOnto}
-use Rattle.mig_load.specs.InPlaceState.{InPlaceState, first_sections, FedWith, LoadsWith}
+use Rattle.mig_single_load.specs.declared.fault.LoadFault.{LoadFault}
+use Rattle.mig_single_load.specs.InPlace.{settings_of, IsOfOwnTable, HasVerdictOnto}
+use Rattle.mig_single_load.specs.InPlaceState.{InPlaceState, first_sections, FedWith, LoadsWith}
 use Rattle.mig_c.specs.declared.fault.FoundFault.{FoundFault}
 use Rattle.mig_c.specs.Status.{IsOneOf, done, no_memory, is_over, too_long, bad_limit, bad_length, no_page, out_of_turn, is_due}
 use Rattle.mig_c.specs.Found.{seen_of, has_due}

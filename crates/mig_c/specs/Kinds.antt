@@ -1,8 +1,8 @@
 -- What stands behind a handle, by its kind, and what a call makes of it.
 use Rattle.std.specs.Prelude.{Option, None, Some, ⊤}
 use Rattle.mig_mem.specs.RamTable.{RamTable}
-use Rattle.mig_load.specs.Loader.{Loader}
-use Rattle.mig_load.specs.Session.{LoadSession}
+use Rattle.mig_single_load.specs.Loader.{Loader}
+use Rattle.mig_session.specs.Session.{LoadSession}
 use Rattle.mig_c.specs.InPlace.{HeldLoad}
 use Rattle.mig_c.specs.declared.sender.Sender.{Sender}
 use Rattle.mig_c.specs.declared.object.Object.{Object}

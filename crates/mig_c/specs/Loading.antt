@@ -1,7 +1,7 @@
 -- What the calls of a loader do, by their status.
 use Rattle.std.specs.Prelude.{◌≡◌, ◌≢◌, ◌≤◌, ◌<◌, ◌+◌, ◌^◌, ◌++◌, ℕ, Bool, true, false, List, [], ◌∷◌, length, Option, None, Some, IsTrue, IsFalse, Result, ⊤}
-use Rattle.mig_load.specs.declared.fault.LoadFault.{LoadFault}
-use Rattle.mig_load.specs.Loader.{Loader, Loads, HasAllSections, Waits, Judges}
+use Rattle.mig_single_load.specs.declared.fault.LoadFault.{LoadFault}
+use Rattle.mig_single_load.specs.Loader.{Loader, Loads, HasAllSections, Waits, Judges}
 use Rattle.mig_mem.specs.PageSize.{IsPageSize}
 use Rattle.mig_stream.specs.Reading.{settings}
 use Rattle.mig_stream.specs.Reader.{IsSettled}

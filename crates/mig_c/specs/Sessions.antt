@@ -1,11 +1,11 @@
 -- What the calls of a session do, by their status.
 use Rattle.std.specs.Prelude.{◌≡◌, ◌≢◌, ◌⊎◌, ◌≤◌, ◌<◌, ◌+◌, ◌-◌, ◌^◌, ℕ, List, [], ◌∷◌, length, IsTrue, IsFalse, if◌then◌else◌, ◌==◌, Option, None, Some}
-use Rattle.mig_load.specs.declared.source.Source.{Source}
-use Rattle.mig_load.specs.declared.source.Source.TheVariants as source
-use Rattle.mig_load.specs.declared.verdict.Verdict.TheVariants.{Running}
-use Rattle.mig_load.specs.Texts.{no_texts}
-use Rattle.mig_load.specs.Session.{LoadSession, StandsFor, HasSource, count_of, feed_step, end_step, answer_in, StepsOn, RunsOut, StillLacks}
-use Rattle.mig_load.specs.Advancing.{failed_without_memory}
+use Rattle.mig_session.specs.declared.source.Source.{Source}
+use Rattle.mig_session.specs.declared.source.Source.TheVariants as source
+use Rattle.mig_answer.specs.declared.verdict.Verdict.TheVariants.{Running}
+use Rattle.mig_answer.specs.Texts.{no_texts}
+use Rattle.mig_session.specs.Session.{LoadSession, StandsFor, HasSource, count_of, feed_step, end_step, answer_in, StepsOn, RunsOut, StillLacks}
+use Rattle.mig_session.specs.Advancing.{failed_without_memory}
 use Rattle.mig_mem.specs.PageSize.{IsPageSize}
 use Rattle.mig_c.specs.Status.{IsOneOf, done, no_memory, bad_page_size, bad_limit, bad_channels, bad_source, is_over, too_long, bad_length}
 

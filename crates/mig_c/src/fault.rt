@@ -5,8 +5,8 @@ ghost use Rattle.mig_c.specs.Found.{source_number, carried_of_stream, carried_of
 
 use crate::status::{IS_DUE, RUNNING};
 use mig_assemble::RoundFault;
-use mig_load::{Fault, LoadFault, Origin};
 use mig_packet::ChannelFault;
+use mig_single_load::{Fault, LoadFault, Origin};
 use mig_stream::StreamFault;
 
 /// Where a load ended, and why.

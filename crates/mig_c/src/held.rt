@@ -6,7 +6,7 @@ ghost use Rattle.mig_mem.specs.RamTable.{block as block_of};
 ghost use Rattle.mig_mem.specs.Image.{Image, IsImage};
 ghost use Rattle.mig_stream.specs.Reader.{waiting};
 ghost use Rattle.mig_assemble.specs.Target.{pages_of_round};
-ghost use Rattle.mig_load.specs.InPlaceState.{FedWith};
+ghost use Rattle.mig_single_load.specs.InPlaceState.{FedWith};
 ghost use Rattle.mig_c.specs.InPlace.{held_load, whole_rounds, due_block, due_pages, AreDue, LacksPart, LacksDue, Begins, FeedsInPlace, TellsNext, Answers, Puts, PutsBlock, EndsInPlace, TellsVerdict};
 
 use crate::fault::{FoundFault, due, of_verdict};
@@ -14,8 +14,8 @@ use crate::putting::DueSection;
 use crate::status::{
     BAD_LENGTH, DONE, IS_DUE, IS_OVER, NO_MEMORY, NO_PAGE, OUT_OF_TURN, ROOM, TOO_LONG,
 };
-use mig_load::InPlaceState;
 use mig_mem::{NoMemory, Table};
+use mig_single_load::InPlaceState;
 use std::alloc::Global;
 use std::marker::Model;
 

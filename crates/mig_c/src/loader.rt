@@ -2,7 +2,7 @@
 
 ghost use Rattle.std.specs.Prelude.{◌≡◌, ◌≢◌, ◌≤◌, ◌^◌, IsSome, IfOk, None, Some, IsTrue, length};
 ghost use Rattle.mig_mem.specs.PageSize.{IsPageSize};
-ghost use Rattle.mig_load.specs.Loader.{memory_of, sections_loaded};
+ghost use Rattle.mig_single_load.specs.Loader.{memory_of, sections_loaded};
 ghost use Rattle.mig_c.specs.Status.{done};
 ghost use Rattle.mig_c.specs.Kinds.{loader_in, Turns, Tells};
 ghost use Rattle.mig_c.specs.Reading.{GivesPage, GivesBlock, place_at, block_count};
@@ -16,8 +16,8 @@ use crate::reading;
 use crate::status::{
     BAD_LIMIT, BAD_PAGE_SIZE, DONE, IS_OVER, MAX_LIMIT, NO_MEMORY, ROOM, TOO_LONG, WAITS,
 };
-use mig_load::{FeedFault, SingleLoader};
 use mig_mem::{NoMemory, is_page_size};
+use mig_single_load::{FeedFault, SingleLoader};
 use std::alloc::Global;
 
 // A loader in a box.

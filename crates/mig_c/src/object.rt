@@ -2,8 +2,9 @@
 
 use crate::held::HeldLoad;
 use crate::sender::Sender;
-use mig_load::{Session, SingleLoader};
 use mig_mem::Table;
+use mig_session::Session;
+use mig_single_load::SingleLoader;
 use std::alloc::Global;
 
 /// What stands behind a handle, of each kind that C works on.

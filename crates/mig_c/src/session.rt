@@ -2,7 +2,7 @@
 
 ghost use Rattle.std.specs.Prelude.{◌≡◌, ◌≢◌, ◌≤◌, ◌^◌, IsSome, IfOk, None, Some, length};
 ghost use Rattle.mig_mem.specs.PageSize.{IsPageSize};
-ghost use Rattle.mig_load.specs.Session.{answer_in};
+ghost use Rattle.mig_session.specs.Session.{answer_in};
 ghost use Rattle.mig_c.specs.Status.{done};
 ghost use Rattle.mig_c.specs.Kinds.{session_in, Turns, Tells};
 ghost use Rattle.mig_c.specs.Found.{seen_of_verdict};
@@ -18,8 +18,9 @@ use crate::sources::{end_source, feed_source, source_of};
 use crate::status::{
     BAD_CHANNELS, BAD_LENGTH, BAD_LIMIT, BAD_PAGE_SIZE, DONE, MAX_LIMIT, NO_MEMORY,
 };
-use mig_load::{Session, Source, Verdict};
+use mig_answer::Verdict;
 use mig_mem::{NoMemory, is_page_size};
+use mig_session::{Session, Source};
 use std::alloc::Global;
 use uuid::Uuid;
 

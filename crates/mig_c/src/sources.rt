@@ -1,12 +1,12 @@
 //! The sources of a session, as C names them, and what is fed to them.
 
 ghost use Rattle.std.specs.Prelude.{◌≡◌, ◌↔◌, IsTrue};
-ghost use Rattle.mig_load.specs.Session.{HasSource};
+ghost use Rattle.mig_session.specs.Session.{HasSource};
 ghost use Rattle.mig_c.specs.Sessions.{FeedsSource, EndsSource, source_of};
 
 use crate::status::{BAD_SOURCE, DONE, IS_OVER, NO_MEMORY, TOO_LONG};
-use mig_load::{Session, Source};
 use mig_mem::NoMemory;
+use mig_session::{Session, Source};
 use std::alloc::Global;
 
 /// The source of a number.

@@ -20,13 +20,13 @@ use Rattle.mig_stream.specs.Written.{single}
 use Rattle.mig_send.specs.DealtRounds.{DealtRound, IsSending, channel_text}
 use Rattle.mig_send.specs.MultiSending.{MultiSending, texts_of}
 use Rattle.mig_send.specs.declared.multi.Sent.{Sent}
-use Rattle.mig_load.specs.declared.loaded.Loaded.{Loaded}
-use Rattle.mig_load.specs.declared.fault.LoadFault.{LoadFault}
-use Rattle.mig_load.specs.declared.verdict.Verdict.TheVariants.{Done, Failed}
-use Rattle.mig_load.specs.SingleLoad.{loaded, no_memory_at}
-use Rattle.mig_load.specs.MultiLoad.{Answer as LoadAnswer, answer_of, as_verdict, IsWithoutMemory, bytes_of}
-use Rattle.mig_load.specs.Texts.{ended_texts}
-use Rattle.mig_load.specs.Sent.{IsSentInAnyOrder, sent_answer}
+use Rattle.mig_single_load.specs.declared.loaded.Loaded.{Loaded}
+use Rattle.mig_single_load.specs.declared.fault.LoadFault.{LoadFault}
+use Rattle.mig_answer.specs.declared.verdict.Verdict.TheVariants.{Done, Failed}
+use Rattle.mig_single_load.specs.SingleLoad.{loaded, no_memory_at}
+use Rattle.mig_answer.specs.MultiLoad.{Answer as LoadAnswer, answer_of, as_verdict, IsWithoutMemory, bytes_of}
+use Rattle.mig_answer.specs.Texts.{ended_texts}
+use Rattle.mig_answer.specs.Sent.{IsSentInAnyOrder, sent_answer}
 use Rattle.mig_command.specs.declared.answer.Answer.{Answer}
 use Rattle.mig_command.specs.declared.answer.Answer.TheVariants as answers
 use Rattle.mig_command.specs.declared.answer.Answer.TheVariants.{Refused, Unloaded}

@@ -2,13 +2,13 @@
 use Rattle.std.proofs.Common.{ℕ, List, refl, ap, ◌∙◌}
 use Rattle.std.specs.Prelude.{Result, Ok, Err}
 use Rattle.std.proofs.lemmas.List.{length-set, get_or-set_other}
-use Rattle.mig_load.specs.declared.source.Source.{Source}
-use Rattle.mig_load.specs.declared.source.Source.TheVariants as source
-use Rattle.mig_load.specs.declared.counts.Count.{Count}
-use Rattle.mig_load.specs.declared.pumping.PumpFault.{PumpFault}
-use Rattle.mig_load.specs.Sources.{Counts}
-use Rattle.mig_load.specs.Session.{no_count, with_count, with_fed, with_end}
-use Rattle.mig_load.specs.Pumping.{counts_after}
+use Rattle.mig_session.specs.declared.source.Source.{Source}
+use Rattle.mig_session.specs.declared.source.Source.TheVariants as source
+use Rattle.mig_session.specs.declared.counts.Count.{Count}
+use Rattle.mig_session.specs.declared.pumping.PumpFault.{PumpFault}
+use Rattle.mig_session.specs.Sources.{Counts}
+use Rattle.mig_session.specs.Session.{no_count, with_count, with_fed, with_end}
+use Rattle.mig_session.specs.Pumping.{counts_after}
 use Rattle.mig_command.specs.Feeding.{OthersStay}
 
 with_other_count : (counts : Counts) (from : Source) (count : Count) → OthersStay from counts (with_count counts from count)

@@ -1,9 +1,9 @@
 -- What feeding one source leaves of the counts of the others.
 use Rattle.std.specs.Prelude.{ℕ, ◌≡◌, ◌≢◌, length, get_or}
-use Rattle.mig_load.specs.declared.source.Source.{Source}
-use Rattle.mig_load.specs.declared.source.Source.TheVariants as source
-use Rattle.mig_load.specs.Sources.{Counts}
-use Rattle.mig_load.specs.Session.{no_count}
+use Rattle.mig_session.specs.declared.source.Source.{Source}
+use Rattle.mig_session.specs.declared.source.Source.TheVariants as source
+use Rattle.mig_session.specs.Sources.{Counts}
+use Rattle.mig_session.specs.Session.{no_count}
 
 -- there are as many channels, and as much has come of the text of each but this one
 pub record OthersStay (from : Source) (old new : Counts) : Type 0 where

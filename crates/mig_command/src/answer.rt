@@ -1,9 +1,9 @@
 //! What the tool answers, before it is printed.
 
 use crate::fault::ToolFault;
-use mig_load::LoadFault;
 use mig_mem::{NoMemory, Place};
 use mig_scenario::ScenarioFault;
+use mig_single_load::LoadFault;
 
 /// What comes of comparing two memories of one table.
 #[derive(Clone, Copy, Debug, PartialEq, Eq)]

@@ -1,8 +1,8 @@
 //! The load of a migration's files into the file of a memory.
 
 ghost use Rattle.std.specs.Prelude.{◌≡◌, ◌≤◌, ◌^◌, replicate, Some, IfOk, IfErr, vec_len};
-ghost use Rattle.mig_load.specs.MultiLoad.{as_verdict};
-ghost use Rattle.mig_load.specs.Session.{HasSource, answer_in, count_of, no_count};
+ghost use Rattle.mig_answer.specs.MultiLoad.{as_verdict};
+ghost use Rattle.mig_session.specs.Session.{HasSource, answer_in, count_of, no_count};
 ghost use Rattle.mig_command.specs.Answer.{unloaded_of};
 ghost use Rattle.mig_command.specs.Feeding.{OthersStay};
 
@@ -10,13 +10,13 @@ use crate::answer::Answer;
 use crate::fault::ToolFault;
 use crate::files::{channel_name, open, read_file};
 use crate::request::LoadRequest;
+use mig_answer::Verdict;
 use mig_image::BUFFER_ROOM;
-use mig_load::{
-    Counted, Fault, LoadFault, Loaded, Origin, PumpFault, Session, Source, Verdict, load_multi,
-    load_single, pump,
-};
 use mig_mem::{Memory, NoMemory};
 use mig_packet::OpenGate;
+use mig_relay::load_multi;
+use mig_session::{Counted, PumpFault, Session, Source, pump};
+use mig_single_load::{Fault, LoadFault, Loaded, Origin, load_single};
 use std::alloc::Allocator;
 use std::fs::Files;
 use std::sync::Wait;

@@ -8,8 +8,8 @@ ghost use Rattle.mig_command.specs.Answer.{unloaded, in_origin, comparison_line,
 use crate::answer::{Answer, ChannelsChecked, Checked, Comparison};
 use crate::fault::ToolFault;
 use itoa::Buffer;
-use mig_load::{LoadFault, Origin};
 use mig_scenario::ScenarioFault;
+use mig_single_load::{LoadFault, Origin};
 use std::io::{self, Write};
 
 // Writes a word and a number.

@@ -3,9 +3,11 @@
 
 use crate::load_texts::LIMIT;
 use mig_fixtures::{TestHeap, at, places_of, set, table, zeroed};
-use mig_load::{EagerState, Fault, InPlaceFault, InPlaceState, LoadFault, Origin, SingleLoader};
 use mig_mem::{Memory, Place};
 use mig_send::SingleSender;
+use mig_single_load::{
+    EagerState, Fault, InPlaceFault, InPlaceState, LoadFault, Origin, SingleLoader,
+};
 use mig_stream::StreamFault;
 use std::alloc::{AllocGlobal, Allocator};
 use std::process::Abort;

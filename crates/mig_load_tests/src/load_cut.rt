@@ -5,8 +5,8 @@ use crate::load_texts::{
     assert_done, assert_failed, assert_full, assert_page_and_zeros, cut, load, main_of, one,
     page_and_zeros,
 };
-use mig_load::{Fault, Origin};
 use mig_packet::ChannelFault;
+use mig_single_load::{Fault, Origin};
 use mig_stream::StreamFault;
 use std::alloc::AllocGlobal;
 use std::process::Abort;

@@ -4,8 +4,9 @@ use crate::load_texts::{
     assert_done, assert_failed, assert_full, main_of, one, sevens_then_zeros, syncs_of, two,
 };
 use mig_fixtures::TestHeap;
-use mig_load::{Fault, Loaded, Origin, load_multi};
 use mig_packet::OpenGate;
+use mig_relay::load_multi;
+use mig_single_load::{Fault, Loaded, Origin};
 use std::alloc::AllocGlobal;
 use std::process::Abort;
 use std::sync::Wait;

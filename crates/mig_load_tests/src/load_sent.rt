@@ -2,10 +2,11 @@
 
 use crate::meeting::Meeting;
 use mig_fixtures::{at, places_of, set, zeroed};
-use mig_load::{Loaded, load_multi, load_single};
 use mig_mem::{Dirty, Memory, first_difference};
 use mig_packet::{Gate, OpenGate};
+use mig_relay::load_multi;
 use mig_send::{MultiSender, Sent, SingleSender};
+use mig_single_load::{Loaded, load_single};
 use std::alloc::AllocGlobal;
 use std::process::Abort;
 use std::sync::Wait;

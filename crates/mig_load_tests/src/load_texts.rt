@@ -2,8 +2,9 @@
 
 use crate::texts::{hello_of, put_pages, put_sync, put_text};
 use mig_fixtures::{at, has_byte, is_full, put_page_and_zeros, table};
-use mig_load::{Fault, LoadFault, Loaded, Origin, load_multi};
 use mig_packet::{Gate, OpenGate};
+use mig_relay::load_multi;
+use mig_single_load::{Fault, LoadFault, Loaded, Origin};
 use mig_stream::StreamWriter;
 use std::alloc::{AllocGlobal, Allocator};
 use std::process::Abort;

@@ -8,8 +8,8 @@ use crate::load_texts::{
 };
 use crate::meeting::{Meeting, reaches};
 use crate::texts::{syncs, two_channels};
-use mig_load::{Fault, Origin};
 use mig_packet::{Gate, Step};
+use mig_single_load::{Fault, Origin};
 use std::sync::atomic::{AtomicU64, Ordering};
 
 // A gate that counts the items found and those pushed.

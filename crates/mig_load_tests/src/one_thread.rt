@@ -3,8 +3,8 @@
 use crate::pieces::{Seen, assert_over, assert_received, feed, take};
 use crate::texts::{hello_of, put_sync, put_text};
 use mig_fixtures::put_page_and_zeros;
-use mig_load::{ChannelEnd, FeederStep, Item, Relay};
 use mig_packet::{ChannelFault, Gate, OpenGate, Step};
+use mig_relay::{ChannelEnd, FeederStep, Item, Relay};
 use std::alloc::AllocGlobal;
 use std::process::Abort;
 use std::sync::atomic::{AtomicU64, Ordering};

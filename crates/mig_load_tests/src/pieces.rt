@@ -1,7 +1,7 @@
 //! What tests ask of the items that a relay hands on, and the feeders that bring them.
 
-use mig_load::{ChannelEnd, Collector, Feeder, FeederStep, Item};
 use mig_packet::Gate;
+use mig_relay::{ChannelEnd, Collector, Feeder, FeederStep, Item};
 use std::alloc::Allocator;
 use std::process::Abort;
 use std::sync::Wait;

@@ -5,8 +5,9 @@ use crate::load_texts::{LIMIT, assert_failed, assert_full, main_of, one, syncs_o
 use crate::meeting::reaches;
 use crate::pieces::{assert_over, feed, take};
 use crate::texts::syncs;
-use mig_load::{Collector, Fault, Feeder, FeederStep, Origin, Relay, load_relayed};
 use mig_packet::{Gate, OpenGate, Step};
+use mig_relay::{Collector, Feeder, FeederStep, Relay, load_relayed};
+use mig_single_load::{Fault, Origin};
 use std::process::Abort;
 use std::sync::Wait;
 use std::sync::atomic::{AtomicU64, Ordering};

@@ -8,8 +8,9 @@ use crate::load_texts::{
 };
 use crate::pieces::{Seen, assert_over, assert_received, feed, take};
 use mig_fixtures::TestHeap;
-use mig_load::{ChannelEnd, Collector, Fault, Origin, Relay, load_relayed};
 use mig_packet::OpenGate;
+use mig_relay::{ChannelEnd, Collector, Relay, load_relayed};
+use mig_single_load::{Fault, Origin};
 use std::alloc::Allocator;
 use std::process::Abort;
 use std::sync::Wait;

@@ -2,8 +2,8 @@
 
 use crate::pieces::{Seen, assert_over, assert_received, feed, take};
 use crate::texts::{put_text, syncs, two_channels};
-use mig_load::{ChannelEnd, Collector, Feeder, Relay};
 use mig_packet::OpenGate;
+use mig_relay::{ChannelEnd, Collector, Feeder, Relay};
 use std::alloc::AllocGlobal;
 use std::process::Abort;
 use std::sync::Wait;

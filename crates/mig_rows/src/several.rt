@@ -2,9 +2,9 @@
 
 use crate::show::put_loaded;
 use mig_cases::{Case, Done, Trouble};
-use mig_load::load_multi;
 use mig_mem::{MAX_TOTAL, is_page_size};
 use mig_packet::OpenGate;
+use mig_relay::load_multi;
 use std::sync::Wait;
 use std::thread::Threads;
 

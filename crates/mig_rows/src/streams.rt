@@ -2,8 +2,8 @@
 
 use crate::show::{put_loaded, put_records, put_stream_state};
 use mig_cases::{Case, Done, Trouble, agree, put_fed, put_table};
-use mig_load::load_single;
 use mig_mem::{MAX_TOTAL, is_page_size};
+use mig_single_load::load_single;
 use mig_stream::{Frame, Mode, StreamReader, StreamRound, StreamState};
 use std::alloc::Global;
 

@@ -1,11 +1,12 @@
 //! A session whose calls' conditions are asserted as a test runs.
 
 ghost use Rattle.std.specs.Prelude.{◌≡◌, IsTrue, length};
-ghost use Rattle.mig_load.specs.Sources.{Counts};
-ghost use Rattle.mig_load.specs.Session.{HasSource};
+ghost use Rattle.mig_session.specs.Sources.{Counts};
+ghost use Rattle.mig_session.specs.Session.{HasSource};
 
-use mig_load::{Counted, PumpFault, Session, Source, Verdict, pump};
+use mig_answer::Verdict;
 use mig_mem::{Memory, NoMemory, is_page_size};
+use mig_session::{Counted, PumpFault, Session, Source, pump};
 use std::alloc::{Allocator, Global};
 use std::io::Read;
 use std::marker::Model;

@@ -6,9 +6,9 @@
 use crate::guests::{LIMIT, Senders, Sendings, below, load, write_page};
 use crate::telling::is_same;
 use mig_fixtures::{at, table_of};
-use mig_load::{Loaded, load_single};
 use mig_mem::{Dirty, Memory, PAGE_SIZE_4K, PAGE_SIZE_8K, Table, is_page_size};
 use mig_packet::page_limit;
+use mig_single_load::{Loaded, load_single};
 use rand_core::Rng;
 use rand_pcg::Pcg32;
 use std::alloc::AllocGlobal;

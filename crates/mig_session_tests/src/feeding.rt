@@ -1,9 +1,9 @@
 //! Feeding texts to a session, piece by piece.
 
 use crate::checked::CheckedSession;
-use mig_load::Source;
 use mig_mem::NoMemory;
 use mig_send::Sent;
+use mig_session::Source;
 use std::alloc::Allocator;
 use std::process::Abort;
 

@@ -4,8 +4,9 @@ use crate::checked::CheckedSession;
 use crate::feeding::source_at;
 use crate::telling::assert_tells;
 use crate::texts::{hello_of, main_of, put_page, put_sync};
+use mig_answer::Verdict;
 use mig_fixtures::TestHeap;
-use mig_load::{Source, Verdict};
+use mig_session::Source;
 use std::alloc::AllocGlobal;
 use std::process::Abort;
 

@@ -6,9 +6,11 @@ use crate::refuses::Refuses;
 use crate::settled::assert_only_counted;
 use crate::telling::{assert_full, assert_tells, failed};
 use crate::texts::{sevens_then_zeros, sevens_then_zeros_on_two};
+use mig_answer::Verdict;
 use mig_fixtures::TestHeap;
-use mig_load::{Fault, Origin, Source, Verdict};
 use mig_send::Sent;
+use mig_session::Source;
+use mig_single_load::{Fault, Origin};
 use std::alloc::{AllocGlobal, Allocator};
 use std::process::Abort;
 

@@ -5,11 +5,13 @@ use crate::feeding::{feed_text, text_of};
 use crate::refuses::Refuses;
 use crate::telling::{assert_full, assert_page_and_zeros, assert_tells, failed};
 use crate::texts::{page_and_zeros, set_byte};
+use mig_answer::Verdict;
 use mig_assemble::RoundFault;
 use mig_fixtures::TestHeap;
-use mig_load::{Fault, Origin, Source, Verdict};
 use mig_packet::ChannelFault;
 use mig_send::Sent;
+use mig_session::Source;
+use mig_single_load::{Fault, Origin};
 use std::process::Abort;
 
 /// Feeds a source of a settled session on, and ends it, where nothing can be allocated.

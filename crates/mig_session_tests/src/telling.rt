@@ -1,9 +1,10 @@
 //! What tests ask of what a session tells.
 
 use crate::checked::CheckedSession;
+use mig_answer::Verdict;
 use mig_fixtures::{at, has_byte, is_full};
-use mig_load::{Fault, LoadFault, Loaded, Origin, Verdict};
 use mig_mem::{Memory, first_difference};
+use mig_single_load::{Fault, LoadFault, Loaded, Origin};
 use std::alloc::Allocator;
 use std::process::Abort;
 

@@ -3,12 +3,12 @@
 
 use crate::parts::{PIECE, all_of, block_of, feed, send};
 use mig_fixtures::{TestHeap, at, places_of, table, table_of};
-use mig_load::{Fault, InPlaceLoader, LoadFault, Origin};
 use mig_mem::{
     Dirty, GuestPages, GuestTarget, LentMemory, LentMemoryMut, MAX_TOTAL, PAGE_SIZE_4K,
     PAGE_SIZE_8K, Place, Table,
 };
 use mig_send::SingleSender;
+use mig_single_load::{Fault, InPlaceLoader, LoadFault, Origin};
 use mig_stream::StreamFault;
 use std::alloc::{AllocGlobal, Allocator};
 use std::process::Abort;

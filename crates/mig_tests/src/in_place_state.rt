@@ -8,8 +8,8 @@ use crate::in_place::{
 };
 use crate::parts::PIECE;
 use mig_fixtures::{TestHeap, at, has_byte, set, table};
-use mig_load::{Fault, InPlaceFault, InPlaceState};
 use mig_mem::{GuestTarget, LentMemoryMut, MAX_TOTAL, Memory, Place};
+use mig_single_load::{Fault, InPlaceFault, InPlaceState};
 use mig_stream::{StreamFault, StreamRound};
 use std::alloc::{AllocGlobal, Allocator};
 use std::process::Abort;

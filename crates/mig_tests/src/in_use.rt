@@ -1,9 +1,9 @@
 //! The libraries in use: what a guest writes is sent as a single stream and loaded again. README
 //! shows most of it.
 
-use mig_load::load_single;
 use mig_mem::{Dirty, Memory, PAGE_SIZE_4K, Place, Table, first_difference};
 use mig_send::SingleSender;
+use mig_single_load::load_single;
 use std::alloc::Allocator;
 
 // A guest with one block, of two pages, writes a byte of the second one. None where an allocation

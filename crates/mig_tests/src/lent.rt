@@ -1,9 +1,9 @@
 //! A guest whose memory is lent as slices: a round of all its pages, a round of a page that was
 //! read of it, both drained, and loaded again.
 
-use mig_load::load_single;
 use mig_mem::{Dirty, LentMemory, Memory, PAGE_SIZE_4K, Place, Table};
 use mig_send::{OpenRound, SingleSender};
+use mig_single_load::load_single;
 use std::alloc::Allocator;
 
 const PLACES: [Place; 3] = [

@@ -1,9 +1,9 @@
 //! The whole path without a second image: a guest whose bytes are lent is sent in parts, each
 //! drained as soon as it is made and fed in pieces into a loader over bytes that the caller keeps.
 
-use mig_load::InPlaceLoader;
 use mig_mem::{Dirty, GuestPages, GuestTarget, LentMemory, MAX_TOTAL, Place, Table};
 use mig_send::{OpenRound, SingleSender};
+use mig_single_load::InPlaceLoader;
 use std::alloc::Allocator;
 
 /// How many bytes are fed at once.

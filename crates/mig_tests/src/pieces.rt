@@ -4,8 +4,8 @@
 use crate::building::two_rounds;
 use crate::refused::assert_two_rounds;
 use mig_fixtures::TestHeap;
-use mig_load::{FeedFault, SingleLoader};
 use mig_mem::{MAX_TOTAL, PAGE_SIZE_4K};
+use mig_single_load::{FeedFault, SingleLoader};
 use std::alloc::Allocator;
 use std::process::Abort;
 

@@ -4,8 +4,8 @@
 
 use crate::building::{finished, part, two_rounds, two_rounds_in};
 use mig_fixtures::{TestHeap, at, places_of, set, zeroed};
-use mig_load::load_single;
 use mig_mem::{MAX_TOTAL, Memory, NoMemory, PAGE_SIZE_4K, Place, first_difference};
+use mig_single_load::load_single;
 use mig_stream::{Frame, Given, Mode, RecordReader, StreamReader, StreamRound, StreamWriter};
 use std::alloc::{AllocGlobal, Allocator};
 use std::process::Abort;

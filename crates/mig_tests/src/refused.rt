@@ -8,10 +8,10 @@ use crate::building::{BLOCKS, Run, dirty_of, empty_text, image_with, run_of, tex
 use crate::rounds::{both_packets, next_packet, put_round, records, text_of_packets};
 use mig_assemble::{Gathered, RoundFault, Target};
 use mig_fixtures::{TestHeap, at, has_byte, is_full, table, with_each_allocation_refused};
-use mig_load::{Fault, LoadFault, Loaded, Origin, load_single};
 use mig_mem::{MAX_TOTAL, Memory, NoMemory, PAGE_SIZE_4K, Place, Table};
 use mig_packet::Packet;
 use mig_send::SingleSender;
+use mig_single_load::{Fault, LoadFault, Loaded, Origin, load_single};
 use mig_stream::{StreamFault, StreamRound};
 use std::alloc::{AllocGlobal, Allocator};
 use std::process::Abort;

@@ -5,9 +5,9 @@
 use crate::building::{BLOCKS, finished, image_with, text_of, two_rounds};
 use mig_assemble::Target;
 use mig_fixtures::{TestHeap, at, table};
-use mig_load::InPlaceLoader;
 use mig_mem::{GuestTarget, LentMemoryMut, MAX_TOTAL, Memory, PAGE_SIZE_4K, Place};
 use mig_send::{OpenRound, SingleSender};
+use mig_single_load::InPlaceLoader;
 use mig_stream::{Mode, OpenPart, StreamReader, StreamWriter};
 use std::alloc::{AllocGlobal, Allocator};
 use std::process::Abort;

@@ -1,10 +1,10 @@
 //! What faults say of themselves: the number first, then words.
 
 use mig_assemble::RoundFault;
-use mig_load::{Fault, FeedFault, LoadFault, Origin};
 use mig_mem::{NoMemory, Place, TableFault};
 use mig_packet::ChannelFault;
 use mig_send::SendFault;
+use mig_single_load::{Fault, FeedFault, LoadFault, Origin};
 use mig_stream::StreamFault;
 use std::alloc::Global;
 use std::fmt::{Display, Write};

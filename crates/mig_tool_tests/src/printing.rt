@@ -2,7 +2,7 @@
 
 use crate::script::assert_answer;
 use mig_command::{Answer, end_with};
-use mig_load::{Fault, LoadFault, Origin};
+use mig_single_load::{Fault, LoadFault, Origin};
 
 // The first allocation of a load that is refused, and the largest number of rounds.
 #[test]

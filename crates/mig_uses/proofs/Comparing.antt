@@ -10,7 +10,7 @@ use Rattle.mig_mem.specs.Image.{Image, IsImage, content_at, image_of, differs}
 use Rattle.mig_mem.proofs.Images.{image_agree, image_is}
 use Rattle.mig_mem.proofs.TablePlaces.{has_place-places}
 use Rattle.mig_mem.proofs.Walks.{All-has}
-use Rattle.mig_load.proofs.Statuses.{find_none}
+use Rattle.mig_answer.proofs.Statuses.{find_none}
 
 same_content : (a b : Image) (p : Place) → differs a b p ≡ false → content_at a p ≡ content_at b p
 same_content a b p e = elim (cases_Bool (bytes_eq (content_at a p) (content_at b p))) [

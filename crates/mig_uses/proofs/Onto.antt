@@ -5,9 +5,9 @@ use Rattle.mig_mem.specs.Image.{Page, Image}
 use Rattle.mig_mem.specs.Round.{IsRound, with_rounds}
 use Rattle.mig_stream.specs.Text.{total_bytes}
 use Rattle.mig_stream.specs.Written.{single}
-use Rattle.mig_load.specs.declared.fault.LoadFault.{LoadFault}
-use Rattle.mig_load.specs.InPlace.{InPlace, LoadsOnto, HasSectionsOnto, HasVerdictOnto}
-use Rattle.mig_load.proofs.Onto.{sent_onto}
+use Rattle.mig_single_load.specs.declared.fault.LoadFault.{LoadFault}
+use Rattle.mig_single_load.specs.InPlace.{InPlace, LoadsOnto, HasSectionsOnto, HasVerdictOnto}
+use Rattle.mig_single_load.proofs.Onto.{sent_onto}
 
 -- the text of a sender is in the memory, and the verdict is Ok
 pub loaded_onto : (limit : ℕ) (first : Image) (l : InPlace) (text : List ℕ) (verdict : Result ⊤ LoadFault) → LoadsOnto limit first l text true → HasVerdictOnto limit first text verdict

@@ -6,14 +6,14 @@ use Rattle.mig_mem.specs.Image.{Page, Image}
 use Rattle.mig_mem.specs.Round.{IsRound, after}
 use Rattle.mig_stream.specs.Text.{total_bytes}
 use Rattle.mig_stream.specs.Written.{single}
-use Rattle.mig_load.specs.declared.loaded.Loaded.{Loaded}
-use Rattle.mig_load.specs.declared.fault.LoadFault.{LoadFault}
-use Rattle.mig_load.specs.declared.fault.Fault.TheVariants as fault
-use Rattle.mig_load.specs.SingleLoad.{IsSingleWithoutMemory, loaded}
-use Rattle.mig_load.specs.declared.verdict.Verdict.TheVariants.{Done, Failed}
-use Rattle.mig_load.specs.Texts.{Texts}
-use Rattle.mig_load.specs.MultiLoad.{Answer, as_verdict, answer_of, IsWithoutMemory as LacksMemory}
-use Rattle.mig_load.specs.Sent.{sent_rounds, sent_answer}
+use Rattle.mig_single_load.specs.declared.loaded.Loaded.{Loaded}
+use Rattle.mig_single_load.specs.declared.fault.LoadFault.{LoadFault}
+use Rattle.mig_single_load.specs.declared.fault.Fault.TheVariants as fault
+use Rattle.mig_single_load.specs.SingleLoad.{IsSingleWithoutMemory, loaded}
+use Rattle.mig_answer.specs.declared.verdict.Verdict.TheVariants.{Done, Failed}
+use Rattle.mig_answer.specs.Texts.{Texts}
+use Rattle.mig_answer.specs.MultiLoad.{Answer, as_verdict, answer_of, IsWithoutMemory as LacksMemory}
+use Rattle.mig_answer.specs.Sent.{sent_rounds, sent_answer}
 use Rattle.mig_send.specs.DealtRounds.{DealtRound}
 use Rattle.mig_uses.specs.Backup.{BringsMemory}
 

@@ -9,10 +9,10 @@ use Rattle.mig_stream.specs.declared.item.StreamState.TheVariants.{Reading, Clos
 use Rattle.mig_stream.specs.declared.fault.StreamFault.TheVariants.{Truncated}
 use Rattle.mig_stream.specs.Reading.{settings, StreamReading}
 use Rattle.mig_stream.specs.Law.{HasOneReading, LongerTextsStay}
-use Rattle.mig_load.specs.declared.fault.LoadFault.{LoadFault}
-use Rattle.mig_load.specs.declared.fault.Fault.TheVariants.{Stream}
-use Rattle.mig_load.specs.SingleLoad.{memory_after, verdict_of, at_main}
-use Rattle.mig_load.specs.Loader.{Loader, memory_of, HasAllSections, Waits, HasVerdict, Judges}
+use Rattle.mig_single_load.specs.declared.fault.LoadFault.{LoadFault}
+use Rattle.mig_single_load.specs.declared.fault.Fault.TheVariants.{Stream}
+use Rattle.mig_single_load.specs.SingleLoad.{memory_after, verdict_of, at_main}
+use Rattle.mig_single_load.specs.Loader.{Loader, memory_of, HasAllSections, Waits, HasVerdict, Judges}
 
 -- ---- the verdict is the text's own
 

@@ -1,9 +1,9 @@
 -- What is known of a stream that is still coming.
 use Rattle.std.specs.Prelude.{ℕ, ◌++◌, List, Ok, Err}
 use Rattle.mig_stream.specs.declared.fault.StreamFault.TheVariants.{Truncated}
-use Rattle.mig_load.specs.declared.fault.Fault.TheVariants.{Stream}
-use Rattle.mig_load.specs.SingleLoad.{at_main}
-use Rattle.mig_load.specs.Loader.{HasVerdict}
+use Rattle.mig_single_load.specs.declared.fault.Fault.TheVariants.{Stream}
+use Rattle.mig_single_load.specs.SingleLoad.{at_main}
+use Rattle.mig_single_load.specs.Loader.{HasVerdict}
 use Rattle.mig_uses.specs.declared.incoming.Incoming.{Incoming}
 use Rattle.mig_uses.specs.declared.incoming.Incoming.TheVariants.{Coming, Whole, Refused}
 

@@ -8,12 +8,12 @@ ghost use Rattle.mig_mem.specs.Place.{IsPlace, has_place};
 ghost use Rattle.mig_mem.specs.Image.{Image};
 ghost use Rattle.mig_mem.specs.PlaceSet.{IsPlaceSet};
 ghost use Rattle.mig_stream.specs.Text.{total_bytes};
-ghost use Rattle.mig_load.specs.declared.fault.Fault.TheVariants.{NoMemory as fault_no_memory};
+ghost use Rattle.mig_single_load.specs.declared.fault.Fault.TheVariants.{NoMemory as fault_no_memory};
 ghost use Rattle.mig_uses.specs.Backup.{BringsMemory};
 
-use mig_load::{Fault, LoadFault, Origin, load_single};
 use mig_mem::{Dirty, Memory, NoMemory, Place, Table};
 use mig_send::{SendFault, SingleSender};
+use mig_single_load::{Fault, LoadFault, Origin, load_single};
 use mig_stream::StreamFault;
 use std::alloc::Allocator;
 

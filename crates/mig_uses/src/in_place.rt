@@ -5,10 +5,10 @@ ghost use Rattle.mig_mem.specs.Image.{Page};
 ghost use Rattle.mig_mem.specs.Round.{IsRound, with_rounds};
 ghost use Rattle.mig_stream.specs.Text.{total_bytes};
 ghost use Rattle.mig_stream.specs.Written.{single};
-ghost use Rattle.mig_load.specs.declared.fault.Fault.TheVariants.{NoMemory as fault_no_memory};
+ghost use Rattle.mig_single_load.specs.declared.fault.Fault.TheVariants.{NoMemory as fault_no_memory};
 
-use mig_load::{Fault, InPlaceLoader, LoadFault, Origin};
 use mig_mem::GuestTarget;
+use mig_single_load::{Fault, InPlaceLoader, LoadFault, Origin};
 use std::alloc::Allocator;
 
 // A refused allocation before any round.

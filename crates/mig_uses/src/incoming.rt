@@ -1,10 +1,10 @@
 //! A stream that is loaded as it comes, and refused as soon as that is known: a host that receives guests closes the connection then.
 
 ghost use Rattle.std.specs.Prelude.{◌≡◌, ◌↔◌, ◌+◌, ◌<◌, ◌^◌, ◌++◌, ℕ, List, false, IsFalse, IsTrue, IfOk, OnOk, length};
-ghost use Rattle.mig_load.specs.Loader.{Loads};
+ghost use Rattle.mig_single_load.specs.Loader.{Loads};
 ghost use Rattle.mig_uses.specs.Incoming.{IsTold};
 
-use mig_load::{Fault, FeedFault, LoadFault, SingleLoader};
+use mig_single_load::{Fault, FeedFault, LoadFault, SingleLoader};
 use mig_stream::StreamFault;
 use std::alloc::Allocator;
 

@@ -1,9 +1,9 @@
 //! A load that failed, told to a user: the fault's number, where it is, and its words.
 
 ghost use Rattle.std.specs.Prelude.{◌≡◌, IfOk};
-ghost use Rattle.mig_load.specs.LoadFaultNumber.{fault_number};
+ghost use Rattle.mig_single_load.specs.LoadFaultNumber.{fault_number};
 
-use mig_load::{LoadFault, Origin};
+use mig_single_load::{LoadFault, Origin};
 use std::alloc::{AllocError, Allocator, Global};
 
 /// What a user is told of a load that failed.

@@ -2,10 +2,10 @@
 
 ghost use Rattle.std.specs.Prelude.{◌≡◌, ◌≤◌, ◌^◌, ℕ, List, [], ◌∷◌, Some, IfOk};
 ghost use Rattle.mig_mem.specs.PageSize.{IsPageSize};
-ghost use Rattle.mig_load.specs.Texts.{ended_texts};
-ghost use Rattle.mig_load.specs.Session.{StandsFor};
+ghost use Rattle.mig_answer.specs.Texts.{ended_texts};
+ghost use Rattle.mig_session.specs.Session.{StandsFor};
 
-use mig_load::{Counted, PumpFault, Session, Source, pump};
+use mig_session::{Counted, PumpFault, Session, Source, pump};
 use std::alloc::Allocator;
 use std::io::Read;
 use uuid::Uuid;
@@ -51,8 +51,8 @@ pub fn load_from<A: Allocator + Copy, M: Read + Drop, C: Read + Drop>(
 #[cfg(test)]
 mod tests {
     use super::*;
+    use mig_answer::Verdict;
     use mig_fixtures::{at, is_full, places_of, zeroed};
-    use mig_load::Verdict;
     use mig_mem::PAGE_SIZE_4K;
     use mig_send::{MultiSender, OpenGate};
 

@@ -1,7 +1,7 @@
 use Rattle.std.proofs.Common.{ℕ, ◌≡◌, ◌≤◌, Bool, List}
 use Rattle.mig_mem.specs.Image.{Image, IsImage}
 use Rattle.mig_stream.specs.Reader.{waiting}
-use Rattle.mig_load.specs.InPlaceState.{FedWith}
+use Rattle.mig_single_load.specs.InPlaceState.{FedWith}
 use Rattle.mig_c.proofs.held.next_section.Given as goal
 
 abbrev pub invariant-sections : goal.invariant-sections

@@ -1,6 +1,6 @@
 use Rattle.std.proofs.Common.{◌∙◌, sym, ap}
 use Rattle.std.specs.Prelude.{Result, ⊤}
-use Rattle.mig_load.specs.declared.fault.LoadFault.{LoadFault}
+use Rattle.mig_single_load.specs.declared.fault.LoadFault.{LoadFault}
 use Rattle.mig_c.specs.Found.{seen_of}
 use Rattle.mig_c.proofs.loader.fault_of.Goals as goal
 

@@ -1,5 +1,5 @@
 use Rattle.std.proofs.Common.{◌∙◌, [], true, false}
-use Rattle.mig_load.specs.InPlace.{LoadsOnto}
+use Rattle.mig_single_load.specs.InPlace.{LoadsOnto}
 use Rattle.mig_uses.proofs.Onto.{loaded_onto, never_err}
 use Rattle.mig_uses.proofs.in_place.load_onto.Goals as goal
 

@@ -1,6 +1,6 @@
 use Rattle.mig_mem.specs.Round.{after}
-use Rattle.mig_load.specs.MultiLoad.{bytes_of}
-use Rattle.mig_load.specs.Sent.{IsSentInAnyOrder, sent_rounds}
+use Rattle.mig_answer.specs.MultiLoad.{bytes_of}
+use Rattle.mig_answer.specs.Sent.{IsSentInAnyOrder, sent_rounds}
 use Rattle.mig_uses.proofs.Restoring.{arrived, passed_on, there}
 use Rattle.mig_uses.proofs.migration.load_arrived.Goals as goal
 

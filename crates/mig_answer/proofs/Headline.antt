@@ -1,0 +1,140 @@
+-- What was sent on several channels is loaded, as the single stream of the same rounds is.
+use Rattle.std.proofs.Common.{ℕ, ◌≡◌, ◌+◌, ◌<◌, ◌≤◌, true, false, List, [], ◌∷◌, length, map, refl, sym, ap, ◌∙◌, Option, Some, None, subst}
+use Rattle.std.specs.Option.{option_map, option_and_then}
+use Rattle.std.specs.List.{All, list_all, list_any, range_with_len}
+use Rattle.std.proofs.lemmas.List.{length-map}
+use Rattle.std.proofs.lemmas.List.Elements.{All-nil, All-cons, All-head, All-tail, All-weaker, All-get_or}
+use Rattle.std.proofs.lemmas.List.Folds.{list_any_none}
+use Rattle.mig_mem.specs.RamTable.{RamTable, IsTable}
+use Rattle.mig_mem.specs.PageSize.{IsPageSize}
+use Rattle.mig_mem.specs.Place.{IsPlace}
+use Rattle.mig_mem.specs.Image.{Image}
+use Rattle.mig_mem.specs.Round.{after, round_of, IsRound}
+use Rattle.mig_mem.proofs.Rounds.{image_round}
+use Rattle.mig_stream.specs.Reading.{StreamReading}
+use Rattle.mig_stream.specs.Text.{total_bytes}
+use Rattle.mig_stream.specs.Written.{single}
+use Rattle.mig_send.specs.DealtRounds.{DealtRound, IsDealtRound}
+use Rattle.mig_send.specs.ReadBack.{SendingsAreReadBack}
+use Rattle.mig_single_load.specs.declared.loaded.Loaded.{Loaded}
+use Rattle.mig_answer.specs.declared.verdict.Verdict.{Verdict}
+use Rattle.mig_answer.specs.declared.verdict.Verdict.TheVariants.{Done}
+use Rattle.mig_single_load.specs.SingleLoad.{loaded}
+use Rattle.mig_answer.specs.declared.status.Status.TheVariants.{Whole, Clean}
+use Rattle.mig_answer.specs.Status.{is_whole, is_clean, is_pending, fault_of}
+use Rattle.mig_answer.specs.Texts.{ended_texts, Readings, AreReadings}
+use Rattle.mig_answer.specs.Rounds.{refusal_of, refusal_at, pages_at, memory_at}
+use Rattle.mig_answer.specs.MultiLoad.{Standing, main_at, channels_at, sources_at, passes, IsFirstStop, failed_with_own, verdict_at, Answer}
+use Rattle.mig_mem.specs.First.{first_some}
+use Rattle.mig_answer.specs.Sent.{IsSentInAnyOrder, sent_rounds, sent_answer, SendingsAreLoaded, ChannelsLoadAsOneStream}
+use Rattle.mig_single_load.proofs.Sections.{sent_answer_is}
+use Rattle.mig_answer.proofs.Statuses.{all_pass}
+use Rattle.mig_answer.proofs.OneAnswer.{is_answer_at}
+use Rattle.mig_answer.proofs.Dealt.{is_brought}
+use Rattle.mig_answer.proofs.Sent.{told_of, Stands, whole_below, clean_at_end, hellos_differ}
+use Rattle.mig_answer.proofs.SentRounds.{AreOfSending, round_at, no_round, fits, lawful_round, memory_is}
+use Rattle.mig_stream.proofs.WrittenText.{written_main}
+use Rattle.mig_stream.proofs.SpelledText.{spelled_law}
+use Rattle.mig_send.proofs.ReadBack.{sendings_are_read_back}
+
+-- ---- each round passes, and then all is done
+
+passed : (table : RamTable) (limit channels : ℕ) (rounds : List DealtRound) (readings : Readings) → AreOfSending table limit channels rounds readings
+    → (k : ℕ) → k < length rounds → passes k readings ≡ true
+passed table limit channels rounds readings is k below =
+    let whole : list_all (λ (s : Standing). is_whole s.status) (sources_at k readings) ≡ true =
+    all_pass (λ (s : Standing). is_whole s.status) (sources_at k readings)
+    (All-weaker (λ (s : Standing). s.status ≡ Whole) (λ (s : Standing). is_whole s.status ≡ true) (λ s e. ap is_whole e) (sources_at k readings)
+    (whole_below table channels k rounds readings is.told below)) in
+    let hellos = hellos_differ table channels rounds readings is.told in
+    let lawful : refusal_at k readings ≡ None =
+    ap (λ (r : StreamReading). option_and_then (λ t. refusal_of t k readings) r.table) is.told.has_main ∙ lawful_round table limit channels rounds readings is k below in
+    rw (whole, hellos, lawful) refl
+
+no_faults : (k : ℕ) (sources : List Standing) → All (λ (s : Standing). s.status ≡ Clean) sources → first_some (map (failed_with_own k) sources) ≡ None
+no_faults k [] all = refl
+no_faults k (s ∷ sources) all =
+    let here : fault_of s.status ≡ None = ap fault_of (All-head (λ (x : Standing). x.status ≡ Clean) s sources all) in
+    rw here (no_faults k sources (All-tail (λ (x : Standing). x.status ≡ Clean) s sources all))
+
+pub done_is : (table : RamTable) (limit channels : ℕ) (rounds : List DealtRound) (readings : Readings) → AreOfSending table limit channels rounds readings
+    → verdict_at (length rounds) readings ≡ Done
+done_is table limit channels rounds readings is =
+    let n : ℕ = length rounds in
+    let clean : Stands n Clean readings = clean_at_end table channels rounds readings is.told in
+    let none_pending : list_any (λ (s : Standing). is_pending s.status) (sources_at n readings) ≡ false =
+    list_any_none (λ (s : Standing). is_pending s.status) (sources_at n readings)
+    (All-weaker (λ (s : Standing). s.status ≡ Clean) (λ (s : Standing). is_pending s.status ≡ false) (λ s e. ap is_pending e) (sources_at n readings) clean) in
+    let none_bad = no_faults n (sources_at n readings) clean in
+    let hellos = hellos_differ table channels rounds readings is.told in
+    let all_clean : list_all (λ (s : Standing). is_clean s.status) (sources_at n readings) ≡ true =
+    all_pass (λ (s : Standing). is_clean s.status) (sources_at n readings)
+    (All-weaker (λ (s : Standing). s.status ≡ Clean) (λ (s : Standing). is_clean s.status ≡ true) (λ s e. ap is_clean e) (sources_at n readings) clean) in
+    rw (none_pending, none_bad, hellos, all_clean) refl
+
+stops : (table : RamTable) (limit channels : ℕ) (rounds : List DealtRound) (readings : Readings) → AreOfSending table limit channels rounds readings
+    → IsFirstStop readings (length rounds)
+stops table limit channels rounds readings is =
+    let main : (main_at (length rounds) readings).status ≡ Clean =
+    All-head (λ (s : Standing). s.status ≡ Clean) (main_at (length rounds) readings) (channels_at (length rounds) readings) (clean_at_end table channels rounds readings is.told) in
+    let not_whole : is_whole (main_at (length rounds) readings).status ≡ false = ap is_whole main in
+    record { before = λ k below. passed table limit channels rounds readings is k below; here = rw not_whole refl }
+
+-- ---- the law
+
+of_sending : SendingsAreReadBack → (table : RamTable) (uuid : List ℕ) (limit : ℕ) (rounds : List DealtRound) (main : List ℕ) (channels : List (List ℕ)) (readings : Readings)
+    → (sent : IsSentInAnyOrder table uuid rounds main channels) → total_bytes table ≤ limit → AreReadings table.page_size uuid limit (ended_texts main channels) readings
+    → AreOfSending table sent.batch_limit (length channels) rounds readings
+of_sending back table uuid limit rounds main channels readings sent room are = record {
+  told = told_of back table uuid limit rounds main channels readings sent room are;
+  are_dealt = sent.is_sending.are_dealt;
+  are_numbered = sent.is_sending.are_numbered;
+  are_brought = λ k below. is_brought table sent.batch_limit (length channels) (round_at table rounds k) sent.is_sending.is_set.has_limit.1
+      (fits rounds k (no_round table) sent.is_sending.are_numbered below sent.is_sending.numbers_fit)
+      (All-get_or (IsDealtRound table sent.batch_limit (length channels)) rounds k (no_round table) below sent.is_sending.are_dealt);
+}
+
+pub sendings_law : SendingsAreReadBack → SendingsAreLoaded
+sendings_law back = λ table uuid limit rounds main channels answer sent room answers.
+    let size : IsPageSize table.page_size = sent.is_sending.is_set.has_table.has_page_size in
+    let readings : Readings = answers.readings in
+    let is : AreOfSending table sent.batch_limit (length channels) rounds readings =
+    of_sending back table uuid limit rounds main channels readings sent room answers.are_readings in
+    let n : ℕ = length rounds in
+    let memory : memory_at n readings ≡ Some (after table (sent_rounds rounds)) =
+    ap (λ (r : StreamReading). option_map (λ t. after t (map (λ i. pages_at t i readings) (range_with_len 0 n))) r.table) is.told.has_main
+    ∙ ap (λ (m : Image). Some m) (memory_is table sent.batch_limit (length channels) rounds readings is) in
+    is_answer_at table.page_size uuid limit (ended_texts main channels) readings n answer size answers.are_readings (stops table sent.batch_limit (length channels) rounds readings is) answers
+    ∙ ap (λ (m : Option Image). record { memory = m; rounds = n; verdict = verdict_at n readings }) memory
+    ∙ ap (λ (v : Verdict). record { memory = Some (after table (sent_rounds rounds)); rounds = n; verdict = v }) (done_is table sent.batch_limit (length channels) rounds readings is)
+
+-- ---- beside the single stream
+
+-- what was dealt of a table are rounds of it
+dealt_rounds : (table : RamTable) (limit channels : ℕ) (rounds : List DealtRound) → All (IsDealtRound table limit channels) rounds → All (IsRound table) (sent_rounds rounds)
+dealt_rounds table limit channels [] all = All-nil (IsRound table)
+dealt_rounds table limit channels (r ∷ rounds) all =
+    let dealt : IsDealtRound table limit channels r = All-head (IsDealtRound table limit channels) r rounds all in
+    let here : IsRound r.snapshot.image.table (round_of r.snapshot.image r.snapshot.dirty) =
+    image_round r.snapshot.image r.snapshot.dirty dealt.has_image (subst (λ (t : RamTable). All (IsPlace t) r.snapshot.dirty) (sym dealt.has_table) dealt.has_places.is_within) in
+    All-cons (IsRound table) (round_of r.snapshot.image r.snapshot.dirty) (sent_rounds rounds)
+    (subst (λ (t : RamTable). IsRound t (round_of r.snapshot.image r.snapshot.dirty)) dealt.has_table here)
+    (dealt_rounds table limit channels rounds (All-tail (IsDealtRound table limit channels) r rounds all))
+
+pub one_stream_law : {A : Type 0} → SendingsAreReadBack → ChannelsLoadAsOneStream A
+one_stream_law back = λ table uuid limit limit_alone rounds main channels answer alone sent room room_alone answers alone_answers.
+    let is_table : IsTable table = sent.is_sending.is_set.has_table in
+    let several : answer ≡ sent_answer table rounds = sendings_law back table uuid limit rounds main channels answer sent room answers in
+    let all : All (IsRound table) (sent_rounds rounds) = dealt_rounds table sent.batch_limit (length channels) rounds sent.is_sending.are_dealt in
+    let one : alone ≡ loaded table (sent_rounds rounds) =
+    sent_answer_is table.page_size limit_alone (single table (sent_rounds rounds)) alone is_table.has_page_size alone_answers table (sent_rounds rounds) is_table refl room_alone all refl in
+    let snapshots = map (λ (r : DealtRound). r.snapshot) rounds in
+    let many : length (sent_rounds rounds) ≡ length rounds = length-map snapshots (λ s. round_of s.image s.dirty) ∙ length-map rounds (λ (r : DealtRound). r.snapshot) in (
+      ap (λ (a : Answer). a.memory) several ∙ sym (ap (λ (a : Loaded _). a.memory) one),
+      ap (λ (a : Answer). a.rounds + 2) several ∙ ap (λ n. n + 2) (sym many) ∙ sym (ap (λ (a : Loaded _). a.rounds) one),
+      ap (λ (a : Answer). a.verdict) several,
+      ap (λ (a : Loaded _). a.verdict) one,
+    )
+
+pub sendings_are_loaded : SendingsAreLoaded
+sendings_are_loaded = sendings_law (sendings_are_read_back (λ limit table n is room. written_main table n limit is room) spelled_law)

@@ -1,0 +1,20 @@
+pub mod Statuses
+pub mod OneAnswer
+mod Examples
+pub mod Judged
+pub mod Received
+pub mod ReceivedTogether
+pub mod ReceivedSteps
+pub mod DealtBags
+mod DealtPackets
+mod DealtPages
+mod Dealt
+mod Sent
+mod SentRounds
+pub mod Headline
+pub mod ToldSources
+pub mod Putting
+pub mod Hellos
+pub mod GrowingChannels
+pub mod GrowingMain
+pub mod Growing

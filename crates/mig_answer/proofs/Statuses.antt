@@ -1,0 +1,80 @@
+-- How sources stand at a round.
+use Rattle.std.proofs.Common.{ℕ, ◌≡◌, ◌<◌, Bool, true, false, cond, ◌==◌, List, [], ◌∷◌, refl, sym, ◌∙◌, inl, inr, Option, Some, None, arith, find}
+use Rattle.std.specs.Prelude.{◌⊎◌, nat_lt}
+use Rattle.std.specs.List.{All, list_all}
+use Rattle.std.proofs.lemmas.Bool.{cases_Bool, le-ltb, lt-ltb, eq-eqb, cond-true, cond-false, and_parts}
+use Rattle.std.proofs.lemmas.List.Elements.{All-nil, All-cons, All-head, All-tail}
+use Rattle.mig_mem.specs.First.{first_some}
+use Rattle.mig_stream.specs.declared.item.StreamState.{StreamState}
+use Rattle.mig_stream.specs.declared.item.StreamState.TheVariants as stream
+use Rattle.mig_packet.specs.declared.state.ChannelState.{ChannelState}
+use Rattle.mig_packet.specs.declared.state.ChannelState.TheVariants as channel
+use Rattle.mig_answer.specs.declared.status.Status.{Status}
+use Rattle.mig_answer.specs.declared.status.Status.TheVariants.{Whole, Clean, Bad, Pending}
+use Rattle.mig_answer.specs.Status.{status_at, stream_end, channel_end, is_whole, is_pending, fault_of}
+
+-- ---- one source
+
+pub status_whole : (k rounds : ℕ) (end : Status) → k < rounds → status_at k rounds end ≡ Whole
+status_whole k rounds end below = cond-true (nat_lt k rounds) Whole (cond (k == rounds) end Pending) (lt-ltb k rounds below)
+
+pub status_end : (k rounds : ℕ) (end : Status) → k ≡ rounds → status_at k rounds end ≡ end
+status_end k rounds end same =
+    cond-false (nat_lt k rounds) Whole (cond (k == rounds) end Pending) (le-ltb k rounds (omega (arith, same)))
+    ∙ cond-true (k == rounds) end Pending (eq-eqb k rounds same)
+
+pub stream_ends : (state : StreamState) → is_whole (stream_end state) ≡ false
+stream_ends stream.Reading = refl
+stream_ends stream.Closed = refl
+stream_ends (stream.Bad f) = refl
+
+pub channel_ends : (state : ChannelState) → is_whole (channel_end state) ≡ false
+channel_ends channel.Reading = refl
+channel_ends channel.Closed = refl
+channel_ends (channel.Bad f) = refl
+
+-- a source that has neither a fault nor more to come
+pub sound : (s : Status) → is_pending s ≡ false → fault_of s ≡ None → (s ≡ Whole) ⊎ (s ≡ Clean)
+sound Whole p f = inl refl
+sound Clean p f = inr refl
+sound (Bad fault) p f = absurd cc
+sound Pending p f = absurd cc
+
+-- ---- tests of lists
+
+pub all_pass : {X : Type 0} (test : X → Bool) (xs : List X) → All (λ x. test x ≡ true) xs → list_all test xs ≡ true
+all_pass test [] all = refl
+all_pass test (x ∷ xs) all =
+    rw (All-head (λ y. test y ≡ true) x xs all, all_pass test xs (All-tail (λ y. test y ≡ true) x xs all)) refl
+
+pub passes_all : {X : Type 0} (test : X → Bool) (xs : List X) → list_all test xs ≡ true → All (λ x. test x ≡ true) xs
+passes_all test [] e = All-nil (λ y. test y ≡ true)
+passes_all test (x ∷ xs) e =
+    let parts = and_parts (test x) (list_all test xs) e in
+    All-cons (λ y. test y ≡ true) x xs parts.0 (passes_all test xs parts.1)
+
+pub find_none : {X : Type 0} (test : X → Bool) (xs : List X) → find test xs ≡ None → All (λ x. test x ≡ false) xs
+find_none test [] e = All-nil (λ y. test y ≡ false)
+find_none test (x ∷ xs) e = elim (cases_Bool (test x)) [
+  | inl t ↦ let found : Some x ≡ None = sym (cond-true (test x) (Some x) (find test xs) t) ∙ e in absurd cc
+  | inr f ↦ All-cons (λ y. test y ≡ false) x xs f (find_none test xs (sym (cond-false (test x) (Some x) (find test xs) f) ∙ e))
+]
+
+pub finds_none : {X : Type 0} (test : X → Bool) (xs : List X) → All (λ x. test x ≡ false) xs → find test xs ≡ None
+finds_none test [] all = refl
+finds_none test (x ∷ xs) all =
+    cond-false (test x) (Some x) (find test xs) (All-head (λ y. test y ≡ false) x xs all)
+    ∙ finds_none test xs (All-tail (λ y. test y ≡ false) x xs all)
+
+-- ---- the first answer
+
+-- none of some answers is there
+pub first_none : {X : Type 0} (o : Option X) (os : List (Option X)) → first_some (o ∷ os) ≡ None → (o ≡ None) × (first_some os ≡ None)
+first_none None os e = (refl, e)
+first_none (Some x) os e = absurd cc
+
+-- each one that is there is of a kind
+pub first_is : {X : Type 0} (P : X → Type 0) (os : List (Option X)) (x : X) → All (λ o. (y : X) → o ≡ Some y → P y) os → first_some os ≡ Some x → P x
+first_is P [] x all e = absurd cc
+first_is P (None ∷ os) x all e = first_is P os x (All-tail (λ o. (y : _) → o ≡ Some y → P y) None os all) e
+first_is P (Some z ∷ os) x all e = All-head (λ o. (y : _) → o ≡ Some y → P y) (Some z) os all x e

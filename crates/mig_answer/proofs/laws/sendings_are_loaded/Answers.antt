@@ -1,0 +1,8 @@
+use Rattle.mig_answer.proofs.Headline.{sendings_law, one_stream_law}
+use Rattle.mig_answer.proofs.laws.sendings_are_loaded.Goals as goal
+
+pub returns-clause-done : goal.returns-clause-done
+returns-clause-done g c = sendings_law c.sendings_are_read_back.ensures
+
+pub returns-clause-same : goal.returns-clause-same
+returns-clause-same g c = one_stream_law c.sendings_are_read_back.ensures

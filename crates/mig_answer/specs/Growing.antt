@@ -1,0 +1,33 @@
+-- Texts that go on, and what stays of what they told before.
+use Rattle.std.specs.Prelude.{ℕ, ◌≡◌, ◌≢◌, ◌≤◌, true, List, ◌++◌}
+use Rattle.std.specs.List.{AllZip}
+use Rattle.mig_mem.specs.PageSize.{IsPageSize}
+use Rattle.mig_answer.specs.declared.verdict.Verdict.TheVariants.{Running}
+use Rattle.mig_answer.specs.Texts.{Text, Texts}
+use Rattle.mig_answer.specs.MultiLoad.{Answer, IsAnswer, IsWithoutMemory}
+
+-- A text has gone on to be another: bytes have followed, or it has ended, or both. One that had ended is the same.
+pub record GoesOn (old new : Text) : Type 0 where
+  pub more : List ℕ
+  pub has_bytes : new.bytes ≡ old.bytes ++ more
+  pub stays_ended : old.ended ≡ true → new ≡ old
+
+-- each text has
+pub record GoOn (old new : Texts) : Type 0 where
+  pub main : GoesOn old.main new.main
+  pub channels : AllZip GoesOn old.channels new.channels
+
+-- An answer other than `Running` stays the answer, whatever comes.
+abbrev pub AnswersStay : Type 0
+AnswersStay = (page_size : ℕ) (uuid : List ℕ) (limit : ℕ) (old new : Texts) (answer : Answer) → IsPageSize page_size → GoOn old new
+    → IsAnswer page_size uuid limit old answer → answer.verdict ≢ Running → IsAnswer page_size uuid limit new answer
+
+-- So does one without memory.
+abbrev pub WithoutMemoryStays : Type 0
+WithoutMemoryStays = (page_size : ℕ) (uuid : List ℕ) (limit : ℕ) (old new : Texts) (answer : Answer) → IsPageSize page_size → GoOn old new
+    → IsWithoutMemory page_size uuid limit old answer → IsWithoutMemory page_size uuid limit new answer
+
+-- And rounds that were counted stay counted.
+abbrev pub RoundsStay : Type 0
+RoundsStay = (page_size : ℕ) (uuid : List ℕ) (limit : ℕ) (old new : Texts) (before after : Answer) → IsPageSize page_size → GoOn old new
+    → IsAnswer page_size uuid limit old before → IsAnswer page_size uuid limit new after → before.rounds ≤ after.rounds

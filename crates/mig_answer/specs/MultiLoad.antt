@@ -1,0 +1,152 @@
+-- What a load on several channels answers: one function of its texts as far as they have come.
+use Rattle.std.specs.Prelude.{ℕ, ◌≡◌, ◌⊎◌, ◌<◌, Bool, false, ◌&&◌, ◌==◌, if◌then◌else◌, List, [], ◌∷◌, ◌++◌, length, map, take, get_or, find, Option, Some, None, is_none, IsTrue, IsFalse, Result, Ok, Err, ⊤, Vec}
+use Rattle.std.specs.Bool.{then_some}
+use Rattle.std.specs.List.{list_any, list_all, range_with_len, enumerate_from}
+use Rattle.std.specs.Option.{option_map, unwrap_or}
+use Rattle.mig_mem.specs.First.{first_some}
+use Rattle.mig_mem.specs.Image.{Image}
+use Rattle.mig_single_load.specs.declared.fault.Origin.{Origin}
+use Rattle.mig_single_load.specs.declared.fault.Origin.TheVariants as origin
+use Rattle.mig_single_load.specs.declared.fault.Fault.{Fault}
+use Rattle.mig_single_load.specs.declared.fault.Fault.TheVariants as fault
+use Rattle.mig_single_load.specs.declared.fault.LoadFault.{LoadFault}
+use Rattle.mig_single_load.specs.declared.loaded.Loaded.{Loaded}
+use Rattle.mig_answer.specs.declared.verdict.Verdict.{Verdict}
+use Rattle.mig_answer.specs.declared.verdict.Verdict.TheVariants.{Running, Done, Failed}
+use Rattle.mig_answer.specs.declared.status.Status.{Status}
+use Rattle.mig_answer.specs.Status.{main_status, channel_status, is_whole, is_clean, is_pending, fault_of}
+use Rattle.mig_answer.specs.Texts.{Texts, Readings, AreReadings}
+use Rattle.mig_answer.specs.Rounds.{refusal_at, memory_at}
+
+-- ---- the sources at a round
+
+-- a source, and its status there
+pub record Standing : Type 0 where
+  pub source : Origin
+  pub status : Status
+
+abbrev pub main_standing : Status → Standing
+main_standing status = record { source = origin.Main; status = status }
+
+abbrev pub main_at : ℕ → Readings → Standing
+main_at k readings = main_standing (main_status k readings.main)
+
+-- the channels, each by its place among the texts
+abbrev pub channels_at : ℕ → Readings → List Standing
+channels_at k readings = map (λ c. record { source = origin.Channel c.0; status = channel_status k c.1 }) (enumerate_from 0 readings.channels)
+
+-- the main stream, and then channel after channel
+abbrev pub sources_at : ℕ → Readings → List Standing
+sources_at k readings = main_at k readings ∷ channels_at k readings
+
+-- ---- the hellos
+
+-- the ids that the hellos name, None where none was read, or it has a fault
+abbrev pub hello_ids : Readings → List (Option ℕ)
+hello_ids readings = map (λ c. c.hello) readings.channels
+
+-- both are there, and equal
+abbrev pub is_same_id : Option ℕ → Option ℕ → Bool
+is_same_id None other = false
+is_same_id (Some id) None = false
+is_same_id (Some id) (Some other) = id == other
+
+-- a hello before number j names the id of that one
+abbrev pub comes_again : List (Option ℕ) → ℕ → Bool
+comes_again ids j = list_any (is_same_id (get_or ids j None)) (take j ids)
+
+-- the least channel whose id an earlier channel has
+abbrev pub repeated_hello : List (Option ℕ) → Option ℕ
+repeated_hello ids = find (comes_again ids) (range_with_len 0 (length ids))
+
+-- ---- the first round that doesn't pass
+
+-- every source has round k, the hellos' ids differ, and the round is lawful
+abbrev pub passes : ℕ → Readings → Bool
+passes k readings = list_all (λ s. is_whole s.status) (sources_at k readings) && is_none (repeated_hello (hello_ids readings)) && is_none (refusal_at k readings)
+
+-- the least round that doesn't pass
+pub record IsFirstStop (readings : Readings) (k : ℕ) : Type 0 where
+  pub before : (j : ℕ) → j < k → IsTrue (passes j readings)
+  pub here : IsFalse (passes k readings)
+
+-- ---- the verdict at that round
+
+abbrev pub failed : ℕ → Origin → Fault → Verdict
+failed k source fault = Failed (record { round = k; source = source; fault = fault })
+
+-- failed with a fault, at the first of some sources whose status is such
+abbrev pub failed_at_first : ℕ → (Status → Bool) → Fault → List Standing → Option Verdict
+failed_at_first k is_such fault sources = option_map (λ s. failed k s.source fault) (find (λ s. is_such s.status) sources)
+
+-- failed with the fault of a source that has one
+abbrev pub failed_with_own : ℕ → Standing → Option Verdict
+failed_with_own k s = option_map (failed k s.source) (fault_of s.status)
+
+-- The verdicts that the sources' statuses and hellos may tell at round k, in the order of judging:
+--   running, where a source is pending;
+--   the first source's fault, the main stream's before the channels';
+--   HelloTwice, at the least channel whose hello names an earlier one's id;
+--   done, where all sources are clean;
+--   Extra, at the least channel that has the round, where the main stream is clean;
+--   Short, at the least channel that is clean, where the main stream has the round.
+abbrev pub verdicts_told : ℕ → Standing → List Standing → Option ℕ → List (Option Verdict)
+verdicts_told k main channels repeated =
+    then_some (list_any (λ s. is_pending s.status) (main ∷ channels)) Running ∷
+    first_some (map (failed_with_own k) (main ∷ channels)) ∷
+    option_map (λ j. failed k (origin.Channel j) fault.HelloTwice) repeated ∷
+    then_some (list_all (λ s. is_clean s.status) (main ∷ channels)) Done ∷
+    (if is_clean main.status then failed_at_first k is_whole fault.Extra channels else None) ∷
+    (if is_whole main.status then failed_at_first k is_clean fault.Short channels else None) ∷ []
+
+-- All verdicts that there may be at round k, in the order of judging: those, and then why the round isn't lawful.
+abbrev pub verdicts_at : ℕ → Readings → List (Option Verdict)
+verdicts_at k readings =
+    verdicts_told k (main_at k readings) (channels_at k readings) (repeated_hello (hello_ids readings))
+    ++ option_map (λ f. failed k origin.Round (fault.Round f)) (refusal_at k readings) ∷ []
+
+-- The first that applies. At a round that doesn't pass one of them does.
+abbrev pub verdict_at : ℕ → Readings → Verdict
+verdict_at k readings = unwrap_or (first_some (verdicts_at k readings)) Running
+
+-- ---- the answer
+
+-- what a load tells: the guest's memory, how many rounds are in it, and how the load stands
+pub record Answer : Type 0 where
+  pub memory : Option Image
+  pub rounds : ℕ
+  pub verdict : Verdict
+
+-- The answer on some texts, at pages of this size, under this UUID, and with blocks of at most `limit` bytes together. `rounds` is the
+-- least round that doesn't pass, the memory is that after the rounds before it, and the verdict is that at this round.
+pub record IsAnswer (page_size : ℕ) (uuid : List ℕ) (limit : ℕ) (texts : Texts) (answer : Answer) : Type 0 where
+  pub readings : Readings
+  pub are_readings : AreReadings page_size uuid limit texts readings
+  pub has_rounds : IsFirstStop readings answer.rounds
+  pub has_memory : answer.memory ≡ memory_at answer.rounds readings
+  pub has_verdict : answer.verdict ≡ verdict_at answer.rounds readings
+
+-- The answer where an allocation was refused: the memory is that after the rounds counted, each of which passes, or None where none was counted.
+pub record IsWithoutMemory (page_size : ℕ) (uuid : List ℕ) (limit : ℕ) (texts : Texts) (answer : Answer) : Type 0 where
+  pub readings : Readings
+  pub are_readings : AreReadings page_size uuid limit texts readings
+  pub have_passed : (j : ℕ) → j < answer.rounds → IsTrue (passes j readings)
+  pub has_memory : (answer.memory ≡ memory_at answer.rounds readings) ⊎ ((answer.memory ≡ None) × (answer.rounds ≡ 0))
+  pub has_verdict : answer.verdict ≡ failed answer.rounds origin.Round fault.NoMemory
+
+-- What a load may answer: the answer on its texts, or, where an allocation was refused, one without memory.
+abbrev pub IsAnswerOrWithoutMemory : ℕ → List ℕ → ℕ → Texts → Answer → Type 0
+IsAnswerOrWithoutMemory page_size uuid limit texts answer =
+    IsAnswer page_size uuid limit texts answer ⊎ IsWithoutMemory page_size uuid limit texts answer
+
+-- the answer that a load gave
+abbrev pub as_verdict : Result ⊤ LoadFault → Verdict
+as_verdict (Ok x) = Done
+as_verdict (Err fault) = Failed fault
+
+abbrev pub answer_of : {A : Type 0} → Loaded A → Answer
+answer_of loaded = record { memory = loaded.memory; rounds = loaded.rounds; verdict = as_verdict loaded.verdict }
+
+-- the bytes of texts that a caller holds
+abbrev pub bytes_of : {B : Type 0} → List (Vec ℕ B) → List (List ℕ)
+bytes_of texts = map (λ text. text.items) texts

@@ -1,0 +1,49 @@
+-- A load of what a sender on several channels has sent.
+use Rattle.std.specs.Prelude.{ℕ, ◌≡◌, ◌+◌, ◌≤◌, List, length, map, Some, Ok, IsPermutation}
+use Rattle.mig_mem.specs.RamTable.{RamTable}
+use Rattle.mig_mem.specs.Image.{Page}
+use Rattle.mig_mem.specs.Round.{after}
+use Rattle.mig_mem.specs.Tracking.{rounds_of}
+use Rattle.mig_stream.specs.Text.{total_bytes}
+use Rattle.mig_stream.specs.Written.{single}
+use Rattle.mig_send.specs.DealtRounds.{DealtRound, IsSending}
+use Rattle.mig_single_load.specs.declared.loaded.Loaded.{Loaded}
+use Rattle.mig_answer.specs.declared.verdict.Verdict.TheVariants.{Done}
+use Rattle.mig_single_load.specs.SingleLoad.{IsSingleAnswer}
+use Rattle.mig_answer.specs.Texts.{ended_texts}
+use Rattle.mig_answer.specs.MultiLoad.{Answer, IsAnswer}
+
+-- The texts are those of a sending of these rounds, under this UUID, with some limit of pages to a batch: its main stream, and its
+-- channels in any order.
+pub record IsSentInAnyOrder (table : RamTable) (uuid : List ℕ) (rounds : List DealtRound) (main : List ℕ) (channels : List (List ℕ)) : Type 0 where
+  pub batch_limit : ℕ
+  pub in_order : List (List ℕ)
+  pub is_sending : IsSending table uuid batch_limit (length channels) rounds main in_order
+  pub is_permutation : IsPermutation in_order channels
+
+-- the pages of the rounds that were dealt, as a single stream would send them
+abbrev pub sent_rounds : List DealtRound → List (List Page)
+sent_rounds rounds = rounds_of (map (λ round. round.snapshot) rounds)
+
+-- The answer on what was sent of some rounds: done, with all of them, and the memory after them.
+abbrev pub sent_answer : RamTable → List DealtRound → Answer
+sent_answer table rounds = record { memory = Some (after table (sent_rounds rounds)); rounds = length rounds; verdict = Done }
+
+-- What was sent is loaded, whatever the table, the rounds, the batch limit, the number of channels and their order, and whichever
+-- worker sent what.
+abbrev pub SendingsAreLoaded : Type 0
+SendingsAreLoaded = (table : RamTable) (uuid : List ℕ) (limit : ℕ) (rounds : List DealtRound) (main : List ℕ) (channels : List (List ℕ)) (answer : Answer)
+    → IsSentInAnyOrder table uuid rounds main channels → total_bytes table ≤ limit
+    → IsAnswer table.page_size uuid limit (ended_texts main channels) answer → answer ≡ sent_answer table rounds
+
+-- a load of several channels and one of a single stream gave the same memory, and both are Ok; a single stream has two sections more,
+-- START and END
+abbrev pub AgreesWith : {A : Type 0} → Answer → Loaded A → Type 0
+AgreesWith answer alone = (answer.memory ≡ alone.memory) × (answer.rounds + 2 ≡ alone.rounds) × (answer.verdict ≡ Done) × (alone.verdict ≡ Ok _)
+
+-- So it agrees with the load of the single stream of the same rounds.
+abbrev pub ChannelsLoadAsOneStream : Type 0 → Type 0
+ChannelsLoadAsOneStream A = (table : RamTable) (uuid : List ℕ) (limit limit_alone : ℕ) (rounds : List DealtRound) (main : List ℕ) (channels : List (List ℕ)) (answer : Answer) (alone : Loaded A)
+    → IsSentInAnyOrder table uuid rounds main channels → total_bytes table ≤ limit → total_bytes table ≤ limit_alone
+    → IsAnswer table.page_size uuid limit (ended_texts main channels) answer
+    → IsSingleAnswer table.page_size limit_alone (single table (sent_rounds rounds)) alone → AgreesWith answer alone

@@ -1,0 +1,32 @@
+//! Defines what a load on several channels answers, without threads, queues or pieces.
+//!
+//! The answer is one function of the bytes that have come so far of the main stream and of each
+//! channel. It has the memory after the rounds that all of them have and that are lawful, the
+//! number of these rounds, and the verdict: done, running, or the first fault after them.
+//!
+//! The laws are clauses of functions that do nothing. Any bytes have exactly one answer. An answer
+//! other than `Running` stays when more bytes come. What a sender has sent is loaded. They hold of
+//! each load that answers by `IsAnswer`, as those of `mig_relay` and `mig_session` do.
+//!
+//! Relays and sessions share the calls beside the laws: `verdict_told` returns the verdict that the
+//! sources tell at a round, and `put` applies a round to memory.
+//!
+//! Definitions, in reading order: `Status`, `Texts`, `Rounds`, `MultiLoad`, then `Received`,
+//! `Dealt`, `Sent`, `Law`, `Growing` (`specs/`). `Told` and `Putting` are for the shared calls
+//! alone.
+#![tactic(auto)]
+
+mod laws;
+mod round;
+mod status;
+mod told;
+mod verdict;
+
+pub use laws::{
+    answers_stay, dealt_rounds_are_lawful, received_tells_status, sendings_are_loaded,
+    texts_have_one_answer,
+};
+pub use round::put;
+pub use status::{Status, channel_end, stream_end};
+pub use told::{repeated_id, verdict_told};
+pub use verdict::Verdict;

@@ -1,5 +1,0 @@
-use Rattle.mig_load.specs.RelayItems.{with_settings}
-use Rattle.mig_load.proofs.queue.queue_for.Given as goal
-
-abbrev pub ghosts-cut : goal.ghosts-cut
-ghosts-cut g a = record { source = with_settings a.page_size a.uuid.now a.channels a.text.now }

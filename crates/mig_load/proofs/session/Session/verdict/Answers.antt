@@ -1,7 +1,0 @@
-use Rattle.mig_load.specs.Session.{answer_in}
-use Rattle.mig_load.proofs.Relaying.{sendings_are_loaded}
-use Rattle.mig_load.proofs.session.Session.verdict.Goals as goal
-
-pub returns-clause-sent : goal.returns-clause-sent
-returns-clause-sent g c = λ table uuid limit rounds main channels sent room stands.
-    sendings_are_loaded table uuid limit rounds main channels (answer_in c.args.self.now) sent room stands.is_answer

@@ -1,8 +1,0 @@
-use Rattle.std.proofs.Common.{map}
-use Rattle.mig_load.specs.Received.{hello_in}
-use Rattle.mig_load.specs.Relayed.{received_of}
-use Rattle.mig_load.proofs.Hellos.{HaveSeen}
-use Rattle.mig_load.proofs.told.repeated_hello.Given as goal
-
-abbrev pub invariant-loop-j : goal.invariant-loop-j
-invariant-loop-j g l = HaveSeen l.j (map hello_in (received_of l.collector)) l.seen

@@ -1,0 +1,14 @@
+mod Places
+mod InOrder
+mod Finding
+mod Ends
+mod Relays
+mod GoingThrough
+mod GoneThrough
+mod AllGone
+mod RelayLoads
+mod RelayRounds
+mod MainStream
+mod RelayAnswers
+mod Relaying
+mod RelayHellos

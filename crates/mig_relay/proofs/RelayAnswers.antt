@@ -1,0 +1,172 @@
+-- The answer of a load of what a relay brings.
+use Rattle.std.proofs.Common.{ℕ, ◌≡◌, ◌<◌, ◌≤◌, Bool, true, false, List, [], ◌∷◌, length, map, replicate, refl, sym, ap, ◌∙◌, inl, inr, Some, None, arith, subst}
+use Rattle.std.specs.Prelude.{◌^◌, IsTrue}
+use Rattle.std.specs.List.{All, AllZip, range_with_len}
+use Rattle.std.specs.Option.{option_map}
+use Rattle.std.proofs.lemmas.List.{length-map}
+use Rattle.std.proofs.lemmas.List.Elements.{All-head, All-tail}
+use Rattle.mig_mem.specs.PageSize.{IsPageSize}
+use Rattle.mig_mem.specs.RamTable.{RamTable}
+use Rattle.mig_mem.specs.Image.{Image}
+use Rattle.mig_mem.specs.Round.{after}
+use Rattle.mig_mem.proofs.Rounds.{after-nil}
+use Rattle.mig_stream.specs.declared.item.Mode.TheVariants.{Main}
+use Rattle.mig_stream.specs.declared.item.StreamState.{StreamState}
+use Rattle.mig_stream.specs.PageRecord.{PageRecord}
+use Rattle.mig_stream.specs.Reading.{settings, StreamReading}
+use Rattle.mig_stream.specs.Reader.{Reader, Stands, HasTable, HasRound, HasState}
+use Rattle.mig_stream.proofs.Exists.{one_reading_law}
+use Rattle.mig_stream.proofs.Limits.{limits_law}
+use Rattle.mig_assemble.specs.Target.{LoadTarget, new_target}
+use Rattle.mig_single_load.specs.declared.loaded.Loaded.{Loaded}
+use Rattle.mig_relay.specs.declared.log.ChannelText.{ChannelText}
+use Rattle.mig_single_load.specs.SingleLoad.{no_memory_at, unloaded}
+use Rattle.mig_answer.specs.Texts.{AreReadings, ended_texts}
+use Rattle.mig_answer.specs.Rounds.{pages_at, memory_at}
+use Rattle.mig_answer.specs.MultiLoad.{passes, IsFirstStop, verdict_at, as_verdict}
+use Rattle.mig_answer.specs.Received.{round_count}
+use Rattle.mig_relay.specs.RelayItems.{with_settings, QueueEnd, IsThrough}
+use Rattle.mig_relay.specs.Relayed.{IsRelayOf, Continues, HasReceived, AreAtRound, Load, HaveRounds, HasEnded, EndsAt, Goes, Begins, IsAnswerOf}
+use Rattle.mig_answer.proofs.OneAnswer.{some_readings}
+use Rattle.mig_relay.proofs.Relays.{sizes_are}
+use Rattle.mig_relay.proofs.GoingThrough.{goes_on}
+use Rattle.mig_relay.proofs.MainStream.{main_so_far, same_main, ends_in}
+
+-- ---- what was taken
+
+pub were_received : (k : ℕ) (done : Bool) (old new : List QueueEnd) → AllZip Continues old new → HaveRounds k new → (done ≡ true → All IsThrough new) → AllZip (HasReceived k done) old new
+were_received k done [] [] zip have through = tt
+were_received k done [] (q ∷ qs) zip have through = absurd zip
+were_received k done (p ∷ ps) [] zip have through = absurd zip
+were_received k done (p ∷ ps) (q ∷ qs) zip have through = (
+  record {
+    continues = zip.0;
+    has_rounds = All-head (λ (p : QueueEnd). k ≤ round_count p.passed) q qs have;
+    has_stop = λ is. All-head IsThrough q qs (through is);
+  },
+  were_received k done ps qs zip.1 (All-tail (λ (p : QueueEnd). k ≤ round_count p.passed) q qs have) (λ is. All-tail IsThrough q qs (through is)),
+)
+
+-- nothing, of a load that ended before
+pub none_received : (ends : List QueueEnd) → AllZip (HasReceived 0 false) ends ends
+none_received [] = tt
+none_received (p ∷ ends) = (record { continues = goes_on p; has_rounds = omega arith; has_stop = λ is. absurd cc }, none_received ends)
+
+-- ---- the answer
+
+pub answers_with : {A : Type 0} (l : Load) (k : ℕ) (a : Loaded A) (now : List QueueEnd) → AreReadings l.page_size l.uuid l.limit (ended_texts l.main l.texts) l.readings
+    → ((j : ℕ) → j < k → IsTrue (passes j l.readings)) → a.rounds ≡ k → a.memory ≡ memory_at k l.readings → HasEnded l k a.verdict now → IsAnswerOf l a
+answers_with l k a now are passed rounds memory ended = elim ended.is_answered [
+  | inl stop ↦ inl (record {
+    readings = l.readings;
+    are_readings = are;
+    has_rounds = subst (λ (n : ℕ). IsFirstStop l.readings n) (sym rounds) stop.0;
+    has_memory = memory ∙ ap (λ (n : ℕ). memory_at n l.readings) (sym rounds);
+    has_verdict = sym (ap (λ (n : ℕ). verdict_at n l.readings) rounds ∙ stop.1);
+  })
+  | inr without ↦ inr (record {
+    readings = l.readings;
+    are_readings = are;
+    have_passed = subst (λ (n : ℕ). (j : ℕ) → j < n → IsTrue (passes j l.readings)) (sym rounds) passed;
+    has_memory = inl (memory ∙ ap (λ (n : ℕ). memory_at n l.readings) (sym rounds));
+    has_verdict = ap as_verdict (without ∙ ap no_memory_at (sym rounds));
+  })
+]
+
+pub answers_without : (A : Type 0) (l : Load) → AreReadings l.page_size l.uuid l.limit (ended_texts l.main l.texts) l.readings
+    → IsAnswerOf {A = A} l unloaded
+answers_without A l are = inr (record {
+  readings = l.readings;
+  are_readings = are;
+  have_passed = λ j below. absurd (omega (arith, below));
+  has_memory = inr (refl, refl);
+  has_verdict = refl;
+})
+
+-- ---- the beginning
+
+-- without a table there is no round
+pub ends_without_table : (l : Load) (reader : Reader) (state : StreamState) (places : List ℕ) (ends : List QueueEnd) → Begins l reader places ends
+    → HasTable (settings Main l.page_size l.limit) l.main None → HasState (settings Main l.page_size l.limit) l.main true state → EndsAt l 0 state places ends
+ends_without_table l reader state places ends begins has state_is =
+    ends_in l 0 reader state places ends begins.loading begins.stands last state_is
+  where
+    last : (i : ℕ) (round : List PageRecord) → HasRound (settings Main l.page_size l.limit) l.main i round → i < 0
+    last i round there =
+        let size = begins.loading.is_page_size in
+        let one = one_reading_law (settings Main l.page_size l.limit) l.main size in
+        let same : has.0 ≡ there.0 = one.2 has.0 has.1 ∙ sym (one.2 there.0 there.1) in
+        let none : there.0.rounds ≡ [] =
+        (limits_law (settings Main l.page_size l.limit) l.main there.0 size there.1).has_table_first (sym (has.2 ∙ ap (λ (r : StreamReading). r.table) same)) in
+        let below = there.2 in
+        absurd (omega (arith, below, ap (λ (rs : List (List PageRecord)). length rs) none))
+
+pub no_memory_there : (l : Load) (reader : Reader) (places : List ℕ) (ends : List QueueEnd) → Begins l reader places ends → HasTable (settings Main l.page_size l.limit) l.main None
+    → memory_at 0 l.readings ≡ None
+no_memory_there l reader places ends begins has =
+    let same = same_main l 0 places ends has.0 begins.loading has.1 in
+    let none : l.readings.main.table ≡ None = ap (λ (r : StreamReading). r.table) same ∙ sym has.2 in
+    ap (option_map (λ t. after t (map (λ i. pages_at t i l.readings) (range_with_len 0 0)))) none
+
+-- with one there is a memory of zeros
+pub goes_from_zeros : (l : Load) (reader : Reader) (table : RamTable) (target : LoadTarget) (places : List ℕ) (ends : List QueueEnd) → Begins l reader places ends
+    → HasTable (settings Main l.page_size l.limit) l.main (Some table) → target ≡ new_target table → Goes l reader target places ends
+goes_from_zeros l reader table target places ends begins has is = rw is (record {
+  stands = begins.stands;
+  loading = begins.loading;
+  has_loaded = record {
+    has_memory =
+        let same = same_main l 0 places ends has.0 begins.loading has.1 in
+        let some : l.readings.main.table ≡ Some table = ap (λ (r : StreamReading). r.table) same ∙ sym has.2 in
+        ap (option_map (λ t. after t (map (λ i. pages_at t i l.readings) (range_with_len 0 0)))) some ∙ ap (λ (m : Image). Some m) (after-nil table);
+    has_rounds = refl;
+    has_base = refl;
+  };
+  few_packets = omega arith;
+  is_short = begins.is_short;
+})
+
+-- all channels are at the start
+pub are_at_start : (ends : List QueueEnd) → AreAtRound 0 (replicate (length ends) 0) ends
+are_at_start [] = tt
+are_at_start (p ∷ ends) = (
+  record { rounds = []; has_count = refl; is_at = record { within = omega arith; has_rounds = λ more. refl; is_open = refl } },
+  are_at_start ends,
+)
+
+-- ---- the relay
+
+-- its texts are these
+pub relay_size : (page_size n : ℕ) (uuid : List ℕ) (texts : List (List ℕ)) (ends : List QueueEnd) → IsRelayOf page_size uuid texts ends → All (λ p. p.source.page_size ≡ n) ends → n ≡ page_size
+relay_size page_size n uuid texts [] is all =
+    let some = is.has_some in
+    absurd (omega (arith, some, ap (λ (l : List ChannelText). length l) is.has_sources, length-map texts (with_settings page_size uuid (length texts))))
+relay_size page_size n uuid texts (p ∷ ends) is all =
+    sym (All-head (λ (p : QueueEnd). p.source.page_size ≡ n) p ends all)
+    ∙ All-head (λ (p : QueueEnd). p.source.page_size ≡ page_size) p ends (sizes_are page_size uuid (length texts) texts (p ∷ ends) is.has_sources)
+
+-- a load of them, with what they tell
+abbrev pub load_of : (page_size : ℕ) (uuid : List ℕ) (limit : ℕ) (main : List ℕ) (texts : List (List ℕ)) → IsPageSize page_size → Load
+load_of page_size uuid limit main texts size = record {
+  page_size = page_size;
+  uuid = uuid;
+  limit = limit;
+  main = main;
+  texts = texts;
+  readings = (some_readings page_size uuid limit (ended_texts main texts) size).0;
+}
+
+pub load_begins : (page_size : ℕ) (uuid : List ℕ) (limit : ℕ) (main : List ℕ) (texts : List (List ℕ)) (ends : List QueueEnd) (reader : Reader) (size : IsPageSize page_size)
+    → IsRelayOf page_size uuid texts ends → Stands (settings Main page_size limit) (main_so_far main 0) reader → length main < 2 ^ 63
+    → Begins (load_of page_size uuid limit main texts size) reader (replicate (length ends) 0) ends
+load_begins page_size uuid limit main texts ends reader size is stands short = record {
+  stands = stands;
+  loading = record {
+    is_page_size = size;
+    is_relay = is;
+    are_readings = (some_readings page_size uuid limit (ended_texts main texts) size).1;
+    have_passed = λ j below. absurd (omega (arith, below));
+    are_at = are_at_start ends;
+  };
+  is_short = short;
+}

@@ -1,0 +1,45 @@
+-- The load of texts on several channels: the relay of the texts, the answer where an allocation was refused, and what was sent.
+use Rattle.std.proofs.Common.{ℕ, ◌≡◌, ◌≤◌, List, refl, sym, inl, inr, arith, subst}
+use Rattle.std.specs.Prelude.{◌⊎◌}
+use Rattle.mig_mem.specs.PageSize.{IsPageSize}
+use Rattle.mig_mem.specs.RamTable.{RamTable}
+use Rattle.mig_stream.specs.Text.{total_bytes}
+use Rattle.mig_send.specs.DealtRounds.{DealtRound}
+use Rattle.mig_single_load.specs.declared.loaded.Loaded.{Loaded}
+use Rattle.mig_single_load.specs.SingleLoad.{unloaded}
+use Rattle.mig_answer.specs.Texts.{Texts, ended_texts}
+use Rattle.mig_answer.specs.MultiLoad.{Answer, IsAnswer, IsWithoutMemory, IsAnswerOrWithoutMemory, answer_of}
+use Rattle.mig_answer.specs.Sent.{IsSentInAnyOrder, sent_answer}
+use Rattle.mig_relay.specs.RelayItems.{QueueEnd}
+use Rattle.mig_relay.specs.Multi.{AnswersRelay}
+use Rattle.mig_answer.proofs.OneAnswer.{some_readings}
+use Rattle.mig_answer.proofs.Headline.{sendings_are_loaded}
+
+-- ---- an allocation was refused before any round
+
+pub is_without_memory : {A : Type 0} (p : ℕ) (uuid : List ℕ) (limit : ℕ) (texts : Texts) (loaded : Loaded A) → IsPageSize p → loaded ≡ unloaded
+    → IsWithoutMemory p uuid limit texts (answer_of loaded)
+is_without_memory p uuid limit texts loaded size is =
+    let found = some_readings p uuid limit texts size in
+    subst (λ (l : Loaded _). IsWithoutMemory p uuid limit texts (answer_of l)) (sym is)
+    (record {
+      readings = found.0;
+      are_readings = found.1;
+      have_passed = λ j below. absurd (omega (arith, below));
+      has_memory = inr (refl, refl);
+      has_verdict = refl;
+    })
+
+pub refused_answers : {A : Type 0} (limit : ℕ) (main : List ℕ) (ends : List QueueEnd) (loaded : Loaded A) → loaded ≡ unloaded → AnswersRelay limit main ends loaded
+refused_answers limit main ends loaded is = λ p uuid texts size relay. inr (is_without_memory p uuid limit (ended_texts main texts) loaded size is)
+
+-- ---- what was sent
+
+pub sending_is_loaded : (p : ℕ) (uuid : List ℕ) (limit : ℕ) (main : List ℕ) (channels : List (List ℕ)) (answer : Answer)
+    → IsAnswerOrWithoutMemory p uuid limit (ended_texts main channels) answer
+    → (table : RamTable) (rounds : List DealtRound) → IsSentInAnyOrder table uuid rounds main channels → table.page_size ≡ p → total_bytes table ≤ limit
+    → (answer ≡ sent_answer table rounds) ⊎ IsWithoutMemory p uuid limit (ended_texts main channels) answer
+sending_is_loaded p uuid limit main channels answer (inl is) = λ table rounds sent size room.
+    inl (sendings_are_loaded table uuid limit rounds main channels answer sent room
+    (subst (λ n. IsAnswer n uuid limit (ended_texts main channels) answer) (sym size) is))
+sending_is_loaded p uuid limit main channels answer (inr refused) = λ table rounds sent size room. inr refused

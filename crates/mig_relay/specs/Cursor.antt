@@ -1,0 +1,45 @@
+-- A place in a channel's text, and the messages before it.
+use Rattle.std.specs.Prelude.{◌≡◌, ◌≢◌, ℕ, ◌+◌, ◌≤◌, true, false, List, [], ◌∷◌, ◌++◌, length, drop, None}
+use Rattle.std.specs.List.{concat}
+use Rattle.mig_packet.specs.Hello.{hello_len}
+use Rattle.mig_packet.specs.declared.state.ChannelState.{ChannelState}
+use Rattle.mig_packet.specs.Progress.{ChannelProgress, start}
+use Rattle.mig_packet.specs.Reading.{Reads}
+use Rattle.mig_packet.specs.ChannelItems.{all_packets}
+use Rattle.mig_relay.specs.declared.cursor.Cursor.{Cursor}
+use Rattle.mig_relay.specs.declared.log.ChannelText.{ChannelText}
+use Rattle.mig_relay.specs.declared.message.Message.{Message}
+use Rattle.mig_relay.specs.RelayItems.{with_settings}
+use Rattle.mig_relay.specs.Messages.{front_messages, BeginsMessages, is_last}
+
+abbrev pub text_of : Cursor → List ℕ → ChannelText
+text_of k text = with_settings k.page_size k.uuid k.channels text
+
+-- where the bytes behind a hello and these packets begin
+abbrev pub place_behind : ChannelProgress → ℕ
+place_behind c = hello_len + length (concat (all_packets c))
+
+-- Before the place lie these messages. The reading of the text goes on from there: it comes as far as that of the whole text.
+pub record IsBehind (k : Cursor) (text : List ℕ) (done : List Message) : Type 0 where
+  pub c : ChannelProgress
+  pub has_page_size : c.page_size ≡ k.page_size
+  pub has_uuid : c.uuid ≡ k.uuid
+  pub has_channels : c.channels ≡ k.channels
+  pub has_done : done ≡ front_messages c
+  pub has_few : length done ≤ k.at
+  pub before_hello : k.greeted ≡ false → (c.hello ≡ None) × (k.at ≡ 0) × (all_packets c ≡ [])
+  pub behind_hello : k.greeted ≡ true → (c.hello ≢ None) × (k.at ≡ place_behind c)
+  pub synced : k.unsynced ≡ false → c.packets ≡ []
+  pub unsynced : k.unsynced ≡ true → c.packets ≢ []
+  pub to : ChannelProgress
+  pub rest : List ℕ
+  pub found : ChannelState
+  pub goes_on : Reads c (drop k.at text) to rest found
+  pub whole : Reads (start k.page_size k.uuid k.channels) text to rest found
+
+-- this is the message that comes next, and the place behind it
+pub record Finds (k : Cursor) (text : List ℕ) (message : Message) (behind : Cursor) : Type 0 where
+  pub next : (done : List Message) → IsBehind k text done → BeginsMessages (text_of k text) (done ++ message ∷ [])
+  pub goes_on : is_last message ≡ false → (done : List Message) → IsBehind k text done → IsBehind behind text (done ++ message ∷ [])
+  pub same : text_of behind text ≡ text_of k text
+  pub within : behind.at ≤ length text

@@ -1,0 +1,13 @@
+-- The load of what a relay brings, from a main stream's text that is over: the answer on the texts of the relay, or that where memory
+-- was refused.
+use Rattle.std.specs.Prelude.{ℕ, List}
+use Rattle.mig_mem.specs.PageSize.{IsPageSize}
+use Rattle.mig_single_load.specs.declared.loaded.Loaded.{Loaded}
+use Rattle.mig_answer.specs.Texts.{ended_texts}
+use Rattle.mig_answer.specs.MultiLoad.{IsAnswerOrWithoutMemory, answer_of}
+use Rattle.mig_relay.specs.RelayItems.{QueueEnd}
+use Rattle.mig_relay.specs.Relayed.{IsRelayOf}
+
+abbrev pub AnswersRelay : {A : Type 0} → ℕ → List ℕ → List QueueEnd → Loaded A → Type 0
+AnswersRelay limit main ends loaded = (page_size : ℕ) (uuid : List ℕ) (texts : List (List ℕ)) → IsPageSize page_size → IsRelayOf page_size uuid texts ends
+    → IsAnswerOrWithoutMemory page_size uuid limit (ended_texts main texts) (answer_of loaded)

@@ -1,0 +1,222 @@
+-- A load of what a relay brings: what it takes of each channel, and the round that is judged.
+use Rattle.std.specs.Prelude.{◌≡◌, ◌≢◌, ◌⊎◌, ℕ, ◌+◌, ◌<◌, ◌≤◌, Bool, true, List, [], ◌∷◌, ◌++◌, length, map, take, slice_get, slice_set, Option, Some, None, IsTrue, All, Result, ⊤, ◌==◌, ◌^◌, if◌then◌else◌, get_or, is_ok}
+use Rattle.std.specs.List.{AllZip}
+use Rattle.mig_mem.specs.PageSize.{IsPageSize}
+use Rattle.mig_packet.specs.Lent.{fields}
+use Rattle.mig_packet.specs.Packet.{Fields}
+use Rattle.mig_packet.specs.declared.packet.Packet.{Packet}
+use Rattle.mig_packet.specs.ChannelItems.{ChannelItem}
+use Rattle.mig_assemble.specs.declared.fault.RoundFault.{RoundFault}
+use Rattle.mig_assemble.specs.Target.{LoadTarget, FitsTable}
+use Rattle.mig_stream.specs.Reader.{Reader, Stands}
+use Rattle.mig_stream.specs.Reading.{settings as main_settings}
+use Rattle.mig_stream.specs.Round.{RoundOfRecords}
+use Rattle.mig_stream.specs.declared.item.StreamState.{StreamState}
+use Rattle.mig_stream.specs.declared.item.Mode.TheVariants.{Main}
+use Rattle.mig_single_load.specs.declared.fault.Origin.TheVariants as origin
+use Rattle.mig_answer.specs.declared.status.Status.{Status}
+use Rattle.mig_answer.specs.declared.status.Status.TheVariants.{Whole, Clean, Bad, Pending}
+use Rattle.mig_single_load.specs.declared.fault.LoadFault.{LoadFault}
+use Rattle.mig_single_load.specs.declared.loaded.Loaded.{Loaded}
+use Rattle.mig_answer.specs.declared.verdict.Verdict.{Verdict}
+use Rattle.mig_answer.specs.declared.verdict.Verdict.TheVariants.{Running, Done}
+use Rattle.mig_single_load.specs.SingleLoad.{no_memory_at}
+use Rattle.mig_answer.specs.Texts.{Readings, AreReadings, ended_texts}
+use Rattle.mig_answer.specs.Rounds.{packets_at, refusal_at}
+use Rattle.mig_answer.specs.MultiLoad.{repeated_hello, passes, IsFirstStop, failed, verdict_at, as_verdict, answer_of, IsAnswerOrWithoutMemory}
+use Rattle.mig_answer.specs.Received.{round_count, rounds_in, end_in, hello_in, status_in, channel_packets_in, packets_in, IsFront}
+use Rattle.mig_relay.specs.declared.item.ChannelEnd.{ChannelEnd}
+use Rattle.mig_relay.specs.declared.item.ChannelEnd.TheVariants as channel_end
+use Rattle.mig_relay.specs.declared.item.Item.{Item}
+use Rattle.mig_single_load.specs.declared.fault.Fault.TheVariants as fault
+use Rattle.mig_relay.specs.RelayItems.{as_channel_item, IsOfPageSize, with_settings, QueueEnd, BeginsItems, IsThrough}
+use Rattle.mig_answer.specs.Putting.{HasLoaded}
+
+-- ---- the relay of some texts
+
+-- these are the ends that pop of the queues of these texts, at pages of this size and under this UUID
+pub record IsRelayOf (page_size : ℕ) (uuid : List ℕ) (texts : List (List ℕ)) (ends : List QueueEnd) : Type 0 where
+  pub has_some : 1 ≤ length texts
+  pub has_sources : map (λ p. p.source) ends ≡ map (with_settings page_size uuid (length texts)) texts
+
+-- they are of the queues of some texts
+pub record IsRelay (ends : List QueueEnd) : Type 0 where
+  pub page_size : ℕ
+  pub uuid : List ℕ
+  pub texts : List (List ℕ)
+  pub is_page_size : IsPageSize page_size
+  pub is_relay : IsRelayOf page_size uuid texts ends
+
+abbrev pub received_of : List QueueEnd → List (List ChannelItem)
+received_of ends = map (λ p. p.passed) ends
+
+-- the same queue and text, and what was taken begins with what it was
+pub record Continues (old new : QueueEnd) : Type 0 where
+  pub same_queue : new.queue ≡ old.queue
+  pub same_source : new.source ≡ old.source
+  pub begins : IsFront old.passed new.passed
+
+-- What a load has taken that counts so many rounds: their SYNC packets at least, and where it is done the stop.
+pub record HasReceived (rounds : ℕ) (done : Bool) (old new : QueueEnd) : Type 0 where
+  pub continues : Continues old new
+  pub has_rounds : rounds ≤ round_count new.passed
+  pub has_stop : done ≡ true → IsThrough new
+
+-- ---- one channel, gone through item by item
+
+-- the status that a stop tells
+abbrev pub stop_status : ChannelEnd → Status
+stop_status channel_end.Clean = Clean
+stop_status (channel_end.Bad f) = Bad (fault.Channel f)
+
+-- the first `at` items were taken, and the stop isn't among them
+abbrev pub IsOpenAt : ℕ → QueueEnd → Type 0
+IsOpenAt at p = (at ≤ length p.passed) × (end_in (take at p.passed) ≡ Pending)
+
+-- The first `at` items that were taken of a channel were gone through: they have these whole rounds, then no further packet, and no stop.
+pub record IsAt (at : ℕ) (passed : List ChannelItem) (rounds : List (List Fields)) : Type 0 where
+  pub within : at ≤ length passed
+  pub has_rounds : (more : List ChannelItem) → rounds_in (take at passed ++ more) ≡ rounds ++ rounds_in more
+  pub is_open : end_in (take at passed) ≡ Pending
+
+-- they have exactly k whole rounds
+pub record IsAtRound (k at : ℕ) (passed : List ChannelItem) : Type 0 where
+  pub rounds : List (List Fields)
+  pub has_count : length rounds ≡ k
+  pub is_at : IsAt at passed rounds
+
+-- enough was taken of a channel to tell round k
+abbrev pub HasEnough : ℕ → QueueEnd → Type 0
+HasEnough k p = BeginsItems p.source p.passed × ((k < round_count p.passed) ⊎ IsThrough p)
+
+-- Round k of a channel was gone through, up to there: how the channel stands at it, and the packets where it is whole.
+pub record HasGone (k to : ℕ) (p : QueueEnd) (status : Status) (packets : List Fields) : Type 0 where
+  pub is_told : HasEnough k p
+  pub has_status : status ≡ status_in k p.passed
+  pub has_packets : status ≡ Whole → packets ≡ channel_packets_in k p.passed
+  pub goes_on : status ≡ Whole → IsAtRound (k + 1) to p.passed
+
+-- Item `at` of channel j is this item, which was taken where it wasn't yet. The other channels stay.
+pub record GivesItem (j at : ℕ) (old new : List QueueEnd) (item : Item) : Type 0 where
+  pub before : QueueEnd
+  pub behind : QueueEnd
+  pub has_before : slice_get old j ≡ Some before
+  pub has_new : new ≡ slice_set old j behind
+  pub continues : Continues before behind
+  pub begun : BeginsItems behind.source behind.passed
+  pub is_there : at < length behind.passed
+  pub has_passed : take (at + 1) behind.passed ≡ take at before.passed ++ as_channel_item item ∷ []
+  pub is_page_size : IsPageSize before.source.page_size
+  pub has_page_size : IsOfPageSize before.source.page_size item
+
+-- Channel j was gone through from one place to another, and brought these packets. The other channels stay.
+pub record GoesThrough (j at : ℕ) (old new : List QueueEnd) (to : ℕ) (status : Status) (packets : List Packet) : Type 0 where
+  pub before : QueueEnd
+  pub behind : QueueEnd
+  pub has_before : slice_get old j ≡ Some before
+  pub has_new : new ≡ slice_set old j behind
+  pub continues : Continues before behind
+  pub has_page_size : All (λ packet. packet.page_size ≡ before.source.page_size) packets
+  pub has_gone : (k : ℕ) → IsAtRound k at before.passed → HasGone k to behind status (map fields packets)
+
+-- ---- all channels
+
+-- all were gone through up to round k
+abbrev pub AreAtRound : ℕ → List ℕ → List QueueEnd → Type 0
+AreAtRound k places ends = AllZip (λ (at : ℕ) (p : QueueEnd). IsAtRound k at p.passed) places ends
+
+-- Round k of all channels was gone through: how they stand at it, and where it is whole of each the packets of all.
+pub record HaveGone (k : ℕ) (places : List ℕ) (ends : List QueueEnd) (statuses : List Status) (packets : List Fields) : Type 0 where
+  pub are_told : All (HasEnough k) ends
+  pub has_statuses : statuses ≡ map (status_in k) (received_of ends)
+  pub has_packets : All (λ status. status ≡ Whole) statuses → packets ≡ packets_in k (received_of ends)
+  pub goes_on : All (λ status. status ≡ Whole) statuses → AreAtRound (k + 1) places ends
+
+-- ---- the round that is judged
+
+-- the least channel whose hello names an earlier one's id, which the first round alone tells
+abbrev pub repeated_at : ℕ → List QueueEnd → Option ℕ
+repeated_at k ends = if k == 0 then repeated_hello (map hello_in (received_of ends)) else None
+
+-- what a load on channels is of, and what the texts tell
+pub record Load : Type 0 where
+  pub page_size : ℕ
+  pub uuid : List ℕ
+  pub limit : ℕ
+  pub main : List ℕ
+  pub texts : List (List ℕ)
+  pub readings : Readings
+
+-- A load has come to round k: the rounds before it pass, and these are the channels, gone through up to it.
+pub record Loading (l : Load) (k : ℕ) (places : List ℕ) (ends : List QueueEnd) : Type 0 where
+  pub is_page_size : IsPageSize l.page_size
+  pub is_relay : IsRelayOf l.page_size l.uuid l.texts ends
+  pub are_readings : AreReadings l.page_size l.uuid l.limit (ended_texts l.main l.texts) l.readings
+  pub have_passed : (j : ℕ) → j < k → IsTrue (passes j l.readings)
+  pub are_at : AreAtRound k places ends
+
+-- What the sources tell at round k: a verdict, which is the load's, or that all have the round, with these packets.
+pub record ToldAt (l : Load) (k : ℕ) (main : Status) (told : Option Verdict) (places : List ℕ) (ends : List QueueEnd) (packets : List Fields) : Type 0 where
+  pub stops : (verdict : Verdict) → told ≡ Some verdict → IsFirstStop l.readings k × (verdict_at k l.readings ≡ verdict) × (verdict ≢ Running)
+  pub through : told ≡ Some Done → All IsThrough ends
+  pub has_main : told ≡ None → main ≡ Whole
+  pub has_packets : told ≡ None → packets ≡ packets_at l.page_size k l.readings
+  pub goes_on : told ≡ None → AreAtRound (k + 1) places ends
+  pub passes : told ≡ None → refusal_at k l.readings ≡ None → IsTrue (passes k l.readings)
+  pub refused : told ≡ None → (why : RoundFault) → refusal_at k l.readings ≡ Some why
+      → IsFirstStop l.readings k × (verdict_at k l.readings ≡ failed k origin.Round (fault.Round why))
+
+-- the answer of a load at round k: that of the texts, or `NoMemory`
+abbrev pub IsAnswered : Load → ℕ → Result ⊤ LoadFault → Type 0
+IsAnswered l k verdict = (IsFirstStop l.readings k × (verdict_at k l.readings ≡ as_verdict verdict)) ⊎ (verdict ≡ no_memory_at k)
+
+-- each channel has the SYNC packets of the first k rounds
+abbrev pub HaveRounds : ℕ → List QueueEnd → Type 0
+HaveRounds k ends = All (λ p. k ≤ round_count p.passed) ends
+
+-- What a load leaves that ends at round k: its verdict, and what it took of the channels.
+pub record HasEnded (l : Load) (k : ℕ) (verdict : Result ⊤ LoadFault) (ends : List QueueEnd) : Type 0 where
+  pub is_answered : IsAnswered l k verdict
+  pub have_rounds : HaveRounds k ends
+  pub through : is_ok verdict ≡ true → All IsThrough ends
+
+-- a load has come to a round of these records, which the main stream has, with the rounds before it in the memory
+pub record ComesToRound (l : Load) (target : LoadTarget) (places : List ℕ) (ends : List QueueEnd) (round : RoundOfRecords) : Type 0 where
+  pub loading : Loading l target.rounds places ends
+  pub has_loaded : HasLoaded target.rounds l.readings target
+  pub few_packets : target.base ≤ 2 ^ 63
+  pub few_rounds : target.rounds < 2 ^ 63
+  pub has_round : target.rounds < length l.readings.main.rounds
+  pub is_round : round.records ≡ get_or l.readings.main.rounds target.rounds []
+  pub fits : FitsTable target.memory.table round
+
+-- What the judging of a round leaves: with None it is in the memory, and the next one is due; else the load has ended, and the memory stays.
+abbrev pub HasJudged : Load → LoadTarget → Option (Result ⊤ LoadFault) → LoadTarget → List ℕ → List QueueEnd → Type 0
+HasJudged l old None new places ends =
+    Loading l (old.rounds + 1) places ends × HasLoaded (old.rounds + 1) l.readings new × (new.base ≤ 2 ^ 63)
+HasJudged l old (Some verdict) new places ends = (new ≡ old) × HasEnded l old.rounds verdict ends
+
+-- Behind round k the main stream stands so.
+pub record EndsAt (l : Load) (k : ℕ) (state : StreamState) (places : List ℕ) (ends : List QueueEnd) : Type 0 where
+  pub loading : Loading l k places ends
+  pub is_last : length l.readings.main.rounds ≡ k
+  pub has_state : l.readings.main.state ≡ state
+
+-- a load has put the first rounds of the main stream, of which the reader gives the others, into the memory
+pub record Goes (l : Load) (reader : Reader) (target : LoadTarget) (places : List ℕ) (ends : List QueueEnd) : Type 0 where
+  pub stands : Stands (main_settings Main l.page_size l.limit) (record { text = l.main; ended = true; taken = target.rounds }) reader
+  pub loading : Loading l target.rounds places ends
+  pub has_loaded : HasLoaded target.rounds l.readings target
+  pub few_packets : target.base ≤ 2 ^ 63
+  pub is_short : length l.main < 2 ^ 63
+
+-- a load begins: of neither the main stream, which its reader was given, nor the channels anything was gone through
+pub record Begins (l : Load) (reader : Reader) (places : List ℕ) (ends : List QueueEnd) : Type 0 where
+  pub stands : Stands (main_settings Main l.page_size l.limit) (record { text = l.main; ended = true; taken = 0 }) reader
+  pub loading : Loading l 0 places ends
+  pub is_short : length l.main < 2 ^ 63
+
+-- the answer of a load: that on its texts, or the one without memory
+abbrev pub IsAnswerOf : {A : Type 0} → Load → Loaded A → Type 0
+IsAnswerOf l loaded =
+    IsAnswerOrWithoutMemory l.page_size l.uuid l.limit (ended_texts l.main l.texts) (answer_of loaded)

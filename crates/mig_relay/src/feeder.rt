@@ -1,0 +1,99 @@
+//! The end of a channel's queue that pushes: it goes through the channel's text, item by item. A worker of `load_multi` steps one.
+
+ghost use Rattle.mig_relay.specs.Relay.{PushesOne};
+
+use crate::cursor::Cursor;
+use crate::message::Message;
+use crate::queue::{LogPass, Sender, push};
+use mig_packet::{Gate, Step};
+use std::alloc::{Allocator, Global};
+use std::marker::Model;
+use std::sync::Wait;
+
+/// Pushes the items of one channel's text. Contracts see its queue, the text, and the items that it has pushed.
+#[derive(Drop)]
+pub struct Feeder<'a, A: Allocator = Global> {
+    // the number of its channel, and of its next item
+    pub(crate) channel: usize,
+    pub(crate) count: u64,
+    pub(crate) text: &'a [u8],
+    pub(crate) cursor: Cursor,
+    pub(crate) sender: Sender<A>,
+    pub(crate) pass: LogPass,
+}
+
+impl<'a, A: Allocator> Model for Feeder<'a, A> {
+    ghost use Rattle.mig_relay.specs.RelayItems.{QueueEnd};
+
+    ghost Value = { QueueEnd };
+
+    ghost use Rattle.crossbeam_channel.specs.Claims.{view as known, IsSeatAt};
+    ghost use Rattle.crossbeam_channel.specs.Ends.{sends_on};
+    ghost use Rattle.mig_relay.specs.RelayItems.{queue_end};
+    ghost use Rattle.mig_relay.specs.Queue.{items_in};
+    ghost use Rattle.mig_relay.specs.Ends.{IsFeeding};
+
+    ghost view = { λ a. queue_end a.pass.table_id (known a.pass).source (items_in (known a.pass)) };
+
+    ghost invariant = { λ a. IsSeatAt (sends_on a.sender) a.pass × IsFeeding a.cursor a.text.now a.count (known a.pass) };
+}
+
+/// What is left of a feeder that has pushed its text's stop. Contracts see its queue, the text, and the items that it has pushed.
+#[derive(Drop)]
+pub struct Fed<A: Allocator = Global> {
+    sender: Sender<A>,
+    pass: LogPass,
+}
+
+impl<A: Allocator> Model for Fed<A> {
+    ghost use Rattle.mig_relay.specs.RelayItems.{QueueEnd};
+
+    ghost Value = { QueueEnd };
+
+    ghost use Rattle.crossbeam_channel.specs.Claims.{view as known};
+    ghost use Rattle.mig_relay.specs.RelayItems.{queue_end};
+    ghost use Rattle.mig_relay.specs.Queue.{items_in};
+
+    ghost view = { λ a. queue_end a.pass.table_id (known a.pass).source (items_in (known a.pass)) };
+}
+
+/// What a step of a feeder leaves.
+#[derive(Drop)]
+pub enum FeederStep<'a, A: Allocator = Global> {
+    /// A feeder that has items to push.
+    More(Feeder<'a, A>),
+    /// The feeder has pushed its text's stop.
+    Ended(Fed<A>),
+}
+
+impl<'a, A: Allocator> Feeder<'a, A> {
+    /// Reads the next item, passes the gate with its number as found, pushes it, and passes the gate again. It waits while the queue is
+    /// full, and allocates nothing. Where the collector was dropped early, it may wait for ever.
+    pub fn step<R: Wait, G: Gate>(self, wait: &R, gate: &G) -> FeederStep<'a, A>
+        ensures { PushesOne self.entry result }
+    {
+        let Feeder {
+            channel,
+            count,
+            text,
+            cursor,
+            sender,
+            mut pass,
+        } = self;
+        let (message, behind) = cursor.read(text);
+        gate.pass(channel, Step::Found(count));
+        push(wait, &sender, &mut pass, message);
+        gate.pass(channel, Step::Pushed(count));
+        if message.is_stop() {
+            return FeederStep::Ended(Fed { sender, pass });
+        }
+        FeederStep::More(Feeder {
+            channel,
+            count: count + 1,
+            text,
+            cursor: behind,
+            sender,
+            pass,
+        })
+    }
+}

@@ -1,0 +1,30 @@
+//! Loads whole streams on several channels, through a relay between threads.
+//!
+//! A relay passes the items of each channel from a thread that reads them to the one that loads.
+//! Each channel has a `Feeder`, a queue, and its place in the one `Collector`. `mig_packet` defines
+//! the items, and `specs/Relay.antt` what the two ends promise. `load_relayed` loads what a relay
+//! brings; `load_multi` starts the relay and its workers too. `mig_answer` defines what they
+//! answer.
+//!
+//! Definitions, in reading order: `RelayItems`, `Relay`, `Relayed`, `Multi` (`specs/`). `Messages`,
+//! `Queue`, `Cursor` and `Ends` are internal: only contracts of private functions name them.
+#![tactic(auto)]
+
+mod channel;
+mod cursor;
+mod feeder;
+mod hellos;
+mod item;
+mod log;
+mod message;
+mod multi;
+mod queue;
+mod relay;
+mod relayed;
+mod taking;
+
+pub use feeder::{Fed, Feeder, FeederStep};
+pub use item::{ChannelEnd, Item};
+pub use multi::load_multi;
+pub use relay::{Collector, Relay};
+pub use relayed::load_relayed;

@@ -1,0 +1,94 @@
+//! The rule of a channel's queue, and the kinds of steps that are made under it, for `queue`.
+//!
+//! Nothing here runs. `crossbeam_channel` asks at each step that it keeps the rule, whatever the queue holds and all passes know by
+//! then, and answers what the step tells. The steps are: the making of the queue with one pass, that this pass is split in two, one to push
+//! and one to pop, a push, and a pop.
+
+use crate::message::Message;
+use crossbeam_channel::protocol::{Lesson, Outcome, Protocol, Split};
+use std::collections::LinkedList;
+use std::marker::{Brand, PhantomData};
+
+/// A channel's text that is over, with what was handed in to read it by. No value of this type is made: it is known to proofs alone.
+pub struct ChannelText {
+    pub page_size: u64,
+    pub uuid: LinkedList<u8>,
+    pub channels: usize,
+    pub text: LinkedList<u8>,
+}
+
+/// What a pass knows: whether it pushes, whether it pops, the text, and the messages that it pushed or popped. No value of this type is
+/// made.
+pub struct Log {
+    pub feeds: bool,
+    pub collects: bool,
+    pub source: ChannelText,
+    pub done: LinkedList<Message>,
+}
+
+/// What holds of a queue and its passes between any two steps: what was popped, and then what the queue holds, is what was pushed, and
+/// this begins the text's messages. One pass pushes, and one pops.
+pub struct InOrder;
+
+impl Protocol<Message, Log> for InOrder {
+    ghost use Rattle.mig_relay.specs.Queue.{fresh, IsInOrder};
+
+    ghost holds = { IsInOrder };
+
+    ghost first = { fresh };
+}
+
+/// Names the text whose items a queue is to carry.
+pub trait Carries {
+    ghost use Rattle.mig_relay.specs.declared.log.ChannelText.{ChannelText};
+
+    ghost source: { ChannelText };
+}
+
+impl Carries for Brand {
+    ghost use Rattle.mig_relay.specs.Queue.{no_channel_text};
+
+    ghost source = { no_channel_text };
+}
+
+/// The step that makes the pass that pops out of a queue's first one, which pushes from then on. Both know the text.
+pub struct Cut<Q>(PhantomData<Q>);
+
+impl<Q: Carries> Split<Log> for Cut<Q> {
+    ghost use Rattle.std.specs.Prelude.{[]};
+    ghost use Rattle.mig_relay.specs.Queue.{feeding, collecting};
+
+    ghost left = { λ _. feeding Q.source [] };
+
+    ghost right = { λ _. collecting Q.source [] };
+}
+
+/// The step of a push: the pass has pushed one message more.
+pub struct Pushed;
+
+impl Outcome<Message, Log> for Pushed {
+    ghost use Rattle.mig_relay.specs.Queue.{TellsPush};
+
+    ghost then = { TellsPush };
+}
+
+impl Lesson<Message, Log> for Pushed {
+    ghost use Rattle.std.specs.Prelude.{⊤};
+
+    ghost fact = { λ v items. ⊤ };
+}
+
+/// The step of a pop: the pass has popped one message more, and all that it popped begins the text's messages.
+pub struct Popped;
+
+impl Outcome<Message, Log> for Popped {
+    ghost use Rattle.mig_relay.specs.Queue.{TellsPop};
+
+    ghost then = { TellsPop };
+}
+
+impl Lesson<Message, Log> for Popped {
+    ghost use Rattle.std.specs.Prelude.{⊤};
+
+    ghost fact = { λ v items. ⊤ };
+}

@@ -1,0 +1,145 @@
+//! The load of whole texts on several channels, for callers that have them: a relay, with a worker for each channel.
+
+ghost use Rattle.std.specs.Prelude.{ℕ, ◌≡◌, ◌≤◌, ◌^◌, ◌⊎◌, List, length, map, IfOk, vec_len, vec_capacity};
+ghost use Rattle.mig_mem.specs.PageSize.{IsPageSize};
+ghost use Rattle.mig_mem.specs.RamTable.{RamTable};
+ghost use Rattle.mig_stream.specs.Text.{total_bytes};
+ghost use Rattle.mig_send.specs.DealtRounds.{DealtRound};
+ghost use Rattle.mig_answer.specs.Texts.{ended_texts};
+ghost use Rattle.mig_answer.specs.MultiLoad.{IsWithoutMemory, IsAnswerOrWithoutMemory, answer_of, bytes_of};
+ghost use Rattle.mig_answer.specs.Sent.{IsSentInAnyOrder, sent_answer};
+ghost use Rattle.mig_relay.specs.RelayItems.{IsThrough};
+ghost use Rattle.mig_relay.specs.Multi.{AnswersRelay};
+
+use crate::feeder::{Fed, Feeder, FeederStep};
+use crate::relay::{Collector, Relay};
+use crate::relayed::load_relayed;
+use mig_mem::NoMemory;
+use mig_packet::Gate;
+use mig_single_load::{Loaded, without_memory};
+use std::alloc::Allocator;
+use std::sync::Wait;
+use std::thread;
+use std::thread::{JoinHandle, Scope, Threads};
+use uuid::Uuid;
+
+// how many items the queue of a channel holds
+const QUEUE_CAPACITY: usize = 64;
+
+/// Loads a guest from the texts of a migration on several channels, all of which are over: the main stream's, and the channels' in any
+/// order, of pages of this size, under this UUID. The blocks may have `limit` bytes together. Each channel's text is read by a worker on a
+/// thread of its own for the whole load, which passes the gate with each item that it found, and that it pushed. All workers have ended
+/// when it returns.
+pub fn load_multi<
+    R: Threads + Wait + Sync,
+    A: Allocator + Copy + Send + Sync,
+    B: Allocator + Sync,
+    G: Gate + Sync,
+>(
+    rt: &R,
+    alloc: A,
+    page_size: u64,
+    uuid: &Uuid,
+    main: &[u8],
+    channels: &[Vec<u8, B>],
+    limit: u64,
+    gate: &G,
+) -> Loaded<A>
+    requires page_size { IsPageSize page_size }
+    requires channels { (1 ≤ length channels.now) × (length channels.now ≤ 255) }
+    requires limit { limit ≤ 2 ^ 40 }
+    ensures answer { IsAnswerOrWithoutMemory page_size uuid.now limit (ended_texts main.now (bytes_of channels.now))
+        (answer_of result) }
+    ensures sent { (table : RamTable) (rounds : List DealtRound) → IsSentInAnyOrder table uuid.now rounds main.now (bytes_of channels.now)
+        → table.page_size ≡ page_size → total_bytes table ≤ limit
+        → (answer_of result ≡ sent_answer table rounds)
+        ⊎ IsWithoutMemory page_size uuid.now limit (ended_texts main.now (bytes_of channels.now)) (answer_of result) }
+{
+    let Ok((feeders, collector)) = Relay::start(alloc, page_size, uuid, channels, QUEUE_CAPACITY)
+    else {
+        return without_memory();
+    };
+    load(rt, alloc, feeders, collector, main, limit, gate)
+}
+
+// Starts a worker for each feeder, loads what they bring, and ends them all.
+fn load<'a, R: Threads + Wait + Sync, A: Allocator + Copy + Send + Sync, G: Gate + Sync>(
+    rt: &R,
+    alloc: A,
+    feeders: Vec<Feeder<'a, A>, A>,
+    mut collector: Collector<'a, A>,
+    main: &[u8],
+    limit: u64,
+    gate: &G,
+) -> Loaded<A>
+    requires same { feeders.items ≡ collector }
+    requires limit { limit ≤ 2 ^ 40 }
+    ensures { AnswersRelay limit main.now collector.entry result }
+{
+    thread::scope(
+        thread::scope_env(),
+        rt,
+        move |scope| -> Loaded<A>
+            requires same { feeders.items ≡ collector }
+            requires limit { limit ≤ 2 ^ 40 }
+            ensures { AnswersRelay limit main.entry.now collector.entry result }
+        {
+            let Ok(mut workers) = Vec::with_capacity(alloc, feeders.len()) else {
+                return without_memory();
+            };
+            let loaded = match start_workers(scope, rt, gate, feeders, &mut workers) {
+                Ok(()) => load_relayed(rt, alloc, &mut collector, main, limit),
+                Err(_) => without_memory(),
+            };
+            collector.drain(rt, workers.len());
+            for worker in workers {
+                worker.join(rt);
+            }
+            loaded
+        },
+    )
+}
+
+// Starts a worker for each feeder, in order, up to the first that can't be started.
+fn start_workers<
+    's,
+    'a: 's,
+    E,
+    R: Threads + Wait + Sync,
+    A: Allocator + Copy + Send + Sync + 's,
+    G: Gate + Sync,
+>(
+    scope: &'s Scope<'s, E>,
+    rt: &'s R,
+    gate: &'s G,
+    feeders: Vec<Feeder<'a, A>, A>,
+    workers: &mut Vec<JoinHandle<()>, A>,
+) -> Result<(), NoMemory>
+    requires empty { vec_len workers.old ≡ 0 }
+    requires room { length feeders.items ≤ vec_capacity workers.old }
+    ensures all { IfOk result (λ _. vec_len workers.new ≡ length feeders.entry.items) }
+    ensures some { vec_len workers.new ≤ length feeders.entry.items }
+{
+    for feeder in feeders {
+        match scope.spawn(move || drop(feed(rt, feeder, gate))) {
+            Ok(worker) => workers.push_reserved(worker),
+            Err(_) => return Err(NoMemory),
+        }
+    }
+    Ok(())
+}
+
+// Pushes all that is left of a feeder's text.
+fn feed<'a, R: Wait, A: Allocator, G: Gate>(rt: &R, mut feeder: Feeder<'a, A>, gate: &G) -> Fed<A>
+    ensures queue { result.queue ≡ feeder.entry.queue }
+    ensures source { result.source ≡ feeder.entry.source }
+    ensures through { IsThrough result }
+{
+    for _ in rt.forever() {
+        match feeder.step(rt, gate) {
+            FeederStep::More(next) => feeder = next,
+            FeederStep::Ended(fed) => return fed,
+        }
+    }
+    unreachable!()
+}

@@ -1,0 +1,233 @@
+//! The load of what a relay brings, round by round: `load_multi` calls it beside its workers, and so may callers with a relay of their own.
+
+ghost use Rattle.std.specs.Prelude.{ℕ, ◌≡◌, ◌≢◌, ◌<◌, ◌≤◌, ◌^◌, [], List, None, map, replicate, is_ok, IsTrue, All, IfOk, OnOk};
+ghost use Rattle.std.specs.List.{AllZip};
+ghost use Rattle.mig_packet.specs.Lent.{fields};
+ghost use Rattle.mig_answer.specs.declared.verdict.Verdict.TheVariants.{Running as running};
+ghost use Rattle.mig_answer.specs.Status.{main_status};
+ghost use Rattle.mig_answer.specs.Texts.{ended_texts};
+ghost use Rattle.mig_answer.specs.MultiLoad.{IsAnswerOrWithoutMemory, passes, as_verdict, answer_of};
+ghost use Rattle.mig_relay.specs.Relayed.{IsRelayOf, HasReceived, Continues, AreAtRound, Load, Loading, ToldAt, repeated_at, ComesToRound, HasJudged, HasEnded, EndsAt, Goes, Begins, IsAnswerOf};
+ghost use Rattle.mig_answer.specs.Putting.{HasLoaded};
+
+use crate::hellos::repeated_hello;
+use crate::relay::Collector;
+use crate::taking::take_of_all;
+use mig_answer::{Status, Verdict, put, stream_end, verdict_told};
+use mig_assemble::{Gathered, Target};
+use mig_mem::NoMemory;
+use mig_single_load::{LoadFault, Loaded, Origin, no_memory, without_memory};
+use mig_stream::{Mode, StreamReader, StreamRound, StreamState};
+use std::alloc::Allocator;
+use std::sync::Wait;
+
+// The least channel whose hello names an earlier one's id, which the first round alone tells.
+fn repeated_at<A: Allocator>(round: u64, collector: &Collector<'_, A>) -> Option<usize>
+    ensures { result ≡ repeated_at round collector.now }
+{
+    if round == 0 {
+        return repeated_hello(collector);
+    }
+    None
+}
+
+// Goes through a round of all channels, and gathers its packets. Gives the verdict that the sources tell there; None where all have the round.
+fn told_at<'a, R: Wait, A: Allocator + Copy>(
+    wait: &R,
+    alloc: A,
+    round: u64,
+    main: Status,
+    collector: &mut Collector<'a, A>,
+    places: &mut Vec<usize, A>,
+    gathered: &mut Gathered<'a, A>,
+) -> Result<Option<Verdict>, NoMemory>
+    requires empty { gathered.old ≡ [] }
+    requires places { AreAtRound round places.old.items collector.old }
+    ensures told { IfOk result (λ told. (l : Load) → Loading l round places.old.items collector.old → main ≡ main_status round l.readings.main
+        → ToldAt l round main told places.new.items collector.new (map fields gathered.new)) }
+    ensures page_size { OnOk result ((page_size : ℕ) → All (λ p. p.source.page_size ≡ page_size) collector.old
+        → All (λ packet. packet.page_size ≡ page_size) gathered.new) }
+    ensures continues { AllZip Continues collector.old collector.new }
+{
+    let mut statuses = Vec::with_capacity(alloc, collector.len())?;
+    take_of_all(wait, collector, places, gathered, &mut statuses)?;
+    let repeated = repeated_at(round, collector);
+    Ok(verdict_told(round, main, &statuses, repeated))
+}
+
+// The verdict of a load as its answer.
+fn answer_of(verdict: Verdict) -> Result<(), LoadFault>
+    requires { verdict ≢ running }
+    ensures { as_verdict result ≡ verdict }
+{
+    match verdict {
+        Verdict::Done => Ok(()),
+        Verdict::Failed(fault) => Err(fault),
+        Verdict::Running => unreachable!(),
+    }
+}
+
+// Judges the next round, of which this is the main stream's part, and puts it into the memory. Some verdict is the load's, and changes
+// nothing.
+fn load_round<'a, R: Wait, A: Allocator + Copy>(
+    wait: &R,
+    alloc: A,
+    collector: &mut Collector<'a, A>,
+    places: &mut Vec<usize, A>,
+    target: &mut Target<A>,
+    round: &StreamRound<'_, A>,
+) -> Option<Result<(), LoadFault>>
+    requires { (l : Load) × ComesToRound l target.old places.old.items collector.old round.now }
+    ensures judged { (l : Load) → ComesToRound l target.old places.old.items collector.old round.now → HasJudged l target.old result target.new places.new.items collector.new }
+    ensures continues { AllZip Continues collector.old collector.new }
+{
+    let mut gathered = Gathered::new(alloc);
+    let rounds = target.rounds();
+    let Ok(told) = told_at(
+        wait,
+        alloc,
+        rounds,
+        Status::Whole,
+        collector,
+        places,
+        &mut gathered,
+    ) else {
+        return Some(no_memory(rounds));
+    };
+    if let Some(verdict) = told {
+        return Some(answer_of(verdict));
+    }
+    if let Err(fault) = put(target, round, &gathered) {
+        return Some(Err(fault));
+    }
+    None
+}
+
+// The verdict behind all rounds of a main stream that stands so.
+fn end<'a, R: Wait, A: Allocator + Copy>(
+    wait: &R,
+    alloc: A,
+    rounds: u64,
+    state: StreamState,
+    collector: &mut Collector<'a, A>,
+    places: &mut Vec<usize, A>,
+) -> Result<(), LoadFault>
+    requires { (l : Load) × EndsAt l rounds state places.old.items collector.old }
+    ensures ended { (l : Load) → EndsAt l rounds state places.old.items collector.old → HasEnded l rounds result collector.new }
+    ensures continues { AllZip Continues collector.old collector.new }
+{
+    let main = stream_end(state);
+    if let Status::Bad(fault) = main {
+        return Err(LoadFault {
+            round: rounds,
+            source: Origin::Main,
+            fault,
+        });
+    }
+    let mut gathered = Gathered::new(alloc);
+    let Ok(told) = told_at(wait, alloc, rounds, main, collector, places, &mut gathered) else {
+        return no_memory(rounds);
+    };
+    match told {
+        Some(verdict) => answer_of(verdict),
+        None => unreachable!(),
+    }
+}
+
+// Puts the rounds that wait into the memory, up to the first that doesn't pass, and gives the load's verdict.
+fn load_rounds<'a, R: Wait, A: Allocator + Copy>(
+    wait: &R,
+    alloc: A,
+    collector: &mut Collector<'a, A>,
+    places: &mut Vec<usize, A>,
+    reader: &mut StreamReader<'_, A>,
+    target: &mut Target<A>,
+) -> Result<(), LoadFault>
+    requires { (l : Load) × Goes l reader.old target.old places.old.items collector.old }
+    ensures ended { (l : Load) → Goes l reader.old target.old places.old.items collector.old
+        → HasLoaded target.new.rounds l.readings target.new × HasEnded l target.new.rounds result collector.new
+        × ((j : ℕ) → j < target.new.rounds → IsTrue (passes j l.readings)) }
+    ensures continues { AllZip Continues collector.old collector.new }
+{
+    'rounds: while let Ok(Some(round)) = reader.take_round() {
+        if let Some(verdict) = load_round(wait, alloc, collector, places, target, &round) {
+            return verdict;
+        }
+    }
+    end(
+        wait,
+        alloc,
+        target.rounds(),
+        reader.state(),
+        collector,
+        places,
+    )
+}
+
+// A place at the start of each of some channels.
+fn starts<A: Allocator>(alloc: A, channels: usize) -> Result<Vec<usize, A>, NoMemory>
+    ensures { IfOk result (λ v. v.items ≡ replicate channels 0) }
+{
+    let mut places = Vec::with_capacity(alloc, channels)?;
+    for _ in 0..channels {
+        places.push_reserved(0);
+    }
+    Ok(places)
+}
+
+// Loads what a main stream and the channels bring, of which nothing was gone through.
+fn load_all<'a, R: Wait, A: Allocator + Copy>(
+    wait: &R,
+    alloc: A,
+    collector: &mut Collector<'a, A>,
+    places: &mut Vec<usize, A>,
+    reader: &mut StreamReader<'_, A>,
+) -> Loaded<A>
+    requires { (l : Load) × Begins l reader.old places.old.items collector.old }
+    ensures answer { (l : Load) → Begins l reader.old places.old.items collector.old → IsAnswerOf l result }
+    ensures received { AllZip (HasReceived result.rounds (is_ok result.verdict)) collector.old collector.new }
+{
+    let Some(table) = reader.table() else {
+        return Loaded {
+            memory: None,
+            rounds: 0,
+            verdict: end(wait, alloc, 0, reader.state(), collector, places),
+        };
+    };
+    let Ok(mut target) = Target::new(alloc, table) else {
+        return without_memory();
+    };
+    let verdict = load_rounds(wait, alloc, collector, places, reader, &mut target);
+    let rounds = target.rounds();
+    Loaded {
+        memory: Some(target.into_memory()),
+        rounds,
+        verdict,
+    }
+}
+
+/// Loads a guest from a main stream's text that is over and the channels of a relay, as far as they have to be taken: of each channel up
+/// to the round that is judged. It begins with what was taken before, and waits for the feeders. `limit` is that of the blocks' bytes
+/// together. Where a feeder was dropped before its stop, it may wait for ever.
+pub fn load_relayed<'a, R: Wait, A: Allocator + Copy>(
+    wait: &R,
+    alloc: A,
+    collector: &mut Collector<'a, A>,
+    main: &[u8],
+    limit: u64,
+) -> Loaded<A>
+    requires limit { limit ≤ 2 ^ 40 }
+    ensures answer { (page_size : ℕ) (uuid : List ℕ) (texts : List (List ℕ)) → IsRelayOf page_size uuid texts collector.old
+        → IsAnswerOrWithoutMemory page_size uuid limit (ended_texts main.now texts) (answer_of result) }
+    ensures received { AllZip (HasReceived result.rounds (is_ok result.verdict)) collector.old collector.new }
+{
+    let page_size = collector.page_size();
+    let Ok(mut reader) = StreamReader::of_text(alloc, Mode::Main, page_size, limit, main) else {
+        return without_memory();
+    };
+    reader.end();
+    let Ok(mut places) = starts(alloc, collector.len()) else {
+        return without_memory();
+    };
+    load_all(wait, alloc, collector, &mut places, &mut reader)
+}

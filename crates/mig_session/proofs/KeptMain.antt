@@ -1,0 +1,193 @@
+-- What a session keeps of its main stream, and what that tells.
+use Rattle.std.proofs.Common.{ℕ, ◌≡◌, ◌≢◌, ◌+◌, ◌<◌, ◌≤◌, true, false, List, [], ◌++◌, length, map, get_or, refl, sym, ap, subst, ◌∙◌, inl, inr, Option, Some, None, arith}
+use Rattle.std.specs.Prelude.{IfSome, IfNone, is_some}
+use Rattle.std.specs.List.{All}
+use Rattle.std.proofs.lemmas.Bool.{cases_lt}
+use Rattle.std.proofs.lemmas.List.{length-append}
+use Rattle.mig_mem.specs.PageSize.{IsPageSize}
+use Rattle.mig_mem.specs.RamTable.{RamTable}
+use Rattle.mig_mem.specs.Place.{IsPlace}
+use Rattle.mig_stream.specs.declared.item.StreamState.{StreamState}
+use Rattle.mig_stream.specs.declared.item.Mode.TheVariants.{Main}
+use Rattle.mig_stream.specs.PageRecord.{PageRecord}
+use Rattle.mig_stream.specs.Round.{RoundOfRecords}
+use Rattle.mig_stream.specs.Progress.{StreamProgress, whole_table}
+use Rattle.mig_stream.specs.Reading.{Settings, settings, StreamReading, IsReading, state_at}
+use Rattle.mig_stream.specs.Reader.{Reader, Stands, StepsOn, Tells, waiting, with_taken, with_piece as read_piece, over as read_over, one_taken, HasRound, HasState, HasTable}
+use Rattle.mig_stream.proofs.Exists.{one_reading_law}
+use Rattle.mig_stream.proofs.Limits.{limits_law}
+use Rattle.mig_stream.proofs.Longer.{longer_law}
+use Rattle.mig_answer.specs.declared.status.Status.{Status}
+use Rattle.mig_answer.specs.declared.status.Status.TheVariants.{Whole}
+use Rattle.mig_answer.specs.Status.{main_status, stream_end, is_whole}
+use Rattle.mig_answer.specs.Texts.{Text, IsMainReading, with_piece, over}
+use Rattle.mig_session.specs.Sources.{FedMain, HoldsMain, IsMainRound, TakesMain, TellsMainStatus, main_so_far, main_waiting, with_one}
+use Rattle.mig_answer.proofs.Statuses.{status_whole, status_end, stream_ends}
+use Rattle.mig_answer.proofs.GrowingMain.{main_round_stays}
+
+abbrev pub kept : Reader → Option RoundOfRecords → FedMain
+kept reader round = record { reader = reader; round = round }
+
+-- ---- the next round is taken
+
+pub takes_next : (o : Option RoundOfRecords) (old now : Reader) → IfNone o (now ≡ old)
+    → IfNone o (Tells old (λ given so_far. (i : ℕ) (round : List PageRecord) → HasRound given so_far.text i round → i < so_far.taken))
+    → IfSome o (λ r. Tells old (λ given so_far. (r.page_size ≡ given.page_size) × HasRound given so_far.text so_far.taken r.records))
+    → IfSome o (λ r. Tells old (λ given so_far. (table : RamTable) → HasTable given so_far.text (Some table) → All (λ x. IsPlace table x.place) r.records))
+    → IfSome o (λ r. StepsOn one_taken old now)
+    → (round : Option RoundOfRecords) → TakesMain (kept old round) (kept now o)
+takes_next None old now same last is places step round = λ given k text stands. record {
+  stands = subst (λ r. Stands given (main_so_far text k) r) (sym same) stands;
+  has_round = tt;
+  has_none = last given (main_so_far text k) stands;
+}
+takes_next (Some r) old now same last is places step round = λ given k text stands.
+    let has = is given (main_so_far text k) stands in
+    record {
+      stands = step given (main_so_far text k) stands;
+      has_round = record { has_page_size = has.0; has_records = has.1; has_places = places given (main_so_far text k) stands };
+      has_none = tt;
+    }
+
+-- one fewer waits in the reader
+pub fewer_wait : (o : Option RoundOfRecords) (old now : Reader) → IfNone o (now ≡ old) → IfSome o (λ r. waiting old ≡ waiting now + 1) → main_waiting (kept now o) ≡ waiting old
+fewer_wait None old now same fewer = ap waiting same
+fewer_wait (Some r) old now same fewer = sym fewer
+
+-- ---- a piece comes
+
+-- the table of a text with a whole round is that of any longer one
+table_back : (given : Settings) (k : ℕ) (text more : List ℕ) (round : List PageRecord) (table : RamTable) → IsPageSize given.page_size → HasRound given text k round
+    → HasTable given (text ++ more) (Some table) → HasTable given text (Some table)
+table_back given k text more round table size has now = go has.0.table refl
+  where
+    go : (o : Option RamTable) → has.0.table ≡ o → HasTable given text (Some table)
+    go None e =
+        let none : has.0.rounds ≡ [] = (limits_law given text has.0 size has.1).has_table_first e in
+        let below : k < length has.0.rounds = has.2 in
+        let zero : length has.0.rounds ≡ 0 = ap (λ (l : List (List PageRecord)). length l) none in absurd (omega (arith, below, zero))
+    go (Some t) e =
+        let stays = longer_law given text more has.0 now.0 size has.1 now.1 in
+        (has.0, has.1, now.2 ∙ stays.same_table t e ∙ sym e)
+
+-- behind a round that waits
+pub fed_behind : (given : Settings) (k : ℕ) (text : Text) (piece : List ℕ) (old now : Reader) (r : RoundOfRecords) → IsPageSize given.page_size → StepsOn (read_piece piece) old now
+    → HoldsMain given k text (kept old (Some r)) → HoldsMain given k (with_piece piece text) (kept now (Some r))
+fed_behind given k text piece old now r size step holds =
+    let round = holds.has_round in
+    record {
+      stands = step given (main_so_far text (k + 1)) holds.stands;
+      has_round = record {
+        has_page_size = round.has_page_size;
+        has_records = main_round_stays given text.bytes piece k r.records size round.has_records;
+        has_places = λ table has. round.has_places table (table_back given k text.bytes piece r.records table size round.has_records has);
+      };
+      has_none = tt;
+    }
+
+-- where none does
+pub fed_open : (given : Settings) (k : ℕ) (text : Text) (piece : List ℕ) (old now : Reader) → StepsOn (read_piece piece) old now → HoldsMain given k text (kept old None)
+    → Stands given (main_so_far (with_piece piece text) k) now
+fed_open given k text piece old now step holds = step given (main_so_far text k) holds.stands
+
+-- ---- the text is over
+
+pub holds_over : (given : Settings) (k : ℕ) (text : Text) (old now : Reader) (round : Option RoundOfRecords) → StepsOn read_over old now
+    → HoldsMain given k text (kept old round) → HoldsMain given k (over text) (kept now round)
+holds_over given k text old now None step holds = record { stands = step given (main_so_far text k) holds.stands; has_round = tt; has_none = holds.has_none }
+holds_over given k text old now (Some r) step holds = record { stands = step given (main_so_far text (k + 1)) holds.stands; has_round = holds.has_round; has_none = tt }
+
+-- ---- what it tells
+
+-- what is read of the text has the rounds of its reading
+pub same_found : (p limit : ℕ) (text : Text) (found : StreamReading) (reading : StreamReading) → IsPageSize p → IsReading (settings Main p limit) text.bytes found → IsMainReading p limit text reading
+    → reading ≡ record found { state = state_at text.ended found.state }
+same_found p limit text found reading size is_found is =
+    let one = one_reading_law (settings Main p limit) text.bytes size in
+    let same : is.found ≡ found = one.2 is.found is.is_reading ∙ sym (one.2 found is_found) in
+    is.has_end ∙ ap (λ (r : StreamReading). record r { state = state_at text.ended r.state }) same
+
+taken_are_there : (p limit : ℕ) (text : Text) (taken : ℕ) (r : Reader) (reading : StreamReading) → IsPageSize p → Stands (settings Main p limit) (main_so_far text taken) r
+    → IsMainReading p limit text reading → taken ≤ length reading.rounds
+taken_are_there p limit text taken r reading size stands is =
+    let to : StreamProgress = with_taken stands.rounds r.progress in
+    let other : StreamReading = record { table = whole_table to; rounds = to.rounds; state = r.found } in
+    let is_other : IsReading (settings Main p limit) text.bytes other = record { to = to; rest = stands.rest; reads = stands.reads; has_table = refl; has_rounds = refl } in
+    let same = same_found p limit text other reading size is_other is in
+    omega (arith, ap (λ (x : StreamReading). length x.rounds) same, length-append stands.rounds r.progress.rounds, stands.has_taken)
+
+-- the round that waits is the reading's
+pub waits_here : (p limit k : ℕ) (text : Text) (r : RoundOfRecords) (reading : StreamReading) → IsPageSize p → IsMainRound (settings Main p limit) k text.bytes r → IsMainReading p limit text reading
+    → (k < length reading.rounds) × (r.records ≡ get_or reading.rounds k [])
+waits_here p limit k text r reading size round is =
+    let has = round.has_records in
+    let same = same_found p limit text has.0 reading size has.1 is in (
+      subst (λ (x : StreamReading). k < length x.rounds) (sym same) has.2,
+      sym has.3 ∙ ap (λ (x : StreamReading). get_or x.rounds k []) (sym same),
+    )
+
+pub none_waits : (p limit k : ℕ) (text : Text) (reader : Reader) (reading : StreamReading) → IsPageSize p → HoldsMain (settings Main p limit) k text (kept reader None)
+    → IsMainReading p limit text reading → k ≡ length reading.rounds
+none_waits p limit k text reader reading size holds is =
+    let least = taken_are_there p limit text k reader reading size holds.stands is in
+    let most : length reading.rounds ≤ k = elim (cases_lt k (length reading.rounds)) [
+      | inr le ↦ le
+      | inl lt ↦
+          let rounds : reading.rounds ≡ is.found.rounds = ap (λ (x : StreamReading). x.rounds) is.has_end in
+          let below : k < length is.found.rounds = subst (λ (l : List (List PageRecord)). k < length l) rounds lt in
+          let bad : k < k = holds.has_none k (get_or is.found.rounds k []) (is.found, is.is_reading, below, refl) in absurd (omega (arith, bad))
+    ] in
+    omega (arith, least, most)
+
+pub tells_whole : (reader : Reader) (r : RoundOfRecords) → TellsMainStatus (kept reader (Some r)) Whole
+tells_whole reader r = λ p limit k text reading size holds is.
+    sym (status_whole k (length reading.rounds) (stream_end reading.state) (waits_here p limit k text r reading size holds.has_round is).0)
+
+pub tells_end : (reader : Reader) (state : StreamState) (status : Status) → Tells reader (λ given so_far. HasState given so_far.text so_far.ended state) → status ≡ stream_end state
+    → TellsMainStatus (kept reader None) status
+tells_end reader state status tells e = λ p limit k text reading size holds is.
+    let has = tells (settings Main p limit) (main_so_far text k) holds.stands in
+    let same = same_found p limit text has.0 reading size has.1 is in
+    e ∙ ap stream_end (has.2 ∙ sym (ap (λ (x : StreamReading). x.state) same))
+    ∙ sym (status_end k (length reading.rounds) (stream_end reading.state) (none_waits p limit k text reader reading size holds is))
+
+-- a main stream that has the round has one that waits
+pub whole_waits : (p limit k : ℕ) (text : Text) (m : FedMain) (reading : StreamReading) → IsPageSize p → HoldsMain (settings Main p limit) k text m → IsMainReading p limit text reading
+    → is_whole (main_status k reading) ≡ true → m.round ≢ None
+whole_waits p limit k text m reading size holds is whole none =
+    let here : HoldsMain (settings Main p limit) k text (kept m.reader None) = subst (λ (o : Option RoundOfRecords). HoldsMain (settings Main p limit) k text (kept m.reader o)) none holds in
+    let e = none_waits p limit k text m.reader reading size here is in
+    let f : is_whole (main_status k reading) ≡ false = ap is_whole (status_end k (length reading.rounds) (stream_end reading.state) e) ∙ stream_ends reading.state in absurd cc
+
+-- the table that the reader tells
+pub tells_table : (m : FedMain) (table : Option RamTable) → Tells m.reader (λ given so_far. HasTable given so_far.text table)
+    → (given : Settings) (k : ℕ) (text : Text) → HoldsMain given k text m → HasTable given text.bytes table
+tells_table m table tells = λ given k text holds. tells given (main_so_far text (with_one k m.round)) holds.stands
+
+-- behind a round that waits its reader has given one more
+pub stands_next : (given : Settings) (k : ℕ) (text : Text) (m : FedMain) → HoldsMain given k text m → m.round ≢ None → Stands given (main_so_far text (k + 1)) m.reader
+stands_next given k text m holds some = go m.round some holds.stands
+  where
+    go : (o : Option RoundOfRecords) → o ≢ None → Stands given (main_so_far text (with_one k o)) m.reader → Stands given (main_so_far text (k + 1)) m.reader
+    go None some stands = absurd (some refl)
+    go (Some r) some stands = stands
+
+-- ---- whether a round waits
+
+pub where_some : (reader : Reader) (o : Option RoundOfRecords) (status : Status) → ((r : RoundOfRecords) → TellsMainStatus (kept reader (Some r)) status) → is_some o ≡ true → TellsMainStatus (kept reader o) status
+where_some reader None status tells e = absurd cc
+where_some reader (Some r) status tells e = tells r
+
+pub where_none : (reader : Reader) (o : Option RoundOfRecords) (status : Status) → TellsMainStatus (kept reader None) status → is_some o ≡ false → TellsMainStatus (kept reader o) status
+where_none reader None status tells e = tells
+where_none reader (Some r) status tells e = absurd cc
+
+pub fed_where_none : (given : Settings) (k : ℕ) (text : Text) (piece : List ℕ) (old now : Reader) (o : Option RoundOfRecords) → StepsOn (read_piece piece) old now
+    → HoldsMain given k text (kept old o) → is_some o ≡ false → Stands given (main_so_far (with_piece piece text) k) now
+fed_where_none given k text piece old now None step holds e = fed_open given k text piece old now step holds
+fed_where_none given k text piece old now (Some r) step holds e = absurd cc
+
+pub fed_where_some : (given : Settings) (k : ℕ) (text : Text) (piece : List ℕ) (old now : Reader) (o : Option RoundOfRecords) → IsPageSize given.page_size → StepsOn (read_piece piece) old now
+    → HoldsMain given k text (kept old o) → is_some o ≡ true → HoldsMain given k (with_piece piece text) (kept now o)
+fed_where_some given k text piece old now None size step holds e = absurd cc
+fed_where_some given k text piece old now (Some r) size step holds e = fed_behind given k text piece old now r size step holds

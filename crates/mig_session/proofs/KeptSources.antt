@@ -1,0 +1,305 @@
+-- What a session keeps of all its sources, and what they tell together.
+use Rattle.std.proofs.Common.{ℕ, zero, suc, ◌≡◌, ◌≢◌, ◌+◌, ◌<◌, true, List, [], ◌∷◌, ◌++◌, append_assoc, length, map, take, drop, set, get_or, replicate, refl, sym, ap, subst, ◌∙◌, Option, Some, None, arith}
+use Rattle.std.specs.Prelude.{slice_get, Result, Ok, Err, OnOk}
+use Rattle.std.specs.List.{All, AllZip, flat_map, enumerate_from}
+use Rattle.std.proofs.lemmas.List.{length-set, length-map, replicate_more, take_more, take_more_set, drop_more, map-set, drop-set-lt, map-append, append-nil}
+use Rattle.std.proofs.lemmas.Grind.{flat_map-append}
+use Rattle.std.proofs.lemmas.Option.{slice_get_read}
+use Rattle.std.proofs.lemmas.List.Elements.{All-nil, All-cons, All-head, All-tail, All-push}
+use Rattle.mig_mem.specs.PageSize.{IsPageSize}
+use Rattle.mig_mem.specs.First.{first_some}
+use Rattle.mig_stream.specs.declared.item.Mode.TheVariants.{Main}
+use Rattle.mig_stream.specs.Round.{RoundOfRecords}
+use Rattle.mig_stream.specs.Reader.{waiting as stream_waiting}
+use Rattle.mig_stream.specs.Reading.{settings as main_settings}
+use Rattle.mig_packet.specs.Packet.{Fields, fields_of}
+use Rattle.mig_packet.specs.Lent.{fields}
+use Rattle.mig_packet.specs.declared.packet.Packet.{Packet}
+use Rattle.mig_packet.specs.Reading.{Settings, settings, ChannelReading, IsReading}
+use Rattle.mig_single_load.specs.declared.fault.Origin.TheVariants as origin
+use Rattle.mig_session.specs.declared.counts.Count.{Count}
+use Rattle.mig_answer.specs.declared.status.Status.{Status}
+use Rattle.mig_answer.specs.declared.verdict.Verdict.{Verdict}
+use Rattle.mig_session.specs.declared.source.Source.TheVariants as source
+use Rattle.mig_answer.specs.Status.{main_status, channel_status, is_whole}
+use Rattle.mig_answer.specs.Texts.{Text, Texts, Readings, AreReadings, no_text}
+use Rattle.mig_answer.specs.Rounds.{channel_packets_at, packets_at}
+use Rattle.mig_answer.specs.MultiLoad.{Standing, main_standing, main_at, channels_at, hello_ids, repeated_hello, verdicts_told}
+use Rattle.mig_answer.specs.Told.{standings}
+use Rattle.mig_session.specs.Sources.{FedMain, FedChannel, FedSources, channel_count, HoldsMain, HoldsChannel, Holds, TellsMainStatus, TellsChannelStatus, TellsHello, TellsAll, HaveRound, TakesMain, TakesChannel, packets_of, packets_of_all, IsOfSize, with_one, main_waiting}
+use Rattle.mig_session.specs.Session.{at_source, no_count}
+use Rattle.mig_session.specs.Advancing.{IsDue}
+use Rattle.mig_answer.proofs.Judged.{IsWhole}
+use Rattle.mig_session.proofs.KeptChannel as channel
+use Rattle.mig_session.proofs.KeptMain as main
+use Rattle.mig_session.proofs.Telling.{due_sources}
+
+-- ---- one place of two lists
+
+pub zip_set : {X Y : Type 0} (R : X → Y → Type 0) (xs : List X) (ys : List Y) (j : ℕ) (x : X) (y : Y) → AllZip R xs ys → R x y → AllZip R (set xs j x) (set ys j y)
+zip_set R [] [] j x y zip here = tt
+zip_set R [] (b ∷ ys) j x y zip here = absurd zip
+zip_set R (a ∷ xs) [] j x y zip here = absurd zip
+zip_set R (a ∷ xs) (b ∷ ys) zero x y zip here = (here, zip.1)
+zip_set R (a ∷ xs) (b ∷ ys) (suc j) x y zip here = (zip.0, zip_set R xs ys j x y zip.1 here)
+
+pub zip_at : {X Y : Type 0} (R : X → Y → Type 0) (xs : List X) (ys : List Y) (j : ℕ) (d : X) (y : Y) → AllZip R xs ys → slice_get ys j ≡ Some y → R (get_or xs j d) y
+zip_at R [] [] j d y zip is = absurd cc
+zip_at R [] (b ∷ ys) j d y zip is = absurd zip
+zip_at R (a ∷ xs) [] j d y zip is = absurd zip
+zip_at R (a ∷ xs) (b ∷ ys) zero d y zip is = subst (λ z. R a z) (let same : b ≡ y = cc in same) zip.0
+zip_at R (a ∷ xs) (b ∷ ys) (suc j) d y zip is = zip_at R xs ys j d y zip.1 is
+
+-- ---- what is told
+
+statuses_are : (given : Settings) (k : ℕ) (texts : List Text) (readings : List ChannelReading) (channels : List FedChannel) (statuses : List Status) → IsPageSize given.page_size
+    → AllZip (HoldsChannel given k) texts channels → AllZip (λ (text : Text) (reading : ChannelReading). IsReading given text.bytes text.ended reading) texts readings
+    → AllZip TellsChannelStatus channels statuses → statuses ≡ map (channel_status k) readings
+statuses_are given k [] [] [] [] size holds are told = refl
+statuses_are given k [] readings (c ∷ channels) statuses size holds are told = absurd holds
+statuses_are given k [] (r ∷ readings) channels statuses size holds are told = absurd are
+statuses_are given k [] [] [] (s ∷ statuses) size holds are told = absurd told
+statuses_are given k (text ∷ texts) readings [] statuses size holds are told = absurd holds
+statuses_are given k (text ∷ texts) [] (c ∷ channels) statuses size holds are told = absurd are
+statuses_are given k (text ∷ texts) (r ∷ readings) (c ∷ channels) [] size holds are told = absurd told
+statuses_are given k (text ∷ texts) (r ∷ readings) (c ∷ channels) (s ∷ statuses) size holds are told =
+    ap (λ (x : Status). x ∷ statuses) (told.0 given k text r size holds.0 are.0)
+    ∙ ap (λ (l : List Status). channel_status k r ∷ l) (statuses_are given k texts readings channels statuses size holds.1 are.1 told.1)
+
+hellos_are : (given : Settings) (k : ℕ) (texts : List Text) (readings : List ChannelReading) (channels : List FedChannel) (hellos : List (Option ℕ)) → IsPageSize given.page_size
+    → AllZip (HoldsChannel given k) texts channels → AllZip (λ (text : Text) (reading : ChannelReading). IsReading given text.bytes text.ended reading) texts readings
+    → AllZip TellsHello channels hellos → hellos ≡ map (λ (r : ChannelReading). r.hello) readings
+hellos_are given k [] [] [] [] size holds are told = refl
+hellos_are given k [] readings (c ∷ channels) hellos size holds are told = absurd holds
+hellos_are given k [] (r ∷ readings) channels hellos size holds are told = absurd are
+hellos_are given k [] [] [] (h ∷ hellos) size holds are told = absurd told
+hellos_are given k (text ∷ texts) readings [] hellos size holds are told = absurd holds
+hellos_are given k (text ∷ texts) [] (c ∷ channels) hellos size holds are told = absurd are
+hellos_are given k (text ∷ texts) (r ∷ readings) (c ∷ channels) [] size holds are told = absurd told
+hellos_are given k (text ∷ texts) (r ∷ readings) (c ∷ channels) (h ∷ hellos) size holds are told =
+    ap (λ (x : Option ℕ). x ∷ hellos) (told.0 given k text r size holds.0 are.0)
+    ∙ ap (λ (l : List (Option ℕ)). r.hello ∷ l) (hellos_are given k texts readings channels hellos size holds.1 are.1 told.1)
+
+standings_are : (k from : ℕ) (readings : List ChannelReading)
+    → map {B = Standing} (λ (s : ℕ × Status). record { source = origin.Channel s.0; status = s.1 }) (enumerate_from from (map (channel_status k) readings))
+    ≡ map {B = Standing} (λ (c : ℕ × ChannelReading). record { source = origin.Channel c.0; status = channel_status k c.1 }) (enumerate_from from readings)
+standings_are k from [] = refl
+standings_are k from (r ∷ readings) =
+    let rest : map {B = Standing} (λ (s : ℕ × Status). record { source = origin.Channel s.0; status = s.1 }) (enumerate_from (from + 1) (map (channel_status k) readings))
+    ≡ map {B = Standing} (λ (c : ℕ × ChannelReading). record { source = origin.Channel c.0; status = channel_status k c.1 }) (enumerate_from (from + 1) readings) =
+    standings_are k (from + 1) readings in
+    ap (λ (l : List Standing). record { source = origin.Channel from; status = channel_status k r } ∷ l) rest
+
+pub tells_all : (k : ℕ) (s : FedSources) (main_told : Status) (statuses : List Status) (hellos : List (Option ℕ)) (repeated : Option ℕ) (told : Option Verdict)
+    → TellsMainStatus s.main main_told → AllZip TellsChannelStatus s.channels statuses → AllZip TellsHello s.channels hellos → repeated ≡ repeated_hello hellos
+    → told ≡ first_some (verdicts_told k (main_standing main_told) (standings statuses) repeated) → TellsAll k s told
+tells_all k s main_told statuses hellos repeated told tells_main tells_channels tells_hellos again e = λ p uuid limit texts readings size holds are.
+    let given = settings p uuid (length texts.channels) in
+    let m : main_told ≡ main_status k readings.main = tells_main p limit k texts.main readings.main size holds.main are.has_main in
+    let c : standings statuses ≡ channels_at k readings =
+    ap standings (statuses_are given k texts.channels readings.channels s.channels statuses size holds.channels are.has_channels tells_channels)
+    ∙ standings_are k 0 readings.channels in
+    let h : repeated ≡ repeated_hello (hello_ids readings) =
+    again ∙ ap repeated_hello (hellos_are given k texts.channels readings.channels s.channels hellos size holds.channels are.has_channels tells_hellos) in
+    e ∙ ap (λ (x : Status). first_some (verdicts_told k (main_standing x) (standings statuses) repeated)) m
+    ∙ ap (λ (l : List Standing). first_some (verdicts_told k (main_at k readings) l repeated)) c
+    ∙ ap (λ (o : Option ℕ). first_some (verdicts_told k (main_at k readings) (channels_at k readings) o)) h
+
+-- ---- a source takes a step
+
+pub main_steps : (p : ℕ) (uuid : List ℕ) (limit k : ℕ) (step : Text → Text) (texts : Texts) (s : FedSources) (m : FedMain) → Holds p uuid limit k texts s
+    → HoldsMain (main_settings Main p limit) k (step texts.main) m → Holds p uuid limit k (at_source source.Main step texts) (record s { main = m })
+main_steps p uuid limit k step texts s m holds here = record { main = here; channels = holds.channels }
+
+pub channel_steps : (p : ℕ) (uuid : List ℕ) (limit k j : ℕ) (step : Text → Text) (texts : Texts) (s : FedSources) (c : FedChannel) → Holds p uuid limit k texts s
+    → HoldsChannel (settings p uuid (length texts.channels)) k (step (get_or texts.channels j no_text)) c
+    → Holds p uuid limit k (at_source (source.Channel j) step texts) (record s { channels = set s.channels j c })
+channel_steps p uuid limit k j step texts s c holds here =
+    let text : Text = step (get_or texts.channels j no_text) in
+    let given = settings p uuid (length texts.channels) in
+    record {
+      main = holds.main;
+      channels = subst (λ (n : ℕ). AllZip (HoldsChannel (settings p uuid n) k) (set texts.channels j text) (set s.channels j c)) (sym (length-set texts.channels j text))
+          (zip_set (HoldsChannel given k) texts.channels s.channels j text c holds.channels here);
+    }
+
+-- ---- all go on to the next round
+
+channels_next : (given : Settings) (k : ℕ) (texts : List Text) (old new : List FedChannel) → AllZip (HoldsChannel given k) texts old → AllZip TakesChannel old new → All (λ c. c.round ≢ None) old
+    → AllZip (HoldsChannel given (k + 1)) texts new
+channels_next given k [] [] [] holds takes have = tt
+channels_next given k [] [] (d ∷ new) holds takes have = absurd takes
+channels_next given k [] (c ∷ old) new holds takes have = absurd holds
+channels_next given k (text ∷ texts) [] new holds takes have = absurd holds
+channels_next given k (text ∷ texts) (c ∷ old) [] holds takes have = absurd takes
+channels_next given k (text ∷ texts) (c ∷ old) (d ∷ new) holds takes have = (
+  takes.0 given (k + 1) text (channel.stands_next given k text c holds.0 (All-head (λ (c : FedChannel). c.round ≢ None) c old have)),
+  channels_next given k texts old new holds.1 takes.1 (All-tail (λ (c : FedChannel). c.round ≢ None) c old have),
+)
+
+pub holds_next : (p : ℕ) (uuid : List ℕ) (limit k : ℕ) (texts : Texts) (old new : FedSources) → HaveRound old → TakesMain old.main new.main → AllZip TakesChannel old.channels new.channels
+    → Holds p uuid limit k texts old → Holds p uuid limit (k + 1) texts new
+holds_next p uuid limit k texts old new have takes_main takes holds = record {
+  main = takes_main (main_settings Main p limit) (k + 1) texts.main (main.stands_next (main_settings Main p limit) k texts.main old.main holds.main have.main);
+  channels = channels_next (settings p uuid (length texts.channels)) k texts.channels old.channels new.channels holds.channels takes have.channels;
+}
+
+-- ---- the round that is judged
+
+channels_have : (given : Settings) (k from : ℕ) (texts : List Text) (readings : List ChannelReading) (channels : List FedChannel) → IsPageSize given.page_size
+    → AllZip (HoldsChannel given k) texts channels → AllZip (λ (text : Text) (reading : ChannelReading). IsReading given text.bytes text.ended reading) texts readings
+    → All IsWhole (map (λ (c : ℕ × ChannelReading). record { source = origin.Channel c.0; status = channel_status k c.1 }) (enumerate_from from readings))
+    → All (λ c. c.round ≢ None) channels
+channels_have given k from [] readings [] size holds are whole = All-nil (λ c. c.round ≢ None)
+channels_have given k from [] readings (c ∷ channels) size holds are whole = absurd holds
+channels_have given k from (text ∷ texts) readings [] size holds are whole = absurd holds
+channels_have given k from (text ∷ texts) [] (c ∷ channels) size holds are whole = absurd are
+channels_have given k from (text ∷ texts) (r ∷ readings) (c ∷ channels) size holds are whole =
+    let rest : List Standing = map (λ (c : ℕ × ChannelReading). record { source = origin.Channel c.0; status = channel_status k c.1 }) (enumerate_from (from + 1) readings) in
+    let here : Standing = record { source = origin.Channel from; status = channel_status k r } in
+    All-cons (λ c. c.round ≢ None) c channels (channel.whole_waits given k text c r size holds.0 are.0 (All-head IsWhole here rest whole))
+    (channels_have given k (from + 1) texts readings channels size holds.1 are.1 (All-tail IsWhole here rest whole))
+
+-- where no verdict is told the round is here of each
+pub have_round : (p : ℕ) (uuid : List ℕ) (limit k : ℕ) (texts : Texts) (readings : Readings) (s : FedSources) → IsPageSize p → Holds p uuid limit k texts s
+    → AreReadings p uuid limit texts readings → IsDue k readings → HaveRound s
+have_round p uuid limit k texts readings s size holds are due =
+    let whole = (due_sources k readings due).0 in
+    record {
+      main = main.whole_waits p limit k texts.main s.main readings.main size holds.main are.has_main (All-head IsWhole (main_at k readings) (channels_at k readings) whole);
+      channels = channels_have (settings p uuid (length texts.channels)) k 0 texts.channels readings.channels s.channels size holds.channels are.has_channels
+          (All-tail IsWhole (main_at k readings) (channels_at k readings) whole);
+    }
+
+packets_are : (given : Settings) (k : ℕ) (texts : List Text) (readings : List ChannelReading) (channels : List FedChannel) → IsPageSize given.page_size
+    → AllZip (HoldsChannel given k) texts channels → AllZip (λ (text : Text) (reading : ChannelReading). IsReading given text.bytes text.ended reading) texts readings
+    → packets_of_all channels ≡ flat_map (channel_packets_at given.page_size k) readings
+packets_are given k [] [] [] size holds are = refl
+packets_are given k [] (r ∷ readings) channels size holds are = absurd are
+packets_are given k [] readings (c ∷ channels) size holds are = absurd holds
+packets_are given k (text ∷ texts) readings [] size holds are = absurd holds
+packets_are given k (text ∷ texts) [] (c ∷ channels) size holds are = absurd are
+packets_are given k (text ∷ texts) (r ∷ readings) (c ∷ channels) size holds are =
+    ap (λ (l : List Fields). l ++ packets_of_all channels) (channel.same_packets given k text c r size holds.0 are.0)
+    ∙ ap (λ (l : List Fields). channel_packets_at given.page_size k r ++ l) (packets_are given k texts readings channels size holds.1 are.1)
+
+-- the packets that are gathered are those of the round
+pub packets_here : (p : ℕ) (uuid : List ℕ) (limit k : ℕ) (texts : Texts) (readings : Readings) (s : FedSources) → IsPageSize p → Holds p uuid limit k texts s
+    → AreReadings p uuid limit texts readings → packets_of_all s.channels ≡ packets_at p k readings
+packets_here p uuid limit k texts readings s size holds are =
+    packets_are (settings p uuid (length texts.channels)) k texts.channels readings.channels s.channels size holds.channels are.has_channels
+
+sizes_are : (given : Settings) (k : ℕ) (texts : List Text) (channels : List FedChannel) → AllZip (HoldsChannel given k) texts channels → All (IsOfSize given.page_size) channels
+sizes_are given k [] [] holds = All-nil (IsOfSize given.page_size)
+sizes_are given k [] (c ∷ channels) holds = absurd holds
+sizes_are given k (text ∷ texts) [] holds = absurd holds
+sizes_are given k (text ∷ texts) (c ∷ channels) holds =
+    All-cons (IsOfSize given.page_size) c channels (channel.of_size given k text c holds.0) (sizes_are given k texts channels holds.1)
+
+pub sizes_here : (p : ℕ) (uuid : List ℕ) (limit k : ℕ) (texts : Texts) (s : FedSources) → Holds p uuid limit k texts s → All (IsOfSize p) s.channels
+sizes_here p uuid limit k texts s holds = sizes_are (settings p uuid (length texts.channels)) k texts.channels s.channels holds.channels
+
+-- ---- one element more, in a loop
+
+zip_push : {X Y : Type 0} (R : X → Y → Type 0) (xs : List X) (ys : List Y) (x : X) (y : Y) → AllZip R xs ys → R x y → AllZip R (xs ++ x ∷ []) (ys ++ y ∷ [])
+zip_push R [] [] x y zip here = (here, tt)
+zip_push R [] (b ∷ ys) x y zip here = absurd zip
+zip_push R (a ∷ xs) [] x y zip here = absurd zip
+zip_push R (a ∷ xs) (b ∷ ys) x y zip here = (zip.0, zip_push R xs ys x y zip.1 here)
+
+pub zip_more : {X Y : Type 0} (R : X → Y → Type 0) (xs : List X) (ys : List Y) (i : ℕ) (x : X) (y : Y) → i < length xs → get_or xs i x ≡ x → AllZip R (take i xs) ys → R x y
+    → AllZip R (take (i + 1) xs) (ys ++ y ∷ [])
+zip_more R xs ys i x y below is zip here =
+    subst (λ l. AllZip R l (ys ++ y ∷ [])) (sym (take_more xs i x below ∙ ap (λ z. take i xs ++ z ∷ []) is)) (zip_push R (take i xs) ys x y zip here)
+
+-- a channel went on to its next round, where those from it on hadn't
+pub next_zip : (old now : List FedChannel) (i : ℕ) (c d : FedChannel) → i < length old → length now ≡ length old → get_or now i c ≡ c → drop i now ≡ drop i old
+    → AllZip TakesChannel (take i old) (take i now) → TakesChannel c d → AllZip TakesChannel (take (i + 1) old) (take (i + 1) (set now i d))
+next_zip old now i c d below many is rest zip takes =
+    let inside : i < length now = omega (arith, below, many) in
+    let same : get_or old i c ≡ c =
+    let e : get_or now i c ∷ drop (i + 1) now ≡ get_or old i c ∷ drop (i + 1) old = sym (drop_more now i c inside) ∙ rest ∙ drop_more old i c below in
+    let first : get_or now i c ≡ get_or old i c = cc in sym first ∙ is in
+    subst (λ l. AllZip TakesChannel (take (i + 1) old) l) (sym (take_more_set now i d inside))
+    (zip_more TakesChannel old (take i now) i c d below same zip takes)
+
+pub next_rest : (old now : List FedChannel) (i : ℕ) (d : FedChannel) → i < length old → length now ≡ length old → drop i now ≡ drop i old → drop (i + 1) (set now i d) ≡ drop (i + 1) old
+next_rest old now i d below many rest =
+    let inside : i < length now = omega (arith, below, many) in
+    let e : get_or now i d ∷ drop (i + 1) now ≡ get_or old i d ∷ drop (i + 1) old = sym (drop_more now i d inside) ∙ rest ∙ drop_more old i d below in
+    let behind : drop (i + 1) now ≡ drop (i + 1) old = cc in
+    drop-set-lt (i + 1) now i d (omega arith) ∙ behind
+
+pub next_counts : (old now : List FedChannel) (i : ℕ) (c d : FedChannel) → i < length old → length now ≡ length old → get_or now i c ≡ c → drop i now ≡ drop i old
+    → map channel_count (take i now) ≡ map channel_count (take i old) → channel_count d ≡ channel_count c
+    → map channel_count (take (i + 1) (set now i d)) ≡ map channel_count (take (i + 1) old)
+next_counts old now i c d below many is rest counts same =
+    let inside : i < length now = omega (arith, below, many) in
+    let old_is : get_or old i c ≡ c =
+    let e : get_or now i c ∷ drop (i + 1) now ≡ get_or old i c ∷ drop (i + 1) old = sym (drop_more now i c inside) ∙ rest ∙ drop_more old i c below in
+    let first : get_or now i c ≡ get_or old i c = cc in sym first ∙ is in
+    ap (map channel_count) (take_more_set now i d inside) ∙ map-append channel_count (take i now) (d ∷ [])
+    ∙ ap (λ (l : List Count). l ++ channel_count d ∷ []) counts ∙ ap (λ (x : Count). map channel_count (take i old) ++ x ∷ []) same
+    ∙ sym (ap (map channel_count) (take_more old i c below ∙ ap (λ z. take i old ++ z ∷ []) old_is) ∙ map-append channel_count (take i old) (c ∷ []))
+
+-- the packets of one channel more
+pub packets_more : (channels : List FedChannel) (i : ℕ) (c : FedChannel) → i < length channels → get_or channels i c ≡ c
+    → packets_of_all (take i channels) ++ packets_of c ≡ packets_of_all (take (i + 1) channels)
+packets_more channels i c below is =
+    sym (ap packets_of_all (take_more channels i c below ∙ ap (λ z. take i channels ++ z ∷ []) is) ∙ flat_map-append packets_of (take i channels) (c ∷ [])
+    ∙ ap (λ (l : List Fields). packets_of_all (take i channels) ++ l) (append-nil (packets_of c)))
+
+pub zip_replicate : {X Y : Type 0} (R : X → Y → Type 0) (n : ℕ) (x : X) (y : Y) (ys : List Y) → AllZip R (replicate n x) ys → R x y → AllZip R (replicate (n + 1) x) (ys ++ y ∷ [])
+zip_replicate R n x y ys zip here = subst (λ l. AllZip R l (ys ++ y ∷ [])) (replicate_more n x) (zip_push R (replicate n x) ys x y zip here)
+
+-- packets that lend these texts say what these say
+pub lent_fields : (page_size : ℕ) (packets : List Packet) (texts : List (List ℕ)) → map (λ (p : Packet). p.bytes.now) packets ≡ texts → All (λ (p : Packet). p.page_size ≡ page_size) packets
+    → map fields packets ≡ map (fields_of page_size) texts
+lent_fields page_size [] texts e all = ap (map (fields_of page_size)) e
+lent_fields page_size (p ∷ packets) texts e all =
+    ap (λ (n : ℕ). fields_of n p.bytes.now ∷ map fields packets) (All-head (λ (p : Packet). p.page_size ≡ page_size) p packets all)
+    ∙ ap (λ (l : List Fields). fields_of page_size p.bytes.now ∷ l)
+    (lent_fields page_size packets (map (λ (p : Packet). p.bytes.now) packets) refl (All-tail (λ (p : Packet). p.page_size ≡ page_size) p packets all))
+    ∙ ap (map (fields_of page_size)) e
+
+-- one packet more was gathered
+pub gathered_more : (packets : List Packet) (i : ℕ) (p : Packet) (before : List Fields) (gathered now : List Packet) → i < length packets → get_or packets i p ≡ p
+    → map fields gathered ≡ before ++ map fields (take i packets) → now ≡ gathered ++ p ∷ [] → map fields now ≡ before ++ map fields (take (i + 1) packets)
+gathered_more packets i p before gathered now below is so_far e =
+    ap (map fields) e ∙ map-append fields gathered (p ∷ []) ∙ ap (λ (l : List Fields). l ++ fields p ∷ []) so_far
+    ∙ append_assoc before (map fields (take i packets)) (fields p ∷ [])
+    ∙ ap (λ (l : List Fields). before ++ l) (sym (ap (map fields) (take_more packets i p below ∙ ap (λ z. take i packets ++ z ∷ []) is) ∙ map-append fields (take i packets) (p ∷ [])))
+
+pub size_more : (n i : ℕ) (packets : List Packet) (p : Packet) (gathered now : List Packet) → i < length packets → get_or packets i p ≡ p → All (λ (p : Packet). p.page_size ≡ n) gathered
+    → All (λ (p : Packet). p.page_size ≡ n) packets → now ≡ gathered ++ p ∷ [] → All (λ (p : Packet). p.page_size ≡ n) now
+size_more n i packets p gathered now below is so_far all e =
+    let here : p.page_size ≡ n = ap (λ (x : Packet). x.page_size) (sym is) ∙ all i p below in
+    subst (All (λ (p : Packet). p.page_size ≡ n)) (sym e) (All-push (λ (p : Packet). p.page_size ≡ n) gathered p so_far here)
+
+-- ---- one channel that was changed
+
+-- the count of one channel changes so
+pub channel_counts_step : (channels : List FedChannel) (j : ℕ) (p new : FedChannel) (by : Count → Count) → slice_get channels j ≡ Some p → channel_count new ≡ by (channel_count p)
+    → map channel_count (set channels j new) ≡ set (map channel_count channels) j (by (get_or (map channel_count channels) j no_count))
+channel_counts_step [] j p new by there same = absurd cc
+channel_counts_step (c ∷ channels) zero p new by there same =
+    let is : c ≡ p = cc in
+    ap (λ (x : Count). x ∷ map channel_count channels) (same ∙ ap (λ (q : FedChannel). by (channel_count q)) (sym is))
+channel_counts_step (c ∷ channels) (suc j) p new by there same = ap (λ (l : List Count). channel_count c ∷ l) (channel_counts_step channels j p new by there same)
+
+-- one fewer waits behind a round that was here
+pub waits_one : (m : FedMain) → m.round ≢ None → main_waiting m ≡ stream_waiting m.reader + 1
+waits_one m some = go m.round some
+  where
+    go : (o : Option RoundOfRecords) → o ≢ None → with_one (stream_waiting m.reader) o ≡ stream_waiting m.reader + 1
+    go None some = absurd (some refl)
+    go (Some r) some = refl
+
+-- the channel at a place that there is
+pub there_of : (channels : List FedChannel) (j : ℕ) (q : FedChannel) → j < length (map channel_count channels) → q ≡ get_or channels j q → slice_get channels j ≡ Some q
+there_of channels j q below is = slice_get_read channels (length channels) j q refl (omega (arith, below, length-map channels channel_count)) is
+
+-- what follows where a call is answered Ok
+pub on_ok : {T E : Type 0} {P Q : Type 0} (result : Result T E) → OnOk result P → (P → Q) → OnOk result Q
+on_ok (Ok x) h f = f h
+on_ok (Err e) h f = tt

@@ -1,0 +1,7 @@
+mod KeptChannel
+mod KeptMain
+mod Telling
+mod KeptSources
+mod Advances
+mod Sessions
+mod Pumped

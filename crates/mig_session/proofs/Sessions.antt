@@ -1,0 +1,546 @@
+-- What a session stands for: before the first piece, after each, and once a text is over.
+use Rattle.std.proofs.Common.{ℕ, zero, suc, ◌≡◌, ◌≢◌, ◌⊎◌, ◌+◌, ◌<◌, ◌≤◌, Bool, true, false, List, [], ◌∷◌, ◌++◌, length, map, set, get_or, replicate, refl, sym, ap, subst, ◌∙◌, cond, inl, inr, Option, Some, None, arith}
+use Rattle.std.specs.Prelude.{⊤, ◌^◌, nat_lt, ◌==◌, IsTrue, IsFalse, Result, Ok, Err, IfOk, IfSome}
+use Rattle.std.specs.List.{AllZip, All, enumerate_from, range_with_len}
+use Rattle.std.specs.Option.{option_map, unwrap_or}
+use Rattle.std.proofs.lemmas.Bool.{cases_order, le-ltb, ne_eqb, cond-false}
+use Rattle.std.proofs.lemmas.List.{length-append, append-nil, length-map, length-set, get_or-map}
+use Rattle.std.proofs.lemmas.List.Elements.{All-nil, All-cons, All-head, All-tail}
+use Rattle.mig_mem.specs.PageSize.{IsPageSize}
+use Rattle.mig_mem.specs.RamTable.{RamTable}
+use Rattle.mig_mem.specs.Image.{Image}
+use Rattle.mig_mem.specs.Round.{after}
+use Rattle.mig_stream.specs.declared.item.Frame.TheVariants.{Ram}
+use Rattle.mig_stream.specs.declared.item.Mode.TheVariants.{Main}
+use Rattle.mig_stream.specs.declared.item.StreamState.TheVariants.{Reading}
+use Rattle.mig_stream.specs.Progress.{StreamProgress, start}
+use Rattle.mig_stream.specs.PageRecord.{PageRecord}
+use Rattle.mig_stream.specs.Reading.{settings as main_settings, StreamReading, IsReading as IsStreamReading}
+use Rattle.mig_stream.proofs.Feeding.{reads_short}
+use Rattle.mig_packet.specs.Reading.{Settings, settings, ChannelReading, IsReading}
+use Rattle.mig_assemble.specs.Target.{LoadTarget}
+use Rattle.mig_session.specs.declared.counts.Count.{Count}
+use Rattle.mig_session.specs.declared.source.Source.{Source}
+use Rattle.mig_session.specs.declared.source.Source.TheVariants as source
+use Rattle.mig_single_load.specs.declared.fault.Origin.TheVariants as origin
+use Rattle.mig_answer.specs.declared.status.Status.{Status}
+use Rattle.mig_answer.specs.declared.status.Status.TheVariants.{Whole, Pending}
+use Rattle.mig_answer.specs.declared.verdict.Verdict.{Verdict}
+use Rattle.mig_answer.specs.declared.verdict.Verdict.TheVariants.{Running, Done, Failed}
+use Rattle.mig_answer.specs.Status.{status_at, stream_end, channel_end, channel_status, is_whole, is_pending}
+use Rattle.mig_answer.specs.Texts.{Text, Texts, Readings, IsMainReading, AreReadings, no_text, no_texts, with_piece, over}
+use Rattle.mig_answer.specs.Rounds.{memory_at, base_at, pages_at}
+use Rattle.mig_answer.specs.MultiLoad.{Standing, main_at, channels_at, passes, IsFirstStop, verdict_at, Answer, IsAnswer, IsWithoutMemory}
+use Rattle.mig_answer.specs.Growing.{GoesOn, GoOn}
+use Rattle.mig_session.specs.Sources.{Counts, FedMain, FedChannel, FedSources, main_count, channel_count, counts_of, HoldsMain, HoldsChannel, Holds, TellsAll}
+use Rattle.mig_session.specs.Session.{LoadSession, rounds_loaded, answer_in, HasSource, count_of, no_count, with_count, with_fed, with_end, count_in, counts_in, at_source, feed_step, end_step, HasBase, IsRunning, StandsFor, LacksMemory, StandsForSome, IsSession}
+use Rattle.mig_session.specs.Advancing.{Feeding, HasPutRounds, HasRounds, Advances, TellsVerdict, HasAdvanced, HasTaken, failed_without_memory, IsDue}
+use Rattle.mig_answer.proofs.Statuses.{status_whole, status_end, stream_ends, channel_ends}
+use Rattle.mig_answer.proofs.Judged.{IsWhole, IsSettled, settled_is_told}
+use Rattle.mig_answer.proofs.OneAnswer.{same_main, some_readings, same_readings}
+use Rattle.mig_session.proofs.KeptMain.{same_found}
+use Rattle.mig_session.proofs.Telling.{due_sources}
+use Rattle.mig_session.proofs.Advances.{told_of, told_without}
+use Rattle.mig_answer.proofs.GrowingChannels.{same_rounds}
+use Rattle.mig_answer.proofs.Growing.{ReadingsStay, readings_stay, pass_still, memory_still, base_still, answers_law, wants_law}
+
+-- ---- how much has come
+
+channels_counted : (given : Settings) (k : ℕ) (texts : List Text) (channels : List FedChannel) → AllZip (HoldsChannel given k) texts channels → map channel_count channels ≡ map count_in texts
+channels_counted given k [] [] holds = refl
+channels_counted given k [] (c ∷ channels) holds = absurd holds
+channels_counted given k (text ∷ texts) [] holds = absurd holds
+channels_counted given k (text ∷ texts) (c ∷ channels) holds =
+    let here : channel_count c ≡ count_in text =
+    ap (λ (n : ℕ). record { fed = n; ended = c.reader.ended }) holds.0.stands.has_fed ∙ ap (λ (b : Bool). record { fed = length text.bytes; ended = b }) holds.0.stands.has_ended in
+    ap (λ (x : Count). x ∷ map channel_count channels) here ∙ ap (λ (l : List Count). count_in text ∷ l) (channels_counted given k texts channels holds.1)
+
+pub held_counts : (p : ℕ) (uuid : List ℕ) (limit k : ℕ) (texts : Texts) (s : FedSources) → Holds p uuid limit k texts s → counts_of s ≡ counts_in texts
+held_counts p uuid limit k texts s holds =
+    let m : main_count s.main ≡ count_in texts.main =
+    ap (λ (n : ℕ). record { fed = n; ended = s.main.reader.ended }) holds.main.stands.has_fed
+    ∙ ap (λ (b : Bool). record { fed = length texts.main.bytes; ended = b }) holds.main.stands.has_ended in
+    ap (λ (x : Count). record { main = x; channels = map channel_count s.channels }) m
+    ∙ ap (λ (l : List Count). record { main = count_in texts.main; channels = l }) (channels_counted (settings p uuid (length texts.channels)) k texts.channels s.channels holds.channels)
+
+-- a text that takes a step has the count that does
+channel_stepped : (j : ℕ) (step : Text → Text) (by : Count → Count) (texts : List Text) → ((text : Text) → count_in (step text) ≡ by (count_in text))
+    → map count_in (set texts j (step (get_or texts j no_text))) ≡ set (map count_in texts) j (by (get_or (map count_in texts) j no_count))
+channel_stepped j step by [] same = refl
+channel_stepped zero step by (text ∷ texts) same = ap (λ (c : Count). c ∷ map count_in texts) (same text)
+channel_stepped (suc j) step by (text ∷ texts) same = ap (λ (l : List Count). count_in text ∷ l) (channel_stepped j step by texts same)
+
+counts_stepped : (from : Source) (step : Text → Text) (by : Count → Count) (texts : Texts) → ((text : Text) → count_in (step text) ≡ by (count_in text))
+    → counts_in (at_source from step texts) ≡ with_count (counts_in texts) from (by (count_of (counts_in texts) from))
+counts_stepped source.Main step by texts same = ap (λ (c : Count). record { main = c; channels = map count_in texts.channels }) (same texts.main)
+counts_stepped (source.Channel j) step by texts same = ap (λ (l : List Count). record { main = count_in texts.main; channels = l }) (channel_stepped j step by texts.channels same)
+
+pub counts_fed : (from : Source) (piece : List ℕ) (texts : Texts) → counts_in (feed_step from piece texts) ≡ with_fed (counts_in texts) from (length piece)
+counts_fed from piece texts =
+    counts_stepped from (with_piece piece) (λ (c : Count). record c { fed = c.fed + length piece }) texts
+    (λ (text : Text). ap (λ (n : ℕ). record { fed = n; ended = text.ended }) (length-append text.bytes piece))
+
+pub counts_ended : (from : Source) (texts : Texts) → counts_in (end_step from texts) ≡ with_end (counts_in texts) from
+counts_ended from texts = counts_stepped from over (λ (c : Count). record c { ended = true }) texts (λ (text : Text). refl)
+
+-- ---- texts go on
+
+stays_same : (text : Text) → GoesOn text text
+stays_same text = record { more = []; has_bytes = sym (append-nil text.bytes); stays_ended = λ e. refl }
+
+all_same : (texts : List Text) → AllZip GoesOn texts texts
+all_same [] = tt
+all_same (text ∷ texts) = (stays_same text, all_same texts)
+
+one_goes : (j : ℕ) (step : Text → Text) (texts : List Text) → GoesOn (get_or texts j no_text) (step (get_or texts j no_text)) → AllZip GoesOn texts (set texts j (step (get_or texts j no_text)))
+one_goes j step [] goes = tt
+one_goes zero step (text ∷ texts) goes = (goes, all_same texts)
+one_goes (suc j) step (text ∷ texts) goes = (stays_same text, one_goes j step texts goes)
+
+-- a source's text
+abbrev text_of : Texts → Source → Text
+text_of texts source.Main = texts.main
+text_of texts (source.Channel j) = get_or texts.channels j no_text
+
+steps_on : (from : Source) (step : Text → Text) (texts : Texts) → GoesOn (text_of texts from) (step (text_of texts from)) → GoOn texts (at_source from step texts)
+steps_on source.Main step texts goes = record { main = goes; channels = all_same texts.channels }
+steps_on (source.Channel j) step texts goes = record { main = stays_same texts.main; channels = one_goes j step texts.channels goes }
+
+is_open : (texts : Texts) (from : Source) → HasSource (counts_in texts) from → IsFalse (count_of (counts_in texts) from).ended → (text_of texts from).ended ≡ false
+is_open texts source.Main there e = e
+is_open texts (source.Channel j) there e = sym (ap (λ (c : Count). c.ended) (get_or-map count_in texts.channels j no_text no_count (omega (arith, there, length-map texts.channels count_in)))) ∙ e
+
+pub fed_goes_on : (from : Source) (piece : List ℕ) (texts : Texts) → HasSource (counts_in texts) from → IsFalse (count_of (counts_in texts) from).ended → GoOn texts (feed_step from piece texts)
+fed_goes_on from piece texts there open_ =
+    let e = is_open texts from there open_ in
+    steps_on from (with_piece piece) texts (record { more = piece; has_bytes = refl; stays_ended = λ over. absurd cc })
+
+pub ended_goes_on : (from : Source) (texts : Texts) → GoOn texts (end_step from texts)
+ended_goes_on from texts =
+    let text : Text = text_of texts from in
+    steps_on from over texts (record {
+      more = [];
+      has_bytes = sym (append-nil text.bytes);
+      stays_ended = λ e. ap (λ (b : Bool). record { bytes = text.bytes; ended = b }) (sym e);
+    })
+
+-- ---- what is counted stays counted
+
+put_still : (before now : Readings) (target : Option LoadTarget) → ReadingsStay before now → HasRounds before target → HasRounds now target
+put_still before now None stays has = record { have_passed = λ j below. absurd (omega (arith, below)); has_put = tt }
+put_still before now (Some t) stays has =
+    let loaded = has.has_put.has_loaded in
+    record {
+      have_passed = pass_still before now t.rounds stays has.have_passed;
+      has_put = record {
+        has_loaded = record {
+          has_memory = memory_still before now t.rounds t.memory stays has.have_passed loaded.has_memory;
+          has_rounds = refl;
+          has_base = loaded.has_base ∙ sym (base_still before now t.rounds stays has.have_passed);
+        };
+        is_few = has.has_put.is_few;
+      };
+    }
+
+-- the texts of a feeding, further on
+abbrev pub further : Feeding → Texts → Readings → Feeding
+further f texts readings = record { page_size = f.page_size; uuid = f.uuid; limit = f.limit; texts = texts; readings = readings }
+
+pub rounds_further : (f : Feeding) (s : FedSources) (target : Option LoadTarget) (texts : Texts) (readings : Readings) → Advances f s target → GoOn f.texts texts
+    → AreReadings f.page_size f.uuid f.limit texts readings → HasRounds readings target
+rounds_further f s target texts readings advances goes are =
+    put_still f.readings readings target (readings_stay f.page_size f.uuid f.limit f.texts texts f.readings readings advances.is_page_size goes advances.are_readings are) advances.has_rounds
+
+pub advances_further : (f : Feeding) (s new : FedSources) (target : Option LoadTarget) (texts : Texts) (readings : Readings) → Advances f s target → GoOn f.texts texts
+    → AreReadings f.page_size f.uuid f.limit texts readings → Holds f.page_size f.uuid f.limit (rounds_loaded target) texts new → Advances (further f texts readings) new target
+advances_further f s new target texts readings advances goes are holds = record {
+  is_page_size = advances.is_page_size;
+  are_readings = are;
+  holds = holds;
+  has_rounds = rounds_further f s target texts readings advances goes are;
+}
+
+-- ---- a session that runs
+
+-- what it stands for, as far as it has advanced
+pub feeding_of : (p : ℕ) (uuid : List ℕ) (limit : ℕ) (texts : Texts) (s : LoadSession) (sources : FedSources) → s.sources ≡ Some sources → (stands : StandsFor p uuid limit texts s)
+    → Advances (record { page_size = p; uuid = uuid; limit = limit; texts = texts; readings = stands.is_answer.readings }) sources s.target
+feeding_of p uuid limit texts s sources some stands =
+    let runs : IsRunning p uuid limit texts s.target sources = subst (λ (o : Option FedSources). IfSome o (IsRunning p uuid limit texts s.target)) some stands.runs in
+    let readings : Readings = stands.is_answer.readings in
+    record {
+      is_page_size = stands.is_page_size;
+      are_readings = stands.is_answer.are_readings;
+      holds = runs.holds;
+      has_rounds = record { have_passed = stands.is_answer.has_rounds.before; has_put = put s.target stands.is_answer.has_memory runs.has_base };
+    }
+  where
+    put : (target : Option LoadTarget) → option_map (λ t. t.memory) target ≡ memory_at (rounds_loaded target) stands.is_answer.readings → IfSome target (HasBase p uuid limit texts)
+        → IfSome target (HasPutRounds stands.is_answer.readings)
+    put None memory base = tt
+    put (Some t) memory base = record {
+      has_loaded = record { has_memory = sym memory; has_rounds = refl; has_base = base.has_base stands.is_answer.readings stands.is_answer.are_readings };
+      is_few = base.is_few;
+    }
+
+bases : (p : ℕ) (uuid : List ℕ) (limit : ℕ) (texts : Texts) (readings : Readings) (target : Option LoadTarget) → IsPageSize p → AreReadings p uuid limit texts readings
+    → HasRounds readings target → IfSome target (HasBase p uuid limit texts)
+bases p uuid limit texts readings None size are has = tt
+bases p uuid limit texts readings (Some t) size are has = record {
+  has_base = λ other are_other.
+      subst (λ (r : Readings). t.base ≡ base_at t.rounds r) (same_readings p uuid limit texts readings other size are are_other) has.has_put.has_loaded.has_base;
+  is_few = has.has_put.is_few;
+}
+
+-- the verdict is told: the session stands for the texts
+pub stands_told : (p : ℕ) (uuid : List ℕ) (limit : ℕ) (texts : Texts) (readings : Readings) (counts : Counts) (kept : Option FedSources) (sources : FedSources) (target : Option LoadTarget) (verdict : Verdict)
+    → IsPageSize p → AreReadings p uuid limit texts readings → counts ≡ counts_in texts → Holds p uuid limit (rounds_loaded target) texts sources → HasRounds readings target
+    → TellsVerdict readings target verdict → (kept ≡ Some sources) ⊎ (kept ≡ None)
+    → StandsFor p uuid limit texts (record { counts = counts; sources = kept; target = target; verdict = verdict })
+stands_told p uuid limit texts readings counts kept sources target verdict size are counted holds has told which = record {
+  is_page_size = size;
+  has_counts = counted;
+  is_answer = record { readings = readings; are_readings = are; has_rounds = told.is_first_stop; has_memory = told.has_memory; has_verdict = told.has_verdict };
+  runs = elim which [
+    | inl some ↦ rw some (record { holds = holds; has_base = bases p uuid limit texts readings target size are has })
+    | inr none ↦ rw none tt
+  ];
+}
+
+-- an allocation was refused
+pub lacks_of : (p : ℕ) (uuid : List ℕ) (limit : ℕ) (texts : Texts) (readings : Readings) (counts : Counts) (kept : Option FedSources) (target : Option LoadTarget)
+    → IsPageSize p → AreReadings p uuid limit texts readings → counts ≡ counts_in texts → HasRounds readings target
+    → LacksMemory p uuid limit texts (record { counts = counts; sources = kept; target = target; verdict = failed_without_memory (rounds_loaded target) })
+lacks_of p uuid limit texts readings counts kept None size are counted has = record {
+  is_page_size = size;
+  has_counts = counted;
+  is_without = record { readings = readings; are_readings = are; have_passed = has.have_passed; has_memory = inr (refl, refl); has_verdict = refl };
+}
+lacks_of p uuid limit texts readings counts kept (Some t) size are counted has = record {
+  is_page_size = size;
+  has_counts = counted;
+  is_without = record { readings = readings; are_readings = are; have_passed = has.have_passed; has_memory = inl (sym has.has_put.has_loaded.has_memory); has_verdict = refl };
+}
+
+-- ---- before the first piece
+
+-- what nothing tells
+abbrev nothing_read : StreamReading
+nothing_read = record { table = None; rounds = []; state = Reading }
+
+main_nothing : (p limit : ℕ) (reading : StreamReading) → IsPageSize p → IsMainReading p limit no_text reading → reading ≡ nothing_read
+main_nothing p limit reading size is =
+    let begin : StreamProgress = start Ram Main p limit in
+    same_main p limit no_text reading nothing_read size is (record {
+      found = nothing_read;
+      is_reading = record { to = begin; rest = []; reads = reads_short begin [] (omega arith); has_table = refl; has_rounds = refl };
+      has_end = refl;
+    })
+
+none_counted : (n : ℕ) → replicate n no_count ≡ map count_in (replicate n no_text)
+none_counted zero = refl
+none_counted (suc n) = ap (λ (l : List Count). no_count ∷ l) (none_counted n)
+
+pub stands_at_first : (p : ℕ) (uuid : List ℕ) (limit n : ℕ) (sources : FedSources) (counts : Counts) → IsPageSize p
+    → counts ≡ record { main = no_count; channels = replicate n no_count } → Holds p uuid limit 0 (no_texts n) sources
+    → StandsFor p uuid limit (no_texts n) (record { counts = counts; sources = Some sources; target = None; verdict = Running })
+stands_at_first p uuid limit n sources counts size counted holds =
+    let some = some_readings p uuid limit (no_texts n) size in
+    let readings : Readings = some.0 in
+    let is : readings.main ≡ nothing_read = main_nothing p limit readings.main size some.1.has_main in
+    let channels : List ChannelReading = readings.channels in
+    record {
+      is_page_size = size;
+      has_counts = counted ∙ ap (λ (l : List Count). record { main = no_count; channels = l }) (none_counted n);
+      is_answer = record {
+        readings = readings;
+        are_readings = some.1;
+        has_rounds = record {
+          before = λ j below. absurd (omega (arith, below));
+          here = ap (λ (m : StreamReading). passes 0 (record { main = m; channels = channels })) is;
+        };
+        has_memory = sym (ap (λ (m : StreamReading). memory_at 0 (record { main = m; channels = channels })) is);
+        has_verdict = sym (ap (λ (m : StreamReading). verdict_at 0 (record { main = m; channels = channels })) is);
+      };
+      runs = record { holds = holds; has_base = tt };
+    }
+
+-- ---- a session that is settled
+
+pub settled_steps : (p : ℕ) (uuid : List ℕ) (limit : ℕ) (texts now : Texts) (s : LoadSession) (counts : Counts) → StandsFor p uuid limit texts s → s.sources ≡ None → s.verdict ≢ Running
+    → GoOn texts now → counts ≡ counts_in now → StandsFor p uuid limit now (record s { counts = counts })
+settled_steps p uuid limit texts now s counts stands none settled goes counted = record {
+  is_page_size = stands.is_page_size;
+  has_counts = counted;
+  is_answer = answers_law p uuid limit texts now (answer_in s) stands.is_page_size goes stands.is_answer settled;
+  runs = rw none tt;
+}
+
+pub lacking_steps : (p : ℕ) (uuid : List ℕ) (limit : ℕ) (texts now : Texts) (s : LoadSession) (counts : Counts) → LacksMemory p uuid limit texts s → GoOn texts now → counts ≡ counts_in now
+    → LacksMemory p uuid limit now (record s { counts = counts })
+lacking_steps p uuid limit texts now s counts lacks goes counted = record {
+  is_page_size = lacks.is_page_size;
+  has_counts = counted;
+  is_without = wants_law p uuid limit texts now (answer_in s) lacks.is_page_size goes lacks.is_without;
+}
+
+-- one that lacks memory is settled
+pub lacks_is_settled : (p : ℕ) (uuid : List ℕ) (limit : ℕ) (texts : Texts) (s : LoadSession) → LacksMemory p uuid limit texts s → s.verdict ≢ Running
+lacks_is_settled p uuid limit texts s lacks running = let bad : failed_without_memory (rounds_loaded s.target) ≡ Running = sym lacks.is_without.has_verdict ∙ running in absurd cc
+
+-- ---- a text is over
+
+whole_below : (k n : ℕ) (end : Status) → is_whole end ≡ false → is_whole (status_at k n end) ≡ true → k < n
+whole_below k n end other whole = elim (cases_order k n) [
+  | inl same ↦ let f : is_whole (status_at k n end) ≡ false = ap is_whole (status_end k n end same) ∙ other in absurd cc
+  | inr ne ↦ elim ne [
+    | inl lt ↦ lt
+    | inr gt ↦
+        let pending : status_at k n end ≡ Pending =
+        cond-false (nat_lt k n) Whole (cond (k == n) end Pending) (le-ltb k n (omega (arith, gt))) ∙ cond-false (k == n) end Pending (ne_eqb k n (λ e. omega (arith, e, gt))) in
+        let f : is_whole (status_at k n end) ≡ false = ap is_whole pending in absurd cc
+  ]
+]
+
+-- a source that has a round once it is over had it before
+settled_before : (k n m : ℕ) (old new : Status) → n ≡ m → is_whole new ≡ false → is_whole (status_at k m new) ≡ true → is_pending (status_at k n old) ≡ false
+settled_before k n m old new same other whole =
+    let below : k < m = whole_below k m new other whole in
+    ap is_pending (status_whole k n old (omega (arith, below, same)))
+
+abbrev pub SameBytes : Text → Text → Type 0
+SameBytes a b = b.bytes ≡ a.bytes
+
+main_tables : (p limit : ℕ) (a b : Text) (x y : StreamReading) → IsPageSize p → SameBytes a b → IsMainReading p limit a x → IsMainReading p limit b y → x.table ≡ y.table
+main_tables p limit a b x y size same is_x is_y =
+    let found : IsStreamReading (main_settings Main p limit) a.bytes is_y.found = subst (λ (l : List ℕ). IsStreamReading (main_settings Main p limit) l is_y.found) same is_y.is_reading in
+    let e = same_found p limit a is_y.found x size found is_x in
+    ap (λ (r : StreamReading). r.table) e ∙ sym (ap (λ (r : StreamReading). r.table) is_y.has_end)
+
+main_rounds : (p limit : ℕ) (a b : Text) (x y : StreamReading) → IsPageSize p → SameBytes a b → IsMainReading p limit a x → IsMainReading p limit b y → x.rounds ≡ y.rounds
+main_rounds p limit a b x y size same is_x is_y =
+    let found : IsStreamReading (main_settings Main p limit) a.bytes is_y.found = subst (λ (l : List ℕ). IsStreamReading (main_settings Main p limit) l is_y.found) same is_y.is_reading in
+    let e = same_found p limit a is_y.found x size found is_x in
+    ap (λ (r : StreamReading). r.rounds) e ∙ sym (ap (λ (r : StreamReading). r.rounds) is_y.has_end)
+
+abbrev standing_at : ℕ → (ℕ × ChannelReading) → Standing
+standing_at k c = record { source = origin.Channel c.0; status = channel_status k c.1 }
+
+abbrev Are : Settings → List Text → List ChannelReading → Type 0
+Are given texts readings = AllZip (λ (text : Text) (reading : ChannelReading). IsReading given text.bytes text.ended reading) texts readings
+
+channels_before : (given : Settings) (k from : ℕ) (texts now : List Text) (xs ys : List ChannelReading) → AllZip SameBytes texts now → Are given texts xs → Are given now ys
+    → All IsWhole (map (standing_at k) (enumerate_from from ys)) → All IsSettled (map (standing_at k) (enumerate_from from xs))
+channels_before given k from texts now [] ys same is_x is_y whole = All-nil IsSettled
+channels_before given k from [] now (x ∷ xs) ys same is_x is_y whole = absurd is_x
+channels_before given k from (text ∷ texts) [] (x ∷ xs) ys same is_x is_y whole = absurd same
+channels_before given k from (text ∷ texts) (t ∷ now) (x ∷ xs) [] same is_x is_y whole = absurd is_y
+channels_before given k from (text ∷ texts) (t ∷ now) (x ∷ xs) (y ∷ ys) same is_x is_y whole =
+    let rest : List Standing = map (standing_at k) (enumerate_from (from + 1) ys) in
+    let other : IsReading given text.bytes t.ended y = subst (λ (l : List ℕ). IsReading given l t.ended y) same.0 is_y.0 in
+    let rounds = (same_rounds given text.bytes text.ended t.ended x y is_x.0 other).0 in
+    All-cons IsSettled (standing_at k (from, x)) (map (standing_at k) (enumerate_from (from + 1) xs))
+    (settled_before k (length x.rounds) (length y.rounds) (channel_end x.state) (channel_end y.state) (ap (λ (l : List (List (List ℕ))). length l) rounds) (channel_ends y.state)
+    (All-head IsWhole (standing_at k (from, y)) rest whole))
+    (channels_before given k (from + 1) texts now xs ys same.1 is_x.1 is_y.1 (All-tail IsWhole (standing_at k (from, y)) rest whole))
+
+all_bytes : (texts : List Text) → AllZip SameBytes texts texts
+all_bytes [] = tt
+all_bytes (text ∷ texts) = (refl, all_bytes texts)
+
+same_at : (j : ℕ) (texts : List Text) → AllZip SameBytes texts (set texts j (over (get_or texts j no_text)))
+same_at j [] = tt
+same_at zero (text ∷ texts) = (refl, all_bytes texts)
+same_at (suc j) (text ∷ texts) = (refl, same_at j texts)
+
+-- ending a source changes no bytes
+main_bytes : (from : Source) (texts : Texts) → SameBytes texts.main (end_step from texts).main
+main_bytes source.Main texts = refl
+main_bytes (source.Channel j) texts = refl
+
+channel_bytes : (from : Source) (texts : Texts) → AllZip SameBytes texts.channels (end_step from texts).channels
+channel_bytes source.Main texts = all_bytes texts.channels
+channel_bytes (source.Channel j) texts = same_at j texts.channels
+
+as_many : (from : Source) (texts : Texts) → length (end_step from texts).channels ≡ length texts.channels
+as_many source.Main texts = refl
+as_many (source.Channel j) texts = length-set texts.channels j (over (get_or texts.channels j no_text))
+
+-- where a source was pending something is told once a text is over
+pub still_told : (p : ℕ) (uuid : List ℕ) (limit k : ℕ) (from : Source) (texts : Texts) (before now : Readings) → IsPageSize p → AreReadings p uuid limit texts before
+    → AreReadings p uuid limit (end_step from texts) now → IsFirstStop before k → Running ≡ verdict_at k before → IsDue k now → ⊥
+still_told p uuid limit k from texts before now size are_before are_now stop running due =
+    let whole = (due_sources k now due).0 in
+    let given = settings p uuid (length texts.channels) in
+    settled_is_told k before stop
+    (All-cons IsSettled (main_at k before) (channels_at k before)
+    (settled_before k (length before.main.rounds) (length now.main.rounds) (stream_end before.main.state) (stream_end now.main.state)
+    (ap (λ (l : List (List PageRecord)). length l) (main_rounds p limit texts.main (end_step from texts).main before.main now.main size (main_bytes from texts) are_before.has_main are_now.has_main))
+    (stream_ends now.main.state) (All-head IsWhole (main_at k now) (channels_at k now) whole))
+    (channels_before given k 0 texts.channels (end_step from texts).channels before.channels now.channels (channel_bytes from texts) are_before.has_channels
+    (subst (λ (n : ℕ). Are (settings p uuid n) (end_step from texts).channels now.channels) (as_many from texts) are_now.has_channels)
+    (All-tail IsWhole (main_at k now) (channels_at k now) whole)))
+    (sym running)
+
+-- ---- a piece is taken
+
+-- what advancing leaves, by what the texts tell
+pub taken_of : {E : Type 0} (f : Feeding) (s : FedSources) (target : Option LoadTarget) (result : Result Verdict E) → HasAdvanced f s target result
+    → HasRounds f.readings target × IfOk result (λ verdict. Holds f.page_size f.uuid f.limit (rounds_loaded target) f.texts s × TellsVerdict f.readings target verdict)
+taken_of f s target (Ok verdict) has = (has.advances.has_rounds, (has.advances.holds, has.is_told))
+taken_of f s target (Err e) has = (has.advances.has_rounds, tt)
+
+-- a piece of a source that isn't over
+pub goes_fed : (f : Feeding) (s : FedSources) (target : Option LoadTarget) (from : Source) (piece : List ℕ) → Advances f s target → HasSource (counts_of s) from
+    → IsFalse (count_of (counts_of s) from).ended → GoOn f.texts (feed_step from piece f.texts)
+goes_fed f s target from piece advances there open_ =
+    let same = held_counts f.page_size f.uuid f.limit (rounds_loaded target) f.texts s advances.holds in
+    fed_goes_on from piece f.texts (subst (λ (c : Counts). HasSource c from) same there) (subst (λ (c : Counts). IsFalse (count_of c from).ended) same open_)
+
+-- some readings of texts that went on, and how far a session has come with them
+pub next_feeding : (f : Feeding) (s new : FedSources) (target : Option LoadTarget) (texts : Texts) → Advances f s target → GoOn f.texts texts
+    → Holds f.page_size f.uuid f.limit (rounds_loaded target) texts new → (next : Feeding) × Advances next new target
+next_feeding f s new target texts advances goes holds =
+    let some = some_readings f.page_size f.uuid f.limit texts advances.is_page_size in
+    (further f texts some.0, advances_further f s new target texts some.0 advances goes some.1 holds)
+
+-- ---- the calls
+
+-- a session keeps its sources as long as it runs
+abbrev pub Keeps : Verdict → Option FedSources → FedSources → Type 0
+Keeps verdict kept sources = (verdict ≡ Running → kept ≡ Some sources) × (verdict ≢ Running → kept ≡ None)
+
+kept_or_not : (verdict : Verdict) (kept : Option FedSources) (sources : FedSources) → Keeps verdict kept sources → (kept ≡ Some sources) ⊎ (kept ≡ None)
+kept_or_not Running kept sources keeps = inl (keeps.0 refl)
+kept_or_not Done kept sources keeps = inr (keeps.1 (λ e. absurd cc))
+kept_or_not (Failed f) kept sources keeps = inr (keeps.1 (λ e. absurd cc))
+
+-- one that keeps them runs
+pub keeps_runs : (s : LoadSession) (sources : FedSources) → IsSession s → s.sources ≡ Some sources → s.verdict ≡ Running
+keeps_runs s sources is some = go s.verdict is.is_settled
+  where
+    go : (v : Verdict) → (v ≢ Running → s.sources ≡ None) → v ≡ Running
+    go Running settled = refl
+    go Done settled = let bad : Some sources ≡ None = sym some ∙ settled (λ e. absurd cc) in absurd cc
+    go (Failed f) settled = let bad : Some sources ≡ None = sym some ∙ settled (λ e. absurd cc) in absurd cc
+
+-- a piece was taken
+pub feed_steps : {E : Type 0} (p : ℕ) (uuid : List ℕ) (limit : ℕ) (texts : Texts) (s : LoadSession) (sources new : FedSources) (from : Source) (piece : List ℕ) (target : Option LoadTarget)
+    (taken : Result Verdict E) (verdict : Verdict) (kept : Option FedSources) (counts : Counts) → StandsFor p uuid limit texts s → s.sources ≡ Some sources
+    → ((f : Feeding) → Advances f sources s.target → HasTaken f from piece new target taken) → taken ≡ Ok verdict → counts ≡ with_fed s.counts from (length piece) → Keeps verdict kept new
+    → StandsFor p uuid limit (feed_step from piece texts) (record { counts = counts; sources = kept; target = target; verdict = verdict })
+feed_steps p uuid limit texts s sources new from piece target taken verdict kept counts stands some takes ok counted keeps =
+    let f : Feeding = record { page_size = p; uuid = uuid; limit = limit; texts = texts; readings = stands.is_answer.readings } in
+    let next = some_readings p uuid limit (feed_step from piece texts) stands.is_page_size in
+    let has = subst (λ (r : Result Verdict _). HasTaken f from piece new target r) ok (takes f (feeding_of p uuid limit texts s sources some stands)) next.0 next.1 in
+    stands_told p uuid limit (feed_step from piece texts) next.0 counts kept new target verdict stands.is_page_size next.1
+    (counted ∙ ap (λ (c : Counts). with_fed c from (length piece)) stands.has_counts ∙ sym (counts_fed from piece texts)) has.1.0 has.0 has.1.1 (kept_or_not verdict kept new keeps)
+
+-- it wasn't, since an allocation was refused
+pub feed_runs_out : {E : Type 0} (p : ℕ) (uuid : List ℕ) (limit : ℕ) (texts : Texts) (s : LoadSession) (sources new : FedSources) (from : Source) (piece : List ℕ) (target : Option LoadTarget)
+    (taken : Result Verdict E) (kept : Option FedSources) (counts : Counts) → StandsFor p uuid limit texts s → s.sources ≡ Some sources
+    → ((f : Feeding) → Advances f sources s.target → HasTaken f from piece new target taken) → counts ≡ with_fed s.counts from (length piece)
+    → LacksMemory p uuid limit (feed_step from piece texts) (record { counts = counts; sources = kept; target = target; verdict = failed_without_memory (rounds_loaded target) })
+feed_runs_out p uuid limit texts s sources new from piece target taken kept counts stands some takes counted =
+    let f : Feeding = record { page_size = p; uuid = uuid; limit = limit; texts = texts; readings = stands.is_answer.readings } in
+    let next = some_readings p uuid limit (feed_step from piece texts) stands.is_page_size in
+    let has = takes f (feeding_of p uuid limit texts s sources some stands) next.0 next.1 in
+    lacks_of p uuid limit (feed_step from piece texts) next.0 counts kept target stands.is_page_size next.1
+    (counted ∙ ap (λ (c : Counts). with_fed c from (length piece)) stands.has_counts ∙ sym (counts_fed from piece texts)) has.0
+
+-- a settled session counts a piece
+pub feed_counts : (p : ℕ) (uuid : List ℕ) (limit : ℕ) (texts : Texts) (s : LoadSession) (from : Source) (piece : List ℕ) (counts : Counts) → IsSession s → StandsFor p uuid limit texts s → s.sources ≡ None
+    → HasSource s.counts from → IsFalse (count_of s.counts from).ended → counts ≡ with_fed s.counts from (length piece) → StandsFor p uuid limit (feed_step from piece texts) (record s { counts = counts })
+feed_counts p uuid limit texts s from piece counts is stands none there open_ counted =
+    settled_steps p uuid limit texts (feed_step from piece texts) s counts stands none (λ running. is.is_open running none)
+    (fed_goes_on from piece texts (subst (λ (c : Counts). HasSource c from) stands.has_counts there) (subst (λ (c : Counts). IsFalse (count_of c from).ended) stands.has_counts open_))
+    (counted ∙ ap (λ (c : Counts). with_fed c from (length piece)) stands.has_counts ∙ sym (counts_fed from piece texts))
+
+pub feed_lacks : (p : ℕ) (uuid : List ℕ) (limit : ℕ) (texts : Texts) (s : LoadSession) (from : Source) (piece : List ℕ) (counts : Counts) → LacksMemory p uuid limit texts s
+    → HasSource s.counts from → IsFalse (count_of s.counts from).ended → counts ≡ with_fed s.counts from (length piece) → LacksMemory p uuid limit (feed_step from piece texts) (record s { counts = counts })
+feed_lacks p uuid limit texts s from piece counts lacks there open_ counted =
+    lacking_steps p uuid limit texts (feed_step from piece texts) s counts lacks
+    (fed_goes_on from piece texts (subst (λ (c : Counts). HasSource c from) lacks.has_counts there) (subst (λ (c : Counts). IsFalse (count_of c from).ended) lacks.has_counts open_))
+    (counted ∙ ap (λ (c : Counts). with_fed c from (length piece)) lacks.has_counts ∙ sym (counts_fed from piece texts))
+
+-- a settled session counts an end
+pub end_counts : (p : ℕ) (uuid : List ℕ) (limit : ℕ) (texts : Texts) (s : LoadSession) (from : Source) (counts : Counts) → IsSession s → StandsFor p uuid limit texts s → s.sources ≡ None
+    → counts ≡ with_end s.counts from → StandsFor p uuid limit (end_step from texts) (record s { counts = counts })
+end_counts p uuid limit texts s from counts is stands none counted =
+    settled_steps p uuid limit texts (end_step from texts) s counts stands none (λ running. is.is_open running none) (ended_goes_on from texts)
+    (counted ∙ ap (λ (c : Counts). with_end c from) stands.has_counts ∙ sym (counts_ended from texts))
+
+pub end_lacks : (p : ℕ) (uuid : List ℕ) (limit : ℕ) (texts : Texts) (s : LoadSession) (from : Source) (counts : Counts) → LacksMemory p uuid limit texts s
+    → counts ≡ with_end s.counts from → LacksMemory p uuid limit (end_step from texts) (record s { counts = counts })
+end_lacks p uuid limit texts s from counts lacks counted =
+    lacking_steps p uuid limit texts (end_step from texts) s counts lacks (ended_goes_on from texts)
+    (counted ∙ ap (λ (c : Counts). with_end c from) lacks.has_counts ∙ sym (counts_ended from texts))
+
+-- a session that runs is told that a source is over
+none_there : (readings : Readings) → None ≡ memory_at 0 readings → readings.main.table ≡ None
+none_there readings e = go readings.main.table e
+  where
+    go : (o : Option RamTable) → None ≡ option_map (λ t. after t (map (λ i. pages_at t i readings) (range_with_len 0 0))) o → o ≡ None
+    go None e = refl
+    go (Some t) e = absurd cc
+
+told_either : (f : Feeding) (s : FedSources) (target : Option LoadTarget) (v : Verdict) → Advances f s target → (target ≡ None → f.readings.main.table ≡ None) → TellsAll (rounds_loaded target) s (Some v)
+    → TellsVerdict f.readings target v
+told_either f s None v advances none told = told_without f s v advances (none refl) told
+told_either f s (Some t) v advances none told = told_of f s t v advances told
+
+pub end_steps : (p : ℕ) (uuid : List ℕ) (limit : ℕ) (texts : Texts) (s : LoadSession) (sources new : FedSources) (from : Source) (n : ℕ) (told : Option Verdict) (verdict : Verdict)
+    (kept : Option FedSources) (counts : Counts) → IsSession s → StandsFor p uuid limit texts s → s.sources ≡ Some sources
+    → ((p : ℕ) (uuid : List ℕ) (limit k : ℕ) (texts : Texts) → Holds p uuid limit k texts sources → Holds p uuid limit k (end_step from texts) new)
+    → n ≡ rounds_loaded s.target → TellsAll n new told → verdict ≡ unwrap_or told Running → counts ≡ with_end s.counts from → Keeps verdict kept new
+    → StandsFor p uuid limit (end_step from texts) (record { counts = counts; sources = kept; target = s.target; verdict = verdict })
+end_steps p uuid limit texts s sources new from n told verdict kept counts is stands some holds same tells is_verdict counted keeps =
+    let before : Readings = stands.is_answer.readings in
+    let f : Feeding = record { page_size = p; uuid = uuid; limit = limit; texts = texts; readings = before } in
+    let advances = feeding_of p uuid limit texts s sources some stands in
+    let next = some_readings p uuid limit (end_step from texts) stands.is_page_size in
+    let further_on : Advances (further f (end_step from texts) next.0) new s.target =
+    advances_further f sources new s.target (end_step from texts) next.0 advances (ended_goes_on from texts) next.1 (holds p uuid limit (rounds_loaded s.target) texts advances.holds) in
+    let tells_here : TellsAll (rounds_loaded s.target) new told = subst (λ (m : ℕ). TellsAll m new told) same tells in
+    let running : Running ≡ verdict_at (rounds_loaded s.target) before = sym (keeps_runs s sources is some) ∙ stands.is_answer.has_verdict in
+    let no_table : s.target ≡ None → next.0.main.table ≡ None = λ none.
+    sym (main_tables p limit texts.main (end_step from texts).main before.main next.0.main stands.is_page_size (main_bytes from texts) stands.is_answer.are_readings.has_main next.1.has_main)
+    ∙ none_there before (sym (ap (λ (o : Option LoadTarget). option_map (λ t. t.memory) o) none) ∙ stands.is_answer.has_memory ∙ ap (λ (o : Option LoadTarget). memory_at (rounds_loaded o) before) none) in
+    let is_told : (o : Option Verdict) → told ≡ o → TellsVerdict next.0 s.target (unwrap_or o Running) = λ o e. go o (subst (λ (x : Option Verdict). TellsAll (rounds_loaded s.target) new x) e tells_here) further_on no_table running in
+    let here : TellsVerdict next.0 s.target verdict = subst (λ (v : Verdict). TellsVerdict next.0 s.target v) (sym is_verdict) (is_told told refl) in
+    stands_told p uuid limit (end_step from texts) next.0 counts kept new s.target verdict stands.is_page_size next.1
+    (counted ∙ ap (λ (c : Counts). with_end c from) stands.has_counts ∙ sym (counts_ended from texts)) further_on.holds further_on.has_rounds here (kept_or_not verdict kept new keeps)
+  where
+    go : (o : Option Verdict) → TellsAll (rounds_loaded s.target) new o
+        → Advances (record { page_size = p; uuid = uuid; limit = limit; texts = end_step from texts; readings = (some_readings p uuid limit (end_step from texts) stands.is_page_size).0 }) new s.target
+        → (s.target ≡ None → (some_readings p uuid limit (end_step from texts) stands.is_page_size).0.main.table ≡ None) → Running ≡ verdict_at (rounds_loaded s.target) stands.is_answer.readings
+        → TellsVerdict (some_readings p uuid limit (end_step from texts) stands.is_page_size).0 s.target (unwrap_or o Running)
+    go None tells advances none running =
+        let now = some_readings p uuid limit (end_step from texts) stands.is_page_size in
+        let due : IsDue (rounds_loaded s.target) now.0 = sym (tells p uuid limit (end_step from texts) now.0 stands.is_page_size advances.holds now.1) in
+        absurd (still_told p uuid limit (rounds_loaded s.target) from texts stands.is_answer.readings now.0 stands.is_page_size stands.is_answer.are_readings now.1 stands.is_answer.has_rounds running due)
+    go (Some v) tells advances none running =
+        told_either (record { page_size = p; uuid = uuid; limit = limit; texts = end_step from texts; readings = (some_readings p uuid limit (end_step from texts) stands.is_page_size).0 }) new s.target v advances none tells
+
+-- it is still a session
+pub is_session_still : (counts : Counts) (kept : Option FedSources) (sources : FedSources) (target : Option LoadTarget) (verdict : Verdict) → Keeps verdict kept sources
+    → (verdict ≡ Running → counts_of sources ≡ counts) → StandsForSome (record { counts = counts; sources = kept; target = target; verdict = verdict })
+    → IsSession (record { counts = counts; sources = kept; target = target; verdict = verdict })
+is_session_still counts kept sources target verdict keeps counted some = record {
+  is_open = λ running none. let bad : Some sources ≡ None = sym (keeps.0 running) ∙ none in absurd cc;
+  is_settled = keeps.1;
+  has_counts = go verdict keeps counted;
+  stands = λ _. some;
+}
+  where
+    go : (v : Verdict) → Keeps v kept sources → (v ≡ Running → counts_of sources ≡ counts) → IfSome kept (λ x. counts_of x ≡ counts)
+    go Running k c = rw (k.0 refl) (c refl)
+    go Done k c = rw (k.1 (λ e. absurd cc)) tt
+    go (Failed f) k c = rw (k.1 (λ e. absurd cc)) tt
+
+-- what is asked of a session is asked of what it holds
+pub has_source_of : (s t : LoadSession) (from : Source) → s ≡ t → HasSource t.counts from → HasSource s.counts from
+has_source_of s t from same there = subst (λ (x : LoadSession). HasSource x.counts from) (sym same) there
+
+pub open_of : (s t : LoadSession) (from : Source) → s ≡ t → IsFalse (count_of t.counts from).ended → IsFalse (count_of s.counts from).ended
+open_of s t from same open_ = subst (λ (x : LoadSession). IsFalse (count_of x.counts from).ended) (sym same) open_

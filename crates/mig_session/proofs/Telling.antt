@@ -1,0 +1,70 @@
+-- What the verdict that sources tell at a round says of the answer on texts so far.
+use Rattle.std.proofs.Common.{ℕ, ◌≡◌, Bool, true, false, List, [], ◌∷◌, refl, sym, ap, ◌∙◌, inl, inr, Option, Some, None, find}
+use Rattle.std.specs.Prelude.{IsTrue, IsFalse, ◌||◌}
+use Rattle.std.specs.Bool.{then_some}
+use Rattle.std.specs.Option.{option_map, unwrap_or}
+use Rattle.std.specs.List.{All, list_all, list_any}
+use Rattle.std.proofs.lemmas.Bool.{cases_Bool, cond-true}
+use Rattle.std.proofs.lemmas.List.Elements.{All-nil, All-cons}
+use Rattle.mig_mem.specs.First.{first_some}
+use Rattle.mig_assemble.specs.declared.fault.RoundFault.{RoundFault}
+use Rattle.mig_single_load.specs.declared.fault.Origin.TheVariants as origin
+use Rattle.mig_single_load.specs.declared.fault.Fault.TheVariants as fault
+use Rattle.mig_answer.specs.declared.verdict.Verdict.{Verdict}
+use Rattle.mig_answer.specs.declared.verdict.Verdict.TheVariants.{Running, Done}
+use Rattle.mig_answer.specs.Status.{is_whole, is_clean, is_pending}
+use Rattle.mig_answer.specs.Texts.{Readings}
+use Rattle.mig_answer.specs.Rounds.{refusal_at}
+use Rattle.mig_answer.specs.MultiLoad.{Standing, main_at, channels_at, sources_at, hello_ids, repeated_hello, passes, failed, failed_at_first, failed_with_own, verdicts_told, verdict_at}
+use Rattle.mig_session.specs.Advancing.{IsDue}
+use Rattle.mig_answer.proofs.Statuses.{passes_all, first_none}
+use Rattle.mig_answer.proofs.Judged.{IsWhole, IsSettled, then_none}
+use Rattle.mig_answer.proofs.ToldSources.{AreWhole, told_at, round_told, told_first_some, none_told, first_behind}
+
+none_of_any : {X : Type 0} (test : X → Bool) (xs : List X) → list_any test xs ≡ false → All (λ x. test x ≡ false) xs
+none_of_any test [] e = All-nil (λ x. test x ≡ false)
+none_of_any test (x ∷ xs) e = elim (cases_Bool (test x)) [
+  | inl t ↦ let bad : list_any test (x ∷ xs) ≡ true = rw t refl in absurd cc
+  | inr f ↦ All-cons (λ y. test y ≡ false) x xs f (none_of_any test xs (let rest : list_any test (x ∷ xs) ≡ list_any test xs = rw f refl in sym rest ∙ e))
+]
+
+-- where nothing is told no source is pending
+settled_where_due : (k : ℕ) (m : Standing) (cs : List Standing) (repeated : Option ℕ) → first_some (verdicts_told k m cs repeated) ≡ None → All IsSettled (m ∷ cs)
+settled_where_due k m cs repeated none =
+    none_of_any (λ (s : Standing). is_pending s.status) (m ∷ cs) (then_none (list_any (λ (s : Standing). is_pending s.status) (m ∷ cs)) Running (first_none
+    (then_some (list_any (λ (s : Standing). is_pending s.status) (m ∷ cs)) Running) (rest_of (verdicts_told k m cs repeated)) none).0)
+  where
+    rest_of : List (Option Verdict) → List (Option Verdict)
+    rest_of [] = []
+    rest_of (o ∷ os) = os
+
+-- and all have the round
+pub due_sources : (k : ℕ) (readings : Readings) → IsDue k readings → AreWhole (sources_at k readings) × (repeated_hello (hello_ids readings) ≡ None)
+due_sources k readings due =
+    let settled = settled_where_due k (main_at k readings) (channels_at k readings) (repeated_hello (hello_ids readings)) due in
+    let parts = none_told k (main_at k readings) (channels_at k readings) (repeated_hello (hello_ids readings)) settled due in
+    (passes_all (λ (s : Standing). is_whole s.status) (sources_at k readings) parts.0, parts.1)
+
+-- the round passes where it isn't refused
+pub due_passes : (k : ℕ) (readings : Readings) → IsDue k readings → refusal_at k readings ≡ None → IsTrue (passes k readings)
+due_passes k readings due lawful =
+    let settled = settled_where_due k (main_at k readings) (channels_at k readings) (repeated_hello (hello_ids readings)) due in
+    let parts = none_told k (main_at k readings) (channels_at k readings) (repeated_hello (hello_ids readings)) settled due in
+    rw (parts.0, parts.1, lawful) refl
+
+-- else the load ends there
+pub due_refused : (k : ℕ) (readings : Readings) (f : RoundFault) → IsDue k readings → refusal_at k readings ≡ Some f
+    → IsFalse (passes k readings) × (failed k origin.Round (fault.Round f) ≡ verdict_at k readings)
+due_refused k readings f due refused =
+    let settled = settled_where_due k (main_at k readings) (channels_at k readings) (repeated_hello (hello_ids readings)) due in
+    let parts = none_told k (main_at k readings) (channels_at k readings) (repeated_hello (hello_ids readings)) settled due in
+    let stops : passes k readings ≡ false = rw (parts.0, parts.1, refused) refl in
+    let first = first_behind (told_at k readings) (round_told k readings) due
+    ∙ ap (λ (o : Option RoundFault). first_some (option_map (λ (x : RoundFault). failed k origin.Round (fault.Round x)) o ∷ [])) refused in
+    (stops, sym (ap (λ (o : Option Verdict). unwrap_or o Running) first))
+
+-- what is told is the verdict at a round that doesn't pass
+pub told_here : (k : ℕ) (readings : Readings) (v : Verdict) → Some v ≡ first_some (told_at k readings) → IsFalse (passes k readings) × (v ≡ verdict_at k readings)
+told_here k readings v e =
+    let found = told_first_some k readings v (sym e) in
+    (found.0, sym (ap (λ (o : Option Verdict). unwrap_or o Running) found.1))

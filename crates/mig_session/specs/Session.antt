@@ -1,0 +1,148 @@
+-- A load whose texts come in pieces: what a session holds, and the texts that it stands for.
+use Rattle.std.specs.Prelude.{ℕ, ◌≡◌, ◌≢◌, ◌≤◌, ◌<◌, ◌+◌, ◌^◌, true, false, List, length, map, slice_set, get_or, Option, None, Some, IfSome, ⊤}
+use Rattle.std.specs.Option.{option_map, option_map_or}
+use Rattle.mig_mem.specs.PageSize.{IsPageSize}
+use Rattle.mig_mem.specs.RamTable.{RamTable}
+use Rattle.mig_assemble.specs.Target.{LoadTarget}
+use Rattle.mig_stream.specs.Text.{total_bytes}
+use Rattle.mig_send.specs.DealtRounds.{DealtRound}
+use Rattle.mig_session.specs.declared.counts.Count.{Count}
+use Rattle.mig_session.specs.declared.source.Source.{Source}
+use Rattle.mig_session.specs.declared.source.Source.TheVariants as source
+use Rattle.mig_answer.specs.declared.verdict.Verdict.{Verdict}
+use Rattle.mig_answer.specs.declared.verdict.Verdict.TheVariants.{Running}
+use Rattle.mig_answer.specs.Texts.{Text, Texts, Readings, AreReadings, no_text, with_piece, over, ended_texts}
+use Rattle.mig_answer.specs.Rounds.{base_at}
+use Rattle.mig_answer.specs.MultiLoad.{Answer, IsAnswer, IsWithoutMemory}
+use Rattle.mig_answer.specs.Sent.{IsSentInAnyOrder, sent_answer}
+use Rattle.mig_session.specs.Sources.{Counts, FedSources, counts_of, Holds}
+
+-- ---- what a session holds
+
+pub record LoadSession : Type 0 where
+  -- how much of each text has come
+  pub counts : Counts
+  -- what is kept of each source, as long as the load runs
+  pub sources : Option FedSources
+  -- None before the size list is whole, or where no memory was found for it
+  pub target : Option LoadTarget
+  pub verdict : Verdict
+
+-- how many rounds are in the memory
+abbrev pub rounds_loaded : Option LoadTarget → ℕ
+rounds_loaded target = option_map_or (λ t. t.rounds) target 0
+
+-- what a session tells
+abbrev pub answer_in : LoadSession → Answer
+answer_in s = record { memory = option_map (λ t. t.memory) s.target; rounds = rounds_loaded s.target; verdict = s.verdict }
+
+-- ---- its sources
+
+-- the main stream, or a channel that there is
+abbrev pub HasSource : Counts → Source → Type 0
+HasSource counts source.Main = ⊤
+HasSource counts (source.Channel j) = j < length counts.channels
+
+abbrev pub no_count : Count
+no_count = record { fed = 0; ended = false }
+
+-- how much of a source's text has come
+abbrev pub count_of : Counts → Source → Count
+count_of counts source.Main = counts.main
+count_of counts (source.Channel j) = get_or counts.channels j no_count
+
+-- with another count of a source
+abbrev pub with_count : Counts → Source → Count → Counts
+with_count counts source.Main count = record counts { main = count }
+with_count counts (source.Channel j) count = record counts { channels = slice_set counts.channels j count }
+
+abbrev pub with_fed : Counts → Source → ℕ → Counts
+with_fed counts from len = with_count counts from (record (count_of counts from) { fed = (count_of counts from).fed + len })
+
+abbrev pub with_end : Counts → Source → Counts
+with_end counts from = with_count counts from (record (count_of counts from) { ended = true })
+
+-- ---- the texts that it stands for
+
+abbrev pub count_in : Text → Count
+count_in text = record { fed = length text.bytes; ended = text.ended }
+
+abbrev pub counts_in : Texts → Counts
+counts_in texts = record { main = count_in texts.main; channels = map count_in texts.channels }
+
+-- a source's text takes a step
+abbrev pub at_source : Source → (Text → Text) → Texts → Texts
+at_source source.Main step texts = record texts { main = step texts.main }
+at_source (source.Channel j) step texts = record texts { channels = slice_set texts.channels j (step (get_or texts.channels j no_text)) }
+
+-- a piece of a source's text has come
+abbrev pub feed_step : Source → List ℕ → Texts → Texts
+feed_step from piece texts = at_source from (with_piece piece) texts
+
+-- a source's text has ended
+abbrev pub end_step : Source → Texts → Texts
+end_step from texts = at_source from over texts
+
+-- the number that the next round's first packet is to have
+pub record HasBase (page_size : ℕ) (uuid : List ℕ) (limit : ℕ) (texts : Texts) (t : LoadTarget) : Type 0 where
+  pub has_base : (readings : Readings) → AreReadings page_size uuid limit texts readings → t.base ≡ base_at t.rounds readings
+  pub is_few : t.base ≤ 2 ^ 63
+
+-- As long as a load runs, all of the texts was read, and the rounds that it counts were judged.
+pub record IsRunning (page_size : ℕ) (uuid : List ℕ) (limit : ℕ) (texts : Texts) (target : Option LoadTarget) (sources : FedSources) : Type 0 where
+  pub holds : Holds page_size uuid limit (rounds_loaded target) texts sources
+  pub has_base : IfSome target (HasBase page_size uuid limit texts)
+
+-- The session was made with this page size, UUID and limit, and so much of the texts has come. It tells their answer.
+pub record StandsFor (page_size : ℕ) (uuid : List ℕ) (limit : ℕ) (texts : Texts) (s : LoadSession) : Type 0 where
+  pub is_page_size : IsPageSize page_size
+  pub has_counts : s.counts ≡ counts_in texts
+  pub is_answer : IsAnswer page_size uuid limit texts (answer_in s)
+  pub runs : IfSome s.sources (IsRunning page_size uuid limit texts s.target)
+
+-- The same, where an allocation was refused: the answer is the one for that, and stays.
+pub record LacksMemory (page_size : ℕ) (uuid : List ℕ) (limit : ℕ) (texts : Texts) (s : LoadSession) : Type 0 where
+  pub is_page_size : IsPageSize page_size
+  pub has_counts : s.counts ≡ counts_in texts
+  pub is_without : IsWithoutMemory page_size uuid limit texts (answer_in s)
+
+-- A call takes this step: whatever texts the session stood for before it, it stands for those with the step done.
+abbrev pub StepsOn : (Texts → Texts) → LoadSession → LoadSession → Type 0
+StepsOn step old new = (page_size : ℕ) (uuid : List ℕ) (limit : ℕ) (texts : Texts) → StandsFor page_size uuid limit texts old → StandsFor page_size uuid limit (step texts) new
+
+-- an allocation was refused in the step
+abbrev pub RunsOut : (Texts → Texts) → LoadSession → LoadSession → Type 0
+RunsOut step old new = (page_size : ℕ) (uuid : List ℕ) (limit : ℕ) (texts : Texts) → StandsFor page_size uuid limit texts old → LacksMemory page_size uuid limit (step texts) new
+
+-- an allocation had been refused before
+abbrev pub StillLacks : (Texts → Texts) → LoadSession → LoadSession → Type 0
+StillLacks step old new = (page_size : ℕ) (uuid : List ℕ) (limit : ℕ) (texts : Texts) → LacksMemory page_size uuid limit texts old → LacksMemory page_size uuid limit (step texts) new
+
+-- the rounds that were counted stay counted, and a memory that was found stays
+pub record KeepsRounds (old new : LoadSession) : Type 0 where
+  pub more_rounds : rounds_loaded old.target ≤ rounds_loaded new.target
+  pub has_memory : old.target ≢ None → new.target ≢ None
+
+-- ---- the inside
+
+pub record StandsForSome (s : LoadSession) : Type 0 where
+  pub page_size : ℕ
+  pub uuid : List ℕ
+  pub limit : ℕ
+  pub texts : Texts
+  pub stands : StandsFor page_size uuid limit texts s
+
+-- It keeps its sources as long as it runs. Their readers were given what it counts, and it stands for some texts.
+pub record IsSession (s : LoadSession) : Type 0 where
+  pub is_open : s.verdict ≡ Running → s.sources ≢ None
+  pub is_settled : s.verdict ≢ Running → s.sources ≡ None
+  pub has_counts : IfSome s.sources (λ sources. counts_of sources ≡ s.counts)
+  pub stands : s.sources ≢ None → StandsForSome s
+
+-- ---- what was sent
+
+-- What a sender on several channels has sent, fed in any pieces and order, is loaded.
+abbrev pub LoadsSent : LoadSession → Type 0
+LoadsSent s = (table : RamTable) (uuid : List ℕ) (limit : ℕ) (rounds : List DealtRound) (main : List ℕ) (channels : List (List ℕ))
+    → IsSentInAnyOrder table uuid rounds main channels → total_bytes table ≤ limit
+    → StandsFor table.page_size uuid limit (ended_texts main channels) s → answer_in s ≡ sent_answer table rounds

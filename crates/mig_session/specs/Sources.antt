@@ -1,0 +1,143 @@
+-- What a session keeps of each source: its reader, and the whole round that is judged next.
+use Rattle.std.specs.Prelude.{ℕ, ◌≡◌, ◌≢◌, ◌+◌, ◌<◌, List, [], length, map, Option, None, Some, IfSome, IfNone, All}
+use Rattle.std.specs.List.{AllZip, flat_map}
+use Rattle.std.specs.Option.{option_map_or}
+use Rattle.mig_mem.specs.PageSize.{IsPageSize}
+use Rattle.mig_mem.specs.RamTable.{RamTable}
+use Rattle.mig_mem.specs.Place.{IsPlace}
+use Rattle.mig_mem.specs.First.{first_some}
+use Rattle.mig_stream.specs.declared.item.Mode.TheVariants.{Main}
+use Rattle.mig_stream.specs.PageRecord.{PageRecord}
+use Rattle.mig_stream.specs.Round.{RoundOfRecords}
+use Rattle.mig_stream.specs.Reading as stream
+use Rattle.mig_stream.specs.Reader as stream_reader
+use Rattle.mig_packet.specs.Packet.{Fields, fields_of}
+use Rattle.mig_packet.specs.Reading as channel
+use Rattle.mig_packet.specs.Reader as channel_reader
+use Rattle.mig_session.specs.declared.counts.Count.{Count}
+use Rattle.mig_answer.specs.declared.status.Status.{Status}
+use Rattle.mig_answer.specs.declared.verdict.Verdict.{Verdict}
+use Rattle.mig_answer.specs.Status.{main_status, channel_status}
+use Rattle.mig_answer.specs.Texts.{Text, Texts, Readings, IsMainReading, AreReadings}
+use Rattle.mig_answer.specs.MultiLoad.{main_at, channels_at, hello_ids, repeated_hello, verdicts_told}
+
+-- ---- what is kept
+
+pub record FedMain : Type 0 where
+  pub reader : stream_reader.Reader
+  -- the round that is judged next, where it is whole
+  pub round : Option RoundOfRecords
+
+pub record FedChannel : Type 0 where
+  pub reader : channel_reader.Reader
+  pub round : Option channel_reader.RoundOfPackets
+
+pub record FedSources : Type 0 where
+  pub main : FedMain
+  pub channels : List FedChannel
+
+-- how much of each source's text has come
+pub record Counts : Type 0 where
+  pub main : Count
+  pub channels : List Count
+
+abbrev pub main_count : FedMain → Count
+main_count m = record { fed = m.reader.fed; ended = m.reader.ended }
+
+abbrev pub channel_count : FedChannel → Count
+channel_count c = record { fed = c.reader.fed; ended = c.reader.ended }
+
+abbrev pub counts_of : FedSources → Counts
+counts_of s = record { main = main_count s.main; channels = map channel_count s.channels }
+
+-- ---- what is kept of one source, whose first k rounds were judged
+
+-- so many, and the one that was taken from the reader where there is one
+abbrev pub with_one : {X : Type 0} → ℕ → Option X → ℕ
+with_one k None = k
+with_one k (Some round) = k + 1
+
+abbrev pub main_so_far : Text → ℕ → stream_reader.SoFar
+main_so_far text taken = record { text = text.bytes; ended = text.ended; taken = taken }
+
+abbrev pub channel_so_far : Text → ℕ → channel_reader.SoFar
+channel_so_far text taken = record { text = text.bytes; ended = text.ended; taken = taken }
+
+-- the records of round k of a main stream's text, which are of pages of its table
+pub record IsMainRound (given : stream.Settings) (k : ℕ) (text : List ℕ) (round : RoundOfRecords) : Type 0 where
+  pub has_page_size : round.page_size ≡ given.page_size
+  pub has_records : stream_reader.HasRound given text k round.records
+  pub has_places : (table : RamTable) → stream_reader.HasTable given text (Some table) → All (λ x. IsPlace table x.place) round.records
+
+-- Of the main stream so much has come, and its first k rounds were judged; the next one is here, or isn't whole.
+pub record HoldsMain (given : stream.Settings) (k : ℕ) (text : Text) (m : FedMain) : Type 0 where
+  pub stands : stream_reader.Stands given (main_so_far text (with_one k m.round)) m.reader
+  pub has_round : IfSome m.round (IsMainRound given k text.bytes)
+  pub has_none : IfNone m.round ((i : ℕ) (records : List PageRecord) → stream_reader.HasRound given text.bytes i records → i < k)
+
+-- the packets of round k of a channel's text
+pub record IsChannelRound (given : channel.Settings) (k : ℕ) (text : List ℕ) (round : channel_reader.RoundOfPackets) : Type 0 where
+  pub has_page_size : round.page_size ≡ given.page_size
+  pub has_packets : channel_reader.HasRound given text k round.packets
+
+-- Of a channel so much has come, and its first k rounds were judged; the next one is here, or isn't whole.
+pub record HoldsChannel (given : channel.Settings) (k : ℕ) (text : Text) (c : FedChannel) : Type 0 where
+  pub stands : channel_reader.Stands given (channel_so_far text (with_one k c.round)) c.reader
+  pub has_round : IfSome c.round (IsChannelRound given k text.bytes)
+  pub has_none : IfNone c.round ((i : ℕ) (packets : List (List ℕ)) → channel_reader.HasRound given text.bytes i packets → i < k)
+
+-- of each source so much has come, and the first k rounds were judged
+pub record Holds (page_size : ℕ) (uuid : List ℕ) (limit k : ℕ) (texts : Texts) (s : FedSources) : Type 0 where
+  pub main : HoldsMain (stream.settings Main page_size limit) k texts.main s.main
+  pub channels : AllZip (HoldsChannel (channel.settings page_size uuid (length texts.channels)) k) texts.channels s.channels
+
+-- ---- what is told of a source
+
+-- this is how it stands at the round that is judged next
+abbrev pub TellsMainStatus : FedMain → Status → Type 0
+TellsMainStatus m status = (page_size limit k : ℕ) (text : Text) (reading : stream.StreamReading) → IsPageSize page_size
+    → HoldsMain (stream.settings Main page_size limit) k text m → IsMainReading page_size limit text reading → status ≡ main_status k reading
+
+abbrev pub TellsChannelStatus : FedChannel → Status → Type 0
+TellsChannelStatus c status = (given : channel.Settings) (k : ℕ) (text : Text) (reading : channel.ChannelReading) → IsPageSize given.page_size
+    → HoldsChannel given k text c → channel.IsReading given text.bytes text.ended reading → status ≡ channel_status k reading
+
+-- this is the id that its hello names
+abbrev pub TellsHello : FedChannel → Option ℕ → Type 0
+TellsHello c hello = (given : channel.Settings) (k : ℕ) (text : Text) (reading : channel.ChannelReading) → IsPageSize given.page_size
+    → HoldsChannel given k text c → channel.IsReading given text.bytes text.ended reading → hello ≡ reading.hello
+
+-- this is the verdict that the sources tell at round k, None where all have it
+abbrev pub TellsAll : ℕ → FedSources → Option Verdict → Type 0
+TellsAll k s told = (page_size : ℕ) (uuid : List ℕ) (limit : ℕ) (texts : Texts) (readings : Readings) → IsPageSize page_size
+    → Holds page_size uuid limit k texts s → AreReadings page_size uuid limit texts readings
+    → told ≡ first_some (verdicts_told k (main_at k readings) (channels_at k readings) (repeated_hello (hello_ids readings)))
+
+-- ---- the round that is judged
+
+-- the next round is here of each
+pub record HaveRound (s : FedSources) : Type 0 where
+  pub main : s.main.round ≢ None
+  pub channels : All (λ c. c.round ≢ None) s.channels
+
+-- what the packets of a channel's round say, none where it isn't here
+abbrev pub packets_of : FedChannel → List Fields
+packets_of c = option_map_or (λ round. map (fields_of round.page_size) round.packets) c.round []
+
+abbrev pub packets_of_all : List FedChannel → List Fields
+packets_of_all channels = flat_map packets_of channels
+
+-- its page size is this
+abbrev pub IsOfSize : ℕ → FedChannel → Type 0
+IsOfSize page_size c = IfSome c.round (λ round. round.page_size ≡ page_size)
+
+-- A source goes on to the next round: it holds what its reader had of it.
+abbrev pub TakesMain : FedMain → FedMain → Type 0
+TakesMain old new = (given : stream.Settings) (k : ℕ) (text : Text) → stream_reader.Stands given (main_so_far text k) old.reader → HoldsMain given k text new
+
+abbrev pub TakesChannel : FedChannel → FedChannel → Type 0
+TakesChannel old new = (given : channel.Settings) (k : ℕ) (text : Text) → channel_reader.Stands given (channel_so_far text k) old.reader → HoldsChannel given k text new
+
+-- how many whole rounds of the main stream aren't judged yet
+abbrev pub main_waiting : FedMain → ℕ
+main_waiting m = with_one (stream_reader.waiting m.reader) m.round

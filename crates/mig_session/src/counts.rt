@@ -1,0 +1,94 @@
+//! How much of each source's text has come, for `Session`, which tells it also once it has let go of its readers.
+
+ghost use Rattle.std.specs.Prelude.{◌≡◌, ◌+◌, ◌<◌, ◌≤◌, ◌^◌, IfOk, length, replicate};
+ghost use Rattle.mig_session.specs.Session.{HasSource, count_of, no_count, with_fed, with_end};
+
+use crate::Source;
+use mig_mem::NoMemory;
+use std::alloc::{Allocator, Global};
+use std::marker::Model;
+
+/// How much of a source's text has come.
+#[derive(Clone, Copy)]
+pub struct Count {
+    /// The number of bytes.
+    pub(crate) fed: u64,
+    /// Whether the text is over.
+    pub(crate) ended: bool,
+}
+
+const NOTHING: Count = Count {
+    fed: 0,
+    ended: false,
+};
+
+/// How much of each source's text has come.
+#[derive(Drop)]
+pub(crate) struct SourceCounts<A: Allocator = Global> {
+    main: Count,
+    channels: Vec<Count, A>,
+}
+
+impl<A: Allocator> Model for SourceCounts<A> {
+    ghost use Rattle.mig_session.specs.Sources.{Counts};
+
+    ghost Value = { Counts };
+
+    ghost view = { λ c. record { main = c.main; channels = c.channels.items } };
+}
+
+impl<A: Allocator> SourceCounts<A> {
+    /// Nothing of a main stream and so many channels.
+    pub(crate) fn new(alloc: A, channels: usize) -> Result<SourceCounts<A>, NoMemory>
+        ensures { IfOk result (λ c. c ≡ record { main = no_count; channels = replicate channels no_count }) }
+    {
+        let mut counts = Vec::with_capacity(alloc, channels)?;
+        for _ in 0..channels {
+            counts.push_reserved(NOTHING);
+        }
+        Ok(SourceCounts {
+            main: NOTHING,
+            channels: counts,
+        })
+    }
+
+    /// The number of channels.
+    pub(crate) fn channels(&self) -> usize
+        ensures { result ≡ length self.now.channels }
+    {
+        self.channels.len()
+    }
+
+    pub(crate) fn of(&self, source: Source) -> Count
+        requires { HasSource self.now source }
+        ensures { result ≡ count_of self.now source }
+    {
+        match source {
+            Source::Main => self.main,
+            Source::Channel(j) => self.channels[j],
+        }
+    }
+
+    /// A piece of so many bytes has come.
+    pub(crate) fn add(&mut self, source: Source, len: usize)
+        requires source { HasSource self.old source }
+        requires room { (count_of self.old source).fed + len < 2 ^ 64 }
+        ensures { self.new ≡ with_fed self.old source len }
+    {
+        match source {
+            Source::Main => self.main.fed += len as u64,
+            Source::Channel(j) => self.channels[j].fed += len as u64,
+        }
+    }
+
+    /// A text is over.
+    pub(crate) fn end(&mut self, source: Source)
+        requires { HasSource self.old source }
+        ensures { self.new ≡ with_end self.old source }
+    {
+        match source {
+            Source::Main => self.main.ended = true,
+            Source::Channel(j) => self.channels[j].ended = true,
+        }
+    }
+}

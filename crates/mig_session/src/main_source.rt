@@ -1,0 +1,111 @@
+//! What a session keeps of its main stream, for `sources`: the reader, and the round that is judged next.
+
+ghost use Rattle.std.specs.Prelude.{ℕ, true, false, ◌≡◌, ◌+◌, ◌<◌, ◌≤◌, ◌^◌, List, IsFalse, IfSome, OnOk, OnErr, length, Some};
+ghost use Rattle.std.specs.Option.{option_copied};
+ghost use Rattle.mig_mem.specs.PageSize.{IsPageSize};
+ghost use Rattle.mig_stream.specs.declared.item.Mode.TheVariants.{Main};
+ghost use Rattle.mig_stream.specs.Reading.{Settings, settings};
+ghost use Rattle.mig_stream.specs.Reader.{waiting, HasTable};
+ghost use Rattle.mig_answer.specs.Texts.{Text, no_text, with_piece, over};
+ghost use Rattle.mig_session.specs.Sources.{HoldsMain, TakesMain, TellsMainStatus, main_count, main_waiting};
+
+use mig_answer::{Status, stream_end};
+use mig_mem::{NoMemory, Table};
+use mig_stream::{Mode, StreamReader, StreamRound};
+use std::alloc::{Allocator, Global};
+use std::marker::Model;
+
+/// The main stream as far as it has come.
+#[derive(Drop)]
+pub(crate) struct MainSource<A: Allocator = Global> {
+    reader: StreamReader<'static, A>,
+    // where it is whole
+    round: Option<StreamRound<'static, A>>,
+}
+
+impl<A: Allocator> Model for MainSource<A> {
+    ghost use Rattle.mig_session.specs.Sources.{FedMain};
+
+    ghost Value = { FedMain };
+
+    ghost view = { λ m. record { reader = m.reader; round = m.round } };
+}
+
+impl<A: Allocator + Copy> MainSource<A> {
+    /// Nothing of it.
+    pub(crate) fn new(alloc: A, page_size: u64, limit: u64) -> MainSource<A>
+        requires page_size { IsPageSize page_size }
+        requires limit { limit ≤ 2 ^ 40 }
+        ensures holds { HoldsMain (settings Main page_size limit) 0 no_text result }
+        ensures count { main_count result ≡ record { fed = 0; ended = false } }
+    {
+        let mut source = MainSource {
+            reader: StreamReader::new(alloc, Mode::Main, page_size, limit),
+            round: None,
+        };
+        source.next();
+        source
+    }
+
+    /// Takes a piece of the text. An `Err` changes nothing.
+    pub(crate) fn feed(&mut self, piece: &[u8]) -> Result<(), NoMemory>
+        requires open { IsFalse self.old.reader.ended }
+        requires room { self.old.reader.fed + length piece.now < 2 ^ 64 }
+        ensures ok { OnOk result ((given : Settings) (k : ℕ) (text : Text) → IsPageSize given.page_size
+            → HoldsMain given k text self.old → HoldsMain given k (with_piece piece.now text) self.new) }
+        ensures count { OnOk result ((self.new.reader.fed ≡ self.old.reader.fed + length piece.now) × (self.new.reader.ended ≡ self.old.reader.ended)) }
+        ensures err { OnErr result (self.new ≡ self.old) }
+    {
+        self.reader.feed(piece)?;
+        if self.round.is_some() {
+            return Ok(());
+        }
+        self.next();
+        Ok(())
+    }
+}
+
+impl<A: Allocator> MainSource<A> {
+    /// Goes on to the next round, and drops the one that was judged.
+    pub(crate) fn next(&mut self)
+        ensures takes { TakesMain self.old self.new }
+        ensures count { main_count self.new ≡ main_count self.old }
+        ensures fewer { main_waiting self.new ≡ waiting self.old.reader }
+    {
+        if let Ok(round) = self.reader.take_round() {
+            self.round = round;
+        }
+    }
+
+    /// The text is over.
+    pub(crate) fn end(&mut self)
+        ensures holds { (given : Settings) (k : ℕ) (text : Text) → HoldsMain given k text self.old → HoldsMain given k (over text) self.new }
+        ensures count { main_count self.new ≡ record (main_count self.old) { ended = true } }
+    {
+        self.reader.end();
+    }
+
+    /// How the main stream stands at the round that is judged next.
+    pub(crate) fn status(&self) -> Status
+        ensures { TellsMainStatus self.now result }
+    {
+        if self.round.is_some() {
+            return Status::Whole;
+        }
+        stream_end(self.reader.state())
+    }
+
+    /// The table, as soon as the size list is whole.
+    pub(crate) fn table(&self) -> Option<&Table<A>>
+        ensures { (given : Settings) (k : ℕ) (text : Text) → HoldsMain given k text self.now → HasTable given text.bytes (option_copied result) }
+    {
+        self.reader.table()
+    }
+
+    /// The round that is judged next, where it is whole.
+    pub(crate) fn round(&self) -> Option<&StreamRound<'static, A>>
+        ensures { option_copied result ≡ self.now.round }
+    {
+        self.round.as_ref()
+    }
+}

@@ -1,0 +1,102 @@
+//! Readers of pieces: where a pump has its bytes from. Callers hand one in, mostly a `Counted` over a reader of theirs.
+
+ghost use Rattle.std.specs.Prelude.{ℕ, ◌≡◌, ◌+◌, ◌<◌, ◌≤◌, ◌^◌, List, length, Option, None, IfOk};
+ghost use Rattle.std.specs.Io.KnownBytes.{ReadConsumes};
+ghost use Rattle.mig_session.specs.Reads.{ReadsSoFar, no_reads, after_read};
+
+use std::io::Read;
+use std::marker::Model;
+
+/// A read failed. The reader says no more of it.
+#[derive(Clone, Copy, Debug, PartialEq, Eq)]
+pub struct ReadFailed;
+
+/// A reader of pieces, which may be read 2^63 times.
+pub trait PieceReader {
+    // How often it was read, how many of these reads failed, and how many found the end.
+    ghost reads: { Self → ReadsSoFar };
+
+    // The bytes that are still to come, where they are known.
+    ghost remaining: { Self → Option (List ℕ) } = { λ _. None };
+
+    /// Reads into the beginning of a piece, and gives the number of bytes: 0 where the input is at its end, or the piece is empty.
+    fn read_piece(&mut self, piece: &mut [u8]) -> Result<usize, ReadFailed>
+        requires room { (reads self.old).reads < 2 ^ 63 }
+        ensures len { length piece.new ≡ length piece.old }
+        ensures within { IfOk result (λ n. n ≤ length piece.old) }
+        ensures reads { reads self.new ≡ after_read (reads self.old) (length piece.old) result }
+        ensures bytes { ReadConsumes (remaining self.old) (remaining self.new) result piece.new };
+}
+
+// What the reads of a reader were.
+#[derive(Drop)]
+struct ReadCounts {
+    reads: u64,
+    failed: u64,
+    ends: u64,
+}
+
+impl Model for ReadCounts {
+    ghost Value = { ReadsSoFar };
+
+    ghost view = { λ c. record { reads = c.reads; failed = c.failed; ends = c.ends } };
+
+    ghost invariant = { λ c. (c.failed ≤ c.reads) × (c.ends ≤ c.reads) };
+}
+
+impl ReadCounts {
+    fn new() -> ReadCounts
+        ensures { result ≡ no_reads }
+    {
+        ReadCounts {
+            reads: 0,
+            failed: 0,
+            ends: 0,
+        }
+    }
+
+    // A piece with this room was read.
+    fn count(&mut self, room: usize, read: Result<usize, ReadFailed>)
+        requires { self.old.reads < 2 ^ 63 }
+        ensures { self.new ≡ after_read self.old room read }
+    {
+        self.reads += 1;
+        match read {
+            Ok(0) if 0 < room => self.ends += 1,
+            Ok(_) => {}
+            Err(ReadFailed) => self.failed += 1,
+        }
+    }
+}
+
+/// A reader of pieces over any reader. Each error of that one is a failed read, an interrupted read too: what comes next is still to be read.
+#[derive(Drop)]
+pub struct Counted<R> {
+    reader: R,
+    counts: ReadCounts,
+}
+
+impl<R: Read> Counted<R> {
+    /// It was not read yet.
+    pub fn new(reader: R) -> Counted<R>
+        ensures reads { ⟦<Counted<R> as PieceReader>⟧.reads result ≡ no_reads }
+        ensures bytes { ⟦<Counted<R> as PieceReader>⟧.remaining result ≡ R.remaining reader }
+    {
+        Counted {
+            reader,
+            counts: ReadCounts::new(),
+        }
+    }
+}
+
+impl<R: Read> PieceReader for Counted<R> {
+    ghost reads = { λ c. c.counts };
+
+    ghost remaining = { λ c. R.remaining c.reader };
+
+    fn read_piece(&mut self, piece: &mut [u8]) -> Result<usize, ReadFailed> {
+        let read = self.reader.read(piece).map_err(|_| ReadFailed);
+        self.counts.count(piece.len(), read);
+        read
+    }
+}

@@ -1,0 +1,333 @@
+//! The load of texts on several channels that come in pieces, in any order: for callers that read from connections, and for `pump`.
+
+ghost use Rattle.std.specs.Prelude.{ℕ, ◌≡◌, ◌≢◌, ◌+◌, ◌<◌, ◌≤◌, ◌^◌, IsTrue, List, Option, None, Some, IsOk, IsFalse, IfOk, IfSome, OnOk, OnErr, length, map, replicate};
+ghost use Rattle.std.specs.Option.{option_copied, unwrap_or};
+ghost use Rattle.mig_mem.specs.PageSize.{IsPageSize};
+ghost use Rattle.mig_single_load.specs.declared.fault.Fault.TheVariants.{NoMemory as fault_no_memory};
+ghost use Rattle.mig_answer.specs.declared.verdict.Verdict.TheVariants.{Running as running, Failed as failed_with};
+ghost use Rattle.mig_answer.specs.declared.verdict.Verdict.{Verdict};
+ghost use Rattle.mig_answer.specs.Texts.{Texts, no_texts};
+ghost use Rattle.mig_session.specs.Sources.{counts_of, Holds, TellsAll};
+ghost use Rattle.mig_session.specs.Session.{HasSource, count_of, no_count, with_fed, with_end, feed_step, end_step, answer_in, rounds_loaded, StandsFor, StepsOn, RunsOut, StillLacks, KeepsRounds, LoadsSent};
+ghost use Rattle.mig_session.specs.Advancing.{Feeding, Advances, HasAdvanced, HasTaken, TellsVerdict, failed_without_memory};
+
+use crate::Source;
+use crate::counts::SourceCounts;
+use crate::sources::Sources;
+use mig_answer::Verdict;
+use mig_assemble::Target;
+use mig_mem::{Memory, NoMemory};
+use mig_single_load::{Fault, LoadFault, Origin};
+use std::alloc::{Allocator, Global};
+use std::marker::Model;
+use uuid::Uuid;
+
+/// Loads a guest from the pieces of a main stream and of its channels, as they come. A round is judged and put into the memory by the call
+/// that makes it whole of the last source, and its buffers are given back. So between calls it holds the guest, and of each source what came
+/// of rounds that not every source has yet. Until an allocation is refused, what it tells depends on the texts so far, and on which of them are over:
+/// not on where they were cut, nor on the order in which the sources were fed.
+#[derive(Drop)]
+pub struct Session<A: Allocator = Global> {
+    alloc: A,
+    counts: SourceCounts<A>,
+    // as long as it runs
+    sources: Option<Sources<A>>,
+    // made as soon as the table is there
+    target: Option<Target<A>>,
+    verdict: Verdict,
+}
+
+impl<A: Allocator> Model for Session<A> {
+    ghost use Rattle.mig_session.specs.Session.{LoadSession, IsSession};
+
+    ghost Value = { LoadSession };
+
+    ghost view = { λ s. record { counts = s.counts; sources = s.sources; target = s.target; verdict = s.verdict } };
+
+    ghost invariant = { λ s. IsSession (record { counts = s.counts; sources = s.sources; target = s.target; verdict = s.verdict }) };
+}
+
+fn wants_memory(round: u64) -> Verdict
+    ensures { result ≡ failed_without_memory round }
+{
+    Verdict::Failed(LoadFault {
+        round,
+        source: Origin::Round,
+        fault: Fault::NoMemory,
+    })
+}
+
+fn rounds_of<A: Allocator>(target: &Option<Target<A>>) -> u64
+    ensures { result ≡ rounds_loaded target.now }
+{
+    match target {
+        Some(target) => target.rounds(),
+        None => 0,
+    }
+}
+
+// The verdict that a fault of a round gives. `Err` is `NoMemory`.
+fn verdict_of(fault: LoadFault) -> Result<Verdict, NoMemory>
+    ensures ok { IfOk result (λ verdict. (verdict ≡ failed_with fault) × (fault.fault ≢ fault_no_memory)) }
+    ensures err { OnErr result (fault.fault ≡ fault_no_memory) }
+{
+    match fault.fault {
+        Fault::NoMemory => Err(NoMemory),
+        _ => Ok(Verdict::Failed(fault)),
+    }
+}
+
+// Judges the rounds that all sources have, and puts them into the memory. Gives the verdict behind them.
+fn judge_rounds<A: Allocator + Copy>(
+    sources: &mut Sources<A>,
+    target: &mut Target<A>,
+) -> Result<Verdict, NoMemory>
+    requires { (f : Feeding) × Advances f sources.old (Some target.old) }
+    ensures advanced { (f : Feeding) → Advances f sources.old (Some target.old) → HasAdvanced f sources.new (Some target.new) result }
+    ensures counts { counts_of sources.new ≡ counts_of sources.old }
+    ensures more { target.old.rounds ≤ target.new.rounds }
+{
+    let mut told = sources.told(target.rounds());
+    'rounds: while told.is_none() {
+        if let Err(fault) = sources.judge(target) {
+            return verdict_of(fault);
+        }
+        sources.next();
+        told = sources.told(target.rounds());
+    }
+    match told {
+        Some(verdict) => Ok(verdict),
+        None => unreachable!(),
+    }
+}
+
+// Makes the memory as soon as the table is there. An `Err` changes nothing.
+fn make_target<A: Allocator + Copy>(
+    alloc: A,
+    sources: &Sources<A>,
+    target: &mut Option<Target<A>>,
+) -> Result<(), NoMemory>
+    requires { (f : Feeding) × Advances f sources.now target.old }
+    ensures ok { OnOk result ((f : Feeding) → Advances f sources.now target.old → Advances f sources.now target.new
+        × (target.new ≡ None → f.readings.main.table ≡ None)) }
+    ensures err { OnErr result (target.new ≡ target.old) }
+    ensures stays { target.old ≢ None → target.new ≡ target.old }
+    ensures rounds { rounds_loaded target.new ≡ rounds_loaded target.old }
+{
+    if target.is_some() {
+        return Ok(());
+    }
+    match sources.table() {
+        None => Ok(()),
+        Some(table) => {
+            *target = Some(Target::new(alloc, table)?);
+            Ok(())
+        }
+    }
+}
+
+// The verdict before the table is there.
+fn told_without_table<A: Allocator>(sources: &mut Sources<A>) -> Verdict
+    requires { (f : Feeding) × Advances f sources.old None × (f.readings.main.table ≡ None) }
+    ensures told { (f : Feeding) → Advances f sources.old None → f.readings.main.table ≡ None → TellsVerdict f.readings None result }
+    ensures same { sources.new ≡ sources.old }
+{
+    match sources.told(0) {
+        Some(verdict) => verdict,
+        None => unreachable!(),
+    }
+}
+
+// Judges what has come. Gives the verdict.
+fn advance<A: Allocator + Copy>(
+    alloc: A,
+    sources: &mut Sources<A>,
+    target: &mut Option<Target<A>>,
+) -> Result<Verdict, NoMemory>
+    requires { (f : Feeding) × Advances f sources.old target.old }
+    ensures advanced { (f : Feeding) → Advances f sources.old target.old → HasAdvanced f sources.new target.new result }
+    ensures counts { counts_of sources.new ≡ counts_of sources.old }
+    ensures rounds { rounds_loaded target.old ≤ rounds_loaded target.new }
+    ensures stays { target.old ≢ None → target.new ≢ None }
+{
+    make_target(alloc, sources, target)?;
+    match target {
+        Some(target) => judge_rounds(sources, target),
+        None => Ok(told_without_table(sources)),
+    }
+}
+
+// Takes a piece, and judges what has come. Gives the verdict.
+fn take<A: Allocator + Copy>(
+    alloc: A,
+    sources: &mut Sources<A>,
+    target: &mut Option<Target<A>>,
+    source: Source,
+    piece: &[u8],
+) -> Result<Verdict, NoMemory>
+    requires source { HasSource (counts_of sources.old) source }
+    requires open { IsFalse (count_of (counts_of sources.old) source).ended }
+    requires room { (count_of (counts_of sources.old) source).fed + length piece.now < 2 ^ 64 }
+    requires advances { (f : Feeding) × Advances f sources.old target.old }
+    ensures taken { (f : Feeding) → Advances f sources.old target.old → HasTaken f source piece.now sources.new target.new result }
+    ensures counts { OnOk result (counts_of sources.new ≡ with_fed (counts_of sources.old) source (length piece.now)) }
+    ensures rounds { rounds_loaded target.old ≤ rounds_loaded target.new }
+    ensures stays { target.old ≢ None → target.new ≢ None }
+{
+    let Ok(()) = sources.feed(source, piece) else {
+        return Err(NoMemory);
+    };
+    advance(alloc, sources, target)
+}
+
+// Ends a source. Gives the verdict behind so many rounds.
+fn end_source<A: Allocator>(sources: &mut Sources<A>, source: Source, rounds: u64) -> Verdict
+    requires { HasSource (counts_of sources.old) source }
+    ensures holds { (page_size : ℕ) (uuid : List ℕ) (limit k : ℕ) (texts : Texts) → Holds page_size uuid limit k texts sources.old
+        → Holds page_size uuid limit k (end_step source texts) sources.new }
+    ensures told { (told : Option Verdict) × TellsAll rounds sources.new told × (result ≡ unwrap_or told running) }
+    ensures counts { counts_of sources.new ≡ with_end (counts_of sources.old) source }
+{
+    sources.end(source);
+    sources.told(rounds).unwrap_or(Verdict::Running)
+}
+
+// What is kept under a verdict: the sources go where the load is over.
+fn keep<A: Allocator>(sources: &mut Option<Sources<A>>, verdict: Verdict)
+    ensures running { verdict ≡ running → sources.new ≡ sources.old }
+    ensures settled { verdict ≢ running → sources.new ≡ None }
+{
+    match verdict {
+        Verdict::Running => {}
+        Verdict::Done | Verdict::Failed(_) => *sources = None,
+    }
+}
+
+impl<A: Allocator + Copy> Session<A> {
+    /// A session that was fed nothing, of so many channels under this UUID, with pages of this size in bytes. The guest's blocks may have
+    /// `limit` bytes together.
+    pub fn new(
+        alloc: A,
+        page_size: u64,
+        uuid: &Uuid,
+        channels: usize,
+        limit: u64,
+    ) -> Result<Session<A>, NoMemory>
+        requires page_size { IsPageSize page_size }
+        requires channels { (1 ≤ channels) × (channels ≤ 255) }
+        requires limit { limit ≤ 2 ^ 40 }
+        ensures stands { IfOk result (λ s. StandsFor page_size uuid.now limit (no_texts channels) s) }
+        ensures counts { IfOk result (λ s. s.counts ≡ record { main = no_count; channels = replicate channels no_count }) }
+    {
+        let sources = Sources::new(alloc, page_size, uuid, channels, limit)?;
+        Ok(Session {
+            alloc,
+            counts: SourceCounts::new(alloc, channels)?,
+            sources: Some(sources),
+            target: None,
+            verdict: Verdict::Running,
+        })
+    }
+
+    /// Takes the next piece of a source's text, and puts the rounds that it makes whole into the memory. Where the verdict isn't `Running` its
+    /// bytes are only counted, which is never refused. An `Err` counts them too, and the session has failed with `NoMemory` from then on: the
+    /// memory is that after the rounds counted.
+    pub fn feed(&mut self, source: Source, piece: &[u8]) -> Result<(), NoMemory>
+        requires source { HasSource self.old.counts source }
+        requires open { IsFalse (count_of self.old.counts source).ended }
+        requires room { (count_of self.old.counts source).fed + length piece.now < 2 ^ 64 }
+        ensures ok { OnOk result (StepsOn (feed_step source piece.now) self.old self.new) }
+        ensures err { OnErr result (RunsOut (feed_step source piece.now) self.old self.new) }
+        ensures failed { OnErr result (self.new.verdict ≡ failed_without_memory (answer_in self.new).rounds) }
+        ensures lacking { StillLacks (feed_step source piece.now) self.old self.new }
+        ensures settled { self.old.verdict ≢ running → IsOk result × (answer_in self.new ≡ answer_in self.old) }
+        ensures counts { self.new.counts ≡ with_fed self.old.counts source (length piece.now) }
+        ensures keeps { KeepsRounds self.old self.new }
+    {
+        self.counts.add(source, piece.len());
+        let taken = match &mut self.sources {
+            None => return Ok(()),
+            Some(sources) => take(self.alloc, sources, &mut self.target, source, piece),
+        };
+        match taken {
+            Ok(verdict) => {
+                self.verdict = verdict;
+                keep(&mut self.sources, verdict);
+                Ok(())
+            }
+            Err(NoMemory) => {
+                self.verdict = wants_memory(rounds_of(&self.target));
+                self.sources = None;
+                Err(NoMemory)
+            }
+        }
+    }
+}
+
+impl<A: Allocator> Session<A> {
+    /// The text of a source is over: no piece of it is fed from now on. A second call changes nothing.
+    pub fn end(&mut self, source: Source)
+        requires { HasSource self.old.counts source }
+        ensures steps { StepsOn (end_step source) self.old self.new }
+        ensures lacking { StillLacks (end_step source) self.old self.new }
+        ensures settled { self.old.verdict ≢ running → answer_in self.new ≡ answer_in self.old }
+        ensures counts { self.new.counts ≡ with_end self.old.counts source }
+        ensures same { self.new.target ≡ self.old.target }
+    {
+        self.counts.end(source);
+        let rounds = rounds_of(&self.target);
+        let verdict = match &mut self.sources {
+            None => return,
+            Some(sources) => end_source(sources, source, rounds),
+        };
+        self.verdict = verdict;
+        keep(&mut self.sources, verdict);
+    }
+
+    /// The number of channels.
+    pub fn channels(&self) -> usize
+        ensures { result ≡ length self.now.counts.channels }
+    {
+        self.counts.channels()
+    }
+
+    /// Whether the text of a source is over.
+    pub fn ended(&self, source: Source) -> bool
+        requires { HasSource self.now.counts source }
+        ensures { result ≡ (count_of self.now.counts source).ended }
+    {
+        self.counts.of(source).ended
+    }
+
+    /// How many bytes of a source were fed.
+    pub fn fed(&self, source: Source) -> u64
+        requires { HasSource self.now.counts source }
+        ensures { result ≡ (count_of self.now.counts source).fed }
+    {
+        self.counts.of(source).fed
+    }
+
+    /// How the load stands on the texts so far. What a sender on several channels has sent, fed in any pieces and in any order of the sources
+    /// and ended, is done, with the memory after its rounds, where the session has the sender's page size and UUID, and a limit of at least
+    /// the table's bytes.
+    pub fn verdict(&self) -> Verdict
+        ensures value { result ≡ self.now.verdict }
+        ensures sent { LoadsSent self.now }
+    {
+        self.verdict
+    }
+
+    /// The memory after the rounds so far. None before the size list is whole, or where no memory was found for it.
+    pub fn memory(&self) -> Option<&Memory<A>>
+        ensures { option_copied result ≡ (answer_in self.now).memory }
+    {
+        self.target.as_ref().map(|target| target.memory())
+    }
+
+    /// How many rounds are in the memory.
+    pub fn rounds(&self) -> u64
+        ensures { result ≡ (answer_in self.now).rounds }
+    {
+        rounds_of(&self.target)
+    }
+}

@@ -1,0 +1,227 @@
+//! What a session keeps of all its sources, and what they tell at the round that is judged next. `Session` has it as long as it runs.
+
+ghost use Rattle.std.specs.Prelude.{ℕ, ◌≡◌, ◌≢◌, ◌+◌, ◌<◌, ◌≤◌, ◌^◌, ◌++◌, List, [], None, IsFalse, IfOk, OnOk, OnErr, All, length, map, replicate, vec_len, vec_capacity};
+ghost use Rattle.std.specs.List.{AllZip};
+ghost use Rattle.mig_mem.specs.PageSize.{IsPageSize};
+ghost use Rattle.std.specs.Option.{option_copied};
+ghost use Rattle.mig_stream.specs.declared.item.Mode.TheVariants.{Main};
+ghost use Rattle.mig_stream.specs.Reading.{settings as main_settings};
+ghost use Rattle.mig_stream.specs.Reader.{HasTable};
+ghost use Rattle.mig_packet.specs.Lent.{fields};
+ghost use Rattle.mig_packet.specs.Reading.{settings};
+ghost use Rattle.mig_answer.specs.Texts.{Texts, no_text, no_texts};
+ghost use Rattle.mig_answer.specs.MultiLoad.{repeated_hello};
+ghost use Rattle.mig_session.specs.Sources.{FedSources, Holds, HoldsChannel, counts_of, channel_count, TellsChannelStatus, TellsHello, TellsAll, HaveRound, TakesChannel, packets_of_all, IsOfSize, main_waiting};
+ghost use Rattle.mig_session.specs.Session.{HasSource, count_of, with_fed, with_end, feed_step, end_step, no_count};
+ghost use Rattle.mig_session.specs.Advancing.{Feeding, RoundIsDue, PutsOrRefuses};
+
+use crate::Source;
+use crate::channel_source::ChannelSource;
+use crate::main_source::MainSource;
+use mig_answer::{Status, Verdict, put, repeated_id, verdict_told};
+use mig_assemble::{Gathered, Target};
+use mig_mem::{NoMemory, Table};
+use mig_single_load::{LoadFault, no_memory};
+use std::alloc::{Allocator, Global};
+use std::marker::Model;
+use uuid::Uuid;
+
+/// All sources as far as they have come.
+#[derive(Drop)]
+pub(crate) struct Sources<A: Allocator = Global> {
+    alloc: A,
+    main: MainSource<A>,
+    channels: Vec<ChannelSource<A>, A>,
+    // what the channels told last, with room for all of them
+    statuses: Vec<Status, A>,
+    hellos: Vec<Option<u8>, A>,
+}
+
+impl<A: Allocator> Model for Sources<A> {
+    ghost use Rattle.std.specs.Prelude.{length, ◌≤◌, vec_capacity};
+    ghost use Rattle.mig_session.specs.Sources.{FedSources};
+
+    ghost Value = { FedSources };
+
+    ghost view = { λ s. record { main = s.main; channels = s.channels.items } };
+
+    ghost invariant = { λ s. (length s.channels.items ≤ vec_capacity s.statuses) × (length s.channels.items ≤ vec_capacity s.hellos) };
+}
+
+// Channels of which nothing has come.
+fn no_channels<A: Allocator + Copy>(
+    alloc: A,
+    page_size: u64,
+    uuid: &Uuid,
+    channels: usize,
+) -> Result<Vec<ChannelSource<A>, A>, NoMemory>
+    requires page_size { IsPageSize page_size }
+    requires channels { (1 ≤ channels) × (channels ≤ 255) }
+    ensures holds { IfOk result (λ v. AllZip (HoldsChannel (settings page_size uuid.now channels) 0) (replicate channels no_text) v.items) }
+    ensures counts { IfOk result (λ v. map channel_count v.items ≡ replicate channels no_count) }
+{
+    let mut sources = Vec::with_capacity(alloc, channels)?;
+    for _ in 0..channels {
+        sources.push_reserved(ChannelSource::new(alloc, page_size, *uuid, channels));
+    }
+    Ok(sources)
+}
+
+// How the channels stand at the round that is judged next.
+fn look_at_statuses<A: Allocator>(channels: &[ChannelSource<A>], statuses: &mut Vec<Status, A>)
+    requires room { length channels.now ≤ vec_capacity statuses.old }
+    ensures told { AllZip TellsChannelStatus channels.now statuses.new.items }
+    ensures room { vec_capacity statuses.old ≤ vec_capacity statuses.new }
+{
+    statuses.clear();
+    for channel in channels {
+        statuses.push_reserved(channel.status());
+    }
+}
+
+// The ids that the channels' hellos name.
+fn look_at_hellos<A: Allocator>(channels: &[ChannelSource<A>], hellos: &mut Vec<Option<u8>, A>)
+    requires room { length channels.now ≤ vec_capacity hellos.old }
+    ensures told { AllZip TellsHello channels.now hellos.new.items }
+    ensures room { vec_capacity hellos.old ≤ vec_capacity hellos.new }
+{
+    hellos.clear();
+    for channel in channels {
+        hellos.push_reserved(channel.hello());
+    }
+}
+
+// Gathers the packets of the round that is judged next.
+fn gather_all<'a, A: Allocator + Copy>(
+    channels: &'a [ChannelSource<A>],
+    gathered: &mut Gathered<'a, A>,
+) -> Result<(), NoMemory>
+    requires empty { gathered.old ≡ [] }
+    ensures packets { OnOk result (map fields gathered.new ≡ packets_of_all channels.now) }
+    ensures page_size { OnOk result ((page_size : ℕ) → All (IsOfSize page_size) channels.now → All (λ packet. packet.page_size ≡ page_size) gathered.new) }
+{
+    for channel in channels {
+        channel.gather(gathered)?;
+    }
+    Ok(())
+}
+
+// Each channel goes on to the next round.
+fn next_of_all<A: Allocator>(channels: &mut Vec<ChannelSource<A>, A>)
+    ensures take { AllZip TakesChannel channels.old.items channels.new.items }
+    ensures counts { map channel_count channels.new.items ≡ map channel_count channels.old.items }
+    ensures len { length channels.new.items ≡ length channels.old.items }
+{
+    for j in 0..channels.len() {
+        let channel = &mut channels[j];
+        channel.next();
+    }
+}
+
+impl<A: Allocator + Copy> Sources<A> {
+    /// Nothing of any.
+    pub(crate) fn new(
+        alloc: A,
+        page_size: u64,
+        uuid: &Uuid,
+        channels: usize,
+        limit: u64,
+    ) -> Result<Sources<A>, NoMemory>
+        requires page_size { IsPageSize page_size }
+        requires channels { (1 ≤ channels) × (channels ≤ 255) }
+        requires limit { limit ≤ 2 ^ 40 }
+        ensures holds { IfOk result (λ s. Holds page_size uuid.now limit 0 (no_texts channels) s) }
+        ensures counts { IfOk result (λ s. counts_of s ≡ record { main = no_count; channels = replicate channels no_count }) }
+    {
+        let sources = no_channels(alloc, page_size, uuid, channels)?;
+        Ok(Sources {
+            alloc,
+            main: MainSource::new(alloc, page_size, limit),
+            channels: sources,
+            statuses: Vec::with_capacity(alloc, channels)?,
+            hellos: Vec::with_capacity(alloc, channels)?,
+        })
+    }
+
+    /// Takes a piece of a source's text. An `Err` changes nothing.
+    pub(crate) fn feed(&mut self, source: Source, piece: &[u8]) -> Result<(), NoMemory>
+        requires source { HasSource (counts_of self.old) source }
+        requires open { IsFalse (count_of (counts_of self.old) source).ended }
+        requires room { (count_of (counts_of self.old) source).fed + length piece.now < 2 ^ 64 }
+        ensures ok { OnOk result ((page_size : ℕ) (uuid : List ℕ) (limit k : ℕ) (texts : Texts) → IsPageSize page_size
+            → Holds page_size uuid limit k texts self.old → Holds page_size uuid limit k (feed_step source piece.now texts) self.new) }
+        ensures counts { OnOk result (counts_of self.new ≡ with_fed (counts_of self.old) source (length piece.now)) }
+        ensures err { OnErr result (self.new ≡ self.old) }
+    {
+        match source {
+            Source::Main => self.main.feed(piece),
+            Source::Channel(j) => {
+                let channel = &mut self.channels[j];
+                channel.feed(piece)
+            }
+        }
+    }
+
+    /// Judges the round that is next, and puts it into the memory where it is lawful. An `Err` changes nothing.
+    pub(crate) fn judge(&self, target: &mut Target<A>) -> Result<(), LoadFault>
+        requires { (f : Feeding) × RoundIsDue f self.now target.old }
+        ensures { (f : Feeding) → RoundIsDue f self.now target.old → PutsOrRefuses f target.old result target.new }
+    {
+        let mut gathered = Gathered::new(self.alloc);
+        let Ok(()) = gather_all(&self.channels, &mut gathered) else {
+            return no_memory(target.rounds());
+        };
+        match self.main.round() {
+            Some(round) => put(target, round, &gathered),
+            None => unreachable!(),
+        }
+    }
+}
+
+impl<A: Allocator> Sources<A> {
+    /// Goes on to the next round of each source, and drops those that were judged.
+    pub(crate) fn next(&mut self)
+        ensures holds { (page_size : ℕ) (uuid : List ℕ) (limit k : ℕ) (texts : Texts) → HaveRound self.old
+            → Holds page_size uuid limit k texts self.old → Holds page_size uuid limit (k + 1) texts self.new }
+        ensures counts { counts_of self.new ≡ counts_of self.old }
+        ensures fewer { HaveRound self.old → main_waiting self.old.main ≡ main_waiting self.new.main + 1 }
+    {
+        self.main.next();
+        next_of_all(&mut self.channels);
+    }
+
+    /// The text of a source is over.
+    pub(crate) fn end(&mut self, source: Source)
+        requires { HasSource (counts_of self.old) source }
+        ensures holds { (page_size : ℕ) (uuid : List ℕ) (limit k : ℕ) (texts : Texts) → Holds page_size uuid limit k texts self.old
+            → Holds page_size uuid limit k (end_step source texts) self.new }
+        ensures counts { counts_of self.new ≡ with_end (counts_of self.old) source }
+    {
+        match source {
+            Source::Main => self.main.end(),
+            Source::Channel(j) => {
+                let channel = &mut self.channels[j];
+                channel.end();
+            }
+        }
+    }
+
+    /// The verdict that the sources tell at a round, up to which all were judged; None where all have it.
+    pub(crate) fn told(&mut self, round: u64) -> Option<Verdict>
+        ensures told { TellsAll round self.old result }
+        ensures same { self.new ≡ self.old }
+    {
+        let main = self.main.status();
+        look_at_statuses(&self.channels, &mut self.statuses);
+        look_at_hellos(&self.channels, &mut self.hellos);
+        verdict_told(round, main, &self.statuses, repeated_id(&self.hellos))
+    }
+
+    /// The main stream's table, as soon as the size list is whole.
+    pub(crate) fn table(&self) -> Option<&Table<A>>
+        ensures { (page_size : ℕ) (uuid : List ℕ) (limit k : ℕ) (texts : Texts) → Holds page_size uuid limit k texts self.now
+            → HasTable (main_settings Main page_size limit) texts.main.bytes (option_copied result) }
+    {
+        self.main.table()
+    }
+}

@@ -1,0 +1,372 @@
+-- The sections of a text that are put into a memory, one after another, and the answer that they make.
+use Rattle.std.proofs.Common.{ℕ, ◌≡◌, ◌+◌, ◌<◌, ◌≤◌, Bool, true, false, List, [], ◌∷◌, ◌++◌, length, map, take, refl, sym, ap, ◌∙◌, inl, inr, Option, Some, None, arith, rules, subst}
+use Rattle.std.specs.Prelude.{◌⊎◌, ⊤, IfSome, IfNone, IfOk, IsOk, OnErr, Result, Ok, Err, slice_index_or}
+use Rattle.std.specs.List.{All}
+use Rattle.std.proofs.lemmas.List.{map-append, take_more, take_all, append-nil, length-append, length-map}
+use Rattle.std.proofs.lemmas.Bool.{cases_lt}
+use Rattle.mig_mem.specs.PageSize.{IsPageSize}
+use Rattle.mig_mem.specs.RamTable.{RamTable, IsTable}
+use Rattle.mig_mem.specs.Place.{IsPlace}
+use Rattle.std.specs.Option.{option_map_or}
+use Rattle.std.proofs.lemmas.List.Elements.{All-head, All-tail}
+use Rattle.mig_mem.specs.Image.{Page, Image, image_of, zero_page, zero_image}
+use Rattle.mig_mem.specs.Round.{after, with_round, with_rounds, last_at, all_pages, IsRound}
+use Rattle.mig_mem.proofs.Rounds.{after-nil, all_pages-push, onto-push, onto-zeros}
+use Rattle.mig_stream.specs.declared.item.Mode.TheVariants.{Single}
+use Rattle.mig_stream.specs.declared.item.StreamState.{StreamState}
+use Rattle.mig_stream.specs.declared.item.StreamState.TheVariants as state
+use Rattle.mig_stream.specs.declared.item.StreamState.TheVariants.{Closed}
+use Rattle.mig_stream.specs.PageRecord.{PageRecord, page_of}
+use Rattle.mig_stream.specs.Reading.{settings, StreamReading, IsReading, state_at}
+use Rattle.mig_stream.specs.Progress.{StreamProgress, whole_table}
+use Rattle.mig_stream.specs.Reader.{Reader, Stands, with_taken, HasTable, HasRound, HasState}
+use Rattle.mig_stream.specs.Round.{RoundOfRecords}
+use Rattle.mig_stream.specs.Text.{IsText, total_bytes}
+use Rattle.mig_stream.specs.Written.{written_record, single}
+use Rattle.mig_stream.specs.Law.{closed}
+use Rattle.mig_stream.proofs.Exists.{one_reading_law}
+use Rattle.mig_stream.proofs.Limits.{limits_law}
+use Rattle.mig_stream.proofs.SpelledText.{spelled_law}
+use Rattle.mig_stream.proofs.WrittenText.{written_single}
+use Rattle.mig_stream.proofs.WrittenPages.{written_pages}
+use Rattle.mig_assemble.specs.Target.{LoadTarget, new_target, pages_of_round, FitsTable}
+use Rattle.mig_single_load.specs.declared.loaded.Loaded.{Loaded}
+use Rattle.mig_single_load.specs.declared.fault.LoadFault.{LoadFault}
+use Rattle.mig_single_load.specs.SingleLoad.{memory_after, verdict_of, IsSingleAnswer, IsSingleWithoutMemory, loaded, unloaded}
+use Rattle.mig_single_load.specs.Loader.{Loader, loader, memory_of, sections_loaded, HasAllSections, Waits, put_so_far, Loads, HasVerdict, Judges, Answers, HasFirst, HasPutSections, HasPutAllSections, WasFed}
+
+-- the pages of some sections
+abbrev pub pages_in : ℕ → List (List PageRecord) → List (List Page)
+pages_in page_size sections = map (map (page_of page_size)) sections
+
+-- ---- one reading
+
+pub same_reading : (p limit : ℕ) (text : List ℕ) (a b : StreamReading) → IsPageSize p → IsReading (settings Single p limit) text a → IsReading (settings Single p limit) text b → a ≡ b
+same_reading p limit text a b size is_a is_b =
+    let one = one_reading_law (settings Single p limit) text size in
+    one.2 a is_a ∙ sym (one.2 b is_b)
+
+-- ---- the loop
+
+-- before the first section
+pub put_new : (p limit : ℕ) (text : List ℕ) (ended : Bool) (r : Reader) (table : RamTable) (t : LoadTarget) → WasFed p limit (loader r None) text ended
+    → HasTable (settings Single p limit) text (Some table) → t ≡ new_target table → HasPutSections p limit (zero_image table) text ended r t
+put_new p limit text ended r table t fed has is = rw is record {
+  is_page_size = fed.is_page_size;
+  stands = fed.stands;
+  has_first = record { has_table = has; has_memory = λ reading _. sym (after-nil table) ∙ onto-zeros table [] };
+}
+
+-- the page size of the table, and that a round that is still to come isn't the 2^63rd
+pub size_is : (p limit : ℕ) (text : List ℕ) (table : RamTable) → IsPageSize p → HasTable (settings Single p limit) text (Some table) → table.page_size ≡ p
+size_is p limit text table size has = (limits_law (settings Single p limit) text has.0 size has.1).has_page_size table (sym has.2)
+
+pub is_few : (p limit i : ℕ) (text : List ℕ) (records : List PageRecord) → IsPageSize p → HasRound (settings Single p limit) text i records → i < length text
+is_few p limit i text records size has =
+    let few = (limits_law (settings Single p limit) text has.0 size has.1).has_few in
+    let lt = has.2 in
+    omega (arith, few, lt)
+
+-- the memory keeps its table
+pub put_table : (p limit : ℕ) (first : Image) (text : List ℕ) (t : LoadTarget) → HasFirst p limit first text t → t.memory.table ≡ first.table
+put_table p limit first text t has = ap (λ (m : Image). m.table) (has.has_memory has.has_table.0 has.has_table.1)
+
+pub fits_is : (p limit : ℕ) (first : Image) (text : List ℕ) (ended : Bool) (r : Reader) (t : LoadTarget) (round : RoundOfRecords) → HasPutSections p limit first text ended r t
+    → round.page_size ≡ p → All (λ x. IsPlace first.table x.place) round.records → FitsTable t.memory.table round
+fits_is p limit first text ended r t round put is places =
+    rw (put_table p limit first text t put.has_first) (record {
+      has_page_size = is ∙ sym (size_is p limit text first.table put.is_page_size put.has_first.has_table);
+      has_places = places;
+    })
+
+-- one section more
+pub put_more : (p limit : ℕ) (first : Image) (text : List ℕ) (ended : Bool) (r s : Reader) (t u : LoadTarget) (round : RoundOfRecords) → HasPutSections p limit first text ended r t
+    → round.page_size ≡ p → HasRound (settings Single p limit) text t.rounds round.records → Stands (settings Single p limit) (put_so_far text ended (t.rounds + 1)) s
+    → u.memory ≡ with_round t.memory (pages_of_round round) → u.rounds ≡ t.rounds + 1 → HasPutSections p limit first text ended s u
+put_more p limit first text ended r s t u round put is_size is_round stands memory rounds =
+    let has : HasFirst p limit first text t = put.has_first in
+    let size : IsPageSize p = put.is_page_size in
+    record {
+      is_page_size = size;
+      stands = subst (λ n. Stands (settings Single p limit) (put_so_far text ended n) s) (sym rounds) stands;
+      has_first = record {
+        has_table = has.has_table;
+        has_memory = λ reading is.
+            let one : is_round.0 ≡ reading = same_reading p limit text is_round.0 reading size is_round.1 is in
+            let few : t.rounds < length reading.rounds = subst (λ (x : StreamReading). t.rounds < length x.rounds) one is_round.2 in
+            let here : slice_index_or reading.rounds t.rounds [] ≡ round.records =
+            subst (λ (x : StreamReading). slice_index_or x.rounds t.rounds [] ≡ round.records) one is_round.3 in
+            let before : List (List PageRecord) = take t.rounds reading.rounds in
+            let more : before ++ round.records ∷ [] ≡ take (t.rounds + 1) reading.rounds =
+            ap (λ (x : List PageRecord). before ++ x ∷ []) (sym here) ∙ sym (take_more reading.rounds t.rounds [] few) in
+            memory
+            ∙ ap (λ (m : Image). with_round m (pages_of_round round)) (has.has_memory reading is)
+            ∙ ap (λ (n : ℕ). with_round (with_rounds first (pages_in p before)) (map (page_of n) round.records)) is_size
+            ∙ sym (onto-push first (pages_in p before) (map (page_of p) round.records))
+            ∙ ap (λ (l : List (List Page)). with_rounds first l) (sym (map-append (map (page_of p)) before (round.records ∷ [])))
+            ∙ ap (λ (l : List (List PageRecord)). with_rounds first (pages_in p l)) more
+            ∙ ap (λ (n : ℕ). with_rounds first (pages_in p (take n reading.rounds))) (sym rounds);
+      };
+    }
+
+-- no section is left
+pub not_more : (p limit : ℕ) (text : List ℕ) (reading : StreamReading) (n : ℕ) → IsReading (settings Single p limit) text reading
+    → ((i : ℕ) (round : List PageRecord) → HasRound (settings Single p limit) text i round → i < n) → length reading.rounds ≤ n
+not_more p limit text reading n is last = elim (cases_lt n (length reading.rounds)) [
+  | inl lt ↦ let bad = last n (slice_index_or reading.rounds n []) (reading, is, lt, refl) in absurd (omega (arith, bad))
+  | inr le ↦ le
+]
+
+-- those that were given are the text's
+pub are_given : (p limit : ℕ) (text : List ℕ) (ended : Bool) (r : Reader) (n : ℕ) (reading : StreamReading) → IsPageSize p → IsReading (settings Single p limit) text reading
+    → Stands (settings Single p limit) (put_so_far text ended n) r → n ≤ length reading.rounds
+are_given p limit text ended r n reading size is stands =
+    let to : StreamProgress = with_taken stands.rounds r.progress in
+    let other : StreamReading = record { table = whole_table to; rounds = to.rounds; state = r.found } in
+    let is_other : IsReading (settings Single p limit) text other = record { to = to; rest = stands.rest; reads = stands.reads; has_table = refl; has_rounds = refl } in
+    let one : other ≡ reading = same_reading p limit text other reading size is_other is in
+    let len : length (stands.rounds ++ r.progress.rounds) ≡ length reading.rounds = ap (λ (x : StreamReading). length x.rounds) one in
+    let both = length-append stands.rounds r.progress.rounds in
+    let taken = stands.has_taken in
+    omega (arith, len, both, taken)
+
+-- ---- all sections
+
+-- after the loop
+pub all_put : (p limit : ℕ) (first : Image) (text : List ℕ) (ended : Bool) (r : Reader) (t : LoadTarget) → HasPutSections p limit first text ended r t
+    → ((i : ℕ) (round : List PageRecord) → HasRound (settings Single p limit) text i round → i < t.rounds) → HasPutAllSections p limit first text t
+all_put p limit first text ended r t put last =
+    let has : HasFirst p limit first text t = put.has_first in
+    let reading : StreamReading = has.has_table.0 in
+    let is_reading = has.has_table.1 in
+    let sections : List (List PageRecord) = reading.rounds in
+    let most : length sections ≤ t.rounds = not_more p limit text reading t.rounds is_reading last in
+    let least : t.rounds ≤ length sections = are_given p limit text ended r t.rounds reading put.is_page_size is_reading put.stands in
+    record {
+      reading = reading;
+      is_reading = is_reading;
+      has_memory = has.has_memory reading is_reading ∙ ap (λ (l : List (List PageRecord)). with_rounds first (pages_in p l)) (take_all t.rounds sections most);
+      has_rounds = omega (arith, most, least);
+    }
+
+-- a loader's memory began with zeros
+pub put_of : (p limit : ℕ) (text : List ℕ) (ended : Bool) (r : Reader) (t : LoadTarget) → WasFed p limit (loader r (Some t)) text ended
+    → HasPutSections p limit (zero_image t.memory.table) text ended r t
+put_of p limit text ended r t fed = record { is_page_size = fed.is_page_size; stands = fed.stands; has_first = fed.has_first }
+
+-- all that was put into zeros
+pub loads_put : (p limit : ℕ) (text : List ℕ) (ended : Bool) (r : Reader) (table : RamTable) (t : LoadTarget) → HasPutSections p limit (zero_image table) text ended r t
+    → HasPutAllSections p limit (zero_image table) text t → Loads p limit (loader r (Some t)) text ended × HasAllSections p limit (loader r (Some t)) text
+loads_put p limit text ended r table t put all =
+    let reading : StreamReading = all.reading in
+    let one : put.has_first.has_table.0 ≡ reading = same_reading p limit text put.has_first.has_table.0 reading put.is_page_size put.has_first.has_table.1 all.is_reading in
+    let is_table : Some table ≡ reading.table = put.has_first.has_table.2 ∙ ap (λ (x : StreamReading). x.table) one in
+    let has : HasAllSections p limit (loader r (Some t)) text = record {
+      reading = reading;
+      is_reading = all.is_reading;
+      has_memory = ap (λ (m : Image). Some m) (all.has_memory ∙ sym (onto-zeros table (pages_in p reading.rounds)))
+          ∙ ap (λ (x : Option RamTable). memory_after p x reading.rounds) is_table;
+      has_rounds = all.has_rounds;
+    } in
+    (record { is_page_size = put.is_page_size; stands = put.stands; has_sections = inl has }, has)
+
+-- a text without a table has no section
+pub none_there : (p limit : ℕ) (text : List ℕ) (r : Reader) → IsPageSize p → HasTable (settings Single p limit) text None → HasAllSections p limit (loader r None) text
+none_there p limit text r size has =
+    let reading : StreamReading = has.0 in
+    let none : reading.rounds ≡ [] = (limits_law (settings Single p limit) text reading size has.1).has_table_first (sym has.2) in
+    record {
+      reading = reading;
+      is_reading = has.1;
+      has_memory = ap (λ (x : Option RamTable). memory_after p x reading.rounds) has.2;
+      has_rounds = sym (ap (λ (x : List (List PageRecord)). length x) none);
+    }
+
+pub loads_all : (p limit : ℕ) (l : Loader) (text : List ℕ) (ended : Bool) → WasFed p limit l text ended → HasAllSections p limit l text → Loads p limit l text ended × HasAllSections p limit l text
+loads_all p limit l text ended fed all = (record { is_page_size = fed.is_page_size; stands = fed.stands; has_sections = inl all }, all)
+
+-- ---- what a loader stands for
+
+-- a memory after whole sections is one of the text's table
+table_there : (p : ℕ) (m : Image) (o : Option RamTable) (sections : List (List PageRecord)) → Some m ≡ memory_after p o sections
+    → (Some m.table ≡ o) × (m ≡ after m.table (pages_in p sections))
+table_there p m None sections e = absurd cc
+table_there p m (Some table) sections e =
+    let is : m ≡ after table (pages_in p sections) = cc in
+    let same : m.table ≡ table = ap (λ (x : Image). x.table) is in
+    (ap (λ (x : RamTable). Some x) same, is ∙ ap (λ (x : RamTable). after x (pages_in p sections)) (sym same))
+
+first_of_all : (p limit : ℕ) (text : List ℕ) (r : Reader) (t : LoadTarget) → IsPageSize p → HasAllSections p limit (loader r (Some t)) text
+    → HasFirst p limit (zero_image t.memory.table) text t
+first_of_all p limit text r t size all =
+    let there = table_there p t.memory all.reading.table all.reading.rounds all.has_memory in
+    record {
+      has_table = (all.reading, all.is_reading, there.0);
+      has_memory = λ reading is.
+          let one : all.reading ≡ reading = same_reading p limit text all.reading reading size all.is_reading is in
+          let most : length reading.rounds ≤ t.rounds = subst (λ (x : StreamReading). length x.rounds ≤ t.rounds) one (omega (arith, all.has_rounds)) in
+          there.1 ∙ ap (λ (x : StreamReading). after t.memory.table (pages_in p x.rounds)) one
+          ∙ ap (λ (l : List (List PageRecord)). after t.memory.table (pages_in p l)) (sym (take_all t.rounds reading.rounds most))
+          ∙ onto-zeros t.memory.table (pages_in p (take t.rounds reading.rounds));
+    }
+
+-- a loader that stands for a text was fed it
+pub fed_of : (p limit : ℕ) (r : Reader) (o : Option LoadTarget) (text : List ℕ) (ended : Bool) → Loads p limit (loader r o) text ended → WasFed p limit (loader r o) text ended
+fed_of p limit r None text ended loads = record { is_page_size = loads.is_page_size; stands = loads.stands; has_first = tt }
+fed_of p limit r (Some t) text ended loads = record {
+  is_page_size = loads.is_page_size;
+  stands = loads.stands;
+  has_first = elim loads.has_sections [
+    | inl all ↦ first_of_all p limit text r t loads.is_page_size all
+    | inr waits ↦ absurd (let none = waits.has_no_memory in cc)
+  ];
+}
+
+-- where there is a memory no section waits
+pub all_there : (p limit : ℕ) (r : Reader) (o : Option LoadTarget) (t : LoadTarget) (text : List ℕ) (ended : Bool) → o ≡ Some t → Loads p limit (loader r o) text ended
+    → HasAllSections p limit (loader r o) text
+all_there p limit r o t text ended is loads = elim loads.has_sections [
+  | inl all ↦ all
+  | inr waits ↦ absurd (let none = waits.has_no_memory in cc)
+]
+
+-- ---- the answer
+
+-- how a text stands, as a verdict, whether or not it is over
+pub verdict_over : (ended : Bool) (n : ℕ) (s : StreamState) → verdict_of n (state_at ended s) ≡ verdict_of n s
+verdict_over false n s = refl
+verdict_over true n state.Reading = refl
+verdict_over true n Closed = refl
+verdict_over true n (state.Bad f) = refl
+
+-- of a loader that has all sections
+pub judged : (p limit : ℕ) (l : Loader) (text : List ℕ) (ended : Bool) (state : StreamState) (v : Result ⊤ LoadFault) → IsPageSize p → HasAllSections p limit l text
+    → HasState (settings Single p limit) text ended state → v ≡ verdict_of (sections_loaded l) state → Judges p limit l text v
+judged p limit l text ended state v size all told is =
+    let one : told.0 ≡ all.reading = same_reading p limit text told.0 all.reading size told.1 all.is_reading in
+    let said : state ≡ state_at ended all.reading.state = told.2 ∙ ap (λ (x : StreamReading). state_at ended x.state) one in
+    inl (
+      all,
+      record {
+        reading = all.reading;
+        is_reading = all.is_reading;
+        is_verdict = is ∙ ap (verdict_of (sections_loaded l)) said ∙ verdict_over ended (sections_loaded l) all.reading.state ∙ ap (λ (n : ℕ). verdict_of n all.reading.state) all.has_rounds;
+      },
+    )
+
+loaded_is : {A : Type 0} (a b : Loaded A) → a.memory ≡ b.memory → a.rounds ≡ b.rounds → a.verdict ≡ b.verdict → a ≡ b
+loaded_is a b m n v = grind (rules)
+
+-- an answer is the memory, the count and the verdict
+pub answered : {A : Type 0} (p limit : ℕ) (l : Loader) (text : List ℕ) (a : Loaded A) → IsPageSize p → a.memory ≡ memory_of l → a.rounds ≡ sections_loaded l
+    → Judges p limit l text a.verdict → Answers p limit l text a
+answered p limit l text a size memory rounds (inl both) =
+    let all : HasAllSections p limit l text = both.0 in
+    let v : HasVerdict p limit text a.verdict = both.1 in
+    let one : v.reading ≡ all.reading = same_reading p limit text v.reading all.reading size v.is_reading all.is_reading in
+    let count : a.rounds ≡ length all.reading.rounds = rounds ∙ all.has_rounds in
+    inl (
+      all,
+      record {
+        reading = all.reading;
+        is_reading = all.is_reading;
+        has_memory = memory ∙ all.has_memory;
+        has_rounds = count;
+        has_verdict = v.is_verdict ∙ ap (λ (x : StreamReading). verdict_of (length x.rounds) x.state) one ∙ ap (λ (n : ℕ). verdict_of n all.reading.state) (sym count);
+      },
+    )
+answered p limit l text a size memory rounds (inr both) =
+    let w : Waits p limit l text = both.0 in
+    inr (
+      w,
+      loaded_is a unloaded (memory ∙ ap (λ (o : Option LoadTarget). memory_of (loader l.reader o)) w.has_no_memory)
+          (rounds ∙ ap (λ (o : Option LoadTarget). sections_loaded (loader l.reader o)) w.has_no_memory) both.1,
+    )
+
+-- where an allocation was refused before any section
+pub none_put : {A : Type 0} (p limit : ℕ) (text : List ℕ) → IsPageSize p → IsSingleWithoutMemory p limit text (unloaded {A = A})
+none_put p limit text size =
+    let one = one_reading_law (settings Single p limit) text size in record {
+      reading = one.0;
+      is_reading = one.1;
+      has_verdict = refl;
+      has_rounds = omega arith;
+      has_memory = inr (refl, refl);
+    }
+
+-- what a loader answers is what a load answers
+pub load_answers : {A : Type 0} (p limit : ℕ) (l : Loader) (text : List ℕ) (a : Loaded A) → IsPageSize p → Answers p limit l text a
+    → IsSingleAnswer p limit text a ⊎ IsSingleWithoutMemory p limit text a
+load_answers p limit l text a size (inl both) = inl both.1
+load_answers p limit l text a size (inr both) = inr (rw both.1 (none_put p limit text size))
+
+-- ---- the text of a sender
+
+-- START and END bring no page
+pub empty_ends : (rounds : List (List Page)) → all_pages ([] ∷ rounds ++ [] ∷ []) ≡ all_pages rounds
+empty_ends rounds = all_pages-push ([] ∷ rounds) [] ∙ append-nil (all_pages rounds)
+
+-- the records of the rounds stand for their pages
+pub pages_sent : (table : RamTable) (rounds : List (List Page)) → All (IsRound table) rounds → pages_in table.page_size (map (map written_record) rounds) ≡ rounds
+pages_sent table [] all = refl
+pages_sent table (round ∷ rounds) all =
+    ap (λ (x : List Page). x ∷ pages_in table.page_size (map (map written_record) rounds)) (written_pages table round (All-head (IsRound table) round rounds all))
+    ∙ ap (λ (x : List (List Page)). round ∷ x) (pages_sent table rounds (All-tail (IsRound table) round rounds all))
+
+-- only the pages of the rounds matter
+after_same : (table : RamTable) (a b : List (List Page)) → all_pages a ≡ all_pages b → after table a ≡ after table b
+after_same table a b e = ap (λ (l : List Page). image_of table (λ p. option_map_or (λ (x : Page). x.content) (last_at p l) (zero_page table.page_size))) e
+
+sections_sent : (table : RamTable) (rounds : List (List Page)) → All (IsRound table) rounds
+    → after table (pages_in table.page_size ([] ∷ map (map written_record) rounds ++ [] ∷ [])) ≡ after table rounds
+sections_sent table rounds all =
+    let records : List (List PageRecord) = map (map written_record) rounds in
+    ap (λ (l : List (List Page)). after table l) (map-append (map (page_of table.page_size)) ([] ∷ records) ([] ∷ []))
+    ∙ ap (λ (l : List (List Page)). after table ([] ∷ l ++ [] ∷ [])) (pages_sent table rounds all)
+    ∙ after_same table ([] ∷ rounds ++ [] ∷ []) rounds (empty_ends rounds)
+
+pub counted : (rounds : List (List Page)) → length ([] ∷ map (map written_record) rounds ++ [] ∷ []) ≡ length rounds + 2
+counted rounds =
+    let both = length-append ([] ∷ map (map written_record) rounds) ([] ∷ []) in
+    let same = length-map rounds (map written_record) in
+    omega (arith, both, same)
+
+-- THE TEXT OF A SENDER is loaded whole.
+pub sent_answer_is : {A : Type 0} (p limit : ℕ) (text : List ℕ) (a : Loaded A) → IsPageSize p → IsSingleAnswer p limit text a
+    → (table : RamTable) (rounds : List (List Page)) → IsTable table → table.page_size ≡ p → total_bytes table ≤ limit
+    → All (IsRound table) rounds → text ≡ single table rounds → a ≡ loaded table rounds
+sent_answer_is p limit text a size answer table rounds is same room all sent =
+    let sections : List (List PageRecord) = [] ∷ map (map written_record) rounds ++ [] ∷ [] in
+    let spelled : IsReading (settings Single table.page_size limit) (text ++ []) (closed table sections) =
+    spelled_law Single limit text [] table sections (subst (λ x. IsText Single limit x table sections) (sym sent) (written_single table rounds limit is room all)) in
+    let read : IsReading (settings Single p limit) text (closed table sections) =
+    subst (λ x. IsReading (settings Single p limit) x (closed table sections)) (append-nil text) (subst (λ x. IsReading (settings Single x limit) (text ++ []) (closed table sections)) same spelled) in
+    let one : answer.reading ≡ closed table sections = same_reading p limit text answer.reading (closed table sections) size answer.is_reading read in
+    let count : length sections ≡ length rounds + 2 = counted rounds in
+    let n : a.rounds ≡ length rounds + 2 = answer.has_rounds ∙ ap (λ (x : StreamReading). length x.rounds) one ∙ count in
+    loaded_is a (loaded table rounds)
+    (answer.has_memory ∙ ap (λ (x : StreamReading). memory_after p x.table x.rounds) one ∙ ap (λ (n : ℕ). memory_after n (Some table) sections) (sym same)
+    ∙ ap (λ (m : Image). Some m) (sections_sent table rounds all))
+    n
+    (answer.has_verdict ∙ ap (λ (x : StreamReading). verdict_of a.rounds x.state) one)
+
+pub sent_is_loaded : {A : Type 0} (p limit : ℕ) (text : List ℕ) (a : Loaded A) → IsPageSize p → IsSingleAnswer p limit text a ⊎ IsSingleWithoutMemory p limit text a
+    → (table : RamTable) (rounds : List (List Page)) → IsTable table → table.page_size ≡ p → total_bytes table ≤ limit
+    → All (IsRound table) rounds → text ≡ single table rounds → (a ≡ loaded table rounds) ⊎ IsSingleWithoutMemory p limit text a
+sent_is_loaded p limit text a size (inr want) table rounds is same room all sent = inr want
+sent_is_loaded p limit text a size (inl answer) table rounds is same room all sent =
+    inl (sent_answer_is p limit text a size answer table rounds is same room all sent)
+
+-- ---- what is given
+
+pub of_some : {R : Type 0} (P : R → Type 0) (o : Option R) (r : R) → o ≡ Some r → IfSome o P → P r
+of_some P o r is h = subst (λ x. IfSome x P) is h
+
+pub of_none : {R E : Type 0} (X : Type 0) (result : Result (Option R) E) → IsOk result → ((r : R) → result ≡ Ok (Some r) → ⊥) → IfOk result (λ o. IfNone o X) → X
+of_none X (Ok None) ok other h = h
+of_none X (Ok (Some r)) ok other h = absurd (other r refl)
+of_none X (Err e) ok other h = absurd cc
+
+pub on_err : {R E : Type 0} (result : Result R E) (P : Type 0) → P → OnErr result P
+on_err (Ok r) P p = tt
+on_err (Err e) P p = p

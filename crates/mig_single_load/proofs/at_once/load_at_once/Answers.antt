@@ -1,0 +1,62 @@
+use Rattle.std.proofs.Common.{◌≡◌, ℕ, ◌<◌, List, sym, ap, refl, subst, ◌∙◌}
+use Rattle.mig_mem.specs.RamTable.{RamTable}
+use Rattle.mig_mem.specs.Image.{Image}
+use Rattle.mig_mem.specs.Round.{with_round}
+use Rattle.mig_stream.specs.declared.item.Mode.TheVariants.{Single}
+use Rattle.mig_stream.specs.Reading.{settings}
+use Rattle.mig_stream.specs.Round.{RoundOfRecords}
+use Rattle.mig_stream.specs.Giving.{none_given}
+use Rattle.mig_assemble.specs.Target.{pages_of_round, FitsTable}
+use Rattle.mig_single_load.proofs.LoadedAtOnce.{calls, Gave, HasPut, put_first, put_fits, put_records_more, put_section_more, fewer_records, fewer_section, answers_each}
+use Rattle.mig_single_load.proofs.at_once.load_at_once.Goals as goal
+use Rattle.mig_single_load.proofs.at_once.load_at_once.Goals.{in-Records, in-Section}
+
+pub pieces-init : goal.pieces-init
+pieces-init g c =
+    let p = c.args.page_size in
+    let limit = c.args.limit in
+    let text = c.args.text.now in
+    let table : RamTable = c.in-Some.table.now in
+    let e = c.in_ok-gave.ensures in
+    let step : Gave c.in_ok-gave.gave c.new-reader.result c.read_on.new.self = record { ok = e.ok; page_size = e.page_size; places = e.places; end = e.end; less = e.less } in
+    let has = c.in-Some.ensures.table (settings Single p limit) text _ (e.ok (settings Single p limit) text none_given c.new-reader.ensures.gives) in
+    (table, put_first p limit text table c.in_ok-gave.gave c.new-reader.result c.read_on.new.self c.in_ok-memory.memory c.requires.page_size c.new-reader.ensures.gives c.new-reader.ensures.left step has c.in_ok-memory.ensures)
+
+pub put_records-requires : goal.put_records-requires
+put_records-requires g c =
+    subst (λ (x : RoundOfRecords). FitsTable c.pieces.memory.table x) (sym c.given.ensures)
+    (put_fits c.args.page_size c.args.limit c.args.text.now c.pieces.invariant.0 c.pieces.gave c.pieces.reader c.pieces.memory c.pieces.sections c.pieces.invariant.1)
+
+pub pieces-smaller : goal.pieces-smaller
+pieces-smaller g c = elim c.match-gave.branch [
+  | in-Records w ↦ fewer_records c.pieces.gave c.in_ok-gave-2.gave c.pieces.reader c.read_on-in-pieces.new.self w.in-Records.is c.in_ok-gave-2.ensures.less
+  | in-Section w ↦ fewer_section c.pieces.gave c.in_ok-gave-2.gave c.pieces.reader c.read_on-in-pieces.new.self w.in-Section.is c.in_ok-gave-2.ensures.less
+]
+
+pub pieces-preserved : goal.pieces-preserved
+pieces-preserved g c =
+    let p = c.args.page_size in
+    let limit = c.args.limit in
+    let text = c.args.text.now in
+    let table : RamTable = c.pieces.invariant.0 in
+    let old = c.pieces.reader in
+    let new = c.read_on-in-pieces.new.self in
+    let m : Image = c.pieces.memory in
+    let next = c.in_ok-gave-2.gave in
+    let e = c.in_ok-gave-2.ensures in
+    let step : Gave next old new = record { ok = e.ok; page_size = e.page_size; places = e.places; end = e.end; less = e.less } in
+    let put : c.put_records.new.memory ≡ with_round m (pages_of_round old.given) = c.put_records.ensures ∙ ap (λ (x : RoundOfRecords). with_round m (pages_of_round x)) c.given.ensures in (
+      table,
+      elim c.match-gave.branch [
+        | in-Records w ↦
+            subst (λ (n : ℕ). HasPut p limit text table next new c.put_records.new.memory n) (sym w.sections-is)
+            (put_records_more p limit text table c.pieces.gave next old new m c.put_records.new.memory c.pieces.sections w.in-Records.is c.pieces.invariant.1 put step)
+        | in-Section w ↦
+            subst (λ (n : ℕ). HasPut p limit text table next new c.put_records.new.memory n) (sym w.sections-is)
+            (put_section_more p limit text table c.pieces.gave next old new m c.put_records.new.memory c.pieces.sections w.in-Section.is c.pieces.invariant.1 put step)
+      ],
+    )
+
+pub returns-in-End : goal.returns-in-End
+returns-in-End g c =
+    answers_each c.args.page_size c.args.limit c.args.text.now c.pieces.invariant.0 c.pieces.gave c.in-End.found c.pieces.reader c.pieces.memory c.pieces.sections _ c.in-End.is c.pieces.invariant.1 c.answer_if_closed.ensures

@@ -1,0 +1,69 @@
+use Rattle.std.proofs.Common.{◌≡◌, ◌+◌, ◌<◌, ◌^◌, ℕ, arith, sym, ap, refl, subst, ◌∙◌}
+use Rattle.mig_mem.specs.Image.{Image}
+use Rattle.mig_mem.specs.Round.{with_round}
+use Rattle.mig_stream.specs.declared.giving.Given.{Given}
+use Rattle.mig_stream.specs.Round.{RoundOfRecords}
+use Rattle.mig_assemble.specs.Target.{pages_of_round, FitsTable}
+use Rattle.mig_mem.specs.RamTable.{RamTable}
+use Rattle.mig_single_load.specs.Eager.{IsEnd}
+use Rattle.mig_single_load.proofs.Eager.{Step, one_more, put_fits, few_more, some_on, puts_on, gives_on, puts_none, gives_none, puts_some, any_err, no_end_records, no_end_section}
+use Rattle.mig_single_load.proofs.eager_state.put_given.Goals as goal
+use Rattle.mig_single_load.proofs.eager_state.put_given.Goals.{in-Records, in-Section}
+
+pub records-init : goal.records-init
+records-init g c = record { some = c.requires; same = refl; put = puts_none _ _ _ _; given = gives_none _ _ _ }
+
+pub overflow_add-sections : goal.overflow_add-sections
+overflow_add-sections g c =
+    let few : c.records.sections + 1 < 2 ^ 63 = few_more (g.M.GuestTarget.image c.args.memory.now).table c.records.gave c.records.reader c.records.sections c.in-Section.is c.records.invariant.some in
+    omega (arith, few)
+
+pub records-preserved : goal.records-preserved
+records-preserved g c =
+    let gave = c.records.gave in
+    let next = c.in_ok-gave.gave in
+    let r = c.records.reader in
+    let s = c.read_on.new.self in
+    let n = c.records.sections in
+    let m : Image = g.M.GuestTarget.image c.records.memory in
+    let new : Image = g.M.GuestTarget.image c.put_records.new.memory in
+    let e = c.in_ok-gave.ensures in
+    let step : Step next r s = record { ok = e.ok; page_size = e.page_size; places = e.places; end = e.end; none = e.none; less = e.less } in
+    let is : new ≡ with_round m (pages_of_round r.given) = c.put_records.ensures ∙ ap (λ (x : RoundOfRecords). with_round m (pages_of_round x)) c.given.ensures in
+    let more : IsEnd gave → ⊥ = elim c.match-gave.branch [ in-Records w ↦ no_end_records gave w.in-Records.is | in-Section w ↦ no_end_section gave w.in-Section.is ] in
+    let count : c.match-gave.sections ≡ one_more gave n =
+    elim c.match-gave.branch [
+      | in-Records w ↦ w.sections-is ∙ ap (λ (x : Given). one_more x n) (sym w.in-Records.is)
+      | in-Section w ↦ w.sections-is ∙ ap (λ (x : Given). one_more x n) (sym w.in-Section.is)
+    ] in
+    record {
+      some = some_on (g.M.GuestTarget.image c.args.memory.now).table gave next r s n c.match-gave.sections more count step c.records.invariant.some;
+      same = ap (λ (x : Image). x.table) is ∙ c.records.invariant.same;
+      put = puts_on c.args.first gave next c.args.reader.now r s (g.M.GuestTarget.image c.args.memory.now) m new c.args.sections.now n c.match-gave.sections more count is step c.records.invariant.put;
+      given = gives_on c.args.first gave next c.args.reader.now r s c.args.sections.now n c.match-gave.sections more count step c.records.invariant.given;
+    }
+
+pub put_records-requires : goal.put_records-requires
+put_records-requires g c =
+    let gave = c.records.gave in
+    let some = c.records.invariant.some in
+    let table : RamTable = (g.M.GuestTarget.image c.args.memory.now).table in
+    let more : IsEnd gave → ⊥ = elim c.match-gave.branch [ in-Records w ↦ no_end_records gave w.in-Records.is | in-Section w ↦ no_end_section gave w.in-Section.is ] in
+    let fits : FitsTable table c.records.reader.given = put_fits some.limit table some.text some.so_far gave c.records.reader c.records.sections more some.puts in
+    subst (λ (t : RamTable). FitsTable t c.given.result.now) (sym c.records.invariant.same) (subst (λ (x : RoundOfRecords). FitsTable table x) (sym c.given.ensures) fits)
+
+pub returns-in_err-gave-clause-err : goal.returns-in_err-gave-clause-err
+returns-in_err-gave-clause-err g c =
+    let gave = c.records.gave in
+    let r = c.records.reader in
+    let n = c.records.sections in
+    let m : Image = g.M.GuestTarget.image c.records.memory in
+    let new : Image = g.M.GuestTarget.image c.put_records.new.memory in
+    let is : new ≡ with_round m (pages_of_round r.given) = c.put_records.ensures ∙ ap (λ (x : RoundOfRecords). with_round m (pages_of_round x)) c.given.ensures in
+    let more : IsEnd gave → ⊥ = elim c.match-gave.branch [ in-Records w ↦ no_end_records gave w.in-Records.is | in-Section w ↦ no_end_section gave w.in-Section.is ] in
+    let count : c.match-gave.sections ≡ one_more gave n =
+    elim c.match-gave.branch [
+      | in-Records w ↦ w.sections-is ∙ ap (λ (x : Given). one_more x n) (sym w.in-Records.is)
+      | in-Section w ↦ w.sections-is ∙ ap (λ (x : Given). one_more x n) (sym w.in-Section.is)
+    ] in
+    any_err c.from_residual.result _ (puts_some c.args.first gave c.args.reader.now r (g.M.GuestTarget.image c.args.memory.now) m new c.args.sections.now n c.match-gave.sections more count is c.records.invariant.put)

@@ -1,0 +1,11 @@
+use Rattle.std.proofs.Common.{subst, sym}
+use Rattle.mig_mem.specs.Image.{Image}
+use Rattle.mig_single_load.specs.InPlace.{InPlace, LoadsOnto}
+use Rattle.mig_single_load.proofs.InPlaceStates.{with_memory}
+use Rattle.mig_single_load.proofs.in_place.InPlaceLoader.verdict.Goals as goal
+
+pub returns : goal.returns
+returns g c = λ limit first text ended before.
+    let memory : Image = g.M.GuestTarget.image c.self.inside.memory in
+    let loads = subst (λ (l : InPlace). LoadsOnto limit first l text ended) (sym c.self.view_is) before in
+    c.verdict.ensures.loads memory limit first text ended (with_memory memory limit first c.self.inside.state text ended c.self.invariant loads)

@@ -1,0 +1,23 @@
+use Rattle.std.proofs.Common.{◌≡◌, ◌∙◌, ◌++◌, ℕ, List, false, subst, sym}
+use Rattle.mig_mem.specs.Image.{Image}
+use Rattle.mig_single_load.specs.InPlaceState.{LoadsWith, FedWith, AreSections}
+use Rattle.mig_single_load.proofs.Feeding.{not_err}
+use Rattle.mig_single_load.proofs.InPlaceStates.{alike_so, alike_here}
+use Rattle.mig_single_load.proofs.in_place_state.InPlaceState.feed.Goals as goal
+
+pub returns-clause-alike : goal.returns-clause-alike
+returns-clause-alike g c =
+    alike_so _ _ _ _ c.put_sections.ensures.alike (λ rounds kept now so limit first text fed.
+    let both = so limit first (text ++ c.args.piece.now) false (c.in-Ok.ensures.ok kept limit first text fed) in
+    (subst (λ (n : ℕ). AreSections n c.put_sections.new.state.rounds limit first (text ++ c.args.piece.now) rounds) c.read_piece.ensures.rounds both.0, both.1))
+
+pub returns-clause-ok : goal.returns-clause-ok
+returns-clause-ok g c = λ limit first text fed.
+    alike_here _ _ (λ kept now. FedWith kept limit first c.args.self.now text false → LoadsWith now limit first c.put_sections.new.state (text ++ c.args.piece.now) false)
+    (alike_so _ _ _ _ c.put_sections.ensures.alike (λ rounds kept now so before.
+    (so limit first (text ++ c.args.piece.now) false (c.in-Ok.ensures.ok kept limit first text before)).1)) fed
+
+pub returns-in_default-clause-settled : goal.returns-in_default-clause-settled
+returns-in_default-clause-settled g c = λ kept limit first text fed settled same.
+    let ok = c.read_piece.ensures.settled kept limit first text fed settled in
+    absurd (not_err c.read_piece.result _ c.in_default.is ok)

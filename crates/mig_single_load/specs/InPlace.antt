@@ -1,0 +1,116 @@
+-- A loader that puts a single stream into memory that is there already.
+use Rattle.std.specs.Prelude.{◌≡◌, ◌≢◌, ◌≤◌, ◌<◌, ◌+◌, ◌^◌, ℕ, Bool, List, length, map, take, Some, Result, Ok, ⊤, All, ◌⊎◌, None}
+use Rattle.mig_mem.specs.RamTable.{RamTable, IsTable}
+use Rattle.mig_mem.specs.Image.{Image, Page, IsImage}
+use Rattle.mig_mem.specs.Round.{IsRound, with_rounds}
+use Rattle.mig_stream.specs.declared.item.Mode.TheVariants.{Single}
+use Rattle.mig_stream.specs.PageRecord.{page_of}
+use Rattle.mig_stream.specs.Reading.{Settings, settings, StreamReading, IsReading}
+use Rattle.mig_stream.specs.Reader.{Reader, Stands}
+use Rattle.mig_stream.specs.Text.{total_bytes}
+use Rattle.mig_stream.specs.Written.{single}
+use Rattle.mig_assemble.specs.Target.{LoadTarget}
+use Rattle.mig_single_load.specs.declared.fault.LoadFault.{LoadFault}
+use Rattle.mig_single_load.specs.declared.fault.Fault.TheVariants.{OtherTable}
+use Rattle.mig_single_load.specs.SingleLoad.{at_main, verdict_of}
+use Rattle.mig_single_load.specs.Loader.{put_so_far}
+
+-- what it holds: the reader of its text, and the memory with the sections that were put into it
+pub record InPlace : Type 0 where
+  pub reader : Reader
+  pub target : LoadTarget
+
+abbrev pub in_place : Reader → LoadTarget → InPlace
+in_place reader target = record { reader = reader; target = target }
+
+-- the settings for the stream of a memory, whose table may have so many bytes at most
+abbrev pub settings_of : Image → ℕ → Settings
+settings_of m limit = settings Single m.table.page_size limit
+
+-- the text is of the memory's table, as far as it has one
+abbrev pub IsOfOwnTable : Image → StreamReading → Type 0
+IsOfOwnTable m reading = (reading.table ≡ None) ⊎ (reading.table ≡ Some m.table)
+
+-- it is of another table
+abbrev pub IsOfOtherTable : Image → StreamReading → Type 0
+IsOfOtherTable m reading = (table : RamTable) × (reading.table ≡ Some table) × (table ≢ m.table)
+
+-- All whole sections of the text are in the memory, on top of what it held at first. Where the text is of another table none is.
+pub record HasSectionsOnto (limit : ℕ) (first : Image) (text : List ℕ) (t : LoadTarget) : Type 0 where
+  pub reading : StreamReading
+  pub is_reading : IsReading (settings_of first limit) text reading
+  pub same_table : t.memory.table ≡ first.table
+  pub own : IsOfOwnTable first reading
+      → (t.memory ≡ with_rounds first (map (map (page_of first.table.page_size)) reading.rounds)) × (t.rounds ≡ length reading.rounds)
+  pub other : IsOfOtherTable first reading → (t.memory ≡ first) × (t.rounds ≡ 0)
+
+-- The loader was made with this memory and limit, and fed this text, which may be over. Its memory has all whole sections, or none of
+-- another table; no section waits in the reader.
+pub record LoadsOnto (limit : ℕ) (first : Image) (l : InPlace) (text : List ℕ) (ended : Bool) : Type 0 where
+  pub is_table : IsTable first.table
+  pub is_image : IsImage first
+  pub has_sections : HasSectionsOnto limit first text l.target
+  pub stands : Stands (settings_of first limit) (put_so_far text ended (length has_sections.reading.rounds)) l.reader
+
+-- the verdict on a text as far as it is there, as if it were over; and `OtherTable` where the text is of another table
+pub record HasVerdictOnto (limit : ℕ) (first : Image) (text : List ℕ) (verdict : Result ⊤ LoadFault) : Type 0 where
+  pub reading : StreamReading
+  pub is_reading : IsReading (settings_of first limit) text reading
+  pub own : IsOfOwnTable first reading → verdict ≡ verdict_of (length reading.rounds) reading.state
+  pub other : IsOfOtherTable first reading → verdict ≡ at_main 0 OtherTable
+
+-- The verdict on a text as far as it is there, by a loader that has put so many sections of it, where others may wait.
+pub record HasVerdictBehind (n limit : ℕ) (first : Image) (text : List ℕ) (verdict : Result ⊤ LoadFault) : Type 0 where
+  pub reading : StreamReading
+  pub is_reading : IsReading (settings_of first limit) text reading
+  pub own : IsOfOwnTable first reading → verdict ≡ verdict_of n reading.state
+  pub other : IsOfOtherTable first reading → verdict ≡ at_main 0 OtherTable
+
+-- The text that a sender made of the memory's table and of rounds is loaded: these rounds are in the memory, and the verdict is Ok. START
+-- and END count as a section each.
+abbrev pub SentIsLoadedInPlace : Type 0
+SentIsLoadedInPlace = (limit : ℕ) (first : Image) (rounds : List (List Page)) (t : LoadTarget) (verdict : Result ⊤ LoadFault) → IsTable first.table
+    → total_bytes first.table ≤ limit → All (IsRound first.table) rounds
+    → HasSectionsOnto limit first (single first.table rounds) t → HasVerdictOnto limit first (single first.table rounds) verdict
+    → (t.memory ≡ with_rounds first rounds) × (t.rounds ≡ length rounds + 2) × (verdict ≡ Ok _)
+
+-- ---- in the midst of a call
+
+-- The loader was fed this text, and the sections that its reader gave are in the memory, but for those of another table. Others may wait.
+pub record WasFedOnto (limit : ℕ) (first : Image) (l : InPlace) (text : List ℕ) (ended : Bool) : Type 0 where
+  pub is_table : IsTable first.table
+  pub is_image : IsImage first
+  pub taken : ℕ
+  pub stands : Stands (settings_of first limit) (put_so_far text ended taken) l.reader
+  pub reading : StreamReading
+  pub is_reading : IsReading (settings_of first limit) text reading
+  pub same_table : l.target.memory.table ≡ first.table
+  pub own : IsOfOwnTable first reading
+      → (l.target.memory ≡ with_rounds first (map (map (page_of first.table.page_size)) (take l.target.rounds reading.rounds))) × (taken ≡ l.target.rounds)
+  pub other : IsOfOtherTable first reading → (l.target.memory ≡ first) × (l.target.rounds ≡ 0)
+
+-- It was fed some text, of fewer than 2^63 bytes.
+pub record WasFedOntoSome (l : InPlace) : Type 0 where
+  pub limit : ℕ
+  pub first : Image
+  pub text : List ℕ
+  pub ended : Bool
+  pub is_short : length text < 2 ^ 63
+  pub has_fed : WasFedOnto limit first l text ended
+
+-- It stands for some text, of fewer than 2^63 bytes.
+pub record LoadsOntoSome (l : InPlace) : Type 0 where
+  pub limit : ℕ
+  pub first : Image
+  pub text : List ℕ
+  pub ended : Bool
+  pub is_short : length text < 2 ^ 63
+  pub loads : LoadsOnto limit first l text ended
+
+-- Of the text that the reader stands for some sections were taken.
+abbrev pub StandsAtSome : Settings → List ℕ → Bool → Reader → Type 0
+StandsAtSome given text ended r = (taken : ℕ) × Stands given (put_so_far text ended taken) r
+
+-- All whole sections of the text were taken.
+abbrev pub StandsAtAll : Settings → List ℕ → Bool → Reader → Type 0
+StandsAtAll given text ended r = (reading : StreamReading) → IsReading given text reading → Stands given (put_so_far text ended (length reading.rounds)) r

@@ -1,0 +1,11 @@
+-- To read first, in this order: the answer of a load of a single stream, and the numbers of the
+-- faults of every load
+pub mod SingleLoad
+pub mod LoadFaultNumber
+-- Loads that are fed in pieces: into a memory of their own, into one that exists already, and the
+-- state of such a load without its memory
+pub mod Loader
+pub mod InPlace
+pub mod InPlaceState
+-- The load in place that writes each page when its bytes have come
+pub mod Eager

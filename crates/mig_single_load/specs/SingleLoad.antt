@@ -1,0 +1,62 @@
+-- What the load of a single stream answers: one function of the text.
+use Rattle.std.specs.Prelude.{◌≡◌, ◌⊎◌, ◌≤◌, ◌+◌, ℕ, List, map, length, take, Option, None, Some, Result, Ok, Err, ⊤}
+use Rattle.std.specs.Option.{option_map}
+use Rattle.mig_mem.specs.RamTable.{RamTable}
+use Rattle.mig_mem.specs.Image.{Page, Image}
+use Rattle.mig_mem.specs.Round.{after}
+use Rattle.mig_stream.specs.declared.item.Mode.TheVariants.{Single}
+use Rattle.mig_stream.specs.declared.item.StreamState.{StreamState}
+use Rattle.mig_stream.specs.declared.item.StreamState.TheVariants.{Reading, Closed, Bad}
+use Rattle.mig_stream.specs.declared.fault.StreamFault.TheVariants.{Truncated}
+use Rattle.mig_stream.specs.PageRecord.{PageRecord, page_of}
+use Rattle.mig_stream.specs.Reading.{settings, StreamReading, IsReading}
+use Rattle.mig_single_load.specs.declared.loaded.Loaded.{Loaded}
+use Rattle.mig_single_load.specs.declared.fault.LoadFault.{LoadFault}
+use Rattle.mig_single_load.specs.declared.fault.Origin.TheVariants as origin
+use Rattle.mig_single_load.specs.declared.fault.Fault.{Fault}
+use Rattle.mig_single_load.specs.declared.fault.Fault.TheVariants as fault
+
+-- the memory after some sections of records, None without a table
+abbrev pub memory_after : ℕ → Option RamTable → List (List PageRecord) → Option Image
+memory_after page_size table sections = option_map (λ t. after t (map (map (page_of page_size)) sections)) table
+
+-- the fault of a text, after so many whole sections
+abbrev pub at_main : ℕ → Fault → Result ⊤ LoadFault
+at_main rounds fault = Err (record { round = rounds; source = origin.Main; fault = fault })
+
+-- Ok where the text has its end byte, else its fault; a text that ends before it was cut short
+abbrev pub verdict_of : ℕ → StreamState → Result ⊤ LoadFault
+verdict_of rounds Closed = Ok _
+verdict_of rounds (Bad f) = at_main rounds (fault.Stream f)
+verdict_of rounds Reading = at_main rounds (fault.Stream Truncated)
+
+-- a refused allocation, after so many sections
+abbrev pub no_memory_at : ℕ → Result ⊤ LoadFault
+no_memory_at rounds = Err (record { round = rounds; source = origin.Round; fault = fault.NoMemory })
+
+-- The answer on a text: the memory is that after its whole sections, None where its size list isn't whole, and `rounds` is
+-- the number of them; it is Ok where the text has its end byte, and else the text's first fault.
+pub record IsSingleAnswer {A : Type 0} (page_size limit : ℕ) (text : List ℕ) (a : Loaded A) : Type 0 where
+  pub reading : StreamReading
+  pub is_reading : IsReading (settings Single page_size limit) text reading
+  pub has_memory : a.memory ≡ memory_after page_size reading.table reading.rounds
+  pub has_rounds : a.rounds ≡ length reading.rounds
+  pub has_verdict : a.verdict ≡ verdict_of a.rounds reading.state
+
+-- The answer where an allocation was refused: the memory is that after the sections counted, which the text has, or None where none
+-- was counted.
+pub record IsSingleWithoutMemory {A : Type 0} (page_size limit : ℕ) (text : List ℕ) (a : Loaded A) : Type 0 where
+  pub reading : StreamReading
+  pub is_reading : IsReading (settings Single page_size limit) text reading
+  pub has_verdict : a.verdict ≡ no_memory_at a.rounds
+  pub has_rounds : a.rounds ≤ length reading.rounds
+  pub has_memory : (a.memory ≡ memory_after page_size reading.table (take a.rounds reading.rounds)) ⊎ ((a.memory ≡ None) × (a.rounds ≡ 0))
+
+-- the answer where an allocation was refused before any section
+abbrev pub unloaded : {A : Type 0} → Loaded A
+unloaded = record { memory = None; rounds = 0; verdict = no_memory_at 0 }
+
+-- The answer on the text that a sender made of a table and rounds: the memory after these rounds. START and END count as a
+-- section each.
+abbrev pub loaded : {A : Type 0} → RamTable → List (List Page) → Loaded A
+loaded table rounds = record { memory = Some (after table rounds); rounds = length rounds + 2; verdict = Ok _ }

@@ -1,0 +1,62 @@
+//! The load of a single stream without a fault in one pass over its text, for `load_single`.
+//!
+//! A page is copied as soon as it was read, so that no record waits for its section to end. What a text with a fault leaves isn't to
+//! be had so: `load_single` reads it again, section by section.
+
+ghost use Rattle.std.specs.Prelude.{◌≡◌, ◌≤◌, ◌^◌, Some, IfSome, Ok, IfOk};
+ghost use Rattle.mig_mem.specs.PageSize.{IsPageSize};
+ghost use Rattle.mig_stream.specs.declared.item.StreamState.TheVariants.{Closed};
+ghost use Rattle.mig_single_load.specs.SingleLoad.{IsSingleAnswer};
+
+use crate::Loaded;
+use mig_assemble::put_records;
+use mig_mem::{Memory, NoMemory};
+use mig_stream::{Given, RecordReader, StreamState};
+use std::alloc::Allocator;
+
+/// Loads a guest from a text that is read to its end byte. None where the text has a fault.
+pub(crate) fn load_at_once<A: Allocator + Copy>(
+    alloc: A,
+    page_size: u64,
+    text: &[u8],
+    limit: u64,
+) -> Result<Option<Loaded<A>>, NoMemory>
+    requires page_size { IsPageSize page_size }
+    requires limit { limit ≤ 2 ^ 40 }
+    ensures { IfOk result (λ answer. IfSome answer (λ loaded. IsSingleAnswer page_size limit text.now loaded)) }
+{
+    let mut reader = RecordReader::new(alloc, page_size, limit, text);
+    let mut gave = reader.read_on()?;
+    let Some(table) = reader.table() else {
+        return Ok(None);
+    };
+    let mut memory = Memory::zeroed(alloc, table)?;
+    let mut sections = 0;
+    'pieces: loop {
+        match gave {
+            Given::Records => {}
+            Given::Section => sections += 1,
+            Given::End(found) => return Ok(answer_if_closed(found, memory, sections)),
+        }
+        put_records(&mut memory, reader.given());
+        gave = reader.read_on()?;
+    }
+}
+
+// The answer where the text is closed, after so many sections.
+fn answer_if_closed<A: Allocator>(
+    found: StreamState,
+    memory: Memory<A>,
+    sections: u64,
+) -> Option<Loaded<A>>
+    ensures { IfSome result (λ loaded. (found ≡ Closed) × (loaded ≡ record { memory = Some memory; rounds = sections; verdict = Ok _ })) }
+{
+    match found {
+        StreamState::Closed => Some(Loaded {
+            memory: Some(memory),
+            rounds: sections,
+            verdict: Ok(()),
+        }),
+        _ => None,
+    }
+}

@@ -1,0 +1,299 @@
+//! The eager load in place of a single stream: it writes each page when its bytes have come, before
+//! its section is judged. What it keeps between two calls is all but the memory.
+
+ghost use Rattle.std.specs.Prelude.{◌≡◌, ◌≢◌, ◌+◌, ◌<◌, ◌≤◌, ◌^◌, ◌++◌, ◌↔◌, ◌⊎◌, ℕ, Bool, List, [], length, true, false, Some, None, Err, IsTrue, IsFalse, IsSome, IsOk, IfSome, IfOk, OnOk, OnErr};
+ghost use Rattle.std.specs.Option.{option_copied};
+ghost use Rattle.mig_mem.specs.RamTable.{RamTable};
+ghost use Rattle.mig_mem.specs.Image.{Image, IsImage};
+ghost use Rattle.mig_stream.specs.Progress.{whole_table};
+ghost use Rattle.mig_stream.specs.Giving.{Giver, GivenSoFar, Gives};
+ghost use Rattle.mig_single_load.specs.declared.fault.InPlaceFault.TheVariants as in_place_fault;
+ghost use Rattle.mig_single_load.specs.declared.eager_state.LoadState.TheVariants as load_state;
+ghost use Rattle.mig_single_load.specs.SingleLoad.{no_memory_at};
+ghost use Rattle.mig_single_load.specs.InPlace.{HasVerdictOnto};
+ghost use Rattle.mig_single_load.specs.Eager.{EagerKeepsOtherPlaces, EagerOkIsBySections, EagerlyLoads, settings_for, GaveNext, PutsNextSome, PutsAll, GivesAll, IsEnd, PausesSome, PausesOnto, StandsOnto, PutsSome, HasSomeOnto, LacksMemory};
+
+use crate::in_place_state::other_table;
+use crate::settle::{no_memory, verdict_at};
+use crate::{InPlaceFault, LoadFault};
+use mig_assemble::put_records;
+use mig_mem::{GuestTarget, NoMemory, Table};
+use mig_stream::{Given, Pause, RecordReader, StreamState};
+use std::alloc::{Allocator, Global};
+use std::marker::Model;
+
+/// The state of an eager load.
+#[derive(Clone, Copy)]
+pub(crate) enum LoadState {
+    /// That of the stream: only while it is `Reading` is more of it read.
+    Stream(StreamState),
+    /// The stream has another table than the memory, and isn't read further.
+    OtherTable,
+    /// An allocation was refused, and the stream isn't read further.
+    NoMemory,
+}
+
+/// Loads a guest from the pieces of a single stream into memory that is passed with each piece, and
+/// writes each page once, when its bytes have come. No section is kept: between two calls the load
+/// holds the beginning of one item of the stream at most.
+///
+/// At any time the memory has all page records read so far, on top of what it held at first, those
+/// of a section that isn't complete too. They stay there if the stream turns out to be bad or cut.
+/// An `InPlaceState` writes complete sections only.
+///
+/// Each piece is fed with the memory as the piece before left it. The stream must have the memory's
+/// table: the same blocks in the same order. Of a stream of another table nothing is written, and
+/// the verdict is `OtherTable`.
+#[derive(Drop)]
+pub struct EagerState<A: Allocator = Global> {
+    // where the next piece is read on; None once no more is read
+    pause: Option<Pause<A>>,
+    state: LoadState,
+    // the memory's table
+    table: Table<A>,
+    // complete sections
+    rounds: u64,
+    fed: u64,
+    ended: bool,
+}
+
+impl<A: Allocator> Model for EagerState<A> {
+    ghost use Rattle.mig_single_load.specs.Eager.{EagerLoad, eager_load, IsEager};
+
+    ghost Value = { EagerLoad };
+
+    ghost view = { λ s. eager_load s.pause s.state s.table s.rounds s.fed s.ended };
+
+    ghost invariant = { λ s. IsEager (eager_load s.pause s.state s.table s.rounds s.fed s.ended) };
+}
+
+// Reads until the table is known, or to the end of what is there. Returns what the reader gave
+// last.
+fn find_table<A: Allocator + Copy>(reader: &mut RecordReader<'_, A>) -> Result<Given, NoMemory>
+    requires { reader.old.given.records ≡ [] }
+    ensures gave { IfOk result (λ gave. (limit : ℕ) (table : RamTable) (text : List ℕ) (so_far : GivenSoFar) → Gives (settings_for table limit) text so_far reader.old
+        → reader.old.given.page_size ≡ table.page_size → GaveNext limit table text so_far gave reader.new) }
+    ensures there { IfOk result (λ gave. IsEnd gave ⊎ (whole_table reader.new.progress ≢ None)) }
+{
+    let mut gave = Given::Records;
+    'items: while reader.table().is_none() {
+        gave = reader.read_on()?;
+        if let Given::End(_) = gave {
+            return Ok(gave);
+        }
+    }
+    Ok(gave)
+}
+
+// Whether the stream has another table than the memory. False while its table isn't known.
+fn is_of_other_table<A: Allocator, M: GuestTarget>(reader: &RecordReader<'_, A>, memory: &M) -> bool
+    ensures other { IsTrue result → (table : RamTable) × (whole_table reader.now.progress ≡ Some table) × (table ≢ (M.image memory.now).table) }
+    ensures own { IsFalse result → (whole_table reader.now.progress ≡ None) ⊎ (whole_table reader.now.progress ≡ Some (M.image memory.now).table) }
+{
+    match reader.table() {
+        Some(table) => !table.same(memory.table()),
+        None => false,
+    }
+}
+
+// Writes the records that the reader gave last, and all that it gives next, into a memory of the
+// stream's table, and counts the sections that they complete. Returns the state of the stream.
+fn put_given<A: Allocator + Copy, M: GuestTarget>(
+    reader: &mut RecordReader<'_, A>,
+    first: Given,
+    memory: &mut M,
+    sections: &mut u64,
+) -> Result<StreamState, NoMemory>
+    requires { PutsNextSome (M.image memory.old).table first reader.old sections.old }
+    ensures ok { IfOk result (λ found. PutsAll first reader.old (M.image memory.old) sections.old found reader.new (M.image memory.new) sections.new) }
+    ensures gives { IfOk result (λ found. GivesAll first reader.old sections.old found reader.new sections.new) }
+    ensures err { OnErr result (PutsSome first reader.old (M.image memory.old) sections.old (M.image memory.new) sections.new) }
+    ensures table { (M.image memory.new).table ≡ (M.image memory.old).table }
+{
+    let mut gave = first;
+    'records: loop {
+        match gave {
+            Given::Records => {}
+            Given::Section => *sections += 1,
+            Given::End(found) => return Ok(found),
+        }
+        put_records(memory, reader.given());
+        gave = reader.read_on()?;
+    }
+}
+
+// Reads a piece after a pause, and writes its records. Returns the state of the load, and the next
+// pause if the stream goes on.
+fn load_piece<A: Allocator + Copy, M: GuestTarget>(
+    pause: Pause<A>,
+    piece: &[u8],
+    memory: &mut M,
+    sections: &mut u64,
+) -> Result<(Option<Pause<A>>, LoadState), NoMemory>
+    requires { (limit : ℕ) × (fed : ℕ) × PausesSome limit (M.image memory.old).table pause sections.old fed × (fed + length piece.now < 2 ^ 63) }
+    ensures ok { IfOk result (λ r. (limit : ℕ) (first : Image) (text : List ℕ) → IsImage first → PausesOnto limit first text pause (M.image memory.old) sections.old
+        → StandsOnto limit first (text ++ piece.now) (M.image memory.new) sections.new r.0 r.1) }
+    ensures some { IfOk result (λ r. (limit fed : ℕ) → PausesSome limit (M.image memory.old).table pause sections.old fed
+        → IfSome r.0 (λ p. PausesSome limit (M.image memory.old).table p sections.new (fed + length piece.now))) }
+    ensures err { OnErr result ((limit : ℕ) (first : Image) (text : List ℕ) → PausesOnto limit first text pause (M.image memory.old) sections.old
+        → HasSomeOnto limit first (text ++ piece.now) (M.image memory.new) sections.new) }
+    ensures table { (M.image memory.new).table ≡ (M.image memory.old).table }
+{
+    let mut reader = pause.resume(piece);
+    let gave = find_table(&mut reader)?;
+    if is_of_other_table(&reader, memory) {
+        return Ok((None, LoadState::OtherTable));
+    }
+    let found = put_given(&mut reader, gave, memory, sections)?;
+    match found {
+        StreamState::Reading => Ok((Some(reader.pause()?), LoadState::Stream(found))),
+        _ => Ok((None, LoadState::Stream(found))),
+    }
+}
+
+impl<A: Allocator + Copy> EagerState<A> {
+    /// Creates a load into a memory of `table`, of which it takes a copy. A stream whose blocks
+    /// have more than `limit` bytes together is refused, so `limit` must be at least the table's
+    /// own total.
+    pub fn new<B: Allocator>(
+        alloc: A,
+        table: &Table<B>,
+        limit: u64,
+    ) -> Result<EagerState<A>, NoMemory>
+        requires { limit ≤ 2 ^ 40 }
+        ensures loads { IfOk result (λ s. (first : Image) → IsImage first → first.table ≡ table.now → EagerlyLoads first limit first s [] false) }
+        ensures table { IfOk result (λ s. s.table ≡ table.now) }
+        ensures open { IfOk result (λ s. IsFalse s.ended) }
+        ensures fed { IfOk result (λ s. s.fed ≡ 0) }
+    {
+        // `len` also tells of the table that it keeps the limits (`IsTable`), as its page size does
+        let _len = table.len();
+        let page_size = table.page_size();
+        let table = table.copy_in(alloc)?;
+        Ok(EagerState {
+            pause: Some(Pause::new(alloc, page_size, limit)),
+            state: LoadState::Stream(StreamState::Reading),
+            table,
+            rounds: 0,
+            fed: 0,
+            ended: false,
+        })
+    }
+
+    /// Reads the next piece of the stream, and writes its page records into the memory. After the
+    /// end byte, a fault or a refused allocation nothing more is read, and the bytes are only
+    /// counted.
+    ///
+    /// # Errors
+    ///
+    /// - `OtherTable`: `memory` has another table than the load. Nothing has changed.
+    /// - `NoMemory`: an allocation was refused. The load has failed for good: the verdict is
+    ///   `NoMemory` from now on, and the piece can't be fed again. The memory has the first of the
+    ///   stream's page records, in their order.
+    pub fn feed<M: GuestTarget>(&mut self, memory: &mut M, piece: &[u8]) -> Result<(), InPlaceFault>
+        requires open { IsFalse self.old.ended }
+        requires room { self.old.fed + length piece.now < 2 ^ 63 }
+        ensures ok { OnOk result ((limit : ℕ) (first : Image) (text : List ℕ) → EagerlyLoads (M.image memory.old) limit first self.old text false
+            → EagerlyLoads (M.image memory.new) limit first self.new (text ++ piece.now) false) }
+        ensures other { (result ≡ Err in_place_fault.OtherTable) ↔ ((M.image memory.old).table ≢ self.old.table) }
+        ensures unchanged { result ≡ Err in_place_fault.OtherTable → (self.new ≡ self.old) × (M.image memory.new ≡ M.image memory.old) }
+        ensures failed { result ≡ Err in_place_fault.NoMemory → (limit : ℕ) (first : Image) (text : List ℕ) → EagerlyLoads (M.image memory.old) limit first self.old text false
+            → LacksMemory (M.image memory.new) limit first self.new (text ++ piece.now) false }
+        ensures lacking { result ≢ Err in_place_fault.OtherTable → (limit : ℕ) (first : Image) (text : List ℕ) → LacksMemory (M.image memory.old) limit first self.old text false
+            → LacksMemory (M.image memory.new) limit first self.new (text ++ piece.now) false × IsOk result }
+        ensures table { (self.new.table ≡ self.old.table) × ((M.image memory.new).table ≡ (M.image memory.old).table) }
+        ensures open { IsFalse self.new.ended }
+        ensures fed { result ≢ Err in_place_fault.OtherTable → self.new.fed ≡ self.old.fed + length piece.now }
+    {
+        if !self.table.same(memory.table()) {
+            return Err(InPlaceFault::OtherTable);
+        }
+        self.fed += piece.len() as u64;
+        let Some(pause) = self.pause.take() else {
+            return Ok(());
+        };
+        match load_piece(pause, piece, memory, &mut self.rounds) {
+            Ok((pause, state)) => {
+                self.pause = pause;
+                self.state = state;
+                Ok(())
+            }
+            Err(NoMemory) => {
+                self.state = LoadState::NoMemory;
+                Err(InPlaceFault::NoMemory)
+            }
+        }
+    }
+}
+
+impl<A: Allocator> EagerState<A> {
+    /// Marks the end of the stream: no piece may be fed after it. A second call changes nothing.
+    pub fn end(&mut self)
+        ensures value { self.new ≡ record self.old { ended = true } }
+        ensures loads { (memory : Image) (limit : ℕ) (first : Image) (text : List ℕ) (ended : Bool) → EagerlyLoads memory limit first self.old text ended
+            → EagerlyLoads memory limit first self.new text true }
+    {
+        self.ended = true;
+    }
+
+    /// Returns whether `end` was called.
+    pub fn ended(&self) -> bool
+        ensures { result ≡ self.now.ended }
+    {
+        self.ended
+    }
+
+    /// Returns the number of bytes fed.
+    pub fn fed(&self) -> u64
+        ensures { result ≡ self.now.fed }
+    {
+        self.fed
+    }
+
+    /// Returns the table of the memory.
+    pub fn table(&self) -> &Table<A>
+        ensures { result.now ≡ self.now.table }
+    {
+        &self.table
+    }
+
+    /// Returns the number of complete sections, START and END among them. The memory has all of
+    /// them, and may have records of the section after them.
+    pub fn rounds(&self) -> u64
+        ensures { result ≡ self.now.rounds }
+    {
+        self.rounds
+    }
+
+    /// Returns the verdict on the stream as if it ended here.
+    ///
+    /// # Errors
+    ///
+    /// - the stream's first fault; `Truncated` where there is none, and the end byte is missing;
+    /// - `OtherTable` if the size list is complete and names another table than the memory's;
+    /// - `NoMemory` if an allocation was refused in a `feed`.
+    pub fn verdict(&self) -> Result<(), LoadFault>
+        ensures lacking { (memory : Image) (limit : ℕ) (first : Image) (text : List ℕ) (ended : Bool) → LacksMemory memory limit first self.now text ended
+            → result ≡ no_memory_at self.now.rounds }
+        ensures loads { (memory : Image) (limit : ℕ) (first : Image) (text : List ℕ) (ended : Bool) → EagerlyLoads memory limit first self.now text ended
+            → HasVerdictOnto limit first text result }
+    {
+        match self.state {
+            LoadState::Stream(found) => verdict_at(self.rounds, found),
+            LoadState::OtherTable => other_table(),
+            LoadState::NoMemory => no_memory(self.rounds),
+        }
+    }
+}
+
+/// An eager load writes no page but those that the stream has a record of: a place without a record
+/// in the section that isn't complete holds what the complete sections left there.
+pub fn eager_keeps_other_places()
+    ensures { EagerKeepsOtherPlaces }
+{}
+
+/// An eager load whose verdict is Ok gives the memory and the count of a load that writes complete
+/// sections (`InPlaceState`).
+pub fn eager_ok_is_by_sections()
+    ensures { EagerOkIsBySections }
+{}

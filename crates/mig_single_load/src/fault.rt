@@ -1,0 +1,204 @@
+//! Why a load didn't come to its end, by name and number, and where: what every loader answers.
+
+ghost use Rattle.std.specs.Prelude.{◌≡◌};
+ghost use Rattle.mig_mem.specs.Refusal.{no_memory_number};
+ghost use Rattle.mig_single_load.specs.LoadFaultNumber.{fault_number, in_place_fault_number};
+
+use mig_assemble::RoundFault;
+use mig_mem::NoMemory;
+use mig_packet::ChannelFault;
+use mig_stream::StreamFault;
+use std::error::Error;
+use std::fmt::{self, Display, Formatter};
+
+/// Where a load found a fault.
+#[derive(Clone, Copy, Debug, PartialEq, Eq)]
+pub enum Origin {
+    /// In the stream: the single stream, or the main stream of multifd.
+    Main,
+    /// In a channel, by its place among the texts that were handed in.
+    Channel(usize),
+    /// In no one text: what all texts bring of a round together, and refused allocations, are told there.
+    Round,
+}
+
+/// What a load found.
+#[derive(Clone, Copy, Debug, PartialEq, Eq)]
+pub enum Fault {
+    /// The stream's fault.
+    Stream(StreamFault),
+    /// The channel's fault.
+    Channel(ChannelFault),
+    /// The round isn't lawful: 54 to 59. A refused allocation is `NoMemory` instead.
+    Round(RoundFault),
+    /// The channel's hello names the id of an earlier channel.
+    HelloTwice,
+    /// The channel goes on where the main stream is over.
+    Extra,
+    /// The channel is over where the main stream goes on.
+    Short,
+    /// The stream is of another table than the memory that was handed in for it.
+    OtherTable,
+    /// An allocation was refused.
+    NoMemory,
+}
+
+impl Fault {
+    /// The fault's number in documents and in the tool's output.
+    pub fn number(self) -> u8
+        ensures { result ≡ fault_number self }
+    {
+        match self {
+            Fault::Stream(fault) => fault.number(),
+            Fault::Channel(fault) => fault.number(),
+            Fault::Round(fault) => fault.number(),
+            Fault::HelloTwice => 51,
+            Fault::Extra => 52,
+            Fault::Short => 53,
+            Fault::OtherTable => 63,
+            Fault::NoMemory => NoMemory.number(),
+        }
+    }
+}
+
+/// Why a load ended before its texts did.
+#[derive(Clone, Copy, Debug, PartialEq, Eq)]
+pub struct LoadFault {
+    /// How many rounds were counted before it: the number of the round that it is in, from 0.
+    pub round: u64,
+    /// Where the fault is.
+    pub source: Origin,
+    /// What it is.
+    pub fault: Fault,
+}
+
+impl Display for Origin {
+    fn fmt<W: fmt::Write>(&self, f: &mut Formatter<W>) -> fmt::Result {
+        match self {
+            Origin::Main => f.write_str("the stream"),
+            Origin::Channel(channel) => write!(f, "channel {channel}"),
+            Origin::Round => f.write_str("the round"),
+        }
+    }
+}
+
+/// The fault's number, and what it says.
+impl Display for Fault {
+    fn fmt<W: fmt::Write>(&self, f: &mut Formatter<W>) -> fmt::Result {
+        match self {
+            Fault::Stream(fault) => Display::fmt(fault, f),
+            Fault::Channel(fault) => Display::fmt(fault, f),
+            Fault::Round(fault) => Display::fmt(fault, f),
+            Fault::NoMemory => Display::fmt(&NoMemory, f),
+            Fault::HelloTwice => write!(
+                f,
+                "{}: the hello names an earlier channel's id",
+                self.number()
+            ),
+            Fault::Extra => write!(
+                f,
+                "{}: the channel goes on where the main stream is over",
+                self.number()
+            ),
+            Fault::Short => write!(
+                f,
+                "{}: the channel is over where the main stream goes on",
+                self.number()
+            ),
+            Fault::OtherTable => write!(
+                f,
+                "{}: the stream is of another table than the memory",
+                self.number()
+            ),
+        }
+    }
+}
+
+impl Error for Fault {}
+
+/// Where the fault is, and what it says.
+impl Display for LoadFault {
+    fn fmt<W: fmt::Write>(&self, f: &mut Formatter<W>) -> fmt::Result {
+        write!(
+            f,
+            "round {}, in {}: {}",
+            self.round, self.source, self.fault
+        )
+    }
+}
+
+impl Error for LoadFault {}
+
+/// Why a piece wasn't loaded: `NoMemory`, with what stands after it.
+#[derive(Clone, Copy, Debug, PartialEq, Eq)]
+pub enum FeedFault {
+    /// An allocation was refused, and nothing has changed: the piece can be fed again.
+    NoMemory,
+    /// The piece was taken, and no memory was found for the guest: `settle` tries again, and the next piece may be fed too.
+    NoGuestMemory,
+}
+
+impl FeedFault {
+    /// The fault's number in documents and in the tool's output: that of `NoMemory`, of both.
+    pub fn number(self) -> u8
+        ensures { result ≡ no_memory_number }
+    {
+        match self {
+            FeedFault::NoMemory | FeedFault::NoGuestMemory => NoMemory.number(),
+        }
+    }
+}
+
+/// The fault's number, and what it says.
+impl Display for FeedFault {
+    fn fmt<W: fmt::Write>(&self, f: &mut Formatter<W>) -> fmt::Result {
+        match self {
+            FeedFault::NoMemory => Display::fmt(&NoMemory, f),
+            FeedFault::NoGuestMemory => write!(
+                f,
+                "{}: no memory was found for the guest",
+                self.number()
+            ),
+        }
+    }
+}
+
+impl Error for FeedFault {}
+
+/// Why a piece wasn't loaded into the memory that it was passed with. For an `InPlaceState` nothing
+/// has changed, and the piece can be fed again. An `EagerState` has failed for good with `NoMemory`.
+#[derive(Clone, Copy, Debug, PartialEq, Eq)]
+pub enum InPlaceFault {
+    /// The memory is of another table than the load.
+    OtherTable,
+    /// An allocation was refused.
+    NoMemory,
+}
+
+impl InPlaceFault {
+    /// The fault's number in documents and in the tool's output.
+    pub fn number(self) -> u8
+        ensures { result ≡ in_place_fault_number self }
+    {
+        match self {
+            InPlaceFault::OtherTable => 63,
+            InPlaceFault::NoMemory => NoMemory.number(),
+        }
+    }
+}
+
+/// The fault's number, and what it says.
+impl Display for InPlaceFault {
+    fn fmt<W: fmt::Write>(&self, f: &mut Formatter<W>) -> fmt::Result {
+        match self {
+            InPlaceFault::OtherTable => write!(
+                f,
+                "{}: the memory is of another table than the load",
+                self.number()
+            ),
+            InPlaceFault::NoMemory => Display::fmt(&NoMemory, f),
+        }
+    }
+}
+
+impl Error for InPlaceFault {}

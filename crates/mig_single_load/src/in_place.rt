@@ -1,0 +1,133 @@
+//! The loader of a single stream that comes in pieces, into memory that is there already: for hypervisors that lend their blocks.
+
+ghost use Rattle.std.specs.Prelude.{◌≡◌, ◌+◌, ◌<◌, ◌≤◌, ◌^◌, ◌++◌, ℕ, Bool, List, [], length, true, false, IsFalse, IsOk, OnOk, OnErr, IfOk, IfErr};
+ghost use Rattle.mig_mem.specs.Image.{Image};
+ghost use Rattle.mig_stream.specs.Reader.{IsSettled};
+ghost use Rattle.mig_assemble.specs.Target.{target_over};
+ghost use Rattle.mig_single_load.specs.InPlace.{settings_of, LoadsOnto, HasVerdictOnto, SentIsLoadedInPlace};
+
+use crate::{InPlaceFault, InPlaceState, LoadFault};
+use mig_mem::{GuestTarget, Memory, NoMemory};
+use std::alloc::{Allocator, Global};
+use std::marker::Model;
+
+/// Loads a guest from the pieces of a single stream into memory that is there already, as the blocks of a machine that is to run it
+/// (`LentMemoryMut`). Each section is put into it by the call that brings its footer, on top of what it holds, and its buffers are given
+/// back. So between calls the loader holds the pages of one section, which isn't whole; in a call also those that the piece brings.
+///
+/// The stream is to have the memory's table, the same blocks in the same order: of another one nothing is put, and the verdict is
+/// `OtherTable`.
+#[derive(Drop)]
+pub struct InPlaceLoader<A: Allocator = Global, M: GuestTarget = Memory<A>> {
+    state: InPlaceState<A>,
+    memory: M,
+}
+
+impl<A: Allocator, M: GuestTarget> Model for InPlaceLoader<A, M> {
+    ghost use Rattle.mig_single_load.specs.InPlace.{InPlace};
+    ghost use Rattle.mig_single_load.specs.InPlaceState.{loader_with, LoadsWithMemory};
+
+    ghost Value = { InPlace };
+
+    ghost view = { λ l. loader_with l.state (M.image l.memory) };
+
+    ghost invariant = { λ l. LoadsWithMemory l.state (M.image l.memory) };
+}
+
+impl<A: Allocator + Copy, M: GuestTarget> InPlaceLoader<A, M> {
+    /// A loader that was fed nothing, into this memory. A stream whose blocks have more than `limit` bytes together is refused, so it is to be
+    /// at least what the memory's own have. It takes a copy of the table. An `Err` gives the memory back: an allocation was refused.
+    pub fn new(alloc: A, memory: M, limit: u64) -> Result<InPlaceLoader<A, M>, M>
+        requires { limit ≤ 2 ^ 40 }
+        ensures loads { IfOk result (λ l. LoadsOnto limit (M.image memory) l [] false) }
+        ensures first { IfOk result (λ l. l.target ≡ target_over (M.image memory)) }
+        ensures open { IfOk result (λ l. IsFalse l.reader.ended) }
+        ensures fed { IfOk result (λ l. l.reader.fed ≡ 0) }
+        ensures err { IfErr result (λ m. M.image m ≡ M.image memory) }
+    {
+        let Ok(state) = InPlaceState::new(alloc, memory.table(), limit) else {
+            return Err(memory);
+        };
+        Ok(InPlaceLoader { state, memory })
+    }
+
+    /// Takes the next piece of the text, and puts the sections that it makes whole into the memory. After the end byte, or a fault of the
+    /// stream's form, its bytes are only counted, which is never refused; a stream of another table is read on. An `Err` changes nothing.
+    pub fn feed(&mut self, piece: &[u8]) -> Result<(), NoMemory>
+        requires open { IsFalse self.old.reader.ended }
+        requires room { self.old.reader.fed + length piece.now < 2 ^ 63 }
+        ensures ok { OnOk result ((limit : ℕ) (first : Image) (text : List ℕ) → LoadsOnto limit first self.old text false
+            → LoadsOnto limit first self.new (text ++ piece.now) false) }
+        ensures settled { (limit : ℕ) (first : Image) (text : List ℕ) → LoadsOnto limit first self.old text false → IsSettled (settings_of first limit) text → IsOk result }
+        ensures err { OnErr result (self.new ≡ self.old) }
+        ensures open { IsFalse self.new.reader.ended }
+        ensures fed { OnOk result (self.new.reader.fed ≡ self.old.reader.fed + length piece.now) }
+    {
+        let Err(fault) = self.state.feed(&mut self.memory, piece) else {
+            return Ok(());
+        };
+        match fault {
+            InPlaceFault::NoMemory => Err(NoMemory),
+            InPlaceFault::OtherTable => unreachable!(),
+        }
+    }
+}
+
+impl<A: Allocator, M: GuestTarget> InPlaceLoader<A, M> {
+    /// The text is over: no piece is fed from now on. A second call changes nothing.
+    pub fn end(&mut self)
+        ensures value { self.new ≡ record self.old { reader = record self.old.reader { ended = true } } }
+        ensures loads { (limit : ℕ) (first : Image) (text : List ℕ) (ended : Bool) → LoadsOnto limit first self.old text ended → LoadsOnto limit first self.new text true }
+    {
+        self.state.end();
+    }
+
+    /// Whether the loader was told that the text is over.
+    pub fn ended(&self) -> bool
+        ensures { result ≡ self.now.reader.ended }
+    {
+        self.state.ended()
+    }
+
+    /// How many bytes were fed.
+    pub fn fed(&self) -> u64
+        ensures { result ≡ self.now.reader.fed }
+    {
+        self.state.fed()
+    }
+
+    /// The memory after the sections so far.
+    pub fn memory(&self) -> &M
+        ensures { M.image result.now ≡ self.now.target.memory }
+    {
+        &self.memory
+    }
+
+    /// How many sections are in the memory. START and END count, too.
+    pub fn rounds(&self) -> u64
+        ensures { result ≡ self.now.target.rounds }
+    {
+        self.state.rounds()
+    }
+
+    /// The verdict on the text so far, as if it were over here: Ok where the end byte was read, else its first fault, which is
+    /// `Truncated` where it is whole so far. Of another table than the memory's it is `OtherTable`, as soon as the size list is whole.
+    pub fn verdict(&self) -> Result<(), LoadFault>
+        ensures { (limit : ℕ) (first : Image) (text : List ℕ) (ended : Bool) → LoadsOnto limit first self.now text ended → HasVerdictOnto limit first text result }
+    {
+        self.state.verdict()
+    }
+
+    /// Gives the memory.
+    pub fn into_memory(self) -> M
+        ensures { M.image result ≡ self.target.memory }
+    {
+        self.memory
+    }
+}
+
+/// The text that a sender made of the memory's table is loaded whole: the memory has the sender's rounds in it, on top of what it held,
+/// and the verdict is Ok.
+pub fn sent_is_loaded_in_place()
+    ensures { SentIsLoadedInPlace }
+{}

@@ -1,0 +1,246 @@
+//! What a load in place keeps between its calls: all but the memory, which each call is handed.
+
+ghost use Rattle.std.specs.Prelude.{◌≡◌, ◌≢◌, ◌+◌, ◌<◌, ◌≤◌, ◌^◌, ◌++◌, ◌↔◌, ℕ, Bool, List, [], length, true, false, Err, IsFalse, IsOk, IsSome, IfSome, IfNone, OnOk, OnErr, IfOk};
+ghost use Rattle.mig_mem.specs.PageSize.{IsPageSize};
+ghost use Rattle.mig_mem.specs.Image.{Image, IsImage};
+ghost use Rattle.mig_mem.specs.Round.{with_round};
+ghost use Rattle.mig_stream.specs.declared.item.Mode.TheVariants.{Single};
+ghost use Rattle.mig_stream.specs.Reading.{settings};
+ghost use Rattle.mig_stream.specs.Reader.{IsSettled, HasRound, waiting};
+ghost use Rattle.mig_assemble.specs.Target.{FitsTable, pages_of_round};
+ghost use Rattle.mig_single_load.specs.declared.fault.Fault.TheVariants.{OtherTable};
+ghost use Rattle.mig_single_load.specs.declared.fault.InPlaceFault.TheVariants as in_place_fault;
+ghost use Rattle.mig_single_load.specs.SingleLoad.{at_main};
+ghost use Rattle.mig_single_load.specs.InPlace.{settings_of, HasVerdictOnto, HasVerdictBehind, StandsAtSome, StandsAtAll};
+ghost use Rattle.mig_single_load.specs.InPlaceState.{LoadsWith, FedWith, WhereFed, PutsAlike, ArePut, ArePutOf};
+
+use crate::settle::verdict_at;
+use crate::{Fault, InPlaceFault, LoadFault, Origin};
+use mig_assemble::put_records;
+use mig_mem::{GuestTarget, NoMemory, Table};
+use mig_stream::{Mode, StreamReader, StreamRound};
+use std::alloc::{Allocator, Global};
+use std::marker::Model;
+
+/// Loads a guest from the pieces of a single stream into memory that is handed in with each piece, and owns all but that memory. It is for
+/// a caller that can't lend its memory for as long as the load takes, as one in C; others take an `InPlaceLoader`, which is this with
+/// a memory. Each section is put by the call that brings its footer, on top of what the memory holds, and its buffers are given back.
+///
+/// Each piece is to be fed with the memory as the piece before left it. A memory of another table is refused. One of the same table with
+/// other contents can't be told, and the same sections are put into it. Memory that no `GuestTarget` stands for is written by its owner:
+/// `read_piece` and `take_section` are the two halves of `feed`, which also puts the sections that wait since a `read_piece`.
+///
+/// The stream is to have the memory's table, the same blocks in the same order: of another one nothing is put, and the verdict is
+/// `OtherTable`.
+#[derive(Drop)]
+pub struct InPlaceState<A: Allocator = Global> {
+    reader: StreamReader<'static, A>,
+    // that of the memory
+    table: Table<A>,
+    // how many sections were put into it
+    rounds: u64,
+}
+
+impl<A: Allocator> Model for InPlaceState<A> {
+    ghost use Rattle.mig_single_load.specs.InPlaceState.{InPlaceState as State, in_place_state, FedWithSome};
+
+    ghost Value = { State };
+
+    ghost view = { λ s. in_place_state s.reader s.table s.rounds };
+
+    ghost invariant = { λ s. FedWithSome (in_place_state s.reader s.table s.rounds) };
+}
+
+// Takes each whole section that waits, and drops it.
+fn drop_sections<A: Allocator>(reader: &mut StreamReader<'_, A>)
+    ensures stands { (page_size limit : ℕ) (text : List ℕ) (ended : Bool) → IsPageSize page_size
+        → StandsAtSome (settings Single page_size limit) text ended reader.old → StandsAtAll (settings Single page_size limit) text ended reader.new }
+    ensures fed { reader.new.fed ≡ reader.old.fed }
+    ensures ended { reader.new.ended ≡ reader.old.ended }
+{
+    'sections: while let Ok(Some(_section)) = reader.take_round() {}
+}
+
+/// The verdict on a stream of another table.
+pub(crate) fn other_table() -> Result<(), LoadFault>
+    ensures { result ≡ at_main 0 OtherTable }
+{
+    Err(LoadFault {
+        round: 0,
+        source: Origin::Main,
+        fault: Fault::OtherTable,
+    })
+}
+
+// Takes the sections that wait, and puts them into a memory.
+fn put_sections<A: Allocator, M: GuestTarget>(state: &mut InPlaceState<A>, memory: &mut M)
+    requires { (M.image memory.old).table ≡ state.old.table }
+    ensures alike { PutsAlike (M.image memory.old) (M.image memory.new) (ArePut state.old state.new) }
+    ensures table { state.new.table ≡ state.old.table }
+    ensures fed { state.new.reader.fed ≡ state.old.reader.fed }
+    ensures ended { state.new.reader.ended ≡ state.old.reader.ended }
+{
+    'sections: while let Some(section) = state.take_section() {
+        put_records(memory, &section);
+    }
+}
+
+impl<A: Allocator + Copy> InPlaceState<A> {
+    /// A load that was fed nothing, into a memory of this table. A stream whose blocks have more than `limit` bytes together is refused, so
+    /// it is to be at least what the table's have. It takes a copy of the table.
+    pub fn new<B: Allocator>(
+        alloc: A,
+        table: &Table<B>,
+        limit: u64,
+    ) -> Result<InPlaceState<A>, NoMemory>
+        requires { limit ≤ 2 ^ 40 }
+        ensures loads { IfOk result (λ s. (first : Image) → IsImage first → first.table ≡ table.now → LoadsWith first limit first s [] false) }
+        ensures table { IfOk result (λ s. s.table ≡ table.now) }
+        ensures rounds { IfOk result (λ s. s.rounds ≡ 0) }
+        ensures open { IfOk result (λ s. IsFalse s.reader.ended) }
+        ensures fed { IfOk result (λ s. s.reader.fed ≡ 0) }
+    {
+        // `len` also tells of the table that it keeps the limits (`IsTable`), as its page size does
+        let _len = table.len();
+        let page_size = table.page_size();
+        let table = table.copy_in(alloc)?;
+        let reader = StreamReader::new(alloc, Mode::Single, page_size, limit);
+        Ok(InPlaceState {
+            reader,
+            table,
+            rounds: 0,
+        })
+    }
+
+    /// Takes the next piece of the text, and puts the sections that it makes whole into the memory. After the end byte, or a fault of the
+    /// stream's form, its bytes are only counted, which is never refused for a refused allocation; a stream of another table is read on. An `Err`
+    /// changes nothing.
+    pub fn feed<M: GuestTarget>(&mut self, memory: &mut M, piece: &[u8]) -> Result<(), InPlaceFault>
+        requires open { IsFalse self.old.reader.ended }
+        requires room { self.old.reader.fed + length piece.now < 2 ^ 63 }
+        ensures ok { OnOk result ((limit : ℕ) (first : Image) (text : List ℕ) → FedWith (M.image memory.old) limit first self.old text false
+            → LoadsWith (M.image memory.new) limit first self.new (text ++ piece.now) false) }
+        ensures alike { OnOk result (PutsAlike (M.image memory.old) (M.image memory.new) (ArePutOf piece.now self.old self.new)) }
+        ensures other { (result ≡ Err in_place_fault.OtherTable) ↔ ((M.image memory.old).table ≢ self.old.table) }
+        ensures settled { (kept : Image) (limit : ℕ) (first : Image) (text : List ℕ) → FedWith kept limit first self.old text false
+            → IsSettled (settings_of first limit) text → (M.image memory.old).table ≡ self.old.table → IsOk result }
+        ensures err { OnErr result ((self.new ≡ self.old) × (M.image memory.new ≡ M.image memory.old)) }
+        ensures table { self.new.table ≡ self.old.table }
+        ensures open { IsFalse self.new.reader.ended }
+        ensures fed { OnOk result (self.new.reader.fed ≡ self.old.reader.fed + length piece.now) }
+    {
+        if !self.table.same(memory.table()) {
+            return Err(InPlaceFault::OtherTable);
+        }
+        let Ok(()) = self.read_piece(piece) else {
+            return Err(InPlaceFault::NoMemory);
+        };
+        put_sections(self, memory);
+        Ok(())
+    }
+
+    /// Takes the next piece of the text, as `feed`, but puts nothing: the sections wait for `take_section`. An `Err` changes nothing.
+    pub fn read_piece(&mut self, piece: &[u8]) -> Result<(), NoMemory>
+        requires open { IsFalse self.old.reader.ended }
+        requires room { self.old.reader.fed + length piece.now < 2 ^ 63 }
+        ensures ok { OnOk result ((memory : Image) (limit : ℕ) (first : Image) (text : List ℕ) → FedWith memory limit first self.old text false
+            → FedWith memory limit first self.new (text ++ piece.now) false) }
+        ensures settled { (memory : Image) (limit : ℕ) (first : Image) (text : List ℕ) → FedWith memory limit first self.old text false
+            → IsSettled (settings_of first limit) text → IsOk result }
+        ensures err { OnErr result (self.new ≡ self.old) }
+        ensures rounds { self.new.rounds ≡ self.old.rounds }
+        ensures table { self.new.table ≡ self.old.table }
+        ensures open { IsFalse self.new.reader.ended }
+        ensures fed { OnOk result (self.new.reader.fed ≡ self.old.reader.fed + length piece.now) }
+    {
+        self.reader.feed(piece)?;
+        Ok(())
+    }
+}
+
+impl<A: Allocator> InPlaceState<A> {
+    /// The next section that waits, for a caller that puts it into the memory himself, in the order in which they are taken, and page after
+    /// page; None where no section waits. Those of another table are dropped. It allocates nothing.
+    pub fn take_section(&mut self) -> Option<StreamRound<'static, A>>
+        ensures fits { IfSome result (λ section. FitsTable self.old.table section) }
+        ensures round { IfSome result (λ section. WhereFed self.old (λ memory limit first text ended.
+            HasRound (settings_of first limit) text self.old.rounds section.records)) }
+        ensures rounds { IfSome result (λ section. self.new.rounds ≡ self.old.rounds + 1) }
+        ensures some { IfSome result (λ section. WhereFed self.old (λ memory limit first text ended.
+            FedWith (with_round memory (pages_of_round section)) limit first self.new text ended)) }
+        ensures none { IfNone result (WhereFed self.old (λ memory limit first text ended. LoadsWith memory limit first self.new text ended)) }
+        ensures none_more { IfNone result (self.new.rounds ≡ self.old.rounds) }
+        ensures fewer { IsSome result → waiting self.new.reader < waiting self.old.reader }
+        ensures table { self.new.table ≡ self.old.table }
+        ensures fed { self.new.reader.fed ≡ self.old.reader.fed }
+        ensures ended { self.new.reader.ended ≡ self.old.reader.ended }
+    {
+        let Some(streamed) = self.reader.table() else {
+            return None;
+        };
+        if !streamed.same(&self.table) {
+            drop_sections(&mut self.reader);
+            return None;
+        }
+        let Ok(Some(section)) = self.reader.take_round() else {
+            return None;
+        };
+        self.rounds += 1;
+        Some(section)
+    }
+
+    /// The text is over: no piece is fed from now on. A second call changes nothing.
+    pub fn end(&mut self)
+        ensures value { self.new ≡ record self.old { reader = record self.old.reader { ended = true } } }
+        ensures loads { (memory : Image) (limit : ℕ) (first : Image) (text : List ℕ) (ended : Bool) → LoadsWith memory limit first self.old text ended
+            → LoadsWith memory limit first self.new text true }
+        ensures fed { WhereFed self.old (λ memory limit first text ended. FedWith memory limit first self.new text true) }
+    {
+        self.reader.end();
+    }
+
+    /// Whether the load was told that the text is over.
+    pub fn ended(&self) -> bool
+        ensures { result ≡ self.now.reader.ended }
+    {
+        self.reader.ended()
+    }
+
+    /// How many bytes were fed.
+    pub fn fed(&self) -> u64
+        ensures { result ≡ self.now.reader.fed }
+    {
+        self.reader.fed()
+    }
+
+    /// The table of the memory.
+    pub fn table(&self) -> &Table<A>
+        ensures { result.now ≡ self.now.table }
+    {
+        &self.table
+    }
+
+    /// How many sections were put into the memory, or taken. START and END count, too.
+    pub fn rounds(&self) -> u64
+        ensures { result ≡ self.now.rounds }
+    {
+        self.rounds
+    }
+
+    /// The verdict on the text so far, as if it were over here: Ok where the end byte was read, else its first fault, which is
+    /// `Truncated` where it is whole so far. Of another table than the memory's it is `OtherTable`, as soon as the size list is whole. It counts
+    /// the sections that were put or taken, so that of a text of which some wait a fault is told with fewer rounds before it.
+    pub fn verdict(&self) -> Result<(), LoadFault>
+        ensures loads { (memory : Image) (limit : ℕ) (first : Image) (text : List ℕ) (ended : Bool) → LoadsWith memory limit first self.now text ended
+            → HasVerdictOnto limit first text result }
+        ensures fed { WhereFed self.now (λ memory limit first text ended. HasVerdictBehind self.now.rounds limit first text result) }
+    {
+        let Some(table) = self.reader.table() else {
+            return verdict_at(0, self.reader.state());
+        };
+        if !table.same(&self.table) {
+            return other_table();
+        }
+        verdict_at(self.rounds, self.reader.state())
+    }
+}

@@ -1,0 +1,37 @@
+//! Loads single streams: makes a guest's memory from the bytes of one migration stream.
+//!
+//! What a load answers is a function of the stream's bytes, the page size and the limit: the memory
+//! after the whole sections, how many these are, and the first fault after them. The exception is a
+//! refused allocation. `mig_stream` defines the format, and `mig_assemble` how a section is applied
+//! to memory. No sender is needed here.
+//!
+//! `load_single` loads a stream that is there whole. `SingleLoader` loads one that is fed in
+//! pieces. Loads in place write into memory that exists already: whole sections (`InPlaceState`,
+//! and `InPlaceLoader`, which keeps the memory too), or each page when its bytes have come
+//! (`EagerState`).
+//!
+//! `LoadFault` and `Loaded` are of every load, also on several channels: those crates stand on this
+//! one.
+//!
+//! Definitions, in reading order: `SingleLoad`, `LoadFaultNumber`, `Loader`, `InPlace`,
+//! `InPlaceState`, `Eager` (`specs/`).
+#![tactic(auto)]
+
+mod at_once;
+mod eager_state;
+mod fault;
+mod in_place;
+mod in_place_state;
+mod loaded;
+mod loader;
+mod settle;
+mod single;
+
+pub use eager_state::{EagerState, eager_keeps_other_places, eager_ok_is_by_sections};
+pub use fault::{Fault, FeedFault, InPlaceFault, LoadFault, Origin};
+pub use in_place::{InPlaceLoader, sent_is_loaded_in_place};
+pub use in_place_state::InPlaceState;
+pub use loaded::Loaded;
+pub use loader::SingleLoader;
+pub use settle::{no_memory, without_memory};
+pub use single::load_single;

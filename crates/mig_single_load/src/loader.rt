@@ -1,0 +1,154 @@
+//! The loader of a single stream that comes in pieces, into a memory of its own: for callers that read from a connection.
+
+ghost use Rattle.std.specs.Prelude.{◌≡◌, ◌+◌, ◌<◌, ◌≤◌, ◌^◌, ◌++◌, ℕ, Bool, List, [], length, true, false, IsFalse, IsOk, OnOk, OnErr, IfErr};
+ghost use Rattle.std.specs.Option.{option_copied};
+ghost use Rattle.mig_mem.specs.PageSize.{IsPageSize};
+ghost use Rattle.mig_stream.specs.declared.item.Mode.TheVariants.{Single};
+ghost use Rattle.mig_stream.specs.Reading.{settings};
+ghost use Rattle.mig_stream.specs.Reader.{IsSettled};
+ghost use Rattle.mig_single_load.specs.declared.fault.FeedFault.TheVariants.{NoMemory as fault_no_memory, NoGuestMemory as fault_no_guest_memory};
+ghost use Rattle.mig_single_load.specs.Loader.{memory_of, sections_loaded, HasAllSections, Waits, Loads, Judges, Answers};
+
+use crate::settle::{answer, settle, verdict};
+use crate::{FeedFault, LoadFault, Loaded};
+use mig_assemble::Target;
+use mig_mem::{Memory, NoMemory};
+use mig_stream::{Mode, StreamReader};
+use std::alloc::{Allocator, Global};
+use std::marker::Model;
+
+/// Loads a guest from the pieces of a single stream. Each section is put into the memory by the call that brings its footer, and its
+/// buffers are given back. So between calls it holds the guest and the pages of one section, which isn't whole, unless sections wait since
+/// an allocation was refused; in a call also the pages that the piece brings.
+#[derive(Drop)]
+pub struct SingleLoader<A: Allocator = Global> {
+    alloc: A,
+    reader: StreamReader<'static, A>,
+    // made as soon as the table is there
+    target: Option<Target<A>>,
+}
+
+impl<A: Allocator> Model for SingleLoader<A> {
+    ghost use Rattle.mig_single_load.specs.Loader.{Loader, loader, LoadsSome};
+
+    ghost Value = { Loader };
+
+    ghost view = { λ l. loader l.reader l.target };
+
+    ghost invariant = { λ l. LoadsSome (loader l.reader l.target) };
+}
+
+impl<A: Allocator + Copy> SingleLoader<A> {
+    /// A loader that was fed nothing, of a stream whose pages have this size, and whose blocks may have `limit` bytes together.
+    pub fn new(alloc: A, page_size: u64, limit: u64) -> SingleLoader<A>
+        requires page_size { IsPageSize page_size }
+        requires limit { limit ≤ 2 ^ 40 }
+        ensures loads { Loads page_size limit result [] false }
+        ensures sections { HasAllSections page_size limit result [] }
+        ensures open { IsFalse result.reader.ended }
+        ensures fed { result.reader.fed ≡ 0 }
+    {
+        SingleLoader {
+            alloc,
+            reader: StreamReader::new(alloc, Mode::Single, page_size, limit),
+            target: None,
+        }
+    }
+
+    /// Takes the next piece of the text, and puts the sections that it makes whole into the memory. After the end byte, or a fault,
+    /// its bytes are only counted, and `NoMemory` doesn't come. The fault says what stands after it.
+    pub fn feed(&mut self, piece: &[u8]) -> Result<(), FeedFault>
+        requires open { IsFalse self.old.reader.ended }
+        requires room { self.old.reader.fed + length piece.now < 2 ^ 63 }
+        ensures ok { OnOk result ((page_size limit : ℕ) (text : List ℕ) → Loads page_size limit self.old text false
+            → Loads page_size limit self.new (text ++ piece.now) false × HasAllSections page_size limit self.new (text ++ piece.now)) }
+        ensures refused { IfErr result (λ fault. fault ≡ fault_no_memory → self.new ≡ self.old) }
+        ensures waiting { IfErr result (λ fault. fault ≡ fault_no_guest_memory → (page_size limit : ℕ) (text : List ℕ) → Loads page_size limit self.old text false
+            → Loads page_size limit self.new (text ++ piece.now) false × Waits page_size limit self.new (text ++ piece.now)) }
+        ensures open { IsFalse self.new.reader.ended }
+        ensures settled { IfErr result (λ fault. fault ≡ fault_no_memory → (page_size limit : ℕ) (text : List ℕ) → Loads page_size limit self.old text false
+            → IsSettled (settings Single page_size limit) text → ⊥) }
+        ensures fed { OnOk result (self.new.reader.fed ≡ self.old.reader.fed + length piece.now) }
+        ensures counted { IfErr result (λ fault. fault ≡ fault_no_guest_memory → self.new.reader.fed ≡ self.old.reader.fed + length piece.now) }
+    {
+        let Ok(()) = self.reader.feed(piece) else {
+            return Err(FeedFault::NoMemory);
+        };
+        let Ok(()) = settle(self.alloc, &mut self.reader, &mut self.target) else {
+            return Err(FeedFault::NoGuestMemory);
+        };
+        Ok(())
+    }
+
+    /// Puts the sections that wait into the memory, where that couldn't be had before. An `Err` changes nothing.
+    pub fn settle(&mut self) -> Result<(), NoMemory>
+        ensures ok { OnOk result ((page_size limit : ℕ) (text : List ℕ) (ended : Bool) → Loads page_size limit self.old text ended
+            → Loads page_size limit self.new text ended × HasAllSections page_size limit self.new text) }
+        ensures err { OnErr result (self.new ≡ self.old) }
+        ensures waits { OnErr result ((page_size limit : ℕ) (text : List ℕ) (ended : Bool) → Loads page_size limit self.old text ended → Waits page_size limit self.old text) }
+        ensures same { (self.new.reader.fed ≡ self.old.reader.fed) × (self.new.reader.ended ≡ self.old.reader.ended) }
+    {
+        settle(self.alloc, &mut self.reader, &mut self.target)
+    }
+}
+
+impl<A: Allocator> SingleLoader<A> {
+    /// The text is over: no piece is fed from now on. A second call changes nothing.
+    pub fn end(&mut self)
+        ensures value { self.new ≡ record self.old { reader = record self.old.reader { ended = true } } }
+        ensures loads { (page_size limit : ℕ) (text : List ℕ) (ended : Bool) → Loads page_size limit self.old text ended → Loads page_size limit self.new text true }
+    {
+        self.reader.end();
+    }
+
+    /// Whether the loader was told that the text is over.
+    pub fn ended(&self) -> bool
+        ensures { result ≡ self.now.reader.ended }
+    {
+        self.reader.ended()
+    }
+
+    /// How many bytes were fed.
+    pub fn fed(&self) -> u64
+        ensures { result ≡ self.now.reader.fed }
+    {
+        self.reader.fed()
+    }
+
+    /// The memory after the sections so far. None as long as the size list isn't whole, or where its sections wait.
+    pub fn memory(&self) -> Option<&Memory<A>>
+        ensures { option_copied result ≡ memory_of self.now }
+    {
+        self.target.as_ref().map(|target| target.memory())
+    }
+
+    /// How many sections are in the memory.
+    pub fn rounds(&self) -> u64
+        ensures { result ≡ sections_loaded self.now }
+    {
+        match &self.target {
+            Some(target) => target.rounds(),
+            None => 0,
+        }
+    }
+
+    /// The verdict that `finish` would give now: Ok where the end byte was read, else the text's first fault, which is `Truncated` where
+    /// it is whole so far; or `NoMemory`, where sections wait.
+    pub fn verdict(&self) -> Result<(), LoadFault>
+        ensures { (page_size limit : ℕ) (text : List ℕ) (ended : Bool) → Loads page_size limit self.now text ended → Judges page_size limit self.now text result }
+    {
+        verdict(&self.reader, &self.target)
+    }
+
+    /// The answer on the text, as if it were over here: that of `load_single`. Where sections wait it is the one without memory.
+    pub fn finish(self) -> Loaded<A>
+        ensures { (page_size limit : ℕ) (text : List ℕ) (ended : Bool) → Loads page_size limit self text ended → Answers page_size limit self text result }
+    {
+        let SingleLoader {
+            alloc: _,
+            reader,
+            target,
+        } = self;
+        answer(&reader, target)
+    }
+}

@@ -1,0 +1,135 @@
+//! Puts the whole sections of a reader into the memory, and answers by both: the loop that all loaders of single streams call.
+
+ghost use Rattle.std.specs.Prelude.{◌≡◌, ℕ, Bool, List, None, Some, OnOk, OnErr};
+ghost use Rattle.mig_single_load.specs.SingleLoad.{no_memory_at, verdict_of, unloaded};
+ghost use Rattle.mig_mem.specs.Image.{Image};
+ghost use Rattle.mig_single_load.specs.Loader.{loader, HasAllSections, Waits, Loads, Judges, Answers, HasPutSections, HasPutSectionsSome, HasPutAllSections, WasFed, WasFedSome};
+
+use crate::{Fault, LoadFault, Loaded, Origin};
+use mig_assemble::Target;
+use mig_mem::{GuestTarget, NoMemory};
+use mig_stream::{StreamFault, StreamReader, StreamState};
+use std::alloc::Allocator;
+
+/// Puts each whole section that waits into the memory.
+pub(crate) fn put_sections<A: Allocator, M: GuestTarget>(
+    reader: &mut StreamReader<'_, A>,
+    target: &mut Target<A, M>,
+)
+    requires { HasPutSectionsSome reader.old target.old }
+    ensures all { (page_size limit : ℕ) (first : Image) (text : List ℕ) (ended : Bool) → HasPutSections page_size limit first text ended reader.old target.old
+        → HasPutSections page_size limit first text ended reader.new target.new × HasPutAllSections page_size limit first text target.new }
+    ensures fed { reader.new.fed ≡ reader.old.fed }
+    ensures ended { reader.new.ended ≡ reader.old.ended }
+{
+    'sections: while let Ok(Some(section)) = reader.take_round() {
+        target.section(&section);
+    }
+}
+
+/// Puts the whole sections that wait into the memory, which is made as soon as the table is there. An `Err` changes nothing.
+pub(crate) fn settle<A: Allocator + Copy>(
+    alloc: A,
+    reader: &mut StreamReader<'_, A>,
+    target: &mut Option<Target<A>>,
+) -> Result<(), NoMemory>
+    requires { WasFedSome (loader reader.old target.old) }
+    ensures ok { OnOk result ((page_size limit : ℕ) (text : List ℕ) (ended : Bool) → WasFed page_size limit (loader reader.old target.old) text ended
+        → Loads page_size limit (loader reader.new target.new) text ended × HasAllSections page_size limit (loader reader.new target.new) text) }
+    ensures err { OnErr result ((reader.new ≡ reader.old) × (target.new ≡ target.old)) }
+    ensures waits { OnErr result ((page_size limit : ℕ) (text : List ℕ) (ended : Bool) → WasFed page_size limit (loader reader.old target.old) text ended
+        → Waits page_size limit (loader reader.old target.old) text) }
+    ensures fed { reader.new.fed ≡ reader.old.fed }
+    ensures ended { reader.new.ended ≡ reader.old.ended }
+{
+    if let Some(target) = target {
+        put_sections(reader, target);
+        return Ok(());
+    }
+    let Some(table) = reader.table() else {
+        return Ok(());
+    };
+    let mut made = Target::new(alloc, table)?;
+    put_sections(reader, &mut made);
+    *target = Some(made);
+    Ok(())
+}
+
+/// How a text stands, as a verdict after so many whole sections.
+pub(crate) fn verdict_at(rounds: u64, state: StreamState) -> Result<(), LoadFault>
+    ensures { result ≡ verdict_of rounds state }
+{
+    let fault = match state {
+        StreamState::Closed => return Ok(()),
+        StreamState::Bad(fault) => fault,
+        StreamState::Reading => StreamFault::Truncated,
+    };
+    Err(LoadFault {
+        round: rounds,
+        source: Origin::Main,
+        fault: Fault::Stream(fault),
+    })
+}
+
+/// The verdict where an allocation was refused after so many rounds.
+pub fn no_memory(round: u64) -> Result<(), LoadFault>
+    ensures { result ≡ no_memory_at round }
+{
+    Err(LoadFault {
+        round,
+        source: Origin::Round,
+        fault: Fault::NoMemory,
+    })
+}
+
+/// The verdict on the text so far, as if it were over; `NoMemory` where its sections wait.
+pub(crate) fn verdict<A: Allocator>(
+    reader: &StreamReader<'_, A>,
+    target: &Option<Target<A>>,
+) -> Result<(), LoadFault>
+    ensures { (page_size limit : ℕ) (text : List ℕ) (ended : Bool) → Loads page_size limit (loader reader.now target.now) text ended
+        → Judges page_size limit (loader reader.now target.now) text result }
+{
+    match (target, reader.table()) {
+        (Some(target), _) => verdict_at(target.rounds(), reader.state()),
+        (None, Some(_)) => no_memory(0),
+        (None, None) => verdict_at(0, reader.state()),
+    }
+}
+
+/// The answer on the text so far, as if it were over; `NoMemory` where its sections wait.
+pub(crate) fn answer<A: Allocator>(
+    reader: &StreamReader<'_, A>,
+    target: Option<Target<A>>,
+) -> Loaded<A>
+    ensures { (page_size limit : ℕ) (text : List ℕ) (ended : Bool) → Loads page_size limit (loader reader.now target) text ended
+        → Answers page_size limit (loader reader.now target) text result }
+{
+    let verdict = verdict(reader, &target);
+    match target {
+        None => Loaded {
+            memory: None,
+            rounds: 0,
+            verdict,
+        },
+        Some(target) => {
+            let rounds = target.rounds();
+            Loaded {
+                memory: Some(target.into_memory()),
+                rounds,
+                verdict,
+            }
+        }
+    }
+}
+
+/// The answer where an allocation was refused before any section.
+pub fn without_memory<A: Allocator>() -> Loaded<A>
+    ensures { result ≡ unloaded }
+{
+    Loaded {
+        memory: None,
+        rounds: 0,
+        verdict: no_memory(0),
+    }
+}

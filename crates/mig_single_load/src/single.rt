@@ -1,0 +1,55 @@
+//! The loader of a single stream that is there whole: for the tool, and for callers that have such a text.
+
+ghost use Rattle.std.specs.Prelude.{◌≡◌, ◌≤◌, ◌^◌, ◌⊎◌, List, All};
+ghost use Rattle.mig_mem.specs.PageSize.{IsPageSize};
+ghost use Rattle.mig_mem.specs.RamTable.{RamTable, IsTable};
+ghost use Rattle.mig_mem.specs.Image.{Page};
+ghost use Rattle.mig_mem.specs.Round.{IsRound};
+ghost use Rattle.mig_stream.specs.Text.{total_bytes};
+ghost use Rattle.mig_stream.specs.Written.{single};
+ghost use Rattle.mig_single_load.specs.SingleLoad.{IsSingleAnswer, IsSingleWithoutMemory, loaded};
+
+use crate::Loaded;
+use crate::at_once::load_at_once;
+use crate::settle::{answer, settle, without_memory};
+use mig_stream::{Mode, StreamReader};
+use std::alloc::Allocator;
+
+/// Loads a guest from the text of a single stream whose pages have this size, and whose blocks may have `limit` bytes together.
+/// What follows the end byte is not looked at. A text without a fault is gone through once; any other is read a second time, and its
+/// memory begun anew.
+pub fn load_single<A: Allocator + Copy>(
+    alloc: A,
+    page_size: u64,
+    text: &[u8],
+    limit: u64,
+) -> Loaded<A>
+    requires page_size { IsPageSize page_size }
+    requires limit { limit ≤ 2 ^ 40 }
+    ensures answer { IsSingleAnswer page_size limit text.now result ⊎ IsSingleWithoutMemory page_size limit text.now result }
+    ensures sent { (table : RamTable) (rounds : List (List Page)) → IsTable table → table.page_size ≡ page_size → total_bytes table ≤ limit
+        → All (IsRound table) rounds → text.now ≡ single table rounds → (result ≡ loaded table rounds) ⊎ IsSingleWithoutMemory page_size limit text.now result }
+{
+    match load_at_once(alloc, page_size, text, limit) {
+        Ok(Some(loaded)) => loaded,
+        Ok(None) => load(alloc, page_size, text, limit),
+        Err(_) => without_memory(),
+    }
+}
+
+// Reads the text, and puts its sections into memory, each when it is whole.
+fn load<A: Allocator + Copy>(alloc: A, page_size: u64, text: &[u8], limit: u64) -> Loaded<A>
+    requires page_size { IsPageSize page_size }
+    requires limit { limit ≤ 2 ^ 40 }
+    ensures { IsSingleAnswer page_size limit text.now result ⊎ IsSingleWithoutMemory page_size limit text.now result }
+{
+    let Ok(mut reader) = StreamReader::of_text(alloc, Mode::Single, page_size, limit, text) else {
+        return without_memory();
+    };
+    reader.end();
+    let mut target = None;
+    let Ok(()) = settle(alloc, &mut reader, &mut target) else {
+        return without_memory();
+    };
+    answer(&reader, target)
+}
