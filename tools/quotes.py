@@ -1,8 +1,9 @@
 #!/usr/bin/env python3
-"""Whether what README.md quotes is still what stands in the code.
+"""Whether what README.md and the documentation of `zimgasol` quote is still what stands in the code.
 
-A block of code that follows a line `<!-- quoted from FILE -->` has to stand in that file word for word, line after line, up to how far
-it is indented.
+A block of code of README.md that follows a line `<!-- quoted from FILE -->` has to stand in that file word for word, line
+after line, up to how far it is indented. So has each line of the example at the head of `crates/zimgasol/src/lib.rt`, but for
+its imports, in the file of the use that it shows.
 """
 import re
 import sys
@@ -10,6 +11,7 @@ from pathlib import Path
 
 TOP = Path(__file__).resolve().parent.parent
 QUOTE = re.compile(r"^<!-- quoted from (\S+) -->\n+```rust\n(.*?)^```$", re.MULTILINE | re.DOTALL)
+FACADE, SHOWN = "crates/zimgasol/src/lib.rt", "crates/mig_uses/src/first.rt"
 
 
 def lines(text):
@@ -20,15 +22,25 @@ def stands_in(quote, text):
     return any(text[at:at + len(quote)] == quote for at in range(len(text)))
 
 
+def facade_quotes():
+    """The examples at the head of the facade, without comment marks, imports and blank lines."""
+    docs = "".join(line[4:] or "\n" for line in (TOP / FACADE).read_text().splitlines(True) if line.startswith("//!"))
+    found = re.findall(r"^```rust\n(.*?)^```$", docs, re.MULTILINE | re.DOTALL)
+    if not found:
+        sys.exit(f"{FACADE} has no example")
+    return [(SHOWN, "".join(line for line in code.splitlines(True) if line.strip() and not line.startswith("use "))) for code in found]
+
+
 def main():
     readme = (TOP / "README.md").read_text()
     quotes = QUOTE.findall(readme)
     if len(quotes) != readme.count("<!-- quoted from "):
         sys.exit("README.md has a mark of a quotation without a block of code behind it")
+    quotes += facade_quotes()
     wrong = [file for file, quote in quotes if not stands_in(lines(quote), lines((TOP / file).read_text()))]
     if wrong:
-        sys.exit(f"README.md quotes what doesn't stand there any more: {', '.join(wrong)}")
-    print(f"{len(quotes)} quotations of README.md stand in the code")
+        sys.exit(f"quoted, but doesn't stand there any more: {', '.join(wrong)}")
+    print(f"{len(quotes)} quotations of README.md and {FACADE} stand in the code")
 
 
 main()

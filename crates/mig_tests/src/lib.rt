@@ -1,6 +1,5 @@
 //! Tests of the stream and of the whole path, from senders to loads: each call that allocates with
-//! its allocations refused, and what a refused round leaves; the libraries in use; and what faults
-//! say of themselves.
+//! its allocations refused, and what a refused round leaves; and what faults say of themselves.
 //!
 //! The worked examples are cases of `mig_rows`.
 #![tactic(auto)]
@@ -11,8 +10,6 @@ mod building;
 mod in_place;
 #[cfg(test)]
 mod in_place_state;
-#[cfg(test)]
-mod in_use;
 #[cfg(test)]
 mod lent;
 #[cfg(test)]

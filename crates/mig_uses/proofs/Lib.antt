@@ -1,3 +1,4 @@
+pub mod Values
 pub mod Comparing
 pub mod EveryPage
 pub mod Tracking

@@ -1,6 +1,6 @@
 -- What a load of a text that was sent answers: the memory, or `NoMemory`.
 use Rattle.std.proofs.Common.{ℕ, ◌≡◌, ◌≤◌, List, refl, sym, ap, ◌∙◌, inl, inr, Option, Some, None}
-use Rattle.std.specs.Prelude.{◌⊎◌, All, Result, Ok, Err, IsErr, IsErrAnd, MatchResult, ⊤}
+use Rattle.std.specs.Prelude.{◌⊎◌, All, IfSome, Result, Ok, Err, IsErr, IsErrAnd, MatchResult, ⊤}
 use Rattle.mig_mem.specs.RamTable.{RamTable, IsTable}
 use Rattle.mig_mem.specs.Image.{Page, Image}
 use Rattle.mig_mem.specs.Round.{IsRound, after}
@@ -49,6 +49,11 @@ wanted a m e (inr want) bad = let found = want.1 in let same : want.0 ≡ e = cc
 pub there : {A : Type 0} (a : Loaded A) (m memory : Image) (v : ⊤) → HasLoaded m a ⊎ HasWanted a → a.verdict ≡ Ok v → a.memory ≡ Some memory → memory ≡ m
 there a m memory v (inl all) good is = let some = all.0 in cc
 there a m memory v (inr want) good is = let bad = want.1 in absurd cc
+
+-- what is there, if the verdict is Ok
+pub there_or_none : {A : Type 0} (a : Loaded A) (m : Image) (v : ⊤) → HasLoaded m a ⊎ HasWanted a → a.verdict ≡ Ok v → IfSome a.memory (λ memory. memory ≡ m)
+there_or_none a m v (inl all) good = rw all.0 refl
+there_or_none a m v (inr want) good = let bad = want.1 in absurd cc
 
 pub never_none : {A : Type 0} (a : Loaded A) (m : Image) (v : ⊤) → HasLoaded m a ⊎ HasWanted a → a.verdict ≡ Ok v → a.memory ≡ None → ⊥
 never_none a m v (inl all) good is = let some = all.0 in cc

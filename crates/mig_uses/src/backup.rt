@@ -11,11 +11,11 @@ ghost use Rattle.mig_stream.specs.Text.{total_bytes};
 ghost use Rattle.mig_single_load.specs.declared.fault.Fault.TheVariants.{NoMemory as fault_no_memory};
 ghost use Rattle.mig_uses.specs.Backup.{BringsMemory};
 
-use mig_mem::{Dirty, Memory, NoMemory, Place, Table};
-use mig_send::{SendFault, SingleSender};
-use mig_single_load::{Fault, LoadFault, Origin, load_single};
-use mig_stream::StreamFault;
 use std::alloc::Allocator;
+use zimgasol::{
+    Dirty, Fault, LoadFault, Memory, NoMemory, Origin, Place, SendFault, SingleSender, StreamFault,
+    Table, load_single,
+};
 
 /// The set of all pages of a table: what is dirty of a guest of which nothing was sent yet.
 pub fn every_page<A: Allocator + Copy, B: Allocator>(
@@ -78,7 +78,7 @@ pub fn restore<A: Allocator + Copy>(
 mod tests {
     use super::*;
     use mig_fixtures::{at, has_byte, set, zeroed};
-    use mig_mem::PAGE_SIZE_4K;
+    use zimgasol::PAGE_SIZE_4K;
 
     // Of the two pages the first is zeros, a record of 16 bytes, and the second isn't, a record of 4,104: so the stream has 61 bytes
     // before them, 18 round them, and 19 behind.

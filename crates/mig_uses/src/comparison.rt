@@ -2,8 +2,8 @@
 
 ghost use Rattle.mig_uses.specs.Comparison.{IsComparison};
 
-use mig_mem::{Memory, Place, first_difference};
 use std::alloc::Allocator;
+use zimgasol::{Memory, Place, first_difference};
 
 /// How two memories compare.
 #[derive(Clone, Copy, Debug, PartialEq, Eq)]

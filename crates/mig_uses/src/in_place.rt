@@ -7,9 +7,8 @@ ghost use Rattle.mig_stream.specs.Text.{total_bytes};
 ghost use Rattle.mig_stream.specs.Written.{single};
 ghost use Rattle.mig_single_load.specs.declared.fault.Fault.TheVariants.{NoMemory as fault_no_memory};
 
-use mig_mem::GuestTarget;
-use mig_single_load::{Fault, InPlaceLoader, LoadFault, Origin};
 use std::alloc::Allocator;
+use zimgasol::{Fault, GuestTarget, InPlaceLoader, LoadFault, Origin};
 
 // A refused allocation before any round.
 fn without_memory() -> LoadFault
@@ -52,9 +51,9 @@ mod tests {
     use super::*;
     use crate::LiveGuest;
     use mig_fixtures::table;
-    use mig_mem::{LentMemoryMut, Table};
     use std::alloc::AllocGlobal;
     use std::process::Abort;
+    use zimgasol::{LentMemoryMut, Table};
 
     // Some values as an array.
     fn both<T: Drop>(one: T, other: T) -> [T; 2] {

@@ -4,9 +4,8 @@ ghost use Rattle.std.specs.Prelude.{◌≡◌, ◌↔◌, ◌+◌, ◌<◌, ◌^
 ghost use Rattle.mig_single_load.specs.Loader.{Loads};
 ghost use Rattle.mig_uses.specs.Incoming.{IsTold};
 
-use mig_single_load::{Fault, FeedFault, LoadFault, SingleLoader};
-use mig_stream::StreamFault;
 use std::alloc::Allocator;
+use zimgasol::{Fault, FeedFault, LoadFault, SingleLoader, StreamFault};
 
 /// How a stream stands that is still coming.
 #[derive(Clone, Copy, Debug, PartialEq, Eq)]
@@ -54,9 +53,9 @@ mod tests {
     use super::*;
     use crate::back_up;
     use mig_fixtures::zeroed;
-    use mig_mem::PAGE_SIZE_4K;
     use std::alloc::AllocGlobal;
     use std::process::Abort;
+    use zimgasol::PAGE_SIZE_4K;
 
     // The stream of two pages of zeros: its opening has 61 bytes, of which the last 13 end START; the round has 18 and records of 16
     // bytes and of 9; the end has 19, of which the last is the end byte.

@@ -1,6 +1,6 @@
 //! Uses of the library, as a caller writes them: a module for each, with a contract and a test. They are there to be read and copied.
 //!
-//! Read them in this order. `backup` and `live_guest` are the single stream, of a guest that is paused and of one that runs on.
+//! Read them in this order. `first` sends a guest's memory and loads it again. `backup` and `live_guest` are the single stream, of a guest that is paused and of one that runs on.
 //! `incoming` loads such a stream as it comes, and `in_place` one that is there whole, into the blocks where the guest is to run.
 //! `migration` moves a guest on several channels, and `two_readers` loads a main stream and one channel from readers. `comparison` and
 //! `notice` are what comes after a load: whether two memories are the same, and what a user is told.
@@ -8,6 +8,7 @@
 
 mod backup;
 mod comparison;
+mod first;
 mod in_place;
 mod incoming;
 mod live_guest;
@@ -17,6 +18,7 @@ mod two_readers;
 
 pub use backup::{back_up, every_page, restore};
 pub use comparison::{Comparison, compare};
+pub use first::copy;
 pub use in_place::load_onto;
 pub use incoming::{Incoming, take_piece};
 pub use live_guest::LiveGuest;

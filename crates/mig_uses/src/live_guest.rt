@@ -3,9 +3,8 @@
 ghost use Rattle.std.specs.Prelude.{◌≡◌, ◌∷◌, ◌++◌, [], List, IsTrue, IsFalse, IfOk, OnOk, OnErr};
 ghost use Rattle.mig_mem.specs.Tracking.{Snapshot};
 
-use mig_mem::{Dirty, Memory, NoMemory, Place, Table};
-use mig_send::{SendFault, SingleSender};
 use std::alloc::{Allocator, Global};
+use zimgasol::{Dirty, Memory, NoMemory, Place, SendFault, SingleSender, Table};
 
 /// A guest of a hypervisor that tracks its writes, and the sender of its rounds.
 #[derive(Drop)]
@@ -92,7 +91,7 @@ mod tests {
     use super::*;
     use crate::restore;
     use mig_fixtures::{at, is_full, table};
-    use mig_mem::PAGE_SIZE_4K;
+    use zimgasol::PAGE_SIZE_4K;
 
     // The first round has pages 0 and 3 of four, and the second only page 3, which was written again. So there is no record of the
     // others: the stream has 61 bytes before its rounds, 18 for each, and 19 behind. The first page names its block, in 7 bytes.

@@ -12,14 +12,13 @@ ghost use Rattle.mig_answer.specs.MultiLoad.{bytes_of};
 ghost use Rattle.mig_answer.specs.Sent.{IsSentInAnyOrder, sent_rounds};
 ghost use Rattle.mig_uses.specs.Migration.{HasArrived, HaveEachAppended};
 
-use mig_mem::{Dirty, Memory, NoMemory, PAGE_SIZE_4K};
-use mig_relay::load_multi;
-use mig_send::{MultiSender, OpenGate, SendFault, Sent};
-use mig_single_load::{Fault, LoadFault, Loaded, Origin};
 use std::alloc::Allocator;
 use std::sync::Wait;
 use std::thread::Threads;
-use uuid::Uuid;
+use zimgasol::{
+    Dirty, Fault, LoadFault, Loaded, Memory, MultiSender, NoMemory, OpenGate, Origin, PAGE_SIZE_4K,
+    SendFault, Sent, Uuid, load_multi,
+};
 
 /// Takes what a sender has written since the last time, and appends it to what has arrived, in place of a network. The sender keeps no
 /// bytes that were taken, so an `Err` loses some: the migration is to begin again.

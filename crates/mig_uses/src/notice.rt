@@ -3,8 +3,8 @@
 ghost use Rattle.std.specs.Prelude.{◌≡◌, IfOk};
 ghost use Rattle.mig_single_load.specs.LoadFaultNumber.{fault_number};
 
-use mig_single_load::{LoadFault, Origin};
 use std::alloc::{AllocError, Allocator, Global};
+use zimgasol::{LoadFault, Origin};
 
 /// What a user is told of a load that failed.
 #[derive(Drop)]
@@ -36,7 +36,7 @@ pub fn notice_of<A: Allocator + Copy>(alloc: A, fault: LoadFault) -> Result<Noti
 mod tests {
     use super::*;
     use crate::restore;
-    use mig_mem::PAGE_SIZE_4K;
+    use zimgasol::PAGE_SIZE_4K;
 
     #[test]
     fn told(rt: HostRuntime) {

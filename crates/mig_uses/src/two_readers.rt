@@ -5,10 +5,9 @@ ghost use Rattle.mig_mem.specs.PageSize.{IsPageSize};
 ghost use Rattle.mig_answer.specs.Texts.{ended_texts};
 ghost use Rattle.mig_session.specs.Session.{StandsFor};
 
-use mig_session::{Counted, PumpFault, Session, Source, pump};
 use std::alloc::Allocator;
 use std::io::Read;
-use uuid::Uuid;
+use zimgasol::{Counted, PumpFault, Session, Source, Uuid, pump};
 
 // The most reads of one reader.
 const TURNS: u64 = 1 << 40;
@@ -51,10 +50,8 @@ pub fn load_from<A: Allocator + Copy, M: Read + Drop, C: Read + Drop>(
 #[cfg(test)]
 mod tests {
     use super::*;
-    use mig_answer::Verdict;
     use mig_fixtures::{at, is_full, places_of, zeroed};
-    use mig_mem::PAGE_SIZE_4K;
-    use mig_send::{MultiSender, OpenGate};
+    use zimgasol::{MultiSender, OpenGate, PAGE_SIZE_4K, Verdict};
 
     // A round of two pages of zeros on one channel. Its main stream has 61 bytes, a FLUSH of 26 and an end of 19, and its channel a hello of
     // 64 bytes and two packets of 1,344.
