@@ -1,6 +1,6 @@
 -- A worker's draws, one after the other.
 use Rattle.std.proofs.Common.{ℕ, ◌≡◌, ◌<◌, ◌≤◌, ◌-◌, List, [], ◌∷◌, ◌++◌, length, map, get_or, refl}
-use Rattle.std.proofs.Common.{sym, ap, ◌∙◌, arith, suc, subst, IfOk, IsOkAnd, append_assoc}
+use Rattle.std.proofs.Common.{sym, ap, ◌∙◌, arith, suc, subst, IfOk, append_assoc}
 use Rattle.std.specs.Prelude.{Result, Vec, Ok, Err, IsOk, OnOk, flat_map}
 use Rattle.std.specs.List.{All, AllPairs}
 use Rattle.std.proofs.lemmas.List.{append-nil, get_or_default, map-append}
@@ -15,13 +15,15 @@ use Rattle.mig_send.specs.Batches.{BatchOfPages}
 use Rattle.mig_send.specs.Packing.{PackedBatch, IsPrefix, packed_of}
 use Rattle.mig_send.specs.declared.worker.Worked.{Worked}
 use Rattle.mig_send.specs.declared.share.Written.{Written}
+use Rattle.mig_send.specs.declared.sink.Filled.{Filled}
 use Rattle.mig_send.specs.Work.{HasShare, HasWorked, claimed_packet, no_batch}
+use Rattle.mig_send.specs.Sink.{HasFilled, claimed_entries}
 use Rattle.mig_send.specs.Dealing.{sync_packet}
 use Rattle.mig_send.specs.Workers.{HasWritten}
 
 -- ---- the draws
 
--- the same as `HasShare` before the last draw
+-- as `HasShare`, before the last draw
 pub record HasDrawnSoFar (first seat : SeatView) (numbers : List ℕ) : Type 0 where
   pub has_deal : seat.deal ≡ first.deal
   pub has_drawn : seat.drawn ≡ first.drawn ++ numbers
@@ -76,118 +78,122 @@ claims image batches deal first before number batch own as_many next is_work is 
     ap (λ (b : BatchOfPages). packed_of image b number) (is ∙ get_or_default batches (number - deal.base) batch no_batch in_list)
     ∙ ap (λ (d : DealView). claimed_packet d.base image batches number) (sym own)
 
--- ---- its packets
+-- ---- what it adds to its sink
 
--- the same as `HasWorked` before the last draw
-pub record HasWorkedSoFar {A : Type 0} (image : Image) (batches : List BatchOfPages) (first seat : SeatView)
-    (made : Result (Vec PackedBatch A) NoMemory) : Type 0 where
+-- as `HasFilled`, before the last draw
+pub record HasFilledSoFar {E : Type 0} (entries : PackedBatch → List E) (image : Image) (batches : List BatchOfPages) (first seat : SeatView)
+    (before after : List E) (made : Result (Unit {0}) NoMemory) : Type 0 where
   pub numbers : List ℕ
   pub have_drawn : HasDrawnSoFar first seat numbers
-  pub has_packets : IfOk made (λ packets. packets.items ≡ map (claimed_packet first.deal.base image batches) numbers)
+  pub keeps : IsPrefix before after
+  pub has_packets : OnOk made (after ≡ before ++ claimed_entries entries first.deal.base image batches numbers)
 
-pub worked_none : {A : Type 0} (image : Image) (batches : List BatchOfPages) (seat : SeatView) (none : Vec PackedBatch A) → none.items ≡ []
-    → HasWorkedSoFar image batches seat seat (Ok none)
-worked_none image batches seat none empty = record { numbers = []; have_drawn = drawn_none seat; has_packets = empty }
-
--- one packet more
-one_more : {A : Type 0} (f : ℕ → PackedBatch) (numbers : List ℕ) (number : ℕ) (before after : Result (Vec PackedBatch A) NoMemory)
-    → IfOk after (λ some. IsOkAnd before (λ others. some.items ≡ others.items ++ f number ∷ []))
-    → IfOk before (λ some. some.items ≡ map f numbers) → IfOk after (λ some. some.items ≡ map f (numbers ++ number ∷ []))
-one_more f numbers number before (Err e) added all = tt
-one_more f numbers number (Ok others) (Ok some) added all = added ∙ (ap (λ packets. packets ++ f number ∷ []) all ∙ sym (map-append f numbers (number ∷ [])))
-one_more f numbers number (Err e) (Ok some) added all = absurd added
-
-pub worked_more : {A : Type 0} (image : Image) (batches : List BatchOfPages) (deal : DealView) (first before after : SeatView) (number : ℕ)
-    (batch : BatchOfPages) (made more : Result (Vec PackedBatch A) NoMemory)
-    → HasWorkedSoFar image batches first before made → first.deal ≡ deal → length batches ≡ deal.batches
-    → after ≡ with_number before number → IsNext deal.base before.drawn number → number < end_of_work deal
-    → batch ≡ get_or batches (number - deal.base) batch
-    → IfOk more (λ some. IsOkAnd made (λ others. some.items ≡ others.items ++ packed_of image batch number ∷ []))
-    → HasWorkedSoFar image batches first after more
-worked_more image batches deal first before after number batch made more so_far own as_many appended next is_work is added = record {
-  numbers = so_far.numbers ++ number ∷ [];
-  have_drawn = drawn_more deal first before after number so_far.numbers so_far.have_drawn own appended next is_work;
-  has_packets = one_more (claimed_packet first.deal.base image batches) so_far.numbers number made more
-      (subst (λ (packet : PackedBatch). IfOk more (λ some. IsOkAnd made (λ others. some.items ≡ others.items ++ packet ∷ [])))
-      (claims image batches deal first before number batch own as_many next is_work is) added) so_far.has_packets;
+prefix_more : {E : Type 0} (before some after : List E) → IsPrefix before some → IsPrefix some after → IsPrefix before after
+prefix_more before some after front more = record {
+  rest = front.rest ++ more.rest;
+  is_text = more.is_text ∙ (ap (λ l. l ++ more.rest) front.is_text ∙ append_assoc before front.rest more.rest);
 }
 
-pub worked_last : {A : Type 0} (image : Image) (batches : List BatchOfPages) (deal : DealView) (first before : SeatView) (worked : Worked A)
-    → HasWorkedSoFar image batches first before worked.packets → first.deal ≡ deal
-    → HasDrawn deal before worked.last worked.spent → end_of_work deal ≤ worked.last → HasWorked image batches first worked
-worked_last image batches deal first before worked so_far own drawn no_work = record {
-  share = record { numbers = so_far.numbers; last = worked.last };
-  has_share = drawn_last deal first before worked.spent so_far.numbers worked.last so_far.have_drawn own drawn no_work;
+-- a list goes on from where it was, as long as there was memory
+list_more : {E : Type 0} (before mid some rest after : List E) (made more : Result (Unit {0}) NoMemory) → OnOk made (some ≡ before ++ mid)
+    → OnOk more (IsOk made) → OnOk more (after ≡ some ++ rest) → OnOk more (after ≡ before ++ (mid ++ rest))
+list_more before mid some rest after made (Err e) has was added = tt
+list_more before mid some rest after (Err e) (Ok u) has was added = absurd cc
+list_more before mid some rest after (Ok v) (Ok u) has was added = added ∙ (ap (λ l. l ++ rest) has ∙ append_assoc before mid rest)
+
+-- the entries of one packet more
+entries_more : {E : Type 0} (entries : PackedBatch → List E) (f : ℕ → PackedBatch) (numbers : List ℕ) (number : ℕ)
+    → flat_map entries (map f (numbers ++ number ∷ [])) ≡ flat_map entries (map f numbers) ++ entries (f number)
+entries_more entries f numbers number =
+    ap (flat_map entries) (map-append f numbers (number ∷ []))
+    ∙ (flat_map-append entries (map f numbers) (f number ∷ []) ∙ ap (λ l. flat_map entries (map f numbers) ++ l) (append-nil (entries (f number))))
+
+pub filled_none : {E : Type 0} (entries : PackedBatch → List E) (image : Image) (batches : List BatchOfPages) (seat : SeatView) (before : List E)
+    → HasFilledSoFar entries image batches seat seat before before (Ok tt)
+filled_none entries image batches seat before = record {
+  numbers = [];
+  have_drawn = drawn_none seat;
+  keeps = record { rest = []; is_text = sym (append-nil before) };
+  has_packets = sym (append-nil before);
+}
+
+pub filled_more : {E : Type 0} (entries : PackedBatch → List E) (image : Image) (batches : List BatchOfPages) (deal : DealView) (first seat after : SeatView)
+    (number : ℕ) (batch : BatchOfPages) (before some new : List E) (made more : Result (Unit {0}) NoMemory)
+    → HasFilledSoFar entries image batches first seat before some made → first.deal ≡ deal → length batches ≡ deal.batches
+    → after ≡ with_number seat number → IsNext deal.base seat.drawn number → number < end_of_work deal
+    → batch ≡ get_or batches (number - deal.base) batch
+    → OnOk more (IsOk made) → OnOk more (new ≡ some ++ entries (packed_of image batch number)) → IsPrefix some new
+    → HasFilledSoFar entries image batches first after before new more
+filled_more entries image batches deal first seat after number batch before some new made more so_far own as_many appended next is_work is was added prefix =
+    let packet : ℕ → PackedBatch = claimed_packet first.deal.base image batches in
+    let same = claims image batches deal first seat number batch own as_many next is_work is in
+    record {
+      numbers = so_far.numbers ++ number ∷ [];
+      have_drawn = drawn_more deal first seat after number so_far.numbers so_far.have_drawn own appended next is_work;
+      keeps = prefix_more before some new so_far.keeps prefix;
+      has_packets = subst (λ l. OnOk more (new ≡ before ++ l)) (sym (entries_more entries packet so_far.numbers number))
+          (list_more before (flat_map entries (map packet so_far.numbers)) some (entries (packet number)) new made more so_far.has_packets was
+          (subst (λ (p : PackedBatch). OnOk more (new ≡ some ++ entries p)) same added));
+    }
+
+pub filled_last : {E : Type 0} (entries : PackedBatch → List E) (image : Image) (batches : List BatchOfPages) (deal : DealView) (first seat : SeatView)
+    (before after : List E) (filled : Filled)
+    → HasFilledSoFar entries image batches first seat before after filled.made → first.deal ≡ deal
+    → HasDrawn deal seat filled.last filled.spent → end_of_work deal ≤ filled.last → HasFilled entries image batches first before after filled
+filled_last entries image batches deal first seat before after filled so_far own drawn no_work = record {
+  share = record { numbers = so_far.numbers; last = filled.last };
+  has_share = drawn_last deal first seat filled.spent so_far.numbers filled.last so_far.have_drawn own drawn no_work;
   has_last = refl;
+  keeps = so_far.keeps;
   has_packets = so_far.has_packets;
+}
+
+-- ---- its packets in a list
+
+each_alone : (packets : List PackedBatch) → flat_map (λ packet. packet ∷ []) packets ≡ packets
+each_alone [] = refl
+each_alone (p ∷ packets) = ap (λ l. p ∷ l) (each_alone packets)
+
+packets_of : {A : Type 0} (f : ℕ → PackedBatch) (numbers : List ℕ) (packets : Vec PackedBatch A) (made : Result (Unit {0}) NoMemory)
+    (all : Result (Vec PackedBatch A) NoMemory) → OnOk made (packets.items ≡ flat_map (λ packet. packet ∷ []) (map f numbers))
+    → IfOk all (λ some. IsOk made × (some ≡ packets)) → IfOk all (λ some. some.items ≡ map f numbers)
+packets_of f numbers packets made (Err e) has are = tt
+packets_of f numbers packets (Err e) (Ok some) has are = absurd (let no = are.0 in cc)
+packets_of f numbers packets (Ok v) (Ok some) has are = ap (λ v. v.items) are.1 ∙ (has ∙ each_alone (map f numbers))
+
+pub worked_of : {A : Type 0} (image : Image) (batches : List BatchOfPages) (seat : SeatView) (packets : Vec PackedBatch A) (filled : Filled)
+    (all : Result (Vec PackedBatch A) NoMemory) (before : List PackedBatch) → before ≡ []
+    → HasFilled (λ packet. packet ∷ []) image batches seat before packets.items filled
+    → IfOk all (λ some. IsOk filled.made × (some ≡ packets))
+    → HasWorked image batches seat record { packets = all; last = filled.last; spent = filled.spent }
+worked_of image batches seat packets filled all before none is are = record {
+  share = is.share;
+  has_share = is.has_share;
+  has_last = is.has_last;
+  has_packets = packets_of (claimed_packet seat.deal.base image batches) is.share.numbers packets filled.made all
+      (subst (λ (b : List PackedBatch). OnOk filled.made (packets.items ≡ b ++ flat_map (λ packet. packet ∷ [])
+      (map (claimed_packet seat.deal.base image batches) is.share.numbers))) none is.has_packets) are;
 }
 
 -- ---- or the text that it writes
 
--- the text of the packets that some numbers claim
-abbrev packets_text : ℕ → Image → List BatchOfPages → List ℕ → List ℕ
-packets_text base image batches numbers = flat_map (λ number. (claimed_packet base image batches number).bytes) numbers
+bytes_of : (f : ℕ → PackedBatch) (numbers : List ℕ) → flat_map (λ packet. packet.bytes) (map f numbers) ≡ flat_map (λ number. (f number).bytes) numbers
+bytes_of f [] = refl
+bytes_of f (n ∷ numbers) = ap (λ l. (f n).bytes ++ l) (bytes_of f numbers)
 
--- the same as `HasWritten` before the last draw
-pub record HasWrittenSoFar (image : Image) (batches : List BatchOfPages) (first seat : SeatView) (before text : List ℕ) (made : Result (Unit {0}) NoMemory) : Type 0 where
-  pub numbers : List ℕ
-  pub have_drawn : HasDrawnSoFar first seat numbers
-  pub keeps_text : IsPrefix before text
-  pub has_text : OnOk made (text ≡ before ++ packets_text first.deal.base image batches numbers)
-
-prefix_more : (before text after : List ℕ) → IsPrefix before text → IsPrefix text after → IsPrefix before after
-prefix_more before text after some more = record {
-  rest = some.rest ++ more.rest;
-  is_text = more.is_text ∙ (ap (λ (l : List ℕ). l ++ more.rest) some.is_text ∙ append_assoc before some.rest more.rest);
-}
-
--- a text goes on from where it was, as long as there was memory
-text_more : (before some text rest after : List ℕ) (made more : Result (Unit {0}) NoMemory) → OnOk made (text ≡ before ++ some)
-    → OnOk more (IsOk made) → OnOk more (after ≡ text ++ rest) → OnOk more (after ≡ before ++ (some ++ rest))
-text_more before some text rest after made (Err e) has was added = tt
-text_more before some text rest after (Err e) (Ok u) has was added = absurd cc
-text_more before some text rest after (Ok v) (Ok u) has was added = added ∙ (ap (λ (l : List ℕ). l ++ rest) has ∙ append_assoc before some rest)
-
-pub written_none : (image : Image) (batches : List BatchOfPages) (seat : SeatView) (text : List ℕ) → HasWrittenSoFar image batches seat seat text text (Ok tt)
-written_none image batches seat text = record {
-  numbers = [];
-  have_drawn = drawn_none seat;
-  keeps_text = record { rest = []; is_text = sym (append-nil text) };
-  has_text = sym (append-nil text);
-}
-
-pub written_more : (image : Image) (batches : List BatchOfPages) (deal : DealView) (first seat after : SeatView) (number : ℕ) (batch : BatchOfPages)
-    (before text new : List ℕ) (made more : Result (Unit {0}) NoMemory)
-    → HasWrittenSoFar image batches first seat before text made → first.deal ≡ deal → length batches ≡ deal.batches
-    → after ≡ with_number seat number → IsNext deal.base seat.drawn number → number < end_of_work deal
-    → batch ≡ get_or batches (number - deal.base) batch
-    → OnOk more (IsOk made) → OnOk more (new ≡ text ++ (packed_of image batch number).bytes) → IsPrefix text new
-    → HasWrittenSoFar image batches first after before new more
-written_more image batches deal first seat after number batch before text new made more so_far own as_many appended next is_work is was added prefix =
-    let base = first.deal.base in
-    let packet : ℕ → List ℕ = λ n. (claimed_packet base image batches n).bytes in
-    let same = claims image batches deal first seat number batch own as_many next is_work is in
-    let one : packets_text base image batches (so_far.numbers ++ number ∷ []) ≡ packets_text base image batches so_far.numbers ++ packet number =
-    flat_map-append packet so_far.numbers (number ∷ []) ∙ ap (λ (l : List ℕ). flat_map packet so_far.numbers ++ l) (append-nil (packet number)) in
+pub written_of : {A : Type 0} (image : Image) (batches : List BatchOfPages) (seat : SeatView) (before some : List ℕ) (filled : Filled) (written : Written A)
+    → HasFilled (λ packet. packet.bytes) image batches seat before some filled → written.spent ≡ filled.spent
+    → OnOk written.made (IsOk filled.made) → OnOk written.made (written.text.items ≡ some ++ sync_packet image.table.page_size filled.last)
+    → IsPrefix some written.text.items → HasWritten image batches seat before written
+written_of image batches seat before some filled written is spent was added prefix =
+    let packet : ℕ → PackedBatch = claimed_packet seat.deal.base image batches in
     record {
-      numbers = so_far.numbers ++ number ∷ [];
-      have_drawn = drawn_more deal first seat after number so_far.numbers so_far.have_drawn own appended next is_work;
-      keeps_text = prefix_more before text new so_far.keeps_text prefix;
-      has_text = subst (λ (l : List ℕ). OnOk more (new ≡ before ++ l)) (sym one)
-          (text_more before (packets_text base image batches so_far.numbers) text (packet number) new made more so_far.has_text was
-          (subst (λ (p : PackedBatch). OnOk more (new ≡ text ++ p.bytes)) same added));
+      share = is.share;
+      has_share = subst (λ (s : SeatView). HasShare seat s is.share) (sym spent) is.has_share;
+      keeps_text = prefix_more before some written.text.items is.keeps prefix;
+      has_text = subst (λ (l : List ℕ). OnOk written.made (written.text.items ≡ before ++ l))
+          (ap (λ l. l ++ sync_packet image.table.page_size filled.last) (bytes_of packet is.share.numbers)
+          ∙ ap (λ last. flat_map (λ number. (packet number).bytes) is.share.numbers ++ sync_packet image.table.page_size last) is.has_last)
+          (list_more before (flat_map (λ p. p.bytes) (map packet is.share.numbers)) some (sync_packet image.table.page_size filled.last) written.text.items filled.made written.made
+          is.has_packets was added);
     }
-
-pub written_last : {A : Type 0} (image : Image) (batches : List BatchOfPages) (deal : DealView) (first seat : SeatView) (written : Written A) (last : ℕ)
-    (before text : List ℕ) (made : Result (Unit {0}) NoMemory)
-    → HasWrittenSoFar image batches first seat before text made → first.deal ≡ deal
-    → HasDrawn deal seat last written.spent → end_of_work deal ≤ last
-    → OnOk written.made (IsOk made) → OnOk written.made (written.text.items ≡ text ++ sync_packet image.table.page_size last) → IsPrefix text written.text.items
-    → HasWritten image batches first before written
-written_last image batches deal first seat written last before text made so_far own drawn no_work was added prefix = record {
-  share = record { numbers = so_far.numbers; last = last };
-  has_share = drawn_last deal first seat written.spent so_far.numbers last so_far.have_drawn own drawn no_work;
-  keeps_text = prefix_more before text written.text.items so_far.keeps_text prefix;
-  has_text = text_more before (packets_text first.deal.base image batches so_far.numbers) text (sync_packet image.table.page_size last) written.text.items made written.made
-      so_far.has_text was added;
-}

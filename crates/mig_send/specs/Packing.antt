@@ -77,7 +77,7 @@ packed_of image batch number = record {
   bytes = packet_of image.table.page_size number (block image.table.blocks batch.block).id (round_of image (batch_places batch));
 }
 
--- a text goes on from what it had, or is that alone
-pub record IsPrefix (front text : List ℕ) : Type 0 where
-  pub rest : List ℕ
+-- a text, or another list, goes on from what it had, or is that alone
+pub record IsPrefix {E : Type 0} (front text : List E) : Type 0 where
+  pub rest : List E
   pub is_text : text ≡ front ++ rest

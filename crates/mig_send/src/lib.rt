@@ -16,6 +16,7 @@ mod multi;
 mod packed;
 mod share;
 mod single;
+mod sink;
 mod worker;
 mod workers;
 

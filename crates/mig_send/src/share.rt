@@ -1,15 +1,15 @@
 //! A worker of a round on several channels: it writes the packets of its share to its channel's text. `workers` runs one on each thread.
 
 ghost use Rattle.std.specs.Prelude.{◌≡◌, ◌++◌, IsOk, OnOk};
-ghost use Rattle.mig_send.specs.Batches.{IsBatch};
-ghost use Rattle.mig_send.specs.Packing.{IsPrefix, packed_of};
+ghost use Rattle.mig_send.specs.Packing.{IsPrefix};
 ghost use Rattle.mig_send.specs.Work.{ClaimsBatches};
 ghost use Rattle.mig_send.specs.Dealing.{sync_packet};
 ghost use Rattle.mig_send.specs.Workers.{HasWritten};
 
 use crate::Batch;
 use crate::packed::{Offsets, append_packet};
-use mig_deal::{Deal, Drawn, Seat, Spent};
+use crate::sink::{Filled, Sink, fill};
+use mig_deal::{Deal, Seat, Spent};
 use mig_mem::{GuestPages, NoMemory};
 use mig_packet::{Gate, Step, put_packet};
 use std::alloc::Allocator;
@@ -37,56 +37,42 @@ pub(crate) fn write_share<A: Allocator + Copy, M: GuestPages, C: Allocator, D: A
     requires batches { ClaimsBatches deal.now (M.image memory.now).table batches.now }
     ensures { HasWritten (M.image memory.now) batches.now seat text.items result }
 {
-    let mut seat = seat;
-    let mut text = text;
-    let mut offsets = Offsets::new(alloc);
-    let mut made = Ok(());
-    'draws: loop {
-        match deal.draw(seat) {
-            Drawn::Work(number, next) => {
-                gate.pass(channel, Step::Drawn(number));
-                seat = next;
-                let batch = &batches[(number - deal.base()) as usize];
-                made = add(
-                    made,
-                    &mut text,
-                    &mut offsets,
-                    channel,
-                    memory,
-                    batch,
-                    number,
-                    gate,
-                );
-            }
-            Drawn::Last(last, spent) => {
-                gate.pass(channel, Step::Drawn(last));
-                made = end(made, &mut text, memory, last);
-                return Written { text, made, spent };
-            }
-        }
-    }
+    let offsets = Offsets::new(alloc);
+    let mut sink = ChannelText { text, offsets };
+    let Filled { made, last, spent } = fill(&mut sink, deal, seat, channel, memory, batches, gate);
+    let ChannelText {
+        mut text,
+        offsets: _,
+    } = sink;
+    let made = end(made, &mut text, memory, last);
+    Written { text, made, spent }
 }
 
-// Appends the packet of one more batch; nothing where an allocation was refused before.
-fn add<A: Allocator, M: GuestPages, C: Allocator, G: Gate>(
-    made: Result<(), NoMemory>,
-    text: &mut Vec<u8, A>,
-    offsets: &mut Offsets<A>,
-    channel: usize,
-    memory: &M,
-    batch: &Batch<C>,
-    number: u64,
-    gate: &G,
-) -> Result<(), NoMemory>
-    requires { IsBatch (M.image memory.now).table batch.now }
-    ensures made { OnOk result (IsOk made) }
-    ensures ok { OnOk result (text.new.items ≡ text.old.items ++ (packed_of (M.image memory.now) batch.now number).bytes) }
-    ensures prefix { IsPrefix text.old.items text.new.items }
-{
-    made?;
-    append_packet(text, offsets, memory, batch, number)?;
-    gate.pass(channel, Step::Packed(number));
-    Ok(())
+// The text of a channel, and the lists that the packing of its batches uses again.
+struct ChannelText<A: Allocator> {
+    text: Vec<u8, A>,
+    offsets: Offsets<A>,
+}
+
+impl<A: Allocator> Sink for ChannelText<A> {
+    type Entry = u8;
+
+    ghost held = { λ sink. sink.text.items };
+
+    ghost entries = { λ packet. packet.bytes };
+
+    fn add<M: GuestPages, C: Allocator, G: Gate>(
+        &mut self,
+        memory: &M,
+        batch: &Batch<C>,
+        number: u64,
+        channel: usize,
+        gate: &G,
+    ) -> Result<(), NoMemory> {
+        append_packet(&mut self.text, &mut self.offsets, memory, batch, number)?;
+        gate.pass(channel, Step::Packed(number));
+        Ok(())
+    }
 }
 
 // Appends the SYNC packet of a number; nothing where an allocation was refused before.

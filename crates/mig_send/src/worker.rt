@@ -1,17 +1,16 @@
 //! Workers whose packets stand alone, for callers with threads of their own: each draws numbers from the deal of a round, and packs the
-//! batches that these claim.
+//! batches that these claim. `MultiSender::round` runs those of `share`, which have the same loop (`sink`).
 //!
 //! A worker starts no thread and waits for nobody. Who runs several of them gives each a seat of its own.
 
-ghost use Rattle.std.specs.Prelude.{◌≡◌, ◌∷◌, ◌++◌, [], IfOk, IsOkAnd};
-ghost use Rattle.mig_send.specs.Batches.{IsBatch};
-ghost use Rattle.mig_send.specs.Packing.{packed_of};
+ghost use Rattle.std.specs.Prelude.{◌≡◌, ◌∷◌, [], IfOk, IsOk};
 ghost use Rattle.mig_send.specs.Work.{ClaimsBatches, HasWorked};
 ghost use Rattle.mig_send.specs.Dealing.{WorkersMakeADealing};
 
 use crate::Batch;
 use crate::packed::{Packed, pack};
-use mig_deal::{Deal, Drawn, Seat, Spent};
+use crate::sink::{Filled, Sink, fill};
+use mig_deal::{Deal, Seat, Spent};
 use mig_mem::{GuestPages, NoMemory};
 use mig_packet::{Gate, Step};
 use std::alloc::{Allocator, Global};
@@ -42,46 +41,54 @@ pub fn work<A: Allocator + Copy, M: GuestPages, C: Allocator, D: Allocator, G: G
     requires dealt { ClaimsBatches deal.now (M.image memory.now).table batches.now }
     ensures { HasWorked (M.image memory.now) batches.now seat result }
 {
-    let mut seat = seat;
-    let mut packets = Ok(Vec::new(alloc));
-    'draws: loop {
-        match deal.draw(seat) {
-            Drawn::Work(number, next) => {
-                gate.pass(channel, Step::Drawn(number));
-                seat = next;
-                let batch = &batches[(number - deal.base()) as usize];
-                packets = add(alloc, packets, channel, memory, batch, number, gate);
-            }
-            Drawn::Last(last, spent) => {
-                gate.pass(channel, Step::Drawn(last));
-                return Worked {
-                    packets,
-                    last,
-                    spent,
-                };
-            }
-        }
+    let mut packets = Vec::new(alloc);
+    let Filled { made, last, spent } = fill(
+        &mut packets,
+        deal,
+        seat,
+        channel,
+        memory,
+        batches,
+        gate,
+    );
+    Worked {
+        packets: all_of(made, packets),
+        last,
+        spent,
     }
 }
 
-// The packets with that of one more batch; or `NoMemory`, also where there was none before.
-fn add<A: Allocator + Copy, M: GuestPages, C: Allocator, G: Gate>(
-    alloc: A,
-    packets: Result<Vec<Packed<A>, A>, NoMemory>,
-    channel: usize,
-    memory: &M,
-    batch: &Batch<C>,
-    number: u64,
-    gate: &G,
+// The packets, if there was memory for all of them.
+fn all_of<A: Allocator>(
+    made: Result<(), NoMemory>,
+    packets: Vec<Packed<A>, A>,
 ) -> Result<Vec<Packed<A>, A>, NoMemory>
-    requires { IsBatch (M.image memory.now).table batch.now }
-    ensures { IfOk result (λ after. IsOkAnd packets (λ before. after.items ≡ before.items ++ packed_of (M.image memory.now) batch.now number ∷ [])) }
+    ensures { IfOk result (λ all. IsOk made × (all ≡ packets)) }
 {
-    let mut packets = packets?;
-    let packed = pack(alloc, memory, batch, number)?;
-    gate.pass(channel, Step::Packed(number));
-    packets.push(packed)?;
+    made?;
     Ok(packets)
+}
+
+impl<A: Allocator + Copy> Sink for Vec<Packed<A>, A> {
+    type Entry = Packed<A>;
+
+    ghost held = { λ packets. packets.items };
+
+    ghost entries = { λ packet. packet ∷ [] };
+
+    fn add<M: GuestPages, C: Allocator, G: Gate>(
+        &mut self,
+        memory: &M,
+        batch: &Batch<C>,
+        number: u64,
+        channel: usize,
+        gate: &G,
+    ) -> Result<(), NoMemory> {
+        let packed = pack(*self.allocator(), memory, batch, number)?;
+        gate.pass(channel, Step::Packed(number));
+        self.push(packed)?;
+        Ok(())
+    }
 }
 
 /// What workers answer makes a dealing, where each had a seat of one deal that had drawn nothing, all seats were had, all workers
