@@ -1,9 +1,10 @@
-//! Senders of guest memory: they make the texts of a migration from images of a guest and its dirty pages.
+//! Senders of guest memory: they write the streams of a migration from images of a guest and its dirty pages.
 //!
-//! `SingleSender` writes all rounds into one stream. `MultiSender` sends them on several channels beside a main stream: `cut` puts
-//! the dirty pages of a round into batches, and `pack` makes the packet of one; `work` is one worker of several, which does that for
-//! the batches that it draws. What a text looks like is `mig_stream`'s and `mig_packet`'s; which pages are dirty, and when a round
-//! is sent, is for the caller.
+//! `SingleSender` writes all rounds into one stream. `MultiSender` sends them on several channels beside a main stream: it cuts the
+//! dirty pages of a round into batches (`cut`), and runs a worker for each channel, which draws numbers from the round's deal and
+//! appends the packets of the batches that these claim to its channel. `work` runs the loop of such a worker for callers with threads
+//! of their own, and returns its packets as a list. `pack` makes a single packet. What the streams look like is `mig_stream`'s and
+//! `mig_packet`'s; which pages are dirty, and when a round is sent, is for the caller.
 //!
 //! Definitions to read first, in this order: `Sending`, `Batches`, `Packing`, `Work`, `Dealing`, `DealtRounds`, `MultiSending`
 //! (`specs/`).
@@ -28,5 +29,5 @@ pub use packed::{Packed, pack};
 pub use single::{OpenRound, SingleSender};
 pub use worker::{Worked, work, workers_make_a_dealing};
 
-/// What a worker tells of its steps, for tests that hold workers.
+/// What a worker passes after each of its steps, for tests that hold workers.
 pub use mig_packet::{Gate, OpenGate, Step};

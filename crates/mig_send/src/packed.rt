@@ -1,4 +1,4 @@
-//! Packing: the packet of a batch, for `worker`, and for `share`, which writes it to a text.
+//! Packing: the packet of a batch, alone for `worker`, and behind a channel's bytes for `share`.
 
 ghost use Rattle.std.specs.Prelude.{◌≡◌, ◌+◌, ◌<◌, ◌≤◌, ◌++◌, length, map, All, IfOk, OnOk};
 ghost use Rattle.mig_mem.specs.RamTable.{IsTable};

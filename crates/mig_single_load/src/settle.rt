@@ -1,4 +1,5 @@
-//! Puts the whole sections of a reader into the memory, and answers by both: the loop that all loaders of single streams call.
+//! Puts the whole sections of a reader into the memory, and answers by both: for `SingleLoader`, and for `load_single` on a stream with
+//! a fault. The verdicts serve the loads in place too, and `no_memory` and `without_memory` the loads on several channels.
 
 ghost use Rattle.std.specs.Prelude.{◌≡◌, ℕ, Bool, List, None, Some, OnOk, OnErr};
 ghost use Rattle.mig_single_load.specs.SingleLoad.{no_memory_at, verdict_of, unloaded};
@@ -123,7 +124,7 @@ pub(crate) fn answer<A: Allocator>(
     }
 }
 
-/// The answer where an allocation was refused before any section.
+/// Returns the answer without memory and without sections, whose verdict is `NoMemory`.
 pub fn without_memory<A: Allocator>() -> Loaded<A>
     ensures { result ≡ unloaded }
 {
