@@ -14,6 +14,8 @@ mod deal;
 mod gates;
 #[cfg(test)]
 mod multi;
+#[cfg(test)]
+mod shown;
 pub mod workers;
 #[cfg(test)]
 mod working;

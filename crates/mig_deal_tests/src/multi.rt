@@ -106,8 +106,8 @@ fn main_by_hand(rt: &(impl AllocGlobal + Abort)) -> Vec<u8> {
 
 // ---- senders
 
-// A sender of the guest's table, on so many channels.
-fn sender_on(rt: &(impl AllocGlobal + Abort), channels: usize) -> MultiSender {
+/// A sender of the guest's table, on so many channels.
+pub(crate) fn sender_on(rt: &(impl AllocGlobal + Abort), channels: usize) -> MultiSender {
     let table = table(rt.alloc(), &[("a", 3), ("b", 3)]).expect(rt, "a table");
     MultiSender::new(rt.alloc(), &table, uuid(), channels, LIMIT).expect(rt, "a sender")
 }

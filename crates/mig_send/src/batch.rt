@@ -7,6 +7,7 @@ ghost use Rattle.mig_send.specs.Batches.{IsCut, IsBatch, IsFirstBatch, IsInSet, 
 
 use mig_mem::{Dirty, NoMemory, Place, Table};
 use std::alloc::{Allocator, Global};
+use std::fmt::{self, Debug, Formatter};
 use std::marker::Model;
 
 /// Some pages of one block, by their numbers in it, ascending.
@@ -22,6 +23,15 @@ impl<A: Allocator> Model for Batch<A> {
     ghost Value = { BatchOfPages };
 
     ghost view = { λ b. record { block = b.block; pages = b.pages.items } };
+}
+
+impl<A: Allocator> Debug for Batch<A> {
+    fn fmt<W: fmt::Write>(&self, f: &mut Formatter<W>) -> fmt::Result {
+        f.debug_struct("Batch")
+            .field("block", &self.block)
+            .field("pages", &self.pages)
+            .finish()
+    }
 }
 
 /// The dirty pages of a round in batches of at most `limit` pages: all of them in ascending order, each batch of one block, and

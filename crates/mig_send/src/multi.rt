@@ -16,6 +16,7 @@ use mig_mem::{Dirty, GuestPages, NoMemory, Table};
 use mig_packet::{Gate, hello, page_limit};
 use mig_stream::StreamWriter;
 use std::alloc::{Allocator, Global};
+use std::fmt::{self, Debug, Formatter};
 use std::marker::Model;
 use std::mem;
 use std::thread::Threads;
@@ -47,11 +48,23 @@ impl<A: Allocator> Model for MultiSender<A> {
     ghost invariant = { λ s. IsMultiSending (record { main = s.main; uuid = s.uuid; limit = s.limit; channels = texts_of s.channels.items; base = s.base; rounds = s.rounds }) };
 }
 
+impl<A: Allocator> Debug for MultiSender<A> {
+    fn fmt<W: fmt::Write>(&self, f: &mut Formatter<W>) -> fmt::Result {
+        f.pad("MultiSender { .. }")
+    }
+}
+
 /// The texts of a migration, or what of them wasn't drained: the main stream's, and those of the channels, channel 0 first.
 #[derive(Drop)]
 pub struct Sent<A: Allocator = Global> {
     pub main: Vec<u8, A>,
     pub channels: Vec<Vec<u8, A>, A>,
+}
+
+impl<A: Allocator> Debug for Sent<A> {
+    fn fmt<W: fmt::Write>(&self, f: &mut Formatter<W>) -> fmt::Result {
+        f.pad("Sent { .. }")
+    }
 }
 
 // The hellos of so many channels.

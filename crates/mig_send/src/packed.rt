@@ -14,6 +14,7 @@ use mig_mem::{GuestPages, NoMemory, Place};
 use mig_packet::{head_len, put_packet_head};
 use mig_zero::is_zero;
 use std::alloc::{Allocator, Global};
+use std::fmt::{self, Debug, Formatter};
 use std::marker::Model;
 
 /// The packet of a batch. The type keeps what its bytes show, so that nobody who sends it on has to test it again.
@@ -48,6 +49,15 @@ impl<A: Allocator> Packed<A> {
         ensures packed { IsPacked self.now }
     {
         &self.bytes
+    }
+}
+
+/// Shows the packet's number, and not its bytes.
+impl<A: Allocator> Debug for Packed<A> {
+    fn fmt<W: fmt::Write>(&self, f: &mut Formatter<W>) -> fmt::Result {
+        f.debug_struct("Packed")
+            .field("number", &self.number)
+            .finish_non_exhaustive()
     }
 }
 

@@ -12,6 +12,7 @@ use crate::SendFault;
 use mig_mem::{Dirty, GuestPages, NoMemory, Place, Table};
 use mig_stream::{OpenPart, StreamWriter};
 use std::alloc::{Allocator, Global};
+use std::fmt::{self, Debug, Formatter};
 use std::marker::Model;
 
 /// Sends the rounds of one guest as one stream (QEMU's precopy RAM migration without multifd).
@@ -26,6 +27,12 @@ impl<A: Allocator> Model for SingleSender<A> {
     ghost Value = { Writer };
 
     ghost view = { λ s. s.writer };
+}
+
+impl<A: Allocator> Debug for SingleSender<A> {
+    fn fmt<W: fmt::Write>(&self, f: &mut Formatter<W>) -> fmt::Result {
+        f.pad("SingleSender { .. }")
+    }
 }
 
 impl<A: Allocator + Copy> SingleSender<A> {
@@ -126,6 +133,12 @@ impl<A: Allocator> Model for OpenRound<A> {
     ghost Value = { PartSoFar };
 
     ghost view = { λ r. r.part };
+}
+
+impl<A: Allocator> Debug for OpenRound<A> {
+    fn fmt<W: fmt::Write>(&self, f: &mut Formatter<W>) -> fmt::Result {
+        f.pad("OpenRound { .. }")
+    }
 }
 
 impl<A: Allocator> OpenRound<A> {

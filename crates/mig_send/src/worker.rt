@@ -14,6 +14,7 @@ use mig_deal::{Deal, Seat, Spent};
 use mig_mem::{GuestPages, NoMemory};
 use mig_packet::{Gate, Step};
 use std::alloc::{Allocator, Global};
+use std::fmt::{self, Debug, Formatter};
 
 /// What a worker answers: its packets in the order of their numbers, or `NoMemory`; its last number, which claims no batch;
 /// and what is left of its seat. `Deal::close` and `Deal::end_number` take that of each worker, so where one is dropped, neither
@@ -23,6 +24,14 @@ pub struct Worked<A: Allocator = Global> {
     pub packets: Result<Vec<Packed<A>, A>, NoMemory>,
     pub last: u64,
     pub spent: Spent,
+}
+
+impl<A: Allocator> Debug for Worked<A> {
+    fn fmt<W: fmt::Write>(&self, f: &mut Formatter<W>) -> fmt::Result {
+        f.debug_struct("Worked")
+            .field("last", &self.last)
+            .finish_non_exhaustive()
+    }
 }
 
 /// Draws from a deal until the seat's last number, and packs the batch that each number before it claims: base + i claims batch i.
