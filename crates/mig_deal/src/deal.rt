@@ -1,5 +1,6 @@
-//! The word that workers draw numbers from. `MultiSender::round` makes one for each round, from which the workers of its channels
-//! draw; a caller with threads of its own makes one for its calls of `work`.
+//! The word that workers draw numbers from. `MultiSender::round` makes one for each round, from
+//! which the workers of its channels draw. A caller with threads of its own makes one for its
+//! calls of `work`.
 
 ghost use Rattle.std.specs.Prelude.{◌≡◌, ◌<◌, ◌≤◌, [], ◌∷◌, ◌++◌, All, IfOk, vec_len, replicate, vec_capacity};
 ghost use Rattle.mig_deal.specs.Deal.{new_seat, all_drawn, IsWithinLimits, HasEachOnce, end_of_deal};

@@ -1,4 +1,5 @@
-//! What `Debug` shows of batches, packets and the senders: small numbers, and no byte of a page or a stream.
+//! What `Debug` shows of batches, packets and the senders: small numbers, and no byte of a page or
+//! a stream.
 
 use crate::batches::{batches_of, memory_of};
 use crate::multi::{finish, sender_on};

@@ -1,6 +1,7 @@
--- To read first, in this order: what a single stream has been sent, the batches of a round, their packets, what one worker does,
--- what it adds to the list or text that it fills, the dealing that workers make together, rounds that are dealt over several channels,
--- what their texts are read as, and the sender of these
+-- To read first, in this order: what a single stream has been sent, the batches of a round, their
+-- packets, what one worker draws, what it fills with its packets, the dealing that workers make
+-- together, rounds that are dealt over several channels, what their texts are read as, and the
+-- sender of these
 pub mod Sending
 pub mod Batches
 pub mod Packing

@@ -1,4 +1,5 @@
--- What one worker makes of the numbers that it draws, wherever it puts the packets: into a list of packets, or behind a channel's text.
+-- What one worker makes of the numbers that it draws: it fills a sink, which is a list of packets,
+-- or the bytes of a channel.
 use Rattle.std.specs.Prelude.{ℕ, ◌≡◌, List, ◌++◌, map, flat_map, OnOk}
 use Rattle.mig_mem.specs.Image.{Image}
 use Rattle.mig_deal.specs.Deal.{SeatView}
@@ -9,12 +10,14 @@ use Rattle.mig_send.specs.Work.{Share, HasShare, claimed_packet}
 
 -- the entries of the packets that some numbers claim, in their order
 abbrev pub claimed_entries : {E : Type 0} → (PackedBatch → List E) → ℕ → Image → List BatchOfPages → List ℕ → List E
-claimed_entries entries base image batches numbers = flat_map entries (map (claimed_packet base image batches) numbers)
+claimed_entries entries base image batches numbers =
+    flat_map entries (map (claimed_packet base image batches) numbers)
 
--- A worker drew a share, and a sink has, behind what it had before, the entries of the packets that the share's numbers claim, or, where
--- an allocation was refused, a part of them.
-pub record HasFilled {E : Type 0} (entries : PackedBatch → List E) (image : Image) (batches : List BatchOfPages) (seat : SeatView)
-    (before after : List E) (filled : Filled) : Type 0 where
+-- What a worker leaves that filled a sink: it drew a share, and the sink has, after what it had
+-- before, the entries of the packets that the share's numbers claim. If an allocation was refused,
+-- the sink goes on from what it had before.
+pub record HasFilled {E : Type 0} (entries : PackedBatch → List E) (image : Image)
+    (batches : List BatchOfPages) (seat : SeatView) (before after : List E) (filled : Filled) : Type 0 where
   pub share : Share
   pub has_share : HasShare seat filled.spent share
   pub has_last : filled.last ≡ share.last

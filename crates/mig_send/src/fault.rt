@@ -16,7 +16,7 @@ pub enum SendFault {
     Limit,
     /// The image or the dirty set is of another table than the sender's.
     OtherTable,
-    /// An allocation was refused; or, of `MultiSender::round`, more than 2^63 packets were numbered.
+    /// An allocation was refused, or a `MultiSender` has numbered more than 2^63 packets.
     NoMemory,
 }
 

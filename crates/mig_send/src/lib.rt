@@ -1,10 +1,14 @@
-//! Senders of guest memory: they write the streams of a migration from images of a guest and its dirty pages.
+//! Senders of guest memory: they write the streams of a migration from images of a guest and its
+//! dirty pages.
 //!
-//! `SingleSender` writes all rounds into one stream. `MultiSender` sends them on several channels beside a main stream: it cuts the
-//! dirty pages of a round into batches (`cut`), and runs a worker for each channel, which draws numbers from the round's deal and
-//! appends the packets of the batches that these claim to its channel. `work` runs the loop of such a worker for callers with threads
-//! of their own, and returns its packets as a list. `pack` makes a single packet. What the streams look like is `mig_stream`'s and
-//! `mig_packet`'s; which pages are dirty, and when a round is sent, is for the caller.
+//! `SingleSender` writes all rounds into one stream. `MultiSender` sends them on several channels
+//! beside a main stream: it cuts the dirty pages of a round into batches (`cut`), and runs a worker
+//! for each channel. A worker draws numbers from the round's deal, and appends the packets of the
+//! batches that these claim to its channel. `work` is a worker for callers with threads of their
+//! own, and returns its packets as a list. `pack` makes a single packet.
+//!
+//! What the streams look like is `mig_stream`'s and `mig_packet`'s. Which pages are dirty, and when
+//! a round is sent, is for the caller.
 //!
 //! Definitions to read first, in this order: `Sending`, `Batches`, `Packing`, `Work`, `Dealing`, `DealtRounds`, `MultiSending`
 //! (`specs/`).

@@ -1,5 +1,5 @@
-//! The loop of a worker, for `worker` and `share`: it draws numbers from the deal of a round, and adds the packet of each batch that
-//! these claim to a sink.
+//! The loop of all workers (`worker`, `share`): it draws numbers from the deal of a round, and adds
+//! the packets of the batches that these claim to a sink.
 
 ghost use Rattle.std.specs.Prelude.{◌≡◌, ◌++◌, List, IsOk, OnOk};
 ghost use Rattle.mig_send.specs.Batches.{IsBatch};
@@ -13,7 +13,7 @@ use mig_mem::{GuestPages, NoMemory};
 use mig_packet::{Gate, Step};
 use std::alloc::Allocator;
 
-/// Holds the packets of a worker, one after another: a list of packets, or the bytes of a channel.
+/// Holds a worker's packets, one after another: a list of packets, or the bytes of a channel.
 pub(crate) trait Sink {
     /// What it is a list of: packets, or bytes.
     type Entry;
@@ -24,11 +24,11 @@ pub(crate) trait Sink {
     /// The entries of one packet.
     ghost entries: { PackedBatch → List Self.Entry };
 
-    /// Packs a batch under a number, appends the packet, and passes the gate once it is packed.
+    /// Packs a batch under a number, and appends the packet. Passes the gate once it is packed.
     ///
     /// # Errors
     ///
-    /// `NoMemory` if an allocation is refused: a part of the packet may have been appended.
+    /// `NoMemory` if an allocation is refused. A part of the packet may have been appended.
     fn add<M: GuestPages, C: Allocator, G: Gate>(
         &mut self,
         memory: &M,
@@ -42,16 +42,18 @@ pub(crate) trait Sink {
         ensures prefix { IsPrefix (held self.old) (held self.new) };
 }
 
-/// What a worker leaves that filled a sink: whether there was memory for all of its packets, its last number, and what is left of its seat.
+/// What a worker leaves beside its sink: whether there was memory for all of its packets, its last
+/// number, and what is left of its seat.
 pub(crate) struct Filled {
     pub(crate) made: Result<(), NoMemory>,
     pub(crate) last: u64,
     pub(crate) spent: Spent,
 }
 
-/// Draws from a deal until the seat's last number, and adds the packet of the batch that each number before it claims to the sink:
-/// base + i claims batch i. It passes the gate at each draw, the last one too. Once an allocation was refused it draws on without
-/// packing, so that no number is left out.
+/// Draws from a deal until the seat's last number, and adds to the sink the packet of the batch that
+/// each number before it claims: base + i claims batch i. It passes the gate after each draw, the
+/// last one too. Once an allocation is refused it draws on without packing, so that no number is
+/// left out.
 pub(crate) fn fill<S: Sink, M: GuestPages, C: Allocator, D: Allocator, G: Gate>(
     sink: &mut S,
     deal: &Deal<D>,

@@ -1,5 +1,5 @@
 //! Workers whose packets stand alone, for callers with threads of their own: each draws numbers from the deal of a round, and packs the
-//! batches that these claim. `MultiSender::round` runs those of `share`, which have the same loop (`sink`).
+//! batches that these claim. `MultiSender::round` runs those of `share`, over the same loop (`sink`).
 //!
 //! A worker starts no thread and waits for nobody. Who runs several of them gives each a seat of its own.
 

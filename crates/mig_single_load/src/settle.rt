@@ -1,5 +1,6 @@
-//! Puts the whole sections of a reader into the memory, and answers by both: for `SingleLoader`, and for `load_single` on a stream with
-//! a fault. The verdicts serve the loads in place too, and `no_memory` and `without_memory` the loads on several channels.
+//! Puts the whole sections of a reader into the memory, and answers by both: for `SingleLoader`, and
+//! for `load_single` on a stream with a fault. Loads in place and on several channels take their
+//! verdicts from here, and have loops of their own.
 
 ghost use Rattle.std.specs.Prelude.{◌≡◌, ℕ, Bool, List, None, Some, OnOk, OnErr};
 ghost use Rattle.mig_single_load.specs.SingleLoad.{no_memory_at, verdict_of, unloaded};
