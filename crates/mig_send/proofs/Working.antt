@@ -13,7 +13,6 @@ use Rattle.mig_deal.specs.Deal.{DealView, SeatView, IsNext, with_number, end_of_
 use Rattle.mig_deal.specs.Drawn.{HasDrawn}
 use Rattle.mig_send.specs.Batches.{BatchOfPages}
 use Rattle.mig_send.specs.Packing.{PackedBatch, IsPrefix, packed_of}
-use Rattle.mig_send.specs.declared.worker.Worked.{Worked}
 use Rattle.mig_send.specs.declared.share.Written.{Written}
 use Rattle.mig_send.specs.declared.sink.Filled.{Filled}
 use Rattle.mig_send.specs.Work.{HasShare, HasWorked, claimed_packet, no_batch}

@@ -6,7 +6,7 @@ use Rattle.atomic_table.specs.Table.{Me, Final, Seen}
 use Rattle.mig_deal.specs.declared.rule.Terms.{Terms}
 use Rattle.mig_deal.specs.declared.rule.Holding.{Holding}
 use Rattle.mig_deal.specs.Deal.{DealView, SeatView, HasEachOnce, all_drawn, end_of_deal}
-use Rattle.mig_deal.specs.Rule.{numbers_of, last_count, terms_of, together, IsDealt}
+use Rattle.mig_deal.specs.Rule.{terms_of, together, IsDealt}
 use Rattle.mig_deal.proofs.Counts.{all_last, all_front}
 use Rattle.mig_deal.proofs.Steps.{held_by, spent_last, held_alone, held_together, count_all_drawn, joins, finishes}
 use Rattle.mig_deal.proofs.deal.Deal.close.Goals as goal

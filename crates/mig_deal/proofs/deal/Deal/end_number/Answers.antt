@@ -5,7 +5,7 @@ use Rattle.atomic_table.specs.Table.{Me}
 use Rattle.mig_deal.specs.declared.rule.Terms.{Terms}
 use Rattle.mig_deal.specs.declared.rule.Holding.{Holding}
 use Rattle.mig_deal.specs.Deal.{DealView, SeatView, HasEachOnce, all_drawn, end_of_deal}
-use Rattle.mig_deal.specs.Rule.{numbers_of, last_count, terms_of, together, HasAllUpTo}
+use Rattle.mig_deal.specs.Rule.{terms_of, together, HasAllUpTo}
 use Rattle.mig_deal.proofs.Counts.{all_last, all_front}
 use Rattle.mig_deal.proofs.Steps.{held_by, spent_last, held_alone, held_together, count_all_drawn, joins, finds_end}
 use Rattle.mig_deal.proofs.deal.Deal.end_number.Goals as goal
