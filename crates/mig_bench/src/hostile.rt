@@ -50,6 +50,18 @@ const CONTINUED_ZEROS: [u8; 9] = [0, 0, 0, 0, 0, 0, 0, 0x22, 0];
 /// The last letters of a block's id.
 const DIGITS: [u8; 16] = *b"0123456789abcdef";
 
+/// The ids of as many blocks as there may be.
+#[derive(Clone, Copy)]
+enum Ids {
+    /// Of three bytes.
+    Short,
+    /// They differ in the first two bytes alone, and in the last two, which mirror them. If a
+    /// table's key of an id lets its last bytes cancel the first ones, all of them share a key.
+    Mirrored,
+    /// They share the first sixteen bytes, by which a table looks for an id first.
+    SharedFront,
+}
+
 /// Where the works allocate, and how many bytes were resident before the first text; None where the system doesn't tell.
 #[derive(Clone, Copy)]
 struct Meter {
@@ -82,15 +94,29 @@ fn warmed<R: Files + AllocGlobal>(rt: &R, alloc: Global) -> Meter {
 // The texts that take little memory.
 fn report_small<R: Clock + Print + Files + AllocGlobal>(rt: &R, meter: Meter) -> io::Result<()> {
     report_load_of(rt, meter, "2 GiB claimed", claim_text(meter.alloc))?;
-    report_both(
+    report_naming(rt, meter, "zeros that name blocks", Ids::Short)?;
+    report_naming(rt, meter, "zeros, mirrored ids", Ids::Mirrored)?;
+    report_naming(rt, meter, "zeros, ids of one front", Ids::SharedFront)?;
+    report_both(rt, meter, "zeros with CONTINUE", zeros_text(meter.alloc))
+}
+
+// The texts of zero records that name their blocks: whole, without the last byte, and with a PART
+// for each record.
+fn report_naming<R: Clock + Print + Files + AllocGlobal>(
+    rt: &R,
+    meter: Meter,
+    name: &str,
+    ids: Ids,
+) -> io::Result<()> {
+    let alloc = meter.alloc;
+    report_both(rt, meter, name, naming_text(alloc, ids))?;
+    report_load_of(
         rt,
         meter,
-        "zeros that name blocks",
-        naming_text(meter.alloc),
+        "  its last byte cut",
+        cut(naming_text(alloc, ids)),
     )?;
-    report_load_of(rt, meter, "the same, cut", cut(naming_text(meter.alloc)))?;
-    report_both(rt, meter, "zeros, mirrored ids", mirrored_text(meter.alloc))?;
-    report_both(rt, meter, "zeros with CONTINUE", zeros_text(meter.alloc))
+    report_both(rt, meter, "  a PART for each", parts_text(alloc, ids))
 }
 
 // The texts that take more.
@@ -306,35 +332,33 @@ fn claim_text(alloc: Global) -> Option<Vec<u8>> {
 
 // The stream of as many blocks as there may be, 1 TiB in all, and no round.
 fn claims_text(alloc: Global) -> Option<Vec<u8>> {
-    without_rounds(alloc, &table_of_blocks(alloc, 1 << 20)?)
+    without_rounds(alloc, &table_of_blocks(alloc, Ids::Short, 1 << 20)?)
 }
 
 // A PART of zero records, each of another block than the one before.
-fn naming_text(alloc: Global) -> Option<Vec<u8>> {
-    let table = table_of_blocks(alloc, 1)?;
-    let records = naming_records(alloc)?;
+fn naming_text(alloc: Global, ids: Ids) -> Option<Vec<u8>> {
+    let table = table_of_blocks(alloc, ids, 1)?;
+    let records = naming_records(alloc, ids)?;
     with_part(alloc, &table, &records)
 }
 
-// A PART of zero records of blocks in turn. Their ids differ in the first two bytes alone, and in the
-// last two, which mirror them. If a table's key of an id lets its last bytes cancel the first ones,
-// all these ids share a key, and each record takes a long search.
-fn mirrored_text(alloc: Global) -> Option<Vec<u8>> {
-    let table = mirrored_table(alloc)?;
-    let records = mirrored_records(alloc)?;
-    with_part(alloc, &table, &records)
+// Zero records, each of another block than the one before and in a PART of its own.
+fn parts_text(alloc: Global, ids: Ids) -> Option<Vec<u8>> {
+    let table = table_of_blocks(alloc, ids, 1)?;
+    let parts = naming_parts(alloc, ids)?;
+    with_sections(alloc, &table, &parts)
 }
 
 // A PART of FLUSH records, which end rounds without pages.
 fn flushes_text(alloc: Global) -> Option<Vec<u8>> {
-    let table = table_of_blocks(alloc, 1)?;
+    let table = table_of_blocks(alloc, Ids::Short, 1)?;
     let records = flush_records(alloc)?;
     with_part(alloc, &table, &records)
 }
 
 // A PART of rounds that have a zero record each.
 fn small_rounds_text(alloc: Global) -> Option<Vec<u8>> {
-    let table = table_of_blocks(alloc, 1)?;
+    let table = table_of_blocks(alloc, Ids::Short, 1)?;
     let records = small_rounds(alloc)?;
     with_part(alloc, &table, &records)
 }
@@ -348,62 +372,68 @@ fn table_of_one(alloc: Global, pages: u64) -> Option<Table> {
 }
 
 // The table of as many blocks as there may be, of so many pages each.
-fn table_of_blocks(alloc: Global, pages: u64) -> Option<Table> {
+fn table_of_blocks(alloc: Global, ids: Ids, pages: u64) -> Option<Table> {
     let mut list = Vec::new(alloc);
     for block in 0..BLOCKS {
-        let id = Vec::from_slice(alloc, &id_of(block)).ok()?;
+        let mut id = Vec::new(alloc);
+        put_id(&mut id, ids, block)?;
         list.push((id, pages)).ok()?;
     }
     Table::new(alloc, PAGE_SIZE_4K, list).ok()
 }
 
-// The id of a block of that table.
-fn id_of(block: usize) -> [u8; 3] {
-    [b'r', DIGITS[block / 16 % 16], DIGITS[block % 16]]
-}
-
-// The table of as many blocks as there may be, of a page each, with mirrored ids.
-fn mirrored_table(alloc: Global) -> Option<Table> {
-    let mut list = Vec::new(alloc);
-    for block in 0..BLOCKS {
-        let id = Vec::from_slice(alloc, &mirrored_id(block)).ok()?;
-        list.push((id, 1)).ok()?;
-    }
-    Table::new(alloc, PAGE_SIZE_4K, list).ok()
-}
-
-// The id of a block of that table.
-fn mirrored_id(block: usize) -> [u8; 10] {
+// Appends the id of a block of that table.
+fn put_id(text: &mut Vec<u8>, ids: Ids, block: usize) -> Option<()> {
     let (a, b) = (DIGITS[block / 16 % 16], DIGITS[block % 16]);
-    [b, a, b'x', b'x', b'x', b'x', b'x', b'x', a, b]
+    match ids {
+        Ids::Short => text.extend_from_slice(&[b'r', a, b]).ok()?,
+        Ids::Mirrored => {
+            text.extend_from_slice(&[b, a, b'x', b'x', b'x', b'x', b'x', b'x', a, b])
+                .ok()?
+        }
+        Ids::SharedFront => {
+            text.extend_from_slice(b"0000:00:02.0/rom").ok()?;
+            text.extend_from_slice(&[a, b]).ok()?
+        }
+    }
+    Some(())
 }
 
-// Zero page records of the first pages of the blocks with mirrored ids in turn, each with the id.
-fn mirrored_records(alloc: Global) -> Option<Vec<u8>> {
+// How many bytes such an id has.
+fn id_len(ids: Ids) -> u8 {
+    match ids {
+        Ids::Short => 3,
+        Ids::Mirrored => 10,
+        Ids::SharedFront => 18,
+    }
+}
+
+// Appends the zero record of the first page of a block of that table, with its id.
+fn put_naming_record(text: &mut Vec<u8>, ids: Ids, block: usize) -> Option<()> {
+    text.extend_from_slice(&[0, 0, 0, 0, 0, 0, 0, 0x02, id_len(ids)])
+        .ok()?;
+    put_id(text, ids, block)?;
+    text.push(0).ok()
+}
+
+// The zero records of the blocks in turn.
+fn naming_records(alloc: Global, ids: Ids) -> Option<Vec<u8>> {
     let mut records = Vec::new(alloc);
     for i in 0..NAMING_RECORDS {
-        records
-            .extend_from_slice(&[0, 0, 0, 0, 0, 0, 0, 0x02, 10])
-            .ok()?;
-        records.extend_from_slice(&mirrored_id(i)).ok()?;
-        records.push(0).ok()?;
+        put_naming_record(&mut records, ids, i)?;
     }
     Some(records)
 }
 
-// Zero page records of the first pages of the blocks with short ids in turn, each with the id.
-fn naming_records(alloc: Global) -> Option<Vec<u8>> {
-    let mut records = Vec::new(alloc);
+// The zero records of the blocks in turn, each in a PART of its own.
+fn naming_parts(alloc: Global, ids: Ids) -> Option<Vec<u8>> {
+    let mut parts = Vec::new(alloc);
     for i in 0..NAMING_RECORDS {
-        records.extend_from_slice(&naming_record(i)).ok()?;
+        parts.extend_from_slice(&PART_HEAD).ok()?;
+        put_naming_record(&mut parts, ids, i)?;
+        parts.extend_from_slice(&SECTION_END).ok()?;
     }
-    Some(records)
-}
-
-// The zero record of the first page of a block of that table, by its id.
-fn naming_record(block: usize) -> [u8; 13] {
-    let [first, second, third] = id_of(block);
-    [0, 0, 0, 0, 0, 0, 0, 0x02, 3, first, second, third, 0]
+    Some(parts)
 }
 
 fn flush_records(alloc: Global) -> Option<Vec<u8>> {
@@ -416,7 +446,8 @@ fn flush_records(alloc: Global) -> Option<Vec<u8>> {
 
 // Zero records, and after each of them a FLUSH.
 fn small_rounds(alloc: Global) -> Option<Vec<u8>> {
-    let mut records = Vec::from_slice(alloc, &naming_record(0)).ok()?;
+    let mut records = Vec::new(alloc);
+    put_naming_record(&mut records, Ids::Short, 0)?;
     for _ in 0..SMALL_ROUNDS {
         records.extend_from_slice(&FLUSH).ok()?;
         records.extend_from_slice(&CONTINUED_ZEROS).ok()?;
@@ -432,10 +463,15 @@ fn without_rounds(alloc: Global, table: &Table) -> Option<Vec<u8>> {
 
 // The stream of a table with one PART, of these records.
 fn with_part(alloc: Global, table: &Table, records: &[u8]) -> Option<Vec<u8>> {
+    let part = joined(alloc, &[&PART_HEAD, records, &SECTION_END])?;
+    with_sections(alloc, table, &part)
+}
+
+// The stream of a table with these sections.
+fn with_sections(alloc: Global, table: &Table, sections: &[u8]) -> Option<Vec<u8>> {
     let whole = without_rounds(alloc, table)?;
     let (opening, closing) = whole.split_at_checked(whole.len().checked_sub(CLOSING_LEN)?)?;
-    let pieces = [opening, &PART_HEAD, records, &SECTION_END, closing];
-    joined(alloc, &pieces)
+    joined(alloc, &[opening, sections, closing])
 }
 
 // These bytes, one after another.

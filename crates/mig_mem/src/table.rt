@@ -21,10 +21,6 @@ pub const MAX_ID_LEN: usize = 255;
 /// The most bytes that all blocks have together.
 pub const MAX_TOTAL: u64 = 1 << 40;
 
-// What each word of a key is multiplied by: an odd number with bits of all places. It has no factor
-// in common with 2^64 - 1, which a word of one byte repeated has nearly all factors of.
-const KEY_FACTOR: u64 = 0xBF58_476D_1CE4_E5B9;
-
 // Where a block's id lies in the buffer of all ids, and how many pages the block has.
 #[derive(Clone, Copy)]
 struct Span {
@@ -33,10 +29,10 @@ struct Span {
     pages: u64,
 }
 
-// A block in the order of the keys of the ids: that key, by which nearly all ids are told apart, and the block's number.
+// A block in the order in which ids are looked up: the front of its id, and its number.
 #[derive(Clone, Copy)]
 struct Entry {
-    key: u64,
+    front: u128,
     block: usize,
 }
 
@@ -46,7 +42,8 @@ pub struct Table<A: Allocator = Global> {
     page_size: u64,
     ids: Vec<u8, A>,
     spans: Vec<Span, A>,
-    // the blocks in the order of their ids' keys. It only tells where to look for an id first: nothing rests on it
+    // The blocks in the order of their ids' fronts, then of their ids. It says where to look for an
+    // id first, and no contract rests on it.
     order: Vec<Entry, A>,
 }
 
@@ -73,57 +70,76 @@ fn id_of<'a>(ids: &'a [u8], spans: &[Span], i: usize) -> &'a [u8] {
     rest.get(..span.len).unwrap_or_default()
 }
 
-// A number made of all bytes of an id. Ids of fewer than eight bytes have keys of their own: no id
-// has a zero byte, and the factor is odd. The bytes behind the last whole word are multiplied too
-// before a word meets them, so no plain choice of bytes cancels others: it takes a search to find
-// two ids that share a key.
-fn key_of(id: &[u8]) -> u64 {
-    let (words, rest) = id.as_chunks::<8>();
-    let mut tail = 0;
-    for byte in rest {
-        tail = tail << 8 | u64::from(*byte);
+// Returns the first sixteen bytes of an id as one number. Ids share it only where both have sixteen
+// bytes and more: no byte of an id is zero, so a shorter one is a number with fewer bytes.
+fn front_of(id: &[u8]) -> u128 {
+    match id.first_chunk::<16>() {
+        Some(front) => u128::from_be_bytes(*front),
+        None => number_of(id),
     }
-    let mut key = tail.wrapping_mul(KEY_FACTOR);
-    for word in words {
-        key = folded(key ^ u64::from_le_bytes(*word));
-    }
-    key
 }
 
-// The halves of a number's product with the factor, one folded into the other: each bit changes
-// bits above it and below it.
-fn folded(number: u64) -> u64 {
-    let high = (u128::from(number) * u128::from(KEY_FACTOR)) >> 64;
-    high as u64 ^ number.wrapping_mul(KEY_FACTOR)
+// Returns the number that up to sixteen bytes are, the first byte the highest.
+fn number_of(bytes: &[u8]) -> u128 {
+    let mut number = 0;
+    for byte in bytes {
+        number = number << 8 | u128::from(*byte);
+    }
+    number
 }
 
-// The order of a block's id and of another id: that of their keys, and where these are equal that of the ids.
-fn order_to(ids: &[u8], spans: &[Span], entry: Entry, key: u64, id: &[u8]) -> Ordering {
-    match entry.key.cmp(&key) {
-        Ordering::Equal => id_of(ids, spans, entry.block).cmp(id),
+// Compares two ids that share a front: by their lengths, and where these are equal by eight bytes
+// at a time. The last eight bytes have all that the whole words leave.
+fn compare_ids(a: &[u8], b: &[u8]) -> Ordering {
+    if a.len() != b.len() {
+        return a.len().cmp(&b.len());
+    }
+    for (word, other) in a.as_chunks::<8>().0.iter().zip(b.as_chunks::<8>().0) {
+        if word != other {
+            return u64::from_be_bytes(*word).cmp(&u64::from_be_bytes(*other));
+        }
+    }
+    last_word(a).cmp(&last_word(b))
+}
+
+// Returns the last eight bytes of an id as a number, or 0 where it has fewer.
+fn last_word(id: &[u8]) -> u64 {
+    match id.last_chunk::<8>() {
+        Some(word) => u64::from_be_bytes(*word),
+        None => 0,
+    }
+}
+
+// Compares a block's id with another id, whose front is `front`.
+fn compare_to(ids: &[u8], spans: &[Span], entry: Entry, front: u128, id: &[u8]) -> Ordering {
+    match entry.front.cmp(&front) {
+        Ordering::Equal => compare_ids(id_of(ids, spans, entry.block), id),
         other => other,
     }
 }
 
-// The blocks in that order.
+// Returns the blocks in the order of `compare_to`.
 fn order_of<A: Allocator>(alloc: A, ids: &[u8], spans: &[Span]) -> Result<Vec<Entry, A>, NoMemory> {
     let mut order = Vec::with_capacity(alloc, spans.len())?;
     for block in 0..spans.len() {
-        let key = key_of(id_of(ids, spans, block));
-        order.push(Entry { key, block })?;
+        let front = front_of(id_of(ids, spans, block));
+        order.push(Entry { front, block })?;
     }
-    order.sort_unstable_by(|a, b| { order_to(ids, spans, *a, b.key, id_of(ids, spans, b.block)) });
+    order.sort_unstable_by(|a, b| {
+        compare_to(ids, spans, *a, b.front, id_of(ids, spans, b.block))
+    });
     Ok(order)
 }
 
-// The place of the last block whose key is at most this one, or the first place. It is found digit by digit, the highest first: a
-// number of steps that is known becomes code without a loop and without branches on keys, which no processor could foretell.
-fn last_up_to(order: &[Entry], key: u64) -> usize {
+// Returns the place of the last block whose front is at most `front`, or the first place. It is
+// found digit by digit, the highest first. The number of steps is known, so this becomes code
+// without a loop and without branches on fronts, which no processor could foretell.
+fn last_up_to(order: &[Entry], front: u128) -> usize {
     let mut place = 0;
     for digit in [128, 64, 32, 16, 8, 4, 2, 1] {
         let next = place | digit;
         match order.get(next) {
-            Some(entry) if entry.key <= key => place = next,
+            Some(entry) if entry.front <= front => place = next,
             _ => {}
         }
     }
@@ -248,51 +264,51 @@ impl<A: Allocator> Table<A> {
     pub fn find(&self, id: &[u8]) -> Option<usize>
         ensures { result ≡ block_of self.now.blocks id.now }
     {
-        let key = key_of(id);
-        match self.find_keyed(key, id) {
-            Some(i) => Some(i),
-            None => self.find_otherwise(key, id),
+        let front = front_of(id);
+        match self.find_by_front(front, id) {
+            Some(block) => Some(block),
+            None => self.find_otherwise(front, id),
         }
     }
 
-    // The same where the last block with the id's key has that id. None says nothing.
-    fn find_keyed(&self, key: u64, id: &[u8]) -> Option<usize>
+    // Finds the block if it is the last one with the front of `id`. None says nothing.
+    fn find_by_front(&self, front: u128, id: &[u8]) -> Option<usize>
         ensures { IfSome result (λ i. block_of self.now.blocks id.now ≡ Some i) }
     {
-        self.found(last_up_to(&self.order, key), id)
+        self.block_at(last_up_to(&self.order, front), id)
     }
 
-    // The same where that block isn't it: another one with the same key, or none.
-    fn find_otherwise(&self, key: u64, id: &[u8]) -> Option<usize>
+    // Finds the block if it is another one with that front, or none.
+    fn find_otherwise(&self, front: u128, id: &[u8]) -> Option<usize>
         ensures { result ≡ block_of self.now.blocks id.now }
     {
-        match self.find_ordered(key, id) {
-            Some(i) => Some(i),
+        match self.find_ordered(front, id) {
+            Some(block) => Some(block),
             None => self.find_in_turn(id),
         }
     }
 
-    // The same by halving the order of keys and ids. None says nothing.
-    fn find_ordered(&self, key: u64, id: &[u8]) -> Option<usize>
+    // Finds the block by halving the order. None says nothing.
+    fn find_ordered(&self, front: u128, id: &[u8]) -> Option<usize>
         ensures { IfSome result (λ i. block_of self.now.blocks id.now ≡ Some i) }
     {
         let order = &self.order;
-        let at = order.binary_search_by(|e| order_to(&self.ids, &self.spans, *e, key, id));
-        self.found(at.ok()?, id)
+        let place = order.binary_search_by(|e| compare_to(&self.ids, &self.spans, *e, front, id));
+        self.block_at(place.ok()?, id)
     }
 
-    // The block at a place of the order, where its id is this one.
-    fn found(&self, at: usize, id: &[u8]) -> Option<usize>
+    // Returns the block at a place of the order, if its id is `id`.
+    fn block_at(&self, place: usize, id: &[u8]) -> Option<usize>
         ensures { IfSome result (λ i. block_of self.now.blocks id.now ≡ Some i) }
     {
-        let i = self.order.get(at)?.block;
+        let i = self.order.get(place)?.block;
         if i < self.len() && self.id(i) == id {
             return Some(i);
         }
         None
     }
 
-    // The same by asking each block.
+    // Finds the block by asking each one.
     fn find_in_turn(&self, id: &[u8]) -> Option<usize>
         ensures { result ≡ block_of self.now.blocks id.now }
     {

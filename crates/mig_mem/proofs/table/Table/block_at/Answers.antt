@@ -1,7 +1,7 @@
 use Rattle.std.proofs.Common.{◌≡◌, ◌∙◌, sym, arith}
 use Rattle.std.proofs.lemmas.Slice.Eq.{bytes_eq-Decides}
 use Rattle.mig_mem.proofs.Blocks.{block_found}
-use Rattle.mig_mem.proofs.table.Table.found.Goals as goal
+use Rattle.mig_mem.proofs.table.Table.block_at.Goals as goal
 
 pub returns-then-eq : goal.returns-then-eq
 returns-then-eq g c =
