@@ -79,8 +79,8 @@ impl<'a, 'b, A: Allocator> LentMemoryMut<'a, 'b, A> {
         requires sizes { All (HasPageSize self.old.table.page_size) pages.now }
         ensures { self.new ≡ with_round self.old (map (round_page self.old.table.page_size) pages.now) }
     {
-        // for what `len` tells of the table (`IsTable`): its page size is one of the two
-        let _len = self.table.len();
+        // its page size is one of the two
+        self.table.keeps_limits();
         let size = self.table.page_size();
         put_blocks(rt, self.blocks, size, threads, pages);
     }
@@ -109,8 +109,8 @@ impl<'a, 'b, A: Allocator> GuestTarget for LentMemoryMut<'a, 'b, A> {
     }
 
     fn put_zero_page(&mut self, place: Place) {
-        // for what `len` tells of the table (`IsTable`): its page size is one of the two
-        let _len = self.table.len();
+        // its page size is one of the two
+        self.table.keeps_limits();
         let size = self.table.page_size();
         clear_part(self.blocks[place.block], size, place.page);
     }

@@ -11,7 +11,7 @@ abbrev no_loan : MutBor (List ℕ)
 no_loan = record { ref_ptr = (0, 0); ghost_name = 0; now = [] }
 
 pub clear_part-requires-clause-size : goal.clear_part-requires-clause-size
-clear_part-requires-clause-size g c = rw c.page_size-size.ensures c.len-len.ensures.table.has_page_size
+clear_part-requires-clause-size g c = rw c.page_size-size.ensures c.keeps_limits.ensures.has_page_size
 
 pub invariant_of-self : goal.invariant_of-self
 invariant_of-self g c =
