@@ -138,6 +138,11 @@ walked_all s from b page is walked past =
     let lt : q.block < length s.table.blocks = at.has_block in
     walked.before q h (place_lt-from q (place_at b page) (inl (omega arith))))
 
+-- nothing is found in an empty set
+pub found_in_none : (f : Place → Bool) (ps : List Place) → 0 ≡ length ps → None ≡ find f ps
+found_in_none f [] none = refl
+found_in_none f (p ∷ ps) none = absurd (omega arith)
+
 -- ---- a list of the places, one after another
 
 -- the places so far are the set's first ones, and the others aren't before where the walk goes on

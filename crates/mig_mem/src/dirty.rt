@@ -170,10 +170,14 @@ impl<A: Allocator> Dirty<A> {
     }
 
     /// The first place of the set that isn't before a given one: with it the set is walked in ascending order without a
-    /// list of its places.
+    /// list of its places. An empty set isn't walked: a round without marks costs a large guest
+    /// nothing.
     pub fn first_from(&self, from: Place) -> Option<Place>
         ensures { result ≡ find (λ p. not (place_lt p from)) self.now.marked }
     {
+        if self.count() == 0 {
+            return None;
+        }
         let mut page = from.page;
         for block in from.block..self.table().len() {
             if let Some(page) = self.first_in(block, page) {

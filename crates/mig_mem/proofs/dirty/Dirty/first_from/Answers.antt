@@ -1,7 +1,10 @@
-use Rattle.std.proofs.Common.{length, sym, ap, arith}
+use Rattle.std.proofs.Common.{◌∙◌, length, sym, ap, arith}
 use Rattle.mig_mem.specs.RamTable.{RamTable}
-use Rattle.mig_mem.proofs.Walks.{walked_none, walked_block, walked_found, walked_all}
+use Rattle.mig_mem.proofs.Walks.{found_in_none, walked_none, walked_block, walked_found, walked_all}
 use Rattle.mig_mem.proofs.dirty.Dirty.first_from.Goals as goal
+
+pub returns-then-count-eq0 : goal.returns-then-count-eq0
+returns-then-count-eq0 g c = found_in_none _ c.args.self.now.marked (sym c.if-count-eq0.true ∙ c.count.ensures.value)
 
 pub loop-block-init : goal.loop-block-init
 loop-block-init g c = walked_none c.args.self.now c.args.from
