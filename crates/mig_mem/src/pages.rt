@@ -78,7 +78,7 @@ impl<A: Allocator + Copy> Pages<A> {
         Ok(Pages { size, slots, bytes })
     }
 
-    /// The same pages, with room for all of them.
+    /// Copies the pages. The copy has room for all of them.
     pub(crate) fn try_copy(&self) -> Result<Pages<A>, NoMemory>
         ensures { IfOk result (λ p. p ≡ self.now) }
     {

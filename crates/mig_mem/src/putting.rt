@@ -15,8 +15,8 @@ ghost use Rattle.mig_mem.specs.Round.{with_round};
 use crate::Place;
 use crate::pages::clear_part;
 use crate::parts::write_part;
-use std::thread;
 use std::thread::Threads;
+use std::thread;
 
 // To start a thread for fewer pages than these takes longer than to write them.
 const FEWEST: u64 = 1024;
@@ -68,11 +68,11 @@ fn put_within(part: &mut [u8], size: u64, block: usize, first: u64, pages: &[Rou
     }
 }
 
-// Writes the pages that lie in block `at`, by a thread for each `count` pages of the block.
+// Writes the pages that lie in a block, whose bytes are `bytes`, by a thread for each `count` pages of the block.
 fn put_block<R: Threads + Sync>(
     rt: &R,
-    block: &mut [u8],
-    at: usize,
+    bytes: &mut [u8],
+    block: usize,
     size: u64,
     count: u64,
     pages: &[RoundPage<'_>],
@@ -80,18 +80,18 @@ fn put_block<R: Threads + Sync>(
     requires size { IsPageSize size }
     requires count { (0 < count) × (count ≤ 2 ^ 40) }
     requires sizes { All (HasPageSize size) pages.now }
-    ensures { PutsAll size at 0 block.old block.new pages.now }
+    ensures { PutsAll size block 0 bytes.old bytes.new pages.now }
 {
     let chunk = (count * size) as usize;
     thread::for_each_chunk_mut(
         rt,
-        block,
+        bytes,
         chunk,
         &|start: usize, part: &mut [u8]|
             requires size { IsPageSize size }
             requires sizes { All (HasPageSize size) pages.now }
-            ensures { PutsAll size at (start / size) part.entry.now part.exit.now pages.entry.now }
-        { put_within(part, size, at, start as u64 / size, pages) },
+            ensures { PutsAll size block (start / size) part.entry.now part.exit.now pages.entry.now }
+        { put_within(part, size, block, start as u64 / size, pages) },
     );
 }
 

@@ -64,7 +64,7 @@ impl<A: Allocator + Copy> Slots<A> {
         })
     }
 
-    /// The same numbers.
+    /// Copies the numbers.
     pub(crate) fn try_copy(&self) -> Result<Slots<A>, NoMemory>
         ensures { IfOk result (λ s. s ≡ self.now) }
     {

@@ -13,7 +13,7 @@ no_loan = record { ref_ptr = (0, 0); ghost_name = 0; now = [] }
 pub loop-b-preserved : goal.loop-b-preserved
 loop-b-preserved g c =
     let loans = c.loop-b.blocks in
-    done_more (λ (x : MutBor (List ℕ)). x.now) c.args.size c.loop-b.b c.args.blocks.now loans (set_vals c.put_block.new.block (get_or loans c.loop-b.b no_loan)) no_loan c.args.pages.now
+    done_more (λ (x : MutBor (List ℕ)). x.now) c.args.size c.loop-b.b c.args.blocks.now loans (set_vals c.put_block.new.bytes (get_or loans c.loop-b.b no_loan)) no_loan c.args.pages.now
     c.loop-b.invariant (omega (arith, c.loop-b.invariant.len)) c.put_block.ensures
 
 pub returns-clause-image : goal.returns-clause-image
