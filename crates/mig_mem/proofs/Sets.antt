@@ -2,8 +2,9 @@
 use Rattle.std.proofs.Common.{ℕ, ◌≡◌, ◌<◌, ◌≤◌, ◌+◌, ◌-◌, ◌*◌, ◌/◌, ◌%◌, ◌^◌, List, [], ◌∷◌, length, map, get_or, set, replicate, refl, sym, ap, ◌∙◌, inl, inr, arith, Bool, true, false, ◌||◌, ◌&&◌, get_or-set_same, get_or-set_other}
 use Rattle.std.specs.Prelude.{IsTrue, ◌==◌, not}
 use Rattle.std.specs.List.{range_with_len, list_any, filter, sum_by}
+use Rattle.std.specs.Vec.{with_items}
 use Rattle.std.proofs.lemmas.Bool.{cases_Bool, cases_eq, cases_lt, or_cases, eq-eqb, ne_eqb}
-use Rattle.std.proofs.lemmas.List.{get_or-map, get_or_past, length-map, length-set, map-set, get_or-replicate, length-replicate, set-set, set-get_or}
+use Rattle.std.proofs.lemmas.List.{get_or-map, get_or_past, length-map, length-set, map-set, get_or-replicate, length-replicate, set-set, set-get_or, with_items_is}
 use Rattle.std.proofs.lemmas.List.Elements.{All-weaker, All-filter}
 use Rattle.std.proofs.lemmas.List.Concat.{length-flat_map}
 use Rattle.std.proofs.lemmas.List.Folds.{fold-map}
@@ -164,6 +165,12 @@ pub mark_read : {A : Type 0} (table : RamTable) (words : List (Vec ℕ A)) (p : 
     → x ≡ get_or words p.block x → is_set x.items p.page ≡ marks_at words p
 mark_read table words p x room is e = ap (λ (l : List ℕ). is_set l p.page) (sym (row_at words p.block x (has_row table words p.block room is.has_block) e))
 
+-- what a mark says that was read in the row's slice
+pub mark_seen : {A : Type 0} (table : RamTable) (words : List (Vec ℕ A)) (p : Place) (x : Vec ℕ A) (slice : List ℕ) (seen : Bool) → HasWords table (buffers_of words) → IsPlace table p
+    → x ≡ get_or words p.block x → slice ≡ x.items → seen ≡ is_set slice p.page → marks_at words p ≡ seen
+mark_seen table words p x slice seen room is e same read =
+    sym (mark_read table words p x room is e) ∙ ap (λ (l : List ℕ). is_set l p.page) (sym same) ∙ sym read
+
 -- a row is short: so many pages has no block
 pub row_short : {A : Type 0} (table : RamTable) (words : List (Vec ℕ A)) (i : ℕ) (x : Vec ℕ A) → IsTable table → HasWords table (buffers_of words) → i < length table.blocks
     → x ≡ get_or words i x → length x.items < 2 ^ 50
@@ -215,6 +222,15 @@ marked_more {A} table words count p x v counted is e len more new =
       },
       ap (λ (l : List Place). record { table = table; marked = l }) all ∙ sym (where_with table (marks_at words) p),
     )
+
+-- one place more, where the row was written through its slice
+pub slice_more : {A : Type 0} (table : RamTable) (words : List (Vec ℕ A)) (count : ℕ) (p : Place) (x : Vec ℕ A) (slice new : List ℕ) → IsCounted table words count → IsPlace table p
+    → x ≡ get_or words p.block x → slice ≡ x.items → length slice ≡ x.len → length new ≡ length slice → ((q : ℕ) → is_set new q ≡ (q == p.page || is_set slice q)) → marks_at words p ≡ false
+    → IsCounted table (set words p.block (with_items x new)) (count + 1) × (set_in table (set words p.block (with_items x new)) ≡ with_place (set_in table words) p)
+slice_more table words count p x slice new counted is e same room len more absent =
+    let held : (with_items x new).items ≡ new = with_items_is x new (len ∙ room) in
+    marked_more table words count p x (with_items x new) counted is e (ap (λ (l : List ℕ). length l) held ∙ len ∙ ap (λ (l : List ℕ). length l) same)
+    (λ q. ap (λ (l : List ℕ). is_set l q) held ∙ more q ∙ ap (λ (l : List ℕ). q == p.page || is_set l q) same) absent
 
 -- and a mark that is there already
 pub marked_already : {A : Type 0} (table : RamTable) (words : List (Vec ℕ A)) (p : Place) → marks_at words p ≡ true → set_in table words ≡ with_place (set_in table words) p
@@ -287,6 +303,15 @@ marked_fewer {A} table words count p x v counted is e len fewer there =
         ap (λ (l : List Place). record { table = table; marked = l }) all ∙ sym (where_without table (marks_at words) p),
       ),
     )
+
+-- one place fewer, where the row was written through its slice
+pub slice_fewer : {A : Type 0} (table : RamTable) (words : List (Vec ℕ A)) (count : ℕ) (p : Place) (x : Vec ℕ A) (slice new : List ℕ) → IsCounted table words count → IsPlace table p
+    → x ≡ get_or words p.block x → slice ≡ x.items → length slice ≡ x.len → length new ≡ length slice → ((q : ℕ) → is_set new q ≡ (is_set slice q && not (q == p.page))) → marks_at words p ≡ true
+    → (1 ≤ count) × (IsCounted table (set words p.block (with_items x new)) (count - 1) × (set_in table (set words p.block (with_items x new)) ≡ without_place (set_in table words) p))
+slice_fewer table words count p x slice new counted is e same room len fewer there =
+    let held : (with_items x new).items ≡ new = with_items_is x new (len ∙ room) in
+    marked_fewer table words count p x (with_items x new) counted is e (ap (λ (l : List ℕ). length l) held ∙ len ∙ ap (λ (l : List ℕ). length l) same)
+    (λ q. ap (λ (l : List ℕ). is_set l q) held ∙ fewer q ∙ ap (λ (l : List ℕ). is_set l q && not (q == p.page)) same) there
 
 -- what a row says of the set
 pub row_lacks : {A : Type 0} (table : RamTable) (words : List (Vec ℕ A)) (b page : ℕ) (x : Vec ℕ A) → HasWords table (buffers_of words) → b < length table.blocks → x ≡ get_or words b x

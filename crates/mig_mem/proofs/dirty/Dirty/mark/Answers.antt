@@ -1,10 +1,7 @@
-use Rattle.std.proofs.Common.{ℕ, ◌≡◌, ◌∙◌, ◌==◌, ◌||◌, List, length, refl, sym, ap, true, false, arith}
-use Rattle.std.specs.Vec.{with_items}
-use Rattle.std.proofs.lemmas.List.{with_items_is}
+use Rattle.std.proofs.Common.{◌≡◌, ◌∙◌, refl, sym, ap, true, false, arith}
 use Rattle.mig_mem.specs.Place.{IsPlace, has_place}
 use Rattle.mig_mem.specs.PlaceSet.{PlaceSet, with_place}
-use Rattle.mig_mem.specs.Marks.{is_set}
-use Rattle.mig_mem.proofs.Sets.{marks_at, mark_read, has_place-where, marked_more, marked_already, count_few}
+use Rattle.mig_mem.proofs.Sets.{marks_at, mark_seen, has_place-where, slice_more, marked_already, count_few}
 use Rattle.mig_mem.proofs.dirty.Dirty.mark.Goals as goal
 
 pub returns-then-is_set-clause-set : goal.returns-then-is_set-clause-set
@@ -13,8 +10,7 @@ returns-then-is_set-clause-set g c =
     let words = c.self.inside.words.items in
     let is : IsPlace table c.args.place = rw (sym (ap (λ (s : PlaceSet). s.table) c.self.view_is)) at c.requires in
     let there : marks_at words c.args.place ≡ true =
-    sym (mark_read table words c.args.place c.index.result.now c.self.invariant.has_room is c.index.ensures)
-    ∙ ap (λ (l : List ℕ). is_set l c.args.place.page) (sym c.deref.ensures.value) ∙ sym c.is_set.ensures ∙ c.if-is_set.true in
+    mark_seen table words c.args.place c.index.result.now c.deref.result.now c.is_set.result c.self.invariant.has_room is c.index.ensures c.deref.ensures.value c.is_set.ensures ∙ c.if-is_set.true in
     sym c.self.view_is ∙ marked_already table words c.args.place there ∙ ap (λ (s : PlaceSet). with_place s c.args.place) c.self.view_is
 
 pub returns-then-is_set-clause-new : goal.returns-then-is_set-clause-new
@@ -23,8 +19,7 @@ returns-then-is_set-clause-new g c =
     let words = c.self.inside.words.items in
     let is : IsPlace table c.args.place = rw (sym (ap (λ (s : PlaceSet). s.table) c.self.view_is)) at c.requires in
     let there : marks_at words c.args.place ≡ true =
-    sym (mark_read table words c.args.place c.index.result.now c.self.invariant.has_room is c.index.ensures)
-    ∙ ap (λ (l : List ℕ). is_set l c.args.place.page) (sym c.deref.ensures.value) ∙ sym c.is_set.ensures ∙ c.if-is_set.true in
+    mark_seen table words c.args.place c.index.result.now c.deref.result.now c.is_set.result c.self.invariant.has_room is c.index.ensures c.deref.ensures.value c.is_set.ensures ∙ c.if-is_set.true in
     let has : has_place c.args.self.now.marked c.args.place ≡ true =
     sym (ap (λ (s : PlaceSet). has_place s.marked c.args.place) c.self.view_is) ∙ has_place-where table (marks_at words) c.args.place is ∙ there in
     rw has refl
@@ -36,33 +31,21 @@ pub invariant_of-self : goal.invariant_of-self
 invariant_of-self g c =
     let table = c.self.inside.table in
     let words = c.self.inside.words.items in
-    let x = c.index_mut.result.now in
-    let new = c.set.new.words in
     let is : IsPlace table c.args.place = rw (sym (ap (λ (s : PlaceSet). s.table) c.self.view_is)) at c.requires in
     let absent : marks_at words c.args.place ≡ false =
-    sym (mark_read table words c.args.place c.index.result.now c.self.invariant.has_room is c.index.ensures)
-    ∙ ap (λ (l : List ℕ). is_set l c.args.place.page) (sym c.deref.ensures.value) ∙ sym c.is_set.ensures ∙ c.if-is_set.false in
-    let held : (with_items x new).items ≡ new = with_items_is x new (c.set.auto.words ∙ c.deref_mut.ensures.len) in
-    let len : length (with_items x new).items ≡ length x.items = ap (λ (l : List ℕ). length l) held ∙ c.set.auto.words ∙ ap (λ (l : List ℕ). length l) c.deref_mut.ensures.value in
-    let more : (q : ℕ) → is_set (with_items x new).items q ≡ (q == c.args.place.page || is_set x.items q) = λ q.
-    ap (λ (l : List ℕ). is_set l q) held ∙ c.set.ensures q ∙ ap (λ (l : List ℕ). q == c.args.place.page || is_set l q) c.deref_mut.ensures.value in
-    (marked_more table words c.self.inside.count c.args.place x (with_items x new) c.self.invariant is c.index_mut.ensures.value len more absent).0
+    mark_seen table words c.args.place c.index.result.now c.deref.result.now c.is_set.result c.self.invariant.has_room is c.index.ensures c.deref.ensures.value c.is_set.ensures ∙ c.if-is_set.false in
+    (slice_more table words c.self.inside.count c.args.place c.index_mut.result.now c.deref_mut.result.now c.set.new.words c.self.invariant is c.index_mut.ensures.value
+    c.deref_mut.ensures.value c.deref_mut.ensures.len c.set.auto.words c.set.ensures absent).0
 
 pub returns-clause-set : goal.returns-clause-set
 returns-clause-set g c =
     let table = c.self.inside.table in
     let words = c.self.inside.words.items in
-    let x = c.index_mut.result.now in
-    let new = c.set.new.words in
     let is : IsPlace table c.args.place = rw (sym (ap (λ (s : PlaceSet). s.table) c.self.view_is)) at c.requires in
     let absent : marks_at words c.args.place ≡ false =
-    sym (mark_read table words c.args.place c.index.result.now c.self.invariant.has_room is c.index.ensures)
-    ∙ ap (λ (l : List ℕ). is_set l c.args.place.page) (sym c.deref.ensures.value) ∙ sym c.is_set.ensures ∙ c.if-is_set.false in
-    let held : (with_items x new).items ≡ new = with_items_is x new (c.set.auto.words ∙ c.deref_mut.ensures.len) in
-    let len : length (with_items x new).items ≡ length x.items = ap (λ (l : List ℕ). length l) held ∙ c.set.auto.words ∙ ap (λ (l : List ℕ). length l) c.deref_mut.ensures.value in
-    let more : (q : ℕ) → is_set (with_items x new).items q ≡ (q == c.args.place.page || is_set x.items q) = λ q.
-    ap (λ (l : List ℕ). is_set l q) held ∙ c.set.ensures q ∙ ap (λ (l : List ℕ). q == c.args.place.page || is_set l q) c.deref_mut.ensures.value in
-    (marked_more table words c.self.inside.count c.args.place x (with_items x new) c.self.invariant is c.index_mut.ensures.value len more absent).1
+    mark_seen table words c.args.place c.index.result.now c.deref.result.now c.is_set.result c.self.invariant.has_room is c.index.ensures c.deref.ensures.value c.is_set.ensures ∙ c.if-is_set.false in
+    (slice_more table words c.self.inside.count c.args.place c.index_mut.result.now c.deref_mut.result.now c.set.new.words c.self.invariant is c.index_mut.ensures.value
+    c.deref_mut.ensures.value c.deref_mut.ensures.len c.set.auto.words c.set.ensures absent).1
     ∙ ap (λ (s : PlaceSet). with_place s c.args.place) c.self.view_is
 
 pub returns-clause-new : goal.returns-clause-new
@@ -71,8 +54,7 @@ returns-clause-new g c =
     let words = c.self.inside.words.items in
     let is : IsPlace table c.args.place = rw (sym (ap (λ (s : PlaceSet). s.table) c.self.view_is)) at c.requires in
     let absent : marks_at words c.args.place ≡ false =
-    sym (mark_read table words c.args.place c.index.result.now c.self.invariant.has_room is c.index.ensures)
-    ∙ ap (λ (l : List ℕ). is_set l c.args.place.page) (sym c.deref.ensures.value) ∙ sym c.is_set.ensures ∙ c.if-is_set.false in
+    mark_seen table words c.args.place c.index.result.now c.deref.result.now c.is_set.result c.self.invariant.has_room is c.index.ensures c.deref.ensures.value c.is_set.ensures ∙ c.if-is_set.false in
     let has : has_place c.args.self.now.marked c.args.place ≡ false =
     sym (ap (λ (s : PlaceSet). has_place s.marked c.args.place) c.self.view_is) ∙ has_place-where table (marks_at words) c.args.place is ∙ absent in
     rw has refl
