@@ -8,6 +8,7 @@ ghost use Rattle.mig_mem.specs.Marks.{AreCleared, AreMarks, marks_in, set_in};
 
 use crate::{NoMemory, Place, Table, marks};
 use std::alloc::{Allocator, Global};
+use std::fmt;
 use std::marker::Model;
 
 /// A set of the places of a table: which pages are dirty, as in QEMU's dirty bitmap (`RAMBlock.bmap`).
@@ -30,6 +31,12 @@ impl<A: Allocator> Model for Dirty<A> {
     ghost view = { λ d. set_in d.table d.words.items };
 
     ghost invariant = { λ d. IsCounted d.table d.words.items d.count };
+}
+
+impl<A: Allocator> fmt::Debug for Dirty<A> {
+    fn fmt<W: fmt::Write>(&self, f: &mut fmt::Formatter<W>) -> fmt::Result {
+        f.pad("Dirty { .. }")
+    }
 }
 
 // Words without a mark.

@@ -8,6 +8,7 @@ ghost use Rattle.mig_mem.specs.Lent.{lent_bytes, lent_image, FitTable};
 use crate::parts::part_of;
 use crate::{GuestPages, Place, Table};
 use std::alloc::{Allocator, Global};
+use std::fmt;
 use std::marker::Model;
 
 /// The memory of a guest in bytes that its owner lends: one slice for each block, in the table's order, each with the block's
@@ -31,6 +32,12 @@ impl<'a, A: Allocator> Model for LentMemory<'a, A> {
     ghost view = { λ m. lent_image m.table.now (lent_bytes m.blocks.now) };
 
     ghost invariant = { λ m. FitTable m.table.now (lent_bytes m.blocks.now) };
+}
+
+impl<'a, A: Allocator> fmt::Debug for LentMemory<'a, A> {
+    fn fmt<W: fmt::Write>(&self, f: &mut fmt::Formatter<W>) -> fmt::Result {
+        f.pad("LentMemory { .. }")
+    }
 }
 
 // Whether there is a slice for each block, as long as its pages.

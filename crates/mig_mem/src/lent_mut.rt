@@ -10,6 +10,7 @@ use crate::parts::write_part;
 use crate::putting::put_blocks;
 use crate::{GuestTarget, Place, RoundPage, Table, ThreadedTarget};
 use std::alloc::{Allocator, Global};
+use std::fmt;
 use std::marker::Model;
 use std::thread::Threads;
 
@@ -31,6 +32,12 @@ impl<'a, 'b, A: Allocator> Model for LentMemoryMut<'a, 'b, A> {
     ghost view = { λ m. lent_image m.table.now (mut_lent_bytes m.blocks.now) };
 
     ghost invariant = { λ m. FitTable m.table.now (mut_lent_bytes m.blocks.now) };
+}
+
+impl<'a, 'b, A: Allocator> fmt::Debug for LentMemoryMut<'a, 'b, A> {
+    fn fmt<W: fmt::Write>(&self, f: &mut fmt::Formatter<W>) -> fmt::Result {
+        f.pad("LentMemoryMut { .. }")
+    }
 }
 
 // Whether there is a slice for each block, as long as its pages.

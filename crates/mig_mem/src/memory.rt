@@ -9,6 +9,7 @@ ghost use Rattle.mig_mem.specs.Image.{IsImage, content, content_at, zero_image, 
 use crate::pages::Pages;
 use crate::{NoMemory, Place, Table};
 use std::alloc::{Allocator, Global};
+use std::fmt;
 use std::marker::Model;
 
 /// The memory of a guest: the content of each page of its table.
@@ -29,6 +30,12 @@ impl<A: Allocator> Model for Memory<A> {
     ghost view = { λ m. image_in m.table m.blocks.items };
 
     ghost invariant = { λ m. IsHeld m.table m.blocks.items };
+}
+
+impl<A: Allocator> fmt::Debug for Memory<A> {
+    fn fmt<W: fmt::Write>(&self, f: &mut fmt::Formatter<W>) -> fmt::Result {
+        f.pad("Memory { .. }")
+    }
 }
 
 impl<A: Allocator + Copy> Memory<A> {

@@ -16,7 +16,7 @@ use crate::Place;
 use crate::pages::clear_part;
 use crate::parts::write_part;
 use std::thread::Threads;
-use std::thread;
+use std::{fmt, thread};
 
 // To start a thread for fewer pages than these takes longer than to write them.
 const FEWEST: u64 = 1024;
@@ -28,6 +28,12 @@ pub struct RoundPage<'a> {
     pub place: Place,
     /// The bytes of the page, as many as the page size. `None` is a page of zeros.
     pub content: Option<&'a [u8]>,
+}
+
+impl<'a> fmt::Debug for RoundPage<'a> {
+    fn fmt<W: fmt::Write>(&self, f: &mut fmt::Formatter<W>) -> fmt::Result {
+        f.pad("RoundPage { .. }")
+    }
 }
 
 // Returns how many pages of a block each thread has: of a block of `pages` pages, for a round of

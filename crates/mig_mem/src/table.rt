@@ -10,6 +10,7 @@ use crate::refusal::fault;
 use crate::{NoMemory, Place, TableFault};
 use std::alloc::{Allocator, Global};
 use std::cmp::Ordering;
+use std::fmt;
 use std::marker::Model;
 
 /// The most blocks that a table has.
@@ -57,6 +58,12 @@ impl<A: Allocator> Model for Table<A> {
     ghost view = { λ t. table_of_spans t.page_size t.ids.items t.spans.items };
 
     ghost invariant = { λ t. AllWithin t.ids.items t.spans.items × IsTable (table_of_spans t.page_size t.ids.items t.spans.items) };
+}
+
+impl<A: Allocator> fmt::Debug for Table<A> {
+    fn fmt<W: fmt::Write>(&self, f: &mut fmt::Formatter<W>) -> fmt::Result {
+        f.pad("Table { .. }")
+    }
 }
 
 // The id of a block; empty where there is no such block.
