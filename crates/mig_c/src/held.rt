@@ -103,8 +103,8 @@ fn put_due(
     ensures due { IfSome result (λ section. AreDue state.old.table section) }
     ensures puts { Puts block bytes.old bytes.new (held_load state.old (pages_of_round section)) (held_load state.new (due_pages result)) }
 {
-    // for what `len` tells of the table (`IsTable`): its page size is one of the two
-    let _len = state.table().len();
+    // its page size is one of the two
+    state.table().keeps_limits();
     let mut section = section;
     section.put(block, bytes);
     if section.is_done() {

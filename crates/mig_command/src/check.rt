@@ -41,8 +41,7 @@ fn round_trip<H: Threads + Sync, A: Allocator + Copy + Send + Sync>(
 {
     let page_size = layout.page_size.bytes();
     let scenario = judge(alloc, page_size, text)?;
-    // only for what it says: the table keeps the limits
-    let _blocks = scenario.table.len();
+    scenario.table.keeps_limits();
     let senders = Senders::both(alloc, &scenario.table, layout, Uuid::nil())?;
     let played = play(rt, alloc, &scenario.table, &scenario.lines, senders)?;
     let loaded = load_stream(alloc, page_size, &played.texts);

@@ -18,7 +18,7 @@ pub(crate) fn cut_at<A: Allocator + Copy, B: Allocator>(
 ) -> Result<Vec<Batch<A>, A>, NoMemory>
     ensures { IfOk result (λ v. All (IsBatch table.now) v.items) }
 {
-    let _blocks = table.len();
+    table.keeps_limits();
     assert!(rt; dirty.table().same(table));
     assert!(rt; limit > 0);
     assert!(rt; limit <= (524_288 / table.page_size()) as usize);

@@ -160,8 +160,7 @@ fn batches_of(
     ensures { IfOk result (λ v. All (IsBatch memory.now.table) v.items) }
 {
     let table = memory.table();
-    // only for what it says: the page size is one
-    let _blocks = table.len();
+    table.keeps_limits();
     let most = (524_288 / table.page_size()) as usize;
     if limit == 0 || limit > most || !dirty.table().same(table) {
         return Err(Trouble::Line);

@@ -45,8 +45,8 @@ fn fill_page<A: Allocator>(image: &mut Memory<A>, place: Place, byte: u8)
     ensures { image.new ≡ with_page image.old place (replicate image.old.table.page_size byte) }
 {
     let content = bytes_of(byte);
-    // only for what it says: the table keeps the limits, that of its page size among them
-    let _blocks = image.table().len();
+    // its page size is one of the two
+    image.table().keeps_limits();
     let size = image.table().page_size() as usize;
     image.put_page(place, &content[..size]);
 }

@@ -118,7 +118,7 @@ impl<A: Allocator + Copy> MultiSender<A> {
         ensures none { IfOk result (λ s. HasSentRounds nothing_drained s []) }
         ensures refused { IfErr result (λ fault. IsRefused table.now channels limit fault) }
     {
-        let _blocks = table.len();
+        table.keeps_limits();
         if channels == 0 || channels > 255 {
             return Err(SendFault::Channels);
         }

@@ -72,8 +72,8 @@ pub fn pack<A: Allocator + Copy, M: GuestPages, C: Allocator>(
     requires { IsBatch (M.image memory.now).table batch.now }
     ensures { IfOk result (λ packed. packed ≡ packed_of (M.image memory.now) batch.now number) }
 {
-    // For what `len` tells of the table (`IsTable`): its ids, page numbers and page size are such that its packets can be written.
-    let _blocks = memory.table().len();
+    // its ids, page numbers and page size are such that its packets can be written
+    memory.table().keeps_limits();
     let mut bytes = Vec::new(alloc);
     append_packet(&mut bytes, &mut Offsets::new(alloc), memory, batch, number)?;
     Ok(Packed {
@@ -113,8 +113,8 @@ pub(crate) fn append_packet<A: Allocator, M: GuestPages, C: Allocator>(
     ensures ok { OnOk result (text.new.items ≡ text.old.items ++ (packed_of (M.image memory.now) batch.now number).bytes) }
     ensures prefix { IsPrefix text.old.items text.new.items }
 {
-    // As in `pack`.
-    let _blocks = memory.table().len();
+    // as in `pack`
+    memory.table().keeps_limits();
     let Offsets { normal, zero } = offsets;
     put_offsets(normal, zero, memory, batch.block, &batch.pages)?;
     append_pages(text, memory, batch.block, number, normal, zero)

@@ -88,8 +88,8 @@ fn end<A: Allocator, M: GuestPages>(
 {
     made?;
     let table = memory.table();
-    // As in `pack`.
-    let _blocks = table.len();
+    // as in `pack`
+    table.keeps_limits();
     let Ok(()) = put_packet(table.page_size(), text, number, true, &[], &[], &[], &[]) else {
         return Err(NoMemory);
     };

@@ -166,8 +166,7 @@ impl<A: Allocator + Copy> EagerState<A> {
         ensures open { IfOk result (λ s. IsFalse s.ended) }
         ensures fed { IfOk result (λ s. s.fed ≡ 0) }
     {
-        // `len` also tells of the table that it keeps the limits (`IsTable`), as its page size does
-        let _len = table.len();
+        table.keeps_limits();
         let page_size = table.page_size();
         let table = table.copy_in(alloc)?;
         Ok(EagerState {

@@ -100,8 +100,7 @@ impl<A: Allocator + Copy> InPlaceState<A> {
         ensures open { IfOk result (λ s. IsFalse s.reader.ended) }
         ensures fed { IfOk result (λ s. s.reader.fed ≡ 0) }
     {
-        // `len` also tells of the table that it keeps the limits (`IsTable`), as its page size does
-        let _len = table.len();
+        table.keeps_limits();
         let page_size = table.page_size();
         let table = table.copy_in(alloc)?;
         let reader = StreamReader::new(alloc, Mode::Single, page_size, limit);

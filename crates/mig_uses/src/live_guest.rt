@@ -22,8 +22,7 @@ impl<A: Allocator + Copy> LiveGuest<A> {
     pub fn new(alloc: A, table: &Table<A>) -> Result<LiveGuest<A>, NoMemory>
         ensures { IfOk result (λ guest. IsTracked guest []) }
     {
-        // `len` also says that the table keeps the limits
-        let _blocks = table.len();
+        table.keeps_limits();
         Ok(LiveGuest {
             memory: Memory::zeroed(alloc, table)?,
             dirty: Dirty::none(alloc, table)?,

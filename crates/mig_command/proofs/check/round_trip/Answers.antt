@@ -30,7 +30,7 @@ returns-clause-ok g c =
     let sent = has_text c.in_ok-senders.senders.single played.texts.single _ c.in_ok-senders.ensures.single c.in_ok-played.ensures.texts.single_text in
     let load = subst (λ (size : ℕ). IsSomeAnd played.texts.single (λ t. IsLoadOf size t.items c.load_stream-loaded.result)) c.bytes-page_size.ensures.value c.load_stream-loaded.ensures in
     outcomes layout text scenario.table (map seen c.deref.result.now) played.image played.texts.single c.load_stream-loaded.result
-    c.len-blocks.ensures.table table (lines ∙ judged.ok.1)
+    c.keeps_limits.ensures table (lines ∙ judged.ok.1)
     (subst (λ (l : List ScenarioLine). All (λ x. IsTrue (is_within scenario.table x)) l) (sym lines) judged.within)
     judged.sent c.in_ok-played.ensures.image sent load
 

@@ -21,7 +21,7 @@ append_pages-requires-clause-few g c =
 pub returns-clause-ok : goal.returns-clause-ok
 returns-clause-ok g c =
     let m = g.M.GuestPages.image c.args.memory.now in
-    let is : IsTable m.table = rw (← c.table.ensures.value) c.len-blocks.ensures.table in
+    let is : IsTable m.table = rw (← c.table.ensures.value) c.keeps_limits.ensures in
     let same = ap (λ (l : List ℕ). record { block = c.batch.inside.block; pages = l }) c.deref.ensures.value ∙ c.batch.view_is in
     let normal = c.deref-2.ensures.value ∙ c.in_ok-put_offsets.ensures.normal ∙ ap (λ (b : BatchOfPages). normal_offsets m (batch_places b)) same in
     let zeros = c.deref-3.ensures.value ∙ c.in_ok-put_offsets.ensures.zero ∙ ap (λ (b : BatchOfPages). zero_offsets m (batch_places b)) same in

@@ -6,7 +6,7 @@ use Rattle.mig_send.proofs.Channels.{hellos_long, hello_alone}
 use Rattle.mig_send.proofs.multi.MultiSender.new.Goals as goal
 
 pub page_limit-requires : goal.page_limit-requires
-page_limit-requires g c = subst IsPageSize (sym c.page_size.ensures) c.len-blocks.ensures.table.has_page_size
+page_limit-requires g c = subst IsPageSize (sym c.page_size.ensures) c.keeps_limits.ensures.has_page_size
 
 pub invariant_of-result : goal.invariant_of-result
 invariant_of-result g c =
@@ -14,7 +14,7 @@ invariant_of-result g c =
     let long = hellos_long c.args.uuid c.args.channels (texts_of c.in_ok-hellos.field-0.items) c.in_ok-hellos.ensures.texts in
     record {
       is_set = record {
-        has_table = subst IsTable (sym table) c.len-blocks.ensures.table;
+        has_table = subst IsTable (sym table) c.keeps_limits.ensures;
         has_uuid = (search rules);
         has_channels = (omega (arith, long, c.if-channels-eq0.false), omega (arith, long, c.if-channels-gt255.false));
         has_limit = (

@@ -8,7 +8,7 @@ use Rattle.mig_single_load.proofs.eager_state.EagerState.new.Goals as goal
 
 pub returns-clause-loads : goal.returns-clause-loads
 returns-clause-loads g c = λ first image same.
-    let is : IsTable first.table = subst IsTable (sym same) c.len-len.ensures.table in
+    let is : IsTable first.table = subst IsTable (sym same) c.keeps_limits.ensures in
     let size : c.page_size-page_size.result ≡ first.table.page_size = c.page_size-page_size.ensures ∙ ap (λ (t : RamTable). t.page_size) (sym same) in
     let at : PausesAt (settings Single first.table.page_size c.args.limit) [] none_given c.new.result =
     subst (λ (n : ℕ). PausesAt (settings Single n c.args.limit) [] none_given c.new.result) size c.new.ensures.pauses in
