@@ -2,7 +2,7 @@
 //! round costs little, however large the table is.
 
 ghost use Rattle.std.specs.Prelude.{◌≡◌, ◌<◌, ◌∷◌, [], map, length, All, None, false};
-ghost use Rattle.mig_mem.specs.RamTable.{block};
+ghost use Rattle.mig_mem.specs.RamTable.{block as block_at};
 ghost use Rattle.mig_mem.specs.Place.{IsPlace, place_eq, place_lt};
 ghost use Rattle.mig_packet.specs.Lent.{fields};
 ghost use Rattle.mig_assemble.specs.Judging.{offsets, is_outside, place_fault, pages_in, packet_pages, all_round_pages, places_of, least, lesser, twice};
@@ -85,22 +85,22 @@ fn unmark_packet<A: Allocator>(seen: &mut Dirty<A>, packet: &Packet<'_>)
     ensures seen { SeesLess (places_of (packet_pages seen.old.table (fields packet.now))) seen.old seen.new }
 {
     // a lawful packet names a block, or has no pages
-    if let Some(at) = seen.table().find(packet.id()) {
-        unmark_pages(seen, packet, at);
+    if let Some(block) = seen.table().find(packet.id()) {
+        unmark_pages(seen, packet, block);
     }
 }
 
 // Takes the marks of a packet's pages away, in the block of a number.
-fn unmark_pages<A: Allocator>(seen: &mut Dirty<A>, packet: &Packet<'_>, at: usize)
+fn unmark_pages<A: Allocator>(seen: &mut Dirty<A>, packet: &Packet<'_>, block: usize)
     requires page_size { packet.now.page_size ≡ seen.old.table.page_size }
-    requires block { at < length seen.old.table.blocks }
-    requires lawful { All (λ offset. is_outside seen.old.table.page_size (block seen.old.table.blocks at).pages offset ≡ false) (offsets (fields packet.now)) }
+    requires block { block < length seen.old.table.blocks }
+    requires lawful { All (λ offset. is_outside seen.old.table.page_size (block_at seen.old.table.blocks block).pages offset ≡ false) (offsets (fields packet.now)) }
     ensures table { seen.new.table ≡ seen.old.table }
-    ensures seen { SeesLess (places_of (pages_in seen.old.table (fields packet.now) at)) seen.old seen.new }
+    ensures seen { SeesLess (places_of (pages_in seen.old.table (fields packet.now) block)) seen.old seen.new }
 {
     for i in 0..page_count(packet) {
         let page = offset(packet, i) / packet.page_size();
-        unmark(seen, Place { block: at, page });
+        unmark(seen, Place { block, page });
     }
 }
 
@@ -143,7 +143,7 @@ pub(crate) fn mark_packet<A: Allocator>(
 {
     // a lawful packet names a block, or has no pages
     match seen.table().find(packet.id()) {
-        Some(at) => mark_pages(seen, double, packet, at),
+        Some(block) => mark_pages(seen, double, packet, block),
         None => double,
     }
 }
@@ -153,18 +153,18 @@ fn mark_pages<A: Allocator>(
     seen: &mut Dirty<A>,
     double: Option<Place>,
     packet: &Packet<'_>,
-    at: usize,
+    block: usize,
 ) -> Option<Place>
     requires page_size { packet.now.page_size ≡ seen.old.table.page_size }
-    requires block { at < length seen.old.table.blocks }
-    requires lawful { All (λ offset. is_outside seen.old.table.page_size (block seen.old.table.blocks at).pages offset ≡ false) (offsets (fields packet.now)) }
+    requires block { block < length seen.old.table.blocks }
+    requires lawful { All (λ offset. is_outside seen.old.table.page_size (block_at seen.old.table.blocks block).pages offset ≡ false) (offsets (fields packet.now)) }
     ensures table { seen.new.table ≡ seen.old.table }
-    ensures seen { SeesMore (places_of (pages_in seen.old.table (fields packet.now) at)) seen.old double seen.new result }
+    ensures seen { SeesMore (places_of (pages_in seen.old.table (fields packet.now) block)) seen.old double seen.new result }
 {
     let mut double = double;
     for i in 0..page_count(packet) {
         let page = offset(packet, i) / packet.page_size();
-        double = mark(seen, double, Place { block: at, page });
+        double = mark(seen, double, Place { block, page });
     }
     double
 }

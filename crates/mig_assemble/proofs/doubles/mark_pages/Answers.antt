@@ -15,16 +15,16 @@ mark-double-requires g c =
     let table = c.args.seen.now.table in
     let all : List ℕ = offsets (fields c.args.packet.now) in
     let within : c.loop-i.i < length all = omega arith in
-    let inside : is_outside table.page_size (block table.blocks c.args.at).pages (get_or all c.loop-i.i 0) ≡ false = c.requires.lawful c.loop-i.i 0 within in
-    let at : place_of table c.args.at (get_or all c.loop-i.i 0) ≡ record { block = c.args.at; page = c.offset.result / c.page_size.result } = search rules in
-    subst (λ (t : RamTable). IsPlace t (record { block = c.args.at; page = c.offset.result / c.page_size.result })) (sym c.loop-i.invariant.table)
-    (subst (λ (p : Place). IsPlace table p) at (place_inside table c.args.at (get_or all c.loop-i.i 0) c.requires.block inside))
+    let inside : is_outside table.page_size (block table.blocks c.args.block).pages (get_or all c.loop-i.i 0) ≡ false = c.requires.lawful c.loop-i.i 0 within in
+    let at : place_of table c.args.block (get_or all c.loop-i.i 0) ≡ record { block = c.args.block; page = c.offset.result / c.page_size.result } = search rules in
+    subst (λ (t : RamTable). IsPlace t (record { block = c.args.block; page = c.offset.result / c.page_size.result })) (sym c.loop-i.invariant.table)
+    (subst (λ (p : Place). IsPlace table p) at (place_inside table c.args.block (get_or all c.loop-i.i 0) c.requires.block inside))
 
 pub returns-clause-seen : goal.returns-clause-seen
 returns-clause-seen g c = λ places h.
     let table = c.args.seen.now.table in
     let q : Fields = fields c.args.packet.now in
     let past : length (offsets q) ≤ c.loop-i.i = omega arith in
-    let all : map (place_of table c.args.at) (take c.loop-i.i (offsets q)) ≡ places_of (pages_in table q c.args.at) =
-    ap (λ (l : List ℕ). map (place_of table c.args.at) l) (take_all c.loop-i.i (offsets q) past) ∙ sym (places-in table q c.args.at) in
+    let all : map (place_of table c.args.block) (take c.loop-i.i (offsets q)) ≡ places_of (pages_in table q c.args.block) =
+    ap (λ (l : List ℕ). map (place_of table c.args.block) l) (take_all c.loop-i.i (offsets q) past) ∙ sym (places-in table q c.args.block) in
     subst (λ (ps : List Place). HasSeen table (places ++ ps) c.loop-i.seen c.loop-i.double) all (c.loop-i.invariant.seen places h)

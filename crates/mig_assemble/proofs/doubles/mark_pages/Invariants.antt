@@ -10,5 +10,5 @@ abbrev pub invariant-loop-i : goal.invariant-loop-i
 invariant-loop-i g l = record {
   table : l.seen.table ≡ l.fn.seen.table;
   seen : (places : List Place) → HasSeen l.fn.seen.table places l.fn.seen l.fn.double
-      → HasSeen l.fn.seen.table (places ++ map (place_of l.fn.seen.table l.at) (take l.i (offsets (fields l.packet)))) l.seen l.double;
+      → HasSeen l.fn.seen.table (places ++ map (place_of l.fn.seen.table l.block) (take l.i (offsets (fields l.packet)))) l.seen l.double;
 }

@@ -10,5 +10,5 @@ abbrev pub invariant-loop-i : goal.invariant-loop-i
 invariant-loop-i g l = record {
   table : l.seen.table ≡ l.fn.seen.table;
   seen : (places gone : List Place) → HasLeft l.fn.seen.table places gone l.fn.seen
-      → HasLeft l.fn.seen.table places (gone ++ map (place_of l.fn.seen.table l.at) (take l.i (offsets (fields l.packet)))) l.seen;
+      → HasLeft l.fn.seen.table places (gone ++ map (place_of l.fn.seen.table l.block) (take l.i (offsets (fields l.packet)))) l.seen;
 }
