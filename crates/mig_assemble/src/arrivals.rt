@@ -23,6 +23,7 @@ use mig_mem::{Dirty, NoMemory, Place, Table};
 use mig_packet::Packet;
 use mig_stream::StreamRound;
 use std::alloc::{Allocator, Global};
+use std::fmt;
 use std::marker::Model;
 
 // A packet whose pages lie wrong: its number, and what is wrong.
@@ -50,6 +51,12 @@ impl<A: Allocator> Model for Arrivals<A> {
     ghost Value = { RoundSoFar };
 
     ghost view = { λ a. record { numbers = a.numbers.items; misplaced = a.misplaced; double = a.double; seen = a.seen } };
+}
+
+impl<A: Allocator> fmt::Debug for Arrivals<A> {
+    fn fmt<W: fmt::Write>(&self, f: &mut fmt::Formatter<W>) -> fmt::Result {
+        f.pad("Arrivals { .. }")
+    }
 }
 
 impl<A: Allocator + Copy> Arrivals<A> {

@@ -5,6 +5,7 @@ ghost use Rattle.std.specs.Prelude.{◌≡◌, ◌++◌, [], ◌∷◌, length, 
 use mig_mem::NoMemory;
 use mig_packet::Packet;
 use std::alloc::{Allocator, Global};
+use std::fmt;
 use std::marker::Model;
 
 /// The packets of one round, from whatever texts, in the order in which they were pushed. It borrows them.
@@ -20,6 +21,12 @@ impl<'a, A: Allocator> Model for Gathered<'a, A> {
     ghost Value = { List Packet };
 
     ghost view = { λ g. g.packets.items };
+}
+
+impl<'a, A: Allocator> fmt::Debug for Gathered<'a, A> {
+    fn fmt<W: fmt::Write>(&self, f: &mut fmt::Formatter<W>) -> fmt::Result {
+        f.pad("Gathered { .. }")
+    }
 }
 
 impl<'a, A: Allocator> Gathered<'a, A> {

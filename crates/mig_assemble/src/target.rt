@@ -13,6 +13,7 @@ use crate::{Gathered, RoundFault};
 use mig_mem::{Dirty, GuestTarget, Memory, NoMemory, Table};
 use mig_stream::StreamRound;
 use std::alloc::{Allocator, Global};
+use std::fmt;
 use std::marker::Model;
 
 /// The memory of a guest as far as it is loaded: what it holds at first, which is zeros where `new` makes it, and then what each
@@ -37,6 +38,12 @@ impl<A: Allocator, M: GuestTarget> Model for Target<A, M> {
     ghost use Rattle.mig_assemble.specs.Target.{IsUnmarked};
 
     ghost invariant = { λ t. IsUnmarked (M.image t.memory) t.seen };
+}
+
+impl<A: Allocator, M: GuestTarget> fmt::Debug for Target<A, M> {
+    fn fmt<W: fmt::Write>(&self, f: &mut fmt::Formatter<W>) -> fmt::Result {
+        f.pad("Target { .. }")
+    }
 }
 
 impl<A: Allocator + Copy> Target<A> {
