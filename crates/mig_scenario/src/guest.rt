@@ -39,11 +39,15 @@ fn bytes_of(byte: u8) -> [u8; PAGE_SIZE_8K as usize]
     [byte; PAGE_SIZE_8K as usize]
 }
 
-// Fills a page with a byte.
+// Fills a page with a byte. Zeros take no memory where the page was never written.
 fn fill_page<A: Allocator>(image: &mut Memory<A>, place: Place, byte: u8)
     requires { IsPlace image.old.table place }
     ensures { image.new ≡ with_page image.old place (replicate image.old.table.page_size byte) }
 {
+    if byte == 0 {
+        image.put_zero_page(place);
+        return;
+    }
     let content = bytes_of(byte);
     // its page size is one of the two
     image.table().keeps_limits();

@@ -3,6 +3,9 @@ use Rattle.mig_mem.specs.RamTable.{RamTable}
 use Rattle.mig_scenario.proofs.Filled.{page_bound, front_len, page_filled}
 use Rattle.mig_scenario.proofs.guest.fill_page.Goals as goal
 
+pub returns-then-byte-eq0 : goal.returns-then-byte-eq0
+returns-then-byte-eq0 g c = rw c.if-byte-eq0.true c.put_zero_page.ensures
+
 pub slice_bounds-put_page-end : goal.slice_bounds-put_page-end
 slice_bounds-put_page-end g c =
     let of : c.page_size-size.result ≡ c.args.image.now.table.page_size = c.page_size-size.ensures ∙ ap (λ (t : RamTable). t.page_size) c.table-2.ensures.value in
