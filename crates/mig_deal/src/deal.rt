@@ -12,6 +12,7 @@ use crate::rule::{DealRule, DrawNumber, FindEnd, Holding, JoinSeats, SplitSeat, 
 use crate::seat::{Drawn, Seat, Spent};
 use atomic_table::{Seat as TableSeat, Table};
 use std::alloc::{AllocFailed, Allocator, Global};
+use std::fmt;
 use std::marker::Model;
 
 /// One shared word that numbers packets and claims batches. Threads share it by reference or in an
@@ -36,6 +37,12 @@ impl<A: Allocator> Model for Deal<A> {
 
     ghost invariant = { λ d. (d.table.shared.key ≡ d.terms) × (d.table.shared.table_id.words ≡ 1) × (d.table.shared.table_id.slots ≡ 0)
         × IsWithinLimits d.terms.base d.terms.batches d.terms.seats };
+}
+
+impl<A: Allocator> fmt::Debug for Deal<A> {
+    fn fmt<W: fmt::Write>(&self, f: &mut fmt::Formatter<W>) -> fmt::Result {
+        f.pad("Deal { .. }")
+    }
 }
 
 // Adds a seat to a list that has room for it, so it allocates nothing.

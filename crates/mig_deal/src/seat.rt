@@ -5,6 +5,7 @@ ghost use Rattle.mig_deal.specs.Rule.{holding, terms_of, last_count};
 
 use crate::rule::Holding;
 use atomic_table::Seat as TableSeat;
+use std::fmt;
 use std::marker::Model;
 
 /// One worker's right to draw. It has no bytes, and it can't be copied. Its worker draws until the
@@ -28,6 +29,12 @@ impl Model for Seat {
     ghost invariant = { λ s. (s.inner.me.1 ≡ []) × IsSeatWithLasts 0 s.inner.me.0 };
 }
 
+impl fmt::Debug for Seat {
+    fn fmt<W: fmt::Write>(&self, f: &mut fmt::Formatter<W>) -> fmt::Result {
+        f.pad("Seat { .. }")
+    }
+}
+
 /// What is left of a seat that has drawn its last number. It can't be copied. `Deal::close` and
 /// `Deal::end_number` take one for each seat of the deal, so where one is dropped, neither can be
 /// called.
@@ -49,6 +56,12 @@ impl Model for Spent {
     ghost invariant = { λ s. (s.inner.me.1 ≡ []) × IsSeatWithLasts 1 s.inner.me.0 };
 }
 
+impl fmt::Debug for Spent {
+    fn fmt<W: fmt::Write>(&self, f: &mut fmt::Formatter<W>) -> fmt::Result {
+        f.pad("Spent { .. }")
+    }
+}
+
 impl Spent {
     pub(crate) fn into_inner(self) -> TableSeat<(), Holding>
         ensures deal { result.table_id ≡ self.deal.id }
@@ -61,6 +74,7 @@ impl Spent {
 }
 
 /// What a draw answers: a number that claims a batch, and the seat to go on with, or the seat's last number, which claims none.
+#[derive(Debug)]
 pub enum Drawn {
     Work(u64, Seat),
     Last(u64, Spent),
