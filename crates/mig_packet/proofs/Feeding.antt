@@ -3,8 +3,9 @@ use Rattle.std.proofs.Common.{◌≡◌, ◌≢◌, ℕ, List, [], ◌++◌, len
 use Rattle.std.proofs.lemmas.Bool.{cases_lt}
 use Rattle.std.proofs.lemmas.List.{take-append-drop}
 use Rattle.mig_packet.specs.declared.state.ChannelState.{ChannelState}
-use Rattle.mig_packet.specs.declared.state.ChannelState.TheVariants.{Reading}
-use Rattle.mig_packet.specs.Progress.{ChannelProgress, judged_len, item_len, first_fault, after_packet, after_item, after}
+use Rattle.mig_packet.specs.declared.state.ChannelState.TheVariants.{Reading, Bad}
+use Rattle.mig_packet.specs.declared.fault.ChannelFault.{ChannelFault}
+use Rattle.mig_packet.specs.Progress.{ChannelProgress, judged_len, item_len, first_fault, due_fault, after_packet, after_item, after}
 use Rattle.mig_packet.specs.Reading.{IsItem, Front, Reads}
 use Rattle.mig_packet.specs.Taking.{HasTaken}
 use Rattle.mig_packet.specs.Reader.{IsUnfinished, ReadsOn}
@@ -47,9 +48,9 @@ after_is c (Some id) item some = refl
 front_item : (c : ChannelProgress) (item : List ℕ) → IsItem c.page_size c.hello item → first_fault c item ≡ None → Front c item (after c item)
 front_item c item is none = Front-push c c [] item (Front-none c) is none
 
-pub reads_behind : (c d to : ChannelProgress) (item rest pending : List ℕ) (s : ChannelState) → IsItem c.page_size c.hello item → first_fault c item ≡ None
-    → d ≡ after c item → ReadsOn d rest to pending s → ReadsOn c (item ++ rest) to pending s
-reads_behind c d to item rest pending s is none d_is r = record {
+pub reads_behind : (c d to : ChannelProgress) (item rest pending : List ℕ) (left : ℕ) (s : ChannelState) → IsItem c.page_size c.hello item → first_fault c item ≡ None
+    → d ≡ after c item → ReadsOn d rest to pending left s → ReadsOn c (item ++ rest) to pending left s
+reads_behind c d to item rest pending left s is none d_is r = record {
   rest = r.rest;
   reads = record {
     front = item ++ r.reads.front;
@@ -57,6 +58,7 @@ reads_behind c d to item rest pending s is none d_is r = record {
     leads = Front-append c d to item r.reads.front (subst (λ (x : ChannelProgress). Front c item x) (sym d_is) (front_item c item is none)) r.reads.leads;
     ends = r.reads.ends;
   };
+  has_left = r.has_left;
   has_rest = r.has_rest;
 }
 
@@ -72,15 +74,25 @@ taken_behind c d to item rest is none d_is t = record {
 }
 
 -- what a reading keeps is no whole item
-pub unfinished_behind : (from : ChannelProgress) (bytes : List ℕ) (to : ChannelProgress) (pending : List ℕ) (s : ChannelState) → ReadsOn from bytes to pending s
+pub unfinished_behind : (from : ChannelProgress) (bytes : List ℕ) (to : ChannelProgress) (pending : List ℕ) (left : ℕ) (s : ChannelState) → ReadsOn from bytes to pending left s
     → s ≡ Reading → IsUnfinished to pending
-unfinished_behind from bytes to pending s r reading =
+unfinished_behind from bytes to pending left s r reading =
     subst (IsUnfinished to) (r.has_rest reading) (unfinished from bytes to r.rest (subst (λ (x : ChannelState). Reads from bytes to r.rest x) reading r.reads))
 
 -- the piece was too short
-pub still_reading : (c : ChannelProgress) (bytes pending : List ℕ) → (bytes ≡ pending) × IsUnfinished c pending → ReadsOn c bytes c pending Reading
-still_reading c bytes pending h = record {
+pub still_reading : (c : ChannelProgress) (bytes pending : List ℕ) (left : ℕ) → left ≡ length bytes → (bytes ≡ pending) × IsUnfinished c pending → ReadsOn c bytes c pending left Reading
+still_reading c bytes pending left all h = record {
   rest = pending;
   reads = subst (λ (x : List ℕ). Reads c x c pending Reading) (sym h.0) (reads_short c pending h.1);
+  has_left = ap (λ (x : List ℕ). length x) (sym h.0) ∙ sym all;
   has_rest = λ _. refl;
+}
+
+-- a fault is due
+pub now_faulty : (c : ChannelProgress) (bytes pending : List ℕ) (left : ℕ) (fault : ChannelFault) → left ≡ length bytes → due_fault c bytes ≡ Some fault → ReadsOn c bytes c pending left (Bad fault)
+now_faulty c bytes pending left fault all due = record {
+  rest = bytes;
+  reads = record { front = []; has_text = refl; leads = Front-none c; ends = due };
+  has_left = sym all;
+  has_rest = λ e. absurd cc;
 }

@@ -13,4 +13,5 @@ pub mod Feeding
 pub mod Filling
 pub mod Standing
 pub mod Exists
+pub mod Valid
 pub mod Limits

@@ -1,5 +1,5 @@
 -- What a reader stands for after a call, and what it tells.
-use Rattle.std.proofs.Common.{◌≡◌, ◌≢◌, ℕ, ◌+◌, ◌<◌, get_or, Bool, true, false, List, [], ◌∷◌, ◌++◌, length}
+use Rattle.std.proofs.Common.{◌≡◌, ◌≢◌, ℕ, ◌+◌, ◌-◌, ◌<◌, get_or, Bool, true, false, List, [], ◌∷◌, ◌++◌, length}
 use Rattle.std.proofs.Common.{Option, Some, None, refl, sym, ap, subst, ◌∙◌, append_assoc, arith}
 use Rattle.std.specs.Prelude.{IfSome, IfNone}
 use Rattle.std.proofs.lemmas.List.{length-append, append-nil, get_or_at}
@@ -18,9 +18,9 @@ abbrev from : Settings → ChannelProgress
 from given = start given.page_size given.uuid given.channels
 
 -- before the first byte
-pub stands_first : (given : Settings) (r : Reader) → r.progress ≡ from given → r.pending ≡ [] → r.found ≡ Reading → r.fed ≡ 0 → r.ended ≡ false
+pub stands_first : (given : Settings) (r : Reader) → r.progress ≡ from given → r.pending ≡ [] → r.found ≡ Reading → r.valid_up_to ≡ 0 → r.fed ≡ 0 → r.ended ≡ false
     → Stands given nothing_yet r
-stands_first given r progress pending found fed ended =
+stands_first given r progress pending found valid fed ended =
     let none : IsUnfinished (from given) [] = record { has_no_fault = refl; is_short = λ le. absurd (omega (arith, le)) } in
     record {
       has_fed = fed;
@@ -31,12 +31,14 @@ stands_first given r progress pending found fed ended =
       reads = subst (λ (s : ChannelState). Reads (from given) [] r.progress [] s) (sym found)
           (subst (λ (c : ChannelProgress). Reads (from given) [] c [] Reading) (sym progress) (reads_short (from given) [] none));
       has_pending = λ _. sym pending;
+      has_valid_up_to = omega (arith, valid);
     }
 
 -- after a piece that was read
-pub fed_on : (old mid : Reader) (piece : List ℕ) → old.found ≡ Reading → ReadsOn old.progress (old.pending ++ piece) mid.progress mid.pending mid.found
-    → mid.fed ≡ old.fed → mid.ended ≡ old.ended → StepsOn (with_piece piece) old (record mid { fed = mid.fed + length piece })
-fed_on old mid piece reading run same_fed same_ended = λ given so_far s.
+pub fed_on : (old mid : Reader) (piece : List ℕ) (left valid_up_to : ℕ) → valid_up_to ≡ mid.fed + length piece - left → old.found ≡ Reading
+    → ReadsOn old.progress (old.pending ++ piece) mid.progress mid.pending left mid.found → mid.fed ≡ old.fed → mid.ended ≡ old.ended
+    → StepsOn (with_piece piece) old (record mid { valid_up_to = valid_up_to; fed = mid.fed + length piece })
+fed_on old mid piece left valid_up_to at_is reading run same_fed same_ended = λ given so_far s.
     let text : List ℕ = so_far.text in
     let kept : s.rest ≡ old.pending = s.has_pending reading in
     let reads : Reads (from given) text (with_taken s.rounds old.progress) old.pending Reading =
@@ -50,6 +52,10 @@ fed_on old mid piece reading run same_fed same_ended = λ given so_far s.
       rest = run.rest;
       reads = Reads-on s.rounds (from given) old.progress mid.progress text old.pending piece run.rest mid.found reads run.reads;
       has_pending = run.has_rest;
+      has_valid_up_to =
+          let bytes : length (text ++ piece) ≡ length s.reads.front + length run.reads.front + length run.rest =
+          length-append text piece ∙ omega (arith, ap length s.reads.has_text, length-append s.reads.front s.rest, ap length kept, ap length run.reads.has_text, length-append old.pending piece, length-append run.reads.front run.rest) in
+          omega (arith, at_is, bytes, run.has_left, same_fed, s.has_fed, length-append text piece);
     }
 
 -- after a piece that is only counted
@@ -62,12 +68,13 @@ fed_past old piece other = λ given so_far s. record {
   rest = s.rest ++ piece;
   reads = Reads-more (from given) so_far.text (with_taken s.rounds old.progress) s.rest piece old.found other s.reads;
   has_pending = λ reading. absurd (other reading);
+  has_valid_up_to = omega (arith, s.has_valid_up_to, length-append s.rest piece, length-append so_far.text piece);
 }
 
 -- after a round that was taken
 taken_on : (old new : Reader) (round : List (List ℕ)) → old.progress ≡ with_taken (round ∷ []) new.progress → new.pending ≡ old.pending → new.found ≡ old.found
-    → new.fed ≡ old.fed → new.ended ≡ old.ended → StepsOn one_taken old new
-taken_on old new round same same_pending same_found same_fed same_ended = λ given so_far s.
+    → new.valid_up_to ≡ old.valid_up_to → new.fed ≡ old.fed → new.ended ≡ old.ended → StepsOn one_taken old new
+taken_on old new round same same_pending same_found same_valid same_fed same_ended = λ given so_far s.
     let all : with_taken s.rounds old.progress ≡ with_taken (s.rounds ++ round ∷ []) new.progress =
     ap (with_taken s.rounds) same
     ∙ ap (λ (x : List (List (List ℕ))). record new.progress { rounds = x }) (sym (append_assoc s.rounds (round ∷ []) new.progress.rounds)) in
@@ -80,6 +87,7 @@ taken_on old new round same same_pending same_found same_fed same_ended = λ giv
       reads = subst (λ (x : ChannelState). Reads (from given) so_far.text (with_taken (s.rounds ++ round ∷ []) new.progress) s.rest x) (sym same_found)
           (subst (λ (x : ChannelProgress). Reads (from given) so_far.text x s.rest old.found) all s.reads);
       has_pending = λ reading. s.has_pending (sym same_found ∙ reading) ∙ sym same_pending;
+      has_valid_up_to = omega (arith, s.has_valid_up_to, same_valid);
     }
 
 -- where the first round that a reader holds was taken from it
@@ -91,7 +99,7 @@ pub taken_each : (o : Option RoundOfPackets) (old new : Reader) (c d : ChannelPr
 taken_each None old new c d e f h = tt
 taken_each (Some r) old new c d e f h =
     taken_on old new r.packets (e ∙ h ∙ ap (λ (x : Reader). with_taken (r.packets ∷ []) x.progress) (sym f))
-    (ap (λ (x : Reader). x.pending) f) (ap (λ (x : Reader). x.found) f) (ap (λ (x : Reader). x.fed) f) (ap (λ (x : Reader). x.ended) f)
+    (ap (λ (x : Reader). x.pending) f) (ap (λ (x : Reader). x.found) f) (ap (λ (x : Reader). x.valid_up_to) f) (ap (λ (x : Reader). x.fed) f) (ap (λ (x : Reader). x.ended) f)
 
 -- one round fewer waits
 pub fewer_each : (o : Option RoundOfPackets) (old new : Reader) (c d : ChannelProgress) → old.progress ≡ c → new.progress ≡ d

@@ -10,7 +10,7 @@ use Rattle.mig_packet.specs.Reading.{IsItem, AreFaultless, after_all, Ends, Read
 use Rattle.mig_packet.proofs.Fronts.{len-append, faults_stay, judged_le, cond_none}
 
 -- of two items at one place one is the other
-one_item : (p : ℕ) (h : Option ℕ) (a b x y : List ℕ) → IsItem p h a → IsItem p h b → a ++ x ≡ b ++ y → (a ≡ b) × (x ≡ y)
+pub one_item : (p : ℕ) (h : Option ℕ) (a b x y : List ℕ) → IsItem p h a → IsItem p h b → a ++ x ≡ b ++ y → (a ≡ b) × (x ≡ y)
 one_item p h a b x y i j e =
     let len : length a ≡ length b = sym (len-append p h a x i) ∙ ap (item_len p h) e ∙ len-append p h b y j in
     let same : a ≡ b = sym (take_at a x (length a) refl) ∙ ap (take (length a)) e ∙ take_at b y (length a) (sym len) in
@@ -24,7 +24,7 @@ none_due c item x rest is free e =
     (ap (first_fault c) e ∙ ap first_of (faults_stay c c.hello item x (judged_le c.page_size c.hello item is)) ∙ free)
 
 -- and a text doesn't end there
-no_end : (c : ChannelProgress) (item x rest : List ℕ) (s : ChannelState) → IsItem c.page_size c.hello item → first_fault c item ≡ None → rest ≡ item ++ x
+pub no_end : (c : ChannelProgress) (item x rest : List ℕ) (s : ChannelState) → IsItem c.page_size c.hello item → first_fault c item ≡ None → rest ≡ item ++ x
     → Ends c rest s → ⊥
 no_end c item x rest Closed is free e end = end
 no_end c item x rest Reading is free e end = end.1 item x e is

@@ -1,11 +1,14 @@
 -- What holds of hellos, packets and channels, whatever code writes and reads them.
-use Rattle.std.specs.Prelude.{◌≡◌, ◌≢◌, ℕ, Bool, true, false, List, [], ◌∷◌, ◌++◌, length, All, None, IsTrue, IsFalse}
+use Rattle.std.specs.Prelude.{◌≡◌, ◌≢◌, ℕ, ◌≤◌, Bool, true, false, List, [], ◌∷◌, ◌++◌, length, All, Some, None, IsTrue, IsFalse}
 use Rattle.mig_packet.specs.PageSize.{IsPageSize}
 use Rattle.mig_packet.specs.Hello.{IsHello, written_hello}
 use Rattle.mig_packet.specs.Packet.{IsPacketText, IsPacket, is_sync}
 use Rattle.mig_packet.specs.Written.{written_packet, written_fields, IsWritable}
-use Rattle.mig_packet.specs.declared.state.ChannelState.TheVariants.{Reading, Closed}
-use Rattle.mig_packet.specs.Reading.{ChannelReading, Settings, IsReading}
+use Rattle.mig_packet.specs.declared.state.ChannelState.TheVariants.{Reading, Closed, Bad}
+use Rattle.mig_packet.specs.declared.fault.ChannelFault.{ChannelFault}
+use Rattle.mig_packet.specs.Progress.{ChannelProgress, start, due_fault}
+use Rattle.mig_packet.specs.Reading.{Front, ChannelReading, Settings, IsReading}
+use Rattle.mig_packet.specs.Reader.{HasState, IsSettled, HasFront, IsValidUpTo}
 use Rattle.mig_packet.specs.ChannelItems.{ChannelItem, AreItems}
 
 -- What is written for a UUID and an id is a hello of them.
@@ -54,3 +57,34 @@ pub record KeepsLimits (page_size : ℕ) (ended : Bool) (reading : ChannelReadin
 abbrev pub ReadingsKeepLimits : Type 0
 ReadingsKeepLimits = (given : Settings) (text : List ℕ) (ended : Bool) (reading : ChannelReading) → IsPageSize given.page_size
     → IsReading given text ended reading → KeepsLimits given.page_size ended reading
+
+-- ---- up to where a text is valid
+
+-- A text is valid up to exactly one place, and none of its fronts is longer.
+abbrev pub IsValidUpToOnePlace : Type 0
+IsValidUpToOnePlace = (given : Settings) (text : List ℕ)
+    → (n : ℕ) × IsValidUpTo given text n × (n ≤ length text)
+    × ((m : ℕ) → HasFront given text m → m ≤ n) × ((m : ℕ) → IsValidUpTo given text m → m ≡ n)
+
+-- Bytes that follow leave it where it was, or move it on. Once the text has a fault, it stays.
+abbrev pub LongerTextsStayValid : Type 0
+LongerTextsStayValid = (given : Settings) (text more : List ℕ) (m n : ℕ) → IsValidUpTo given text m → IsValidUpTo given (text ++ more) n
+    → (m ≤ n) × (IsSettled given text → m ≡ n)
+
+-- A text that is over and closed is valid up to its last byte.
+abbrev pub ClosedIsValid : Type 0
+ClosedIsValid = (given : Settings) (text : List ℕ) (n : ℕ) → HasState given text true Closed → IsValidUpTo given text n → n ≡ length text
+
+-- whole items without a fault are the first n bytes, and in the bytes after them this fault is due
+pub record HasFaultAt (given : Settings) (text : List ℕ) (n : ℕ) (fault : ChannelFault) : Type 0 where
+  pub to : ChannelProgress
+  pub front : List ℕ
+  pub rest : List ℕ
+  pub has_text : text ≡ front ++ rest
+  pub has_length : length front ≡ n
+  pub leads : Front (start given.page_size given.uuid given.channels) front to
+  pub has_fault : due_fault to rest ≡ Some fault
+
+-- A bad text is valid up to where the item at fault begins.
+abbrev pub BadIsValidBefore : Type 0
+BadIsValidBefore = (given : Settings) (text : List ℕ) (n : ℕ) (fault : ChannelFault) → HasState given text false (Bad fault) → IsValidUpTo given text n → HasFaultAt given text n fault

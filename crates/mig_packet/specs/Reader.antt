@@ -6,7 +6,7 @@ use Rattle.mig_packet.specs.PageSize.{IsPageSize}
 use Rattle.mig_packet.specs.Packet.{IsPacketText}
 use Rattle.std.specs.List.{All}
 use Rattle.mig_packet.specs.Progress.{ChannelProgress, start, item_len, judged_len, due_fault}
-use Rattle.mig_packet.specs.Reading.{Reads, ChannelReading, Settings, IsReading}
+use Rattle.mig_packet.specs.Reading.{Front, Reads, ChannelReading, Settings, IsReading}
 
 -- what a reader holds
 pub record Reader : Type 0 where
@@ -16,6 +16,8 @@ pub record Reader : Type 0 where
   pub pending : List ℕ
   -- how the bytes fed stand, whether or not the text is over
   pub found : ChannelState
+  -- how many bytes fed are whole items without a fault
+  pub valid_up_to : ℕ
   pub fed : ℕ
   pub ended : Bool
 
@@ -24,10 +26,11 @@ pub record IsUnfinished (c : ChannelProgress) (bytes : List ℕ) : Type 0 where
   pub has_no_fault : due_fault c bytes ≡ None
   pub is_short : judged_len c.page_size c.hello ≤ length bytes → length bytes < item_len c.page_size c.hello bytes
 
--- bytes are read to there, and of an item that isn't whole these bytes are kept
-pub record ReadsOn (from : ChannelProgress) (bytes : List ℕ) (to : ChannelProgress) (pending : List ℕ) (state : ChannelState) : Type 0 where
+-- bytes are read to there, with so many left, and of an item that isn't whole these bytes are kept
+pub record ReadsOn (from : ChannelProgress) (bytes : List ℕ) (to : ChannelProgress) (pending : List ℕ) (left : ℕ) (state : ChannelState) : Type 0 where
   pub rest : List ℕ
   pub reads : Reads from bytes to rest state
+  pub has_left : length rest ≡ left
   pub has_rest : state ≡ Reading → rest ≡ pending
 
 -- with rounds that were taken before
@@ -67,6 +70,7 @@ pub record Stands (given : Settings) (so_far : SoFar) (r : Reader) : Type 0 wher
   pub rest : List ℕ
   pub reads : Reads (start given.page_size given.uuid given.channels) so_far.text (with_taken rounds r.progress) rest r.found
   pub has_pending : r.found ≡ Reading → rest ≡ r.pending
+  pub has_valid_up_to : r.valid_up_to + length rest ≡ length so_far.text
 
 -- a step of a call: whatever the reader stood for before, it stands for that with the step done
 abbrev pub StepsOn : (SoFar → SoFar) → Reader → Reader → Type 0
@@ -100,6 +104,24 @@ HasState given text ended state = (reading : ChannelReading) × IsReading given 
 -- the text has a fault already: more bytes change nothing
 abbrev pub IsSettled : Settings → List ℕ → Type 0
 IsSettled given text = (state : ChannelState) × HasState given text false state × (state ≢ Reading)
+
+-- The first n bytes of the text are whole items without a fault.
+pub record HasFront (given : Settings) (text : List ℕ) (n : ℕ) : Type 0 where
+  pub to : ChannelProgress
+  pub front : List ℕ
+  pub rest : List ℕ
+  pub has_text : text ≡ front ++ rest
+  pub has_length : length front ≡ n
+  pub leads : Front (start given.page_size given.uuid given.channels) front to
+
+-- The text is read to its first n bytes: these are its longest front of whole items without a
+-- fault. Where it is bad, the item at fault begins after them.
+pub record IsValidUpTo (given : Settings) (text : List ℕ) (n : ℕ) : Type 0 where
+  pub to : ChannelProgress
+  pub rest : List ℕ
+  pub found : ChannelState
+  pub reads : Reads (start given.page_size given.uuid given.channels) text to rest found
+  pub has_length : length reads.front ≡ n
 
 -- the id that its hello names
 abbrev pub HasHello : Settings → List ℕ → Option ℕ → Type 0

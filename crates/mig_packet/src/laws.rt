@@ -4,6 +4,7 @@
 
 ghost use Rattle.mig_packet.specs.Law.{WrittenHellosAreHellos, WrittenPacketsArePackets, NoPacketBeginsAnother};
 ghost use Rattle.mig_packet.specs.Law.{HasOneReading, HasOneListOfItems, ReadingsKeepLimits};
+ghost use Rattle.mig_packet.specs.Law.{IsValidUpToOnePlace, LongerTextsStayValid, ClosedIsValid, BadIsValidBefore};
 
 /// What is written for a UUID and an id is a hello of them. So `read_hello` finds it, whatever follows.
 pub fn written_hellos_are_hellos()
@@ -36,4 +37,15 @@ pub fn text_has_one_list_of_items()
 /// text is closed by its end alone.
 pub fn readings_keep_limits()
     ensures { ReadingsKeepLimits }
+{}
+
+/// A text is valid up to exactly one place, which `ChannelReader::valid_up_to` returns: so many of
+/// its bytes are complete items without a fault, and no more are. Bytes that follow only move it
+/// on. Once the text has a fault, it stays where the item at fault begins. In a text that is over
+/// and closed it is the end.
+pub fn text_is_valid_up_to_one_place()
+    ensures one { IsValidUpToOnePlace }
+    ensures longer { LongerTextsStayValid }
+    ensures closed { ClosedIsValid }
+    ensures bad { BadIsValidBefore }
 {}

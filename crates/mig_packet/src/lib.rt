@@ -30,7 +30,8 @@ pub use front::{HelloRead, PacketRead, read_hello, read_packet};
 pub use gate::{Gate, OpenGate, Step};
 pub use laws::{
     no_packet_begins_another, readings_keep_limits, text_has_one_list_of_items,
-    text_has_one_reading, written_hellos_are_hellos, written_packets_are_packets,
+    text_has_one_reading, text_is_valid_up_to_one_place, written_hellos_are_hellos,
+    written_packets_are_packets,
 };
 pub use packet::{Packet, head_len, page_limit};
 pub use put::{hello, put_packet, put_packet_head};

@@ -7,14 +7,22 @@ ghost use Rattle.mig_packet.specs.Packet.{IsPacketText, number_in, is_sync, id_i
 
 use crate::fields::{be32, be64};
 use crate::format::{FIELDS_LEN, MULTIFD_PACKET_SIZE};
+use std::fmt;
 
 /// One packet: QEMU's `MultiFDPacket_t` with its pages behind it. It borrows its bytes, and copies none of them.
-#[derive(Clone, Copy, Debug)]
+#[derive(Clone, Copy)]
 pub struct Packet<'a> {
     pub(crate) page_size: u64,
     pub(crate) bytes: &'a [u8],
     pub ghost has_page_size: { IsPageSize page_size } by { IsPageSize-prop page_size },
     pub ghost is_packet: { IsPacketText page_size bytes.now },
+}
+
+// The guest's bytes aren't printed.
+impl fmt::Debug for Packet<'_> {
+    fn fmt<W: fmt::Write>(&self, f: &mut fmt::Formatter<W>) -> fmt::Result {
+        f.pad("Packet { .. }")
+    }
 }
 
 impl<'a> Packet<'a> {

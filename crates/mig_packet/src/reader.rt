@@ -13,14 +13,14 @@ ghost use Rattle.mig_packet.specs.Reading.{IsItem, state_at_end, settings};
 ghost use Rattle.mig_packet.specs.Taking.{HasTaken};
 ghost use Rattle.mig_packet.specs.Filling.{Fills};
 ghost use Rattle.mig_packet.specs.Reader.{IsUnfinished, ReadsOn, Stands, StepsOn, Tells, nothing_yet, with_piece, over, one_taken, waiting};
-ghost use Rattle.mig_packet.specs.Reader.{HasState, IsSettled, HasHello, HasRound};
+ghost use Rattle.mig_packet.specs.Reader.{HasState, IsSettled, IsValidUpTo, HasHello, HasRound};
 
 use crate::progress::Progress;
 use crate::round::{PacketRound, PacketText};
 use crate::{ChannelFault, ChannelState, NoMemory};
 use std::alloc::{Allocator, Global};
 use std::marker::Model;
-use std::mem;
+use std::{fmt, mem};
 use uuid::Uuid;
 
 /// Reads a channel from pieces of its text. What it tells is the reading of all bytes fed, however they were cut.
@@ -31,6 +31,8 @@ pub struct ChannelReader<A: Allocator = Global> {
     pending: Vec<u8, A>,
     // how the bytes fed stand, whether or not the text is over
     found: ChannelState,
+    // how many of the bytes fed are complete items without a fault
+    valid_up_to: u64,
     fed: u64,
     ended: bool,
 }
@@ -42,9 +44,16 @@ impl<A: Allocator> Model for ChannelReader<A> {
 
     ghost Value = { Reader };
 
-    ghost view = { λ r. record { progress = r.progress; pending = r.pending.items; found = r.found; fed = r.fed; ended = r.ended } };
+    ghost view = { λ r. record { progress = r.progress; pending = r.pending.items; found = r.found; valid_up_to = r.valid_up_to; fed = r.fed; ended = r.ended } };
 
     ghost invariant = { λ r. r.found ≡ state.Reading → IsUnfinished r.progress r.pending.items };
+}
+
+// The guest's bytes aren't printed.
+impl<A: Allocator> fmt::Debug for ChannelReader<A> {
+    fn fmt<W: fmt::Write>(&self, f: &mut fmt::Formatter<W>) -> fmt::Result {
+        f.pad("ChannelReader { .. }")
+    }
 }
 
 /// What a piece made of the item that wasn't whole.
@@ -120,13 +129,14 @@ fn keep<A: Allocator>(kept: &mut Vec<u8, A>, bytes: &[u8], room: usize) -> Resul
     Ok(())
 }
 
-// Reads bytes in place, and keeps those of an item that isn't whole. After an `Err` some items were taken.
+// Reads bytes in place, and keeps those of an item that isn't whole. Returns how the text stands,
+// and how many bytes are left. After an `Err` some items were taken.
 fn read_in_place<A: Allocator + Copy>(
     progress: &mut Progress<A>,
     pending: &mut Vec<u8, A>,
     bytes: &[u8],
-) -> Result<ChannelState, NoMemory>
-    ensures ok { IfOk result (λ found. ReadsOn progress.old bytes.now progress.new pending.new.items found) }
+) -> Result<(ChannelState, usize), NoMemory>
+    ensures ok { IfOk result (λ r. ReadsOn progress.old bytes.now progress.new pending.new.items r.1 r.0) }
     ensures err { OnErr result (HasTaken progress.old bytes.now progress.new) }
     ensures kept { OnErr result (pending.new.items ≡ pending.old.items) }
 {
@@ -135,7 +145,7 @@ fn read_in_place<A: Allocator + Copy>(
         ChannelState::Reading => keep(pending, rest, progress.room(rest))?,
         _ => pending.clear(),
     }
-    Ok(found)
+    Ok((found, rest.len()))
 }
 
 // Takes the pending packet, whose bytes stay where they are, and reads what follows it. An `Err` changes nothing.
@@ -143,11 +153,11 @@ fn read_behind_packet<A: Allocator + Copy>(
     progress: &mut Progress<A>,
     pending: &mut Vec<u8, A>,
     rest: &[u8],
-) -> Result<ChannelState, NoMemory>
+) -> Result<(ChannelState, usize), NoMemory>
     requires hello { progress.old.hello ≢ None }
     requires whole { IsItem progress.old.page_size progress.old.hello pending.old.items }
     requires faultless { first_fault progress.old pending.old.items ≡ None }
-    ensures ok { IfOk result (λ found. ReadsOn progress.old (pending.old.items ++ rest.now) progress.new pending.new.items found) }
+    ensures ok { IfOk result (λ r. ReadsOn progress.old (pending.old.items ++ rest.now) progress.new pending.new.items r.1 r.0) }
     ensures err { OnErr result ((progress.new ≡ progress.old) × (pending.new.items ≡ pending.old.items)) }
 {
     let checkpoint = progress.checkpoint();
@@ -158,7 +168,7 @@ fn read_behind_packet<A: Allocator + Copy>(
         return Err(NoMemory);
     }
     match read_in_place(progress, pending, rest) {
-        Ok(found) => Ok(found),
+        Ok(read) => Ok(read),
         Err(error) => {
             if let Some(packet) = progress.undo(checkpoint) {
                 *pending = packet.into_bytes();
@@ -173,10 +183,10 @@ fn read_behind<A: Allocator + Copy>(
     progress: &mut Progress<A>,
     pending: &mut Vec<u8, A>,
     rest: &[u8],
-) -> Result<ChannelState, NoMemory>
+) -> Result<(ChannelState, usize), NoMemory>
     requires whole { IsItem progress.old.page_size progress.old.hello pending.old.items }
     requires faultless { first_fault progress.old pending.old.items ≡ None }
-    ensures ok { IfOk result (λ found. ReadsOn progress.old (pending.old.items ++ rest.now) progress.new pending.new.items found) }
+    ensures ok { IfOk result (λ r. ReadsOn progress.old (pending.old.items ++ rest.now) progress.new pending.new.items r.1 r.0) }
     ensures err { OnErr result (HasTaken progress.old (pending.old.items ++ rest.now) progress.new) }
     ensures kept { OnErr result (pending.new.items ≡ pending.old.items) }
 {
@@ -193,19 +203,20 @@ fn read<A: Allocator + Copy>(
     progress: &mut Progress<A>,
     pending: &mut Vec<u8, A>,
     piece: &[u8],
-) -> Result<ChannelState, NoMemory>
+) -> Result<(ChannelState, usize), NoMemory>
     requires { IsUnfinished progress.old pending.old.items }
-    ensures ok { IfOk result (λ found. ReadsOn progress.old (pending.old.items ++ piece.now) progress.new pending.new.items found) }
+    ensures ok { IfOk result (λ r. ReadsOn progress.old (pending.old.items ++ piece.now) progress.new pending.new.items r.1 r.0) }
     ensures err { OnErr result (HasTaken progress.old (pending.old.items ++ piece.now) progress.new) }
     ensures kept { OnErr result (take (length pending.old.items) pending.new.items ≡ pending.old.items) }
 {
     if pending.is_empty() {
         return read_in_place(progress, pending, piece);
     }
+    let left = pending.len() + piece.len();
     match fill_up(progress, pending, piece)? {
         Filled::Whole(rest) => read_behind(progress, pending, rest),
-        Filled::Unfinished => Ok(ChannelState::Reading),
-        Filled::Faulty(fault) => Ok(ChannelState::Bad(fault)),
+        Filled::Unfinished => Ok((ChannelState::Reading, left)),
+        Filled::Faulty(fault) => Ok((ChannelState::Bad(fault), left)),
     }
 }
 
@@ -222,6 +233,7 @@ impl<A: Allocator + Copy> ChannelReader<A> {
             progress: Progress::new(alloc, page_size, uuid, channels),
             pending: Vec::new(alloc),
             found: ChannelState::Reading,
+            valid_up_to: 0,
             fed: 0,
             ended: false,
         }
@@ -242,24 +254,25 @@ impl<A: Allocator + Copy> ChannelReader<A> {
             self.fed += piece.len() as u64;
             return Ok(());
         }
-        self.read_on(piece)?;
+        let left = self.read_on(piece)?;
         self.fed += piece.len() as u64;
+        self.valid_up_to = self.fed.saturating_sub(left as u64);
         Ok(())
     }
 
-    // Reads on. An `Err` changes nothing.
-    fn read_on(&mut self, piece: &[u8]) -> Result<(), NoMemory>
+    // Reads on, and returns how many bytes are left. An `Err` changes nothing.
+    fn read_on(&mut self, piece: &[u8]) -> Result<usize, NoMemory>
         requires { self.old.found ≡ state.Reading }
-        ensures ok { OnOk result (ReadsOn self.old.progress (self.old.pending ++ piece.now) self.new.progress self.new.pending self.new.found) }
+        ensures ok { IfOk result (λ left. ReadsOn self.old.progress (self.old.pending ++ piece.now) self.new.progress self.new.pending left self.new.found) }
         ensures same { OnOk result ((self.new.fed ≡ self.old.fed) × (self.new.ended ≡ self.old.ended)) }
         ensures err { OnErr result (self.new ≡ self.old) }
     {
         let checkpoint = self.progress.checkpoint();
         let len = self.pending.len();
         match read(&mut self.progress, &mut self.pending, piece) {
-            Ok(found) => {
+            Ok((found, left)) => {
                 self.found = found;
-                Ok(())
+                Ok(left)
             }
             Err(error) => {
                 drop(self.progress.undo(checkpoint));
@@ -313,6 +326,18 @@ impl<A: Allocator> ChannelReader<A> {
         } else {
             self.found
         }
+    }
+
+    /// Returns how many of the bytes fed are complete items without a fault, from the first byte
+    /// on. If the channel is bad, the item at fault begins after them. Otherwise an item that isn't
+    /// complete begins there, if bytes follow.
+    ///
+    /// A channel that was ended too early is bad as well: `Truncated` begins there, and `Unsynced`
+    /// stands after the last byte.
+    pub fn valid_up_to(&self) -> u64
+        ensures { Tells self.now (λ given so_far. IsValidUpTo given so_far.text result) }
+    {
+        self.valid_up_to
     }
 
     // How a text without a fault stands once it is over.

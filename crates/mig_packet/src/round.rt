@@ -6,6 +6,7 @@ ghost use Rattle.mig_packet.specs.Reader.{IsPacketRound};
 use crate::NoMemory;
 use crate::packet::Packet;
 use std::alloc::{AllocFailed, Allocator, Global};
+use std::fmt;
 use std::marker::Model;
 
 /// The text of a packet, in memory of its own.
@@ -140,6 +141,13 @@ impl<A: Allocator> Model for PacketRound<A> {
     ghost view = { λ r. record { page_size = r.page_size; packets = r.packets } };
 
     ghost invariant = { λ r. IsPacketRound r.page_size r.packets };
+}
+
+// The guest's bytes aren't printed.
+impl<A: Allocator> fmt::Debug for PacketRound<A> {
+    fn fmt<W: fmt::Write>(&self, f: &mut fmt::Formatter<W>) -> fmt::Result {
+        f.pad("PacketRound { .. }")
+    }
 }
 
 impl<A: Allocator> PacketRound<A> {

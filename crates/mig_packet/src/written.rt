@@ -7,9 +7,10 @@ ghost use Rattle.mig_packet.specs.Written.{written_packet};
 use crate::NoMemory;
 use crate::put::put_packet;
 use std::alloc::Allocator;
+use std::fmt;
 
 /// What a packet says: the fields by which one is written.
-#[derive(Clone, Copy, Debug)]
+#[derive(Clone, Copy)]
 pub struct PacketFields<'a> {
     pub number: u64,
     /// Whether it ends its channel's round: `MULTIFD_FLAG_SYNC`.
@@ -22,6 +23,13 @@ pub struct PacketFields<'a> {
     pub contents: &'a [u8],
     /// The offsets of its pages of zeros.
     pub zero: &'a [u64],
+}
+
+// The guest's bytes aren't printed.
+impl fmt::Debug for PacketFields<'_> {
+    fn fmt<W: fmt::Write>(&self, f: &mut fmt::Formatter<W>) -> fmt::Result {
+        f.pad("PacketFields { .. }")
+    }
 }
 
 impl PacketFields<'_> {

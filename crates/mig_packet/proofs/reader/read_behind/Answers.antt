@@ -11,9 +11,9 @@ returns-clause-ok g c =
     let p = c.args.progress.now in
     let item : List ℕ = c.args.pending.now.items in
     let next : c.take.new.self ≡ after p item = subst (λ (x : List ℕ). c.take.new.self ≡ after p x) c.deref.ensures.value c.in_ok-take.ensures.ok in
-    IfOk-weaker c.read_in_place.result (λ found. ReadsOn c.take.new.self c.args.rest.now c.read_in_place.new.progress c.read_in_place.new.pending.items found)
-    (λ found. ReadsOn p (item ++ c.args.rest.now) c.read_in_place.new.progress c.read_in_place.new.pending.items found)
-    (λ found r. reads_behind p c.take.new.self c.read_in_place.new.progress item c.args.rest.now c.read_in_place.new.pending.items found c.requires.whole
+    IfOk-weaker c.read_in_place.result (λ t. ReadsOn c.take.new.self c.args.rest.now c.read_in_place.new.progress c.read_in_place.new.pending.items t.1 t.0)
+    (λ t. ReadsOn p (item ++ c.args.rest.now) c.read_in_place.new.progress c.read_in_place.new.pending.items t.1 t.0)
+    (λ t r. reads_behind p c.take.new.self c.read_in_place.new.progress item c.args.rest.now c.read_in_place.new.pending.items t.1 t.0 c.requires.whole
     c.requires.faultless next r) c.read_in_place.ensures.ok
 
 pub returns-clause-err : goal.returns-clause-err

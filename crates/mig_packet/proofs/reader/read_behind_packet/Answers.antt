@@ -11,7 +11,7 @@ returns-in-Ok-clause-ok g c =
     let packet : c.of-packet.result ≡ item = search rules in
     let mid : c.take_packet.new.self ≡ after_packet p item = subst (λ (x : List ℕ). c.take_packet.new.self ≡ after_packet p x) packet c.in_default.ensures.ok in
     let next : c.take_packet.new.self ≡ after p item = mid ∙ sym (after_is p p.hello item c.requires.hello) in
-    reads_behind p c.take_packet.new.self c.read_in_place.new.progress item c.args.rest.now c.read_in_place.new.pending.items c.in-Ok.found c.requires.whole
+    reads_behind p c.take_packet.new.self c.read_in_place.new.progress item c.args.rest.now c.read_in_place.new.pending.items c.in-Ok.read.1 c.in-Ok.read.0 c.requires.whole
     c.requires.faultless next c.in-Ok.ensures.ok
 
 pub returns-in-Some-clause-err : goal.returns-in-Some-clause-err

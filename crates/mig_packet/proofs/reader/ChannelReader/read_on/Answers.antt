@@ -4,7 +4,7 @@ use Rattle.mig_packet.proofs.Later.{IsLater-front}
 use Rattle.mig_packet.proofs.reader.ChannelReader.read_on.Goals as goal
 
 pub invariant_of-self : goal.invariant_of-self
-invariant_of-self g c = unfinished_behind c.self.inside.progress _ c.read.new.progress c.read.new.pending.items c.in-Ok.found c.in-Ok.ensures.ok
+invariant_of-self g c = unfinished_behind c.self.inside.progress _ c.read.new.progress c.read.new.pending.items c.in-Ok.left c.in-Ok.found c.in-Ok.ensures.ok
 
 pub invariant_of-self-in-Err : goal.invariant_of-self-in-Err
 invariant_of-self-in-Err g c =
