@@ -1,13 +1,13 @@
--- Where a text is closed.
-use Rattle.std.proofs.Common.{◌≡◌, ◌≢◌, ℕ, ◌+◌, List, [], ◌++◌, length, take, drop, Some, None, refl, sym, ap, subst, ◌∙◌, arith}
+-- Where a text is closed, and up to where it is valid.
+use Rattle.std.proofs.Common.{◌≡◌, ◌≢◌, ℕ, ◌+◌, ◌-◌, ◌<◌, ◌^◌, List, [], ◌++◌, length, take, drop, Option, Some, None, refl, sym, ap, subst, ◌∙◌, arith}
 use Rattle.std.specs.Prelude.{IfSome}
 use Rattle.std.proofs.lemmas.List.{append-nil, length-append, length-drop, take_at, drop_at, take-append-drop}
 use Rattle.mig_stream.specs.declared.item.StreamState.{StreamState}
-use Rattle.mig_stream.specs.declared.item.StreamState.TheVariants.{Closed}
+use Rattle.mig_stream.specs.declared.item.StreamState.TheVariants.{Reading, Closed}
 use Rattle.mig_stream.specs.Progress.{StreamProgress, start, whole_table}
 use Rattle.mig_stream.specs.Reading.{Settings, Ends, Reads, IsReading}
-use Rattle.mig_stream.specs.Reader.{Reader, with_taken, Tells, IsClosedAt, HasClosedAt}
-use Rattle.mig_stream.specs.Giving.{Giver, all_read, GiverTells, IsBehind}
+use Rattle.mig_stream.specs.Reader.{Reader, with_taken, Tells, HasFront, IsValidUpTo, IsClosedAt, HasClosedAt}
+use Rattle.mig_stream.specs.Giving.{Giver, GivenSoFar, all_read, Gives, GiverTells, IsBehind, Paused, giver_at, PauseTells}
 use Rattle.mig_stream.proofs.Later.{Reads-more}
 use Rattle.mig_stream.proofs.Unique.{one_reading}
 
@@ -41,9 +41,9 @@ closed_by given text to rest n r count =
           omega (arith, lt, count, ap length same.1, length-append is.rest (drop m text), length-drop m text);
     }
 
-pub closed_stands : (r : Reader) → r.found ≡ Closed → Tells r (λ given so_far. IsClosedAt given so_far.text r.closed_at)
+pub closed_stands : (r : Reader) → r.found ≡ Closed → Tells r (λ given so_far. IsClosedAt given so_far.text r.valid_up_to)
 closed_stands r closed given so_far s =
-    closed_by given so_far.text (with_taken s.rounds r.progress) s.rest r.closed_at (subst (λ (x : StreamState). Reads (from given) so_far.text (with_taken s.rounds r.progress) s.rest x) closed s.reads) (s.has_closed_at closed)
+    closed_by given so_far.text (with_taken s.rounds r.progress) s.rest r.valid_up_to (subst (λ (x : StreamState). Reads (from given) so_far.text (with_taken s.rounds r.progress) s.rest x) closed s.reads) s.has_valid_up_to
 
 pub open_stands : (r : Reader) → r.found ≢ Closed → Tells r (λ given so_far. HasClosedAt given so_far.text None)
 open_stands r other given so_far s = (
@@ -61,3 +61,48 @@ behind_stands r closed given text so_far g =
       is_closed_at = closed_by given text to r.rest (length g.front) (record { front = g.front; has_text = g.has_text; leads = g.leads; ends = ends }) (sym (ap length g.has_text ∙ length-append g.front r.rest));
       has_rest = sym (ap (drop (length g.front)) g.has_text ∙ drop_at g.front r.rest (length g.front) refl);
     }
+
+-- ---- up to where a text is valid
+
+pub valid_stands : (r : Reader) → Tells r (λ given so_far. IsValidUpTo given so_far.text r.valid_up_to)
+valid_stands r given so_far s = record {
+  to = with_taken s.rounds r.progress;
+  rest = s.rest;
+  state = r.found;
+  reads = s.reads;
+  has_length = omega (arith, s.has_valid_up_to, ap length s.reads.has_text, length-append s.reads.front s.rest);
+}
+
+-- how long the front is, where so many bytes were fed and these are left
+front_length : (text front rest : List ℕ) (fed n : ℕ) → text ≡ front ++ rest → fed ≡ length text → n ≡ fed - length rest → length front ≡ n
+front_length text front rest fed n is fed_is n_is = omega (arith, n_is, fed_is, ap length is, length-append front rest)
+
+pub front_given : (r : Giver) (n : ℕ) → n ≡ r.fed - length r.rest → GiverTells r (λ given text so_far. length text < 2 ^ 64 → HasFront given text n)
+front_given r n is given text so_far g few = record {
+  to = all_read so_far r.progress;
+  front = g.front;
+  rest = r.rest;
+  has_text = g.has_text;
+  has_length = front_length text g.front r.rest r.fed n g.has_text (g.has_fed few) is;
+  leads = g.leads;
+}
+
+valid_where : (r : Giver) (n : ℕ) (o : Option StreamState) → r.found ≡ o → o ≢ None → n ≡ r.fed - length r.rest
+    → (given : Settings) (text : List ℕ) (so_far : GivenSoFar) → Gives given text so_far r → length text < 2 ^ 64 → IsValidUpTo given text n
+valid_where r n None found some is given text so_far g few = absurd (some refl)
+valid_where r n (Some state) found some is given text so_far g few =
+    let to : StreamProgress = all_read so_far r.progress in
+    let ends : Ends to r.rest state = subst (λ o. IfSome o (λ s. Ends to r.rest s)) found g.ends in
+    record {
+      to = to;
+      rest = r.rest;
+      state = state;
+      reads = record { front = g.front; has_text = g.has_text; leads = g.leads; ends = ends };
+      has_length = front_length text g.front r.rest r.fed n g.has_text (g.has_fed few) is;
+    }
+
+pub valid_given : (r : Giver) (n : ℕ) → n ≡ r.fed - length r.rest → r.found ≢ None → GiverTells r (λ given text so_far. length text < 2 ^ 64 → IsValidUpTo given text n)
+valid_given r n is some = valid_where r n r.found refl some is
+
+pub valid_paused : (p : Paused) (n : ℕ) → n ≡ p.fed - length p.pending → PauseTells p (λ given text so_far. length text < 2 ^ 64 → IsValidUpTo given text n)
+valid_paused p n is = valid_where (giver_at p) n (Some Reading) refl (λ e. absurd cc) is

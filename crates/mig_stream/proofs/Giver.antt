@@ -1,6 +1,7 @@
 -- Records that were given, and those that are read behind them.
-use Rattle.std.proofs.Common.{◌≡◌, ℕ, cond, ◌+◌, ◌*◌, ◌<◌, Bool, true, false, not, ◌&&◌, ◌||◌, ◌==◌, All, List, [], ◌∷◌, ◌++◌, length, get_or, Option, Some, None, refl, sym, ap, subst, ◌∙◌, append_assoc, arith, ◌≤◌, inl}
-use Rattle.std.specs.Prelude.{IfSome, slice_index, IfNone}
+use Rattle.std.proofs.Common.{◌≡◌, ℕ, cond, ◌+◌, ◌-◌, ◌*◌, ◌^◌, ◌<◌, Bool, true, false, not, ◌&&◌, ◌||◌, ◌==◌, All, List, [], ◌∷◌, ◌++◌, length, get_or, Option, Some, None, refl, sym, ap, subst, ◌∙◌, append_assoc, arith, ◌≤◌, inl}
+use Rattle.std.specs.Prelude.{IfSome, slice_index, IfNone, min}
+use Rattle.std.proofs.Math.Nat.{min-eq_left}
 use Rattle.std.specs.Bool.{then_some}
 use Rattle.std.proofs.lemmas.List.{append-nil, length-append, get_or_at, get_or-append-add}
 use Rattle.mig_mem.specs.PageSize.{IsPageSize}
@@ -200,14 +201,16 @@ reads_single given text so_far r g =
 pub same_page_size : (given : Settings) (text : List ℕ) (so_far : GivenSoFar) (r : Giver) → Gives given text so_far r → r.progress.page_size ≡ given.page_size
 same_page_size given text so_far r g = (IsLater-front (start given.frame given.mode given.page_size given.limit) (all_read so_far r.progress) g.front g.leads).same_page_size
 
-pub gives_first : (given : Settings) (text : List ℕ) (r : Giver) → given.mode ≡ Single → IsPageSize given.page_size → r.progress ≡ start given.frame given.mode given.page_size given.limit → r.rest ≡ text → r.found ≡ None → Gives given text none_given r
-gives_first given text r single size progress rest found = record {
+pub gives_first : (given : Settings) (text : List ℕ) (r : Giver) → given.mode ≡ Single → IsPageSize given.page_size → r.progress ≡ start given.frame given.mode given.page_size given.limit → r.rest ≡ text → r.found ≡ None
+    → r.fed ≡ length text → Gives given text none_given r
+gives_first given text r single size progress rest found fed = record {
   is_single = single;
   is_page_size = size;
   front = [];
   has_text = sym rest;
   leads = subst (λ (c : StreamProgress). Front (start given.frame given.mode given.page_size given.limit) [] (all_read none_given c)) (sym progress) (Front-none (start given.frame given.mode given.page_size given.limit));
   ends = subst (λ (o : Option StreamState). IfSome o (λ s. Ends (all_read none_given r.progress) r.rest s)) (sym found) tt;
+  has_fed = λ _. fed;
 }
 
 ends_each : (b : List PageRecord) (g : List (List PageRecord)) (c : StreamProgress) (rest : List ℕ) (o : Option StreamState) → c.mode ≡ Single → IfSome o (λ s. Ends c rest s)
@@ -217,8 +220,8 @@ ends_each b g c rest (Some s) single e = Ends-taken g (with_open b c) rest s (En
 
 -- items that are taken stay to be given
 pub reads_behind : (given : Settings) (text : List ℕ) (so_far : GivenSoFar) (old new : Giver) → HasTakenTo old.progress old.rest new.rest new.progress → IfSome new.found (λ s. Ends new.progress new.rest s)
-    → Gives given text so_far old → Gives given text so_far new
-reads_behind given text so_far old new taken ends g =
+    → new.fed ≡ old.fed → Gives given text so_far old → Gives given text so_far new
+reads_behind given text so_far old new taken ends fed g =
     let single = reads_single given text so_far old g in
     let there = (IsLater-front old.progress new.progress taken.0 taken.2).same_mode ∙ single in
     let o : StreamProgress = with_open so_far.open_section old.progress in
@@ -230,6 +233,7 @@ reads_behind given text so_far old new taken ends g =
       leads = Front-append (start given.frame given.mode given.page_size given.limit) (all_read so_far old.progress) (all_read so_far new.progress) g.front taken.0 g.leads
           (Front-taken so_far.sections o n taken.0 (Front-open so_far.open_section old.progress new.progress taken.0 single taken.2));
       ends = ends_each so_far.open_section so_far.sections new.progress new.rest new.found there ends;
+      has_fed = λ few. fed ∙ g.has_fed few;
     }
 
 -- ---- giving
@@ -265,9 +269,9 @@ all_more so_far old new none is =
     ap (λ (x : List (List PageRecord)). record old { records = records_behind (b ++ old.records) x []; rounds = q ++ rounds_behind (b ++ old.records) x }) none in
     here ∙ ap (λ (x : List PageRecord). record old { records = x; rounds = q ++ [] }) (sym (append-nil (b ++ old.records))) ∙ sym there ∙ ap (all_read (with_more old.records so_far)) (sym is)
 
-pub gives_same : (given : Settings) (text : List ℕ) (so_far then : GivenSoFar) (old new : Giver) → all_read so_far old.progress ≡ all_read then new.progress → new.rest ≡ old.rest → new.found ≡ old.found
+pub gives_same : (given : Settings) (text : List ℕ) (so_far then : GivenSoFar) (old new : Giver) → all_read so_far old.progress ≡ all_read then new.progress → new.rest ≡ old.rest → new.found ≡ old.found → new.fed ≡ old.fed
     → Gives given text so_far old → Gives given text then new
-gives_same given text so_far then old new same rest found g = record {
+gives_same given text so_far then old new same rest found fed g = record {
   is_single = g.is_single;
   is_page_size = g.is_page_size;
   front = g.front;
@@ -276,18 +280,20 @@ gives_same given text so_far then old new same rest found g = record {
   ends = subst (λ (o : Option StreamState). IfSome o (λ s. Ends (all_read then new.progress) new.rest s)) (sym found)
       (subst (λ (x : List ℕ). IfSome old.found (λ s. Ends (all_read then new.progress) x s)) (sym rest)
       (subst (λ (c : StreamProgress). IfSome old.found (λ s. Ends c old.rest s)) same g.ends));
+  has_fed = λ few. fed ∙ g.has_fed few;
 }
 
-pub gives_last : (given : Settings) (text : List ℕ) (so_far : GivenSoFar) (old new : Giver) (records : List PageRecord) → old.progress ≡ with_taken (records ∷ []) new.progress → new.rest ≡ old.rest → new.found ≡ old.found
+pub gives_last : (given : Settings) (text : List ℕ) (so_far : GivenSoFar) (old new : Giver) (records : List PageRecord) → old.progress ≡ with_taken (records ∷ []) new.progress → new.rest ≡ old.rest → new.found ≡ old.found → new.fed ≡ old.fed
     → Gives given text so_far old → Gives given text (with_last records so_far) new
-gives_last given text so_far old new records is rest found g =
-    gives_same given text so_far (with_last records so_far) old new (all_last so_far old.progress new.progress records is) rest found g
+gives_last given text so_far old new records is rest found fed g =
+    gives_same given text so_far (with_last records so_far) old new (all_last so_far old.progress new.progress records is) rest found fed g
 
 pub gives_more : (given : Settings) (text : List ℕ) (so_far : GivenSoFar) (old new : Giver) (records : List PageRecord) → records ≡ old.progress.records → old.progress.rounds ≡ []
-    → new.progress ≡ record old.progress { records = [] } → new.rest ≡ old.rest → new.found ≡ old.found → Gives given text so_far old → Gives given text (with_more records so_far) new
-gives_more given text so_far old new records are none is rest found g =
+    → new.progress ≡ record old.progress { records = [] } → new.rest ≡ old.rest → new.found ≡ old.found → new.fed ≡ old.fed
+    → Gives given text so_far old → Gives given text (with_more records so_far) new
+gives_more given text so_far old new records are none is rest found fed g =
     gives_same given text so_far (with_more records so_far) old new
-    (all_more so_far old.progress new.progress none is ∙ ap (λ (x : List PageRecord). all_read (with_more x so_far) new.progress) (sym are)) rest found g
+    (all_more so_far old.progress new.progress none is ∙ ap (λ (x : List PageRecord). all_read (with_more x so_far) new.progress) (sym are)) rest found fed g
 
 -- ---- what the text is read as
 
@@ -424,8 +430,9 @@ unread_behind c pending rest (Some Reading) none closed ends = ends_unfinished c
 unread_behind c pending rest (Some Closed) none closed ends = closed refl
 unread_behind c pending rest (Some (Bad f)) none closed ends = tt
 
-pub pauses_first : (given : Settings) (p : Paused) → given.mode ≡ Single → IsPageSize given.page_size → p.progress ≡ start given.frame given.mode given.page_size given.limit → p.pending ≡ [] → PausesAt given [] none_given p
-pauses_first given p single size progress pending =
+pub pauses_first : (given : Settings) (p : Paused) → given.mode ≡ Single → IsPageSize given.page_size → p.progress ≡ start given.frame given.mode given.page_size given.limit → p.pending ≡ []
+    → p.fed ≡ 0 → PausesAt given [] none_given p
+pauses_first given p single size progress pending fed =
     let c : StreamProgress = start given.frame given.mode given.page_size given.limit in
     record {
       is_single = single;
@@ -435,6 +442,7 @@ pauses_first given p single size progress pending =
       leads = subst (λ (x : StreamProgress). Front c [] (all_read none_given x)) (sym progress) (Front-none c);
       ends = subst (λ (x : StreamProgress). Ends (all_read none_given x) p.pending Reading) (sym progress)
           (subst (λ (x : List ℕ). Ends c x Reading) (sym pending) (reads_short c [] (omega arith)).ends);
+      has_fed = λ _. fed;
     }
 
 pub paused_table : (given : Settings) (text : List ℕ) (so_far : GivenSoFar) (p : Paused) → PausesAt given text so_far p → HasTable given text (whole_table p.progress)
@@ -445,21 +453,29 @@ paused_table given text so_far p at =
       refl,
     )
 
+-- a count that stays below 2^64 is exact
+fed_more : (text piece both before now : ℕ) → both ≡ text + piece → both < 2 ^ 64 → (text < 2 ^ 64 → before ≡ text) → now ≡ min (before + piece) (2 ^ 64 - 1) → now ≡ both
+fed_more text piece both before now sum few was is =
+    let here : before ≡ text = was (omega (arith, sum, few)) in
+    is ∙ min-eq_left (omega (arith, here, sum, few)) ∙ omega (arith, here, sum)
+
 -- a piece more of the text
-pub resumed : (given : Settings) (text piece : List ℕ) (so_far : GivenSoFar) (p : Paused) (r : Giver) → r.progress ≡ p.progress → r.rest ≡ p.pending ++ piece → r.found ≡ None → PausesAt given text so_far p
-    → Gives given (text ++ piece) so_far r
-resumed given text piece so_far p r progress rest found at = record {
+pub resumed : (given : Settings) (text piece : List ℕ) (so_far : GivenSoFar) (p : Paused) (r : Giver) → r.progress ≡ p.progress → r.rest ≡ p.pending ++ piece → r.found ≡ None
+    → r.fed ≡ min (p.fed + length piece) (2 ^ 64 - 1) → PausesAt given text so_far p → Gives given (text ++ piece) so_far r
+resumed given text piece so_far p r progress rest found fed at = record {
   is_single = at.is_single;
   is_page_size = at.is_page_size;
   front = at.front;
   has_text = ap (λ (x : List ℕ). x ++ piece) at.has_text ∙ append_assoc at.front p.pending piece ∙ ap (λ (x : List ℕ). at.front ++ x) (sym rest);
   leads = subst (λ (x : StreamProgress). Front (start given.frame given.mode given.page_size given.limit) at.front (all_read so_far x)) (sym progress) at.leads;
   ends = subst (λ (o : Option StreamState). IfSome o (λ s. Ends (all_read so_far r.progress) r.rest s)) (sym found) tt;
+  has_fed = λ few. fed_more (length text) (length piece) (length (text ++ piece)) p.fed r.fed (length-append text piece) few at.has_fed fed;
 }
 
 -- the same at a pause
-pub paused : (given : Settings) (text : List ℕ) (so_far : GivenSoFar) (r : Giver) (p : Paused) → r.found ≡ Some Reading → p.progress ≡ r.progress → p.pending ≡ r.rest → Gives given text so_far r → PausesAt given text so_far p
-paused given text so_far r p found progress rest g = gives_same given text so_far so_far r (giver_at p) (ap (all_read so_far) (sym progress)) rest (sym found) g
+pub paused : (given : Settings) (text : List ℕ) (so_far : GivenSoFar) (r : Giver) (p : Paused) → r.found ≡ Some Reading → p.progress ≡ r.progress → p.pending ≡ r.rest → p.fed ≡ r.fed
+    → Gives given text so_far r → PausesAt given text so_far p
+paused given text so_far r p found progress rest fed g = gives_same given text so_far so_far r (giver_at p) (ap (all_read so_far) (sym progress)) rest (sym found) fed g
 
 -- ---- before the table, and how many sections there are
 

@@ -44,5 +44,7 @@ pub mod Between
 pub mod Giver
 pub mod Waiting
 pub mod Closing
+pub mod Valid
 pub mod WrittenMachine
+pub mod Configured
 mod Examples

@@ -6,7 +6,7 @@ use Rattle.std.specs.Bool.{then_some}
 use Rattle.mig_mem.specs.RamTable.{RamTable}
 use Rattle.mig_mem.specs.Place.{IsPlace}
 use Rattle.mig_stream.specs.declared.item.StreamState.{StreamState}
-use Rattle.mig_stream.specs.declared.item.StreamState.TheVariants.{Reading, Closed}
+use Rattle.mig_stream.specs.declared.item.StreamState.TheVariants.{Reading}
 use Rattle.mig_stream.specs.PageRecord.{PageRecord}
 use Rattle.mig_stream.specs.Progress.{StreamProgress, start, is_used_up, table_of, whole_table}
 use Rattle.mig_stream.specs.Reading.{Settings, Reads, StreamReading, IsReading, state_at}
@@ -22,9 +22,9 @@ use Rattle.mig_stream.proofs.Placing.{placed_front}
 abbrev from : Settings → StreamProgress
 from given = start given.frame given.mode given.page_size given.limit
 
-pub stands_first : (given : Settings) (r : Reader) → r.progress ≡ start given.frame given.mode given.page_size given.limit → r.pending ≡ [] → r.found ≡ Reading → r.fed ≡ 0 → r.ended ≡ false
+pub stands_first : (given : Settings) (r : Reader) → r.progress ≡ start given.frame given.mode given.page_size given.limit → r.pending ≡ [] → r.found ≡ Reading → r.valid_up_to ≡ 0 → r.fed ≡ 0 → r.ended ≡ false
     → Stands given nothing_yet r
-stands_first given r progress pending found fed ended = record {
+stands_first given r progress pending found valid fed ended = record {
   has_fed = fed;
   has_ended = ended;
   rounds = [];
@@ -33,14 +33,14 @@ stands_first given r progress pending found fed ended = record {
   reads = subst (λ (s : StreamState). Reads (from given) [] r.progress [] s) (sym found)
       (subst (λ (c : StreamProgress). Reads (from given) [] c [] Reading) (sym progress) (reads_short (from given) [] (omega arith)));
   has_pending = λ _. sym pending;
-  has_closed_at = λ closed. absurd (let clash : Reading ≡ Closed = sym found ∙ closed in cc);
+  has_valid_up_to = omega (arith, valid);
 }
 
 -- after a piece that was read
-pub fed_on : (old mid : Reader) (piece : List ℕ) (left closed_at : ℕ) → closed_at ≡ mid.fed + length piece - left → old.found ≡ Reading
+pub fed_on : (old mid : Reader) (piece : List ℕ) (left valid_up_to : ℕ) → valid_up_to ≡ mid.fed + length piece - left → old.found ≡ Reading
     → ReadsOn old.progress (old.pending ++ piece) mid.progress mid.pending left mid.found → mid.fed ≡ old.fed → mid.ended ≡ old.ended
-    → StepsOn (with_piece piece) old (record mid { closed_at = closed_at; fed = mid.fed + length piece })
-fed_on old mid piece left closed_at at_is reading run same_fed same_ended given so_far s =
+    → StepsOn (with_piece piece) old (record mid { valid_up_to = valid_up_to; fed = mid.fed + length piece })
+fed_on old mid piece left valid_up_to at_is reading run same_fed same_ended given so_far s =
     let text : List ℕ = so_far.text in
     let kept : s.rest ≡ old.pending = s.has_pending reading in
     let reads : Reads (from given) text (with_taken s.rounds old.progress) old.pending Reading =
@@ -54,16 +54,16 @@ fed_on old mid piece left closed_at at_is reading run same_fed same_ended given 
       rest = run.rest;
       reads = Reads-on s.rounds (from given) old.progress mid.progress text old.pending piece run.rest mid.found reads run.reads;
       has_pending = run.has_rest;
-      has_closed_at = λ _.
+      has_valid_up_to =
           let bytes : length (text ++ piece) ≡ length s.reads.front + length run.reads.front + length run.rest =
           length-append text piece ∙ omega (arith, ap length s.reads.has_text, length-append s.reads.front s.rest, ap length kept, ap length run.reads.has_text, length-append old.pending piece, length-append run.reads.front run.rest) in
           omega (arith, at_is, bytes, run.has_left, same_fed, s.has_fed, length-append text piece);
     }
 
 -- after a whole text that was read at once
-pub text_read : (given : Settings) (r : Reader) (text : List ℕ) (left : ℕ) → ReadsOn (from given) text r.progress r.pending left r.found → r.closed_at ≡ length text - left → r.fed ≡ length text → r.ended ≡ false
+pub text_read : (given : Settings) (r : Reader) (text : List ℕ) (left : ℕ) → ReadsOn (from given) text r.progress r.pending left r.found → r.valid_up_to ≡ length text - left → r.fed ≡ length text → r.ended ≡ false
     → Stands given (with_piece text nothing_yet) r
-text_read given r text left run closed_at fed ended = record {
+text_read given r text left run valid fed ended = record {
   has_fed = fed;
   has_ended = ended;
   rounds = [];
@@ -71,7 +71,7 @@ text_read given r text left run closed_at fed ended = record {
   rest = run.rest;
   reads = run.reads;
   has_pending = run.has_rest;
-  has_closed_at = λ _. omega (arith, closed_at, run.has_left, ap length run.reads.has_text, length-append run.reads.front run.rest);
+  has_valid_up_to = omega (arith, valid, run.has_left, ap length run.reads.has_text, length-append run.reads.front run.rest);
 }
 
 -- after a piece that is only counted
@@ -84,13 +84,13 @@ fed_past old piece other given so_far s = record {
   rest = s.rest ++ piece;
   reads = Reads-more (from given) so_far.text (with_taken s.rounds old.progress) s.rest piece old.found other s.reads;
   has_pending = λ reading. absurd (other reading);
-  has_closed_at = λ closed. omega (arith, s.has_closed_at closed, length-append s.rest piece, length-append so_far.text piece);
+  has_valid_up_to = omega (arith, s.has_valid_up_to, length-append s.rest piece, length-append so_far.text piece);
 }
 
 -- after a round that was taken
 taken_on : (old new : Reader) (round : List PageRecord)
-    → old.progress ≡ with_taken (round ∷ []) new.progress → new.pending ≡ old.pending → new.found ≡ old.found → new.closed_at ≡ old.closed_at → new.fed ≡ old.fed → new.ended ≡ old.ended → StepsOn one_taken old new
-taken_on old new round same same_pending same_found same_closed_at same_fed same_ended given so_far s =
+    → old.progress ≡ with_taken (round ∷ []) new.progress → new.pending ≡ old.pending → new.found ≡ old.found → new.valid_up_to ≡ old.valid_up_to → new.fed ≡ old.fed → new.ended ≡ old.ended → StepsOn one_taken old new
+taken_on old new round same same_pending same_found same_valid same_fed same_ended given so_far s =
     let all : with_taken s.rounds old.progress ≡ with_taken (s.rounds ++ round ∷ []) new.progress =
     ap (with_taken s.rounds) same ∙ ap (λ (x : List (List PageRecord)). record new.progress { rounds = x }) (sym (append_assoc s.rounds (round ∷ []) new.progress.rounds)) in
     record {
@@ -102,7 +102,7 @@ taken_on old new round same same_pending same_found same_closed_at same_fed same
       reads = subst (λ (x : StreamState). Reads (from given) so_far.text (with_taken (s.rounds ++ round ∷ []) new.progress) s.rest x) (sym same_found)
           (subst (λ (x : StreamProgress). Reads (from given) so_far.text x s.rest old.found) all s.reads);
       has_pending = λ reading. s.has_pending (sym same_found ∙ reading) ∙ sym same_pending;
-      has_closed_at = λ closed. omega (arith, s.has_closed_at (sym same_found ∙ closed), same_closed_at);
+      has_valid_up_to = omega (arith, s.has_valid_up_to, same_valid);
     }
 
 pub taken_each : (o : Option RoundOfRecords) (old new : Reader) (p0 p1 : StreamProgress) → old.progress ≡ p0 → new ≡ record old { progress = p1 }
@@ -110,7 +110,7 @@ pub taken_each : (o : Option RoundOfRecords) (old new : Reader) (p0 p1 : StreamP
 taken_each None old new p0 p1 e f h = tt
 taken_each (Some r) old new p0 p1 e f h =
     taken_on old new r.records (e ∙ h ∙ ap (λ (x : Reader). with_taken (r.records ∷ []) x.progress) (sym f))
-    (ap (λ (x : Reader). x.pending) f) (ap (λ (x : Reader). x.found) f) (ap (λ (x : Reader). x.closed_at) f) (ap (λ (x : Reader). x.fed) f) (ap (λ (x : Reader). x.ended) f)
+    (ap (λ (x : Reader). x.pending) f) (ap (λ (x : Reader). x.found) f) (ap (λ (x : Reader). x.valid_up_to) f) (ap (λ (x : Reader). x.fed) f) (ap (λ (x : Reader). x.ended) f)
 
 -- and one waits less
 pub fewer_each : (o : Option RoundOfRecords) (old new : Reader) (p0 p1 : StreamProgress) → old.progress ≡ p0 → new ≡ record old { progress = p1 }

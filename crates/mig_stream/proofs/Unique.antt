@@ -11,14 +11,14 @@ use Rattle.mig_stream.specs.Reading.{IsItem, AreFaultless, after_all, Ends, Read
 use Rattle.mig_stream.proofs.Fronts.{size-append}
 
 -- of two items at one place one is the other
-one_item : (p : ℕ) (d : Due) (a b x y : List ℕ) → IsItem p d a → IsItem p d b → a ++ x ≡ b ++ y → (a ≡ b) × (x ≡ y)
+pub one_item : (p : ℕ) (d : Due) (a b x y : List ℕ) → IsItem p d a → IsItem p d b → a ++ x ≡ b ++ y → (a ≡ b) × (x ≡ y)
 one_item p d a b x y i j e =
     let len : length a ≡ length b = sym (size-append p d a x i.is_whole) ∙ ap (size p d) e ∙ size-append p d b y j.is_whole in
     let same : a ≡ b = sym (take_at a x (length a) refl) ∙ ap (take (length a)) e ∙ take_at b y (length a) (sym len) in
     (same, sym (drop_at a x (length a) refl) ∙ ap (drop (length a)) e ∙ drop_at b y (length a) (sym len))
 
 -- where a free item stands, a text doesn't end
-no_end : (c : StreamProgress) (item x rest : List ℕ) (s : StreamState) → IsItem c.page_size c.due item → first_fault c item ≡ None → rest ≡ item ++ x → Ends c rest s → ⊥
+pub no_end : (c : StreamProgress) (item x rest : List ℕ) (s : StreamState) → IsItem c.page_size c.due item → first_fault c item ≡ None → rest ≡ item ++ x → Ends c rest s → ⊥
 no_end c item x rest Closed is free e end = is.is_due end
 no_end c item x rest Reading is free e end = end.1 item x e is
 no_end c item x rest (Bad f) is free e end =

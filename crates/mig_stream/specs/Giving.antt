@@ -1,6 +1,6 @@
 -- A reader that gives the page records of a single stream as they come, before their section is
 -- whole, and what it stands for.
-use Rattle.std.specs.Prelude.{◌≡◌, ◌<◌, ℕ, ◌+◌, ◌*◌, List, [], ◌∷◌, ◌++◌, length, drop, Option, None, Some, IfSome, ⊤, ◌⊎◌}
+use Rattle.std.specs.Prelude.{◌≡◌, ◌<◌, ℕ, ◌+◌, ◌*◌, ◌^◌, List, [], ◌∷◌, ◌++◌, length, drop, Option, None, Some, IfSome, ⊤, ◌⊎◌}
 use Rattle.mig_mem.specs.PageSize.{IsPageSize}
 use Rattle.mig_stream.specs.declared.item.Mode.TheVariants.{Single}
 use Rattle.mig_stream.specs.declared.item.StreamState.{StreamState}
@@ -23,6 +23,8 @@ pub record Giver : Type 0 where
   pub found : Option StreamState
   -- what it gave last
   pub given : RoundOfRecords
+  -- how many bytes the text has up to the end of the rest
+  pub fed : ℕ
 
 -- the records that were given so far: those of each section that is whole, and those of the one
 -- that is open
@@ -75,6 +77,7 @@ pub record Gives (given : Settings) (text : List ℕ) (so_far : GivenSoFar) (r :
   pub has_text : text ≡ front ++ r.rest
   pub leads : Front (start given.frame given.mode given.page_size given.limit) front (all_read so_far r.progress)
   pub ends : IfSome r.found (λ found. Ends (all_read so_far r.progress) r.rest found)
+  pub has_fed : length text < 2 ^ 64 → r.fed ≡ length text
 
 -- A call takes this step: whatever the reader gave before it, it has given that with the step done.
 abbrev pub GivesOn : (GivenSoFar → GivenSoFar) → Giver → Giver → Type 0
@@ -143,14 +146,16 @@ abbrev pub LeavesNone : Given → Giver → Type 0
 LeavesNone (End found) r = HasNoneLeft found r
 LeavesNone other r = ⊤
 
--- what is kept between two pieces: how far the text was read, and the bytes after that
+-- what is kept between two pieces: how far the text was read, the bytes after that, and how many
+-- bytes there were in all
 pub record Paused : Type 0 where
   pub progress : StreamProgress
   pub pending : List ℕ
+  pub fed : ℕ
 
 -- as a reader that reads no further
 abbrev pub giver_at : Paused → Giver
-giver_at p = record { progress = p.progress; rest = p.pending; found = Some Reading; given = record { page_size = p.progress.page_size; records = [] } }
+giver_at p = record { progress = p.progress; rest = p.pending; found = Some Reading; given = record { page_size = p.progress.page_size; records = [] }; fed = p.fed }
 
 -- The pieces so far are this text, read with these settings, and so much of it was given.
 abbrev pub PausesAt : Settings → List ℕ → GivenSoFar → Paused → Type 0

@@ -1,5 +1,5 @@
 -- What holds between the texts of a stream and their readings.
-use Rattle.std.specs.Prelude.{◌≡◌, ◌≢◌, ◌↔◌, ℕ, ◌≤◌, ◌<◌, ◌^◌, List, [], ◌∷◌, ◌++◌, length, map, replicate, Some, None, All}
+use Rattle.std.specs.Prelude.{◌≡◌, ◌≢◌, ◌↔◌, ℕ, ◌≤◌, ◌<◌, ◌^◌, false, List, [], ◌∷◌, ◌++◌, length, map, replicate, Some, None, All}
 use Rattle.mig_mem.specs.PageSize.{IsPageSize}
 use Rattle.mig_mem.specs.RamTable.{RamTable, IsTable}
 use Rattle.mig_mem.specs.Image.{Page}
@@ -7,9 +7,13 @@ use Rattle.mig_mem.specs.Round.{IsRound}
 use Rattle.mig_stream.specs.declared.item.Frame.TheVariants.{Ram, Machine}
 use Rattle.mig_stream.specs.declared.item.Mode.{Mode}
 use Rattle.mig_stream.specs.declared.item.Mode.TheVariants.{Single, Main}
-use Rattle.mig_stream.specs.declared.item.StreamState.TheVariants.{Reading, Closed}
+use Rattle.mig_stream.specs.declared.item.StreamState.TheVariants.{Reading, Closed, Bad}
+use Rattle.mig_stream.specs.declared.fault.StreamFault.{StreamFault}
 use Rattle.mig_stream.specs.PageRecord.{PageRecord, page_of}
-use Rattle.mig_stream.specs.Reading.{Settings, settings, in_frame, StreamReading, IsReading}
+use Rattle.mig_stream.specs.Progress.{StreamProgress, start}
+use Rattle.mig_stream.specs.Items.{first_fault}
+use Rattle.mig_stream.specs.Reading.{Settings, settings, in_frame, IsItem, Front, StreamReading, IsReading}
+use Rattle.mig_stream.specs.Reader.{HasState, IsSettled, HasFront, IsValidUpTo, IsClosedAt}
 use Rattle.mig_stream.specs.Text.{IsText, total_bytes}
 use Rattle.mig_stream.specs.Machine.{IsMachineText}
 use Rattle.mig_stream.specs.Written.{written_record, single, main}
@@ -110,3 +114,36 @@ pub record StaysRead (before now : StreamReading) : Type 0 where
 abbrev pub LongerTextsStay : Type 0
 LongerTextsStay = (given : Settings) (text more : List ℕ) (before now : StreamReading) → IsPageSize given.page_size
     → IsReading given text before → IsReading given (text ++ more) now → StaysRead before now
+
+-- ---- up to where a text is valid
+
+-- A text is valid up to exactly one place, and none of its fronts is longer.
+abbrev pub IsValidUpToOnePlace : Type 0
+IsValidUpToOnePlace = (given : Settings) (text : List ℕ) → IsPageSize given.page_size
+    → (n : ℕ) × IsValidUpTo given text n × (n ≤ length text)
+    × ((m : ℕ) → HasFront given text m → m ≤ n) × ((m : ℕ) → IsValidUpTo given text m → m ≡ n)
+
+-- Bytes that follow leave it where it was, or move it on. Once the text is closed or bad, it stays.
+abbrev pub LongerTextsStayValid : Type 0
+LongerTextsStayValid = (given : Settings) (text more : List ℕ) (m n : ℕ) → IsValidUpTo given text m → IsValidUpTo given (text ++ more) n
+    → (m ≤ n) × (IsSettled given text → m ≡ n)
+
+-- A closed text is valid up to where it is closed.
+abbrev pub ClosedIsValid : Type 0
+ClosedIsValid = (given : Settings) (text : List ℕ) (n : ℕ) → HasState given text false Closed → IsValidUpTo given text n ↔ IsClosedAt given text n
+
+-- whole items without a fault are the first n bytes, and the whole item after them has this fault
+pub record HasFaultAt (given : Settings) (text : List ℕ) (n : ℕ) (fault : StreamFault) : Type 0 where
+  pub to : StreamProgress
+  pub front : List ℕ
+  pub item : List ℕ
+  pub more : List ℕ
+  pub has_text : text ≡ front ++ item ++ more
+  pub has_length : length front ≡ n
+  pub leads : Front (start given.frame given.mode given.page_size given.limit) front to
+  pub is_item : IsItem to.page_size to.due item
+  pub has_fault : first_fault to item ≡ Some fault
+
+-- A bad text is valid up to where the item at fault begins.
+abbrev pub BadIsValidBefore : Type 0
+BadIsValidBefore = (given : Settings) (text : List ℕ) (n : ℕ) (fault : StreamFault) → HasState given text false (Bad fault) → IsValidUpTo given text n → HasFaultAt given text n fault

@@ -6,7 +6,7 @@ use Rattle.mig_stream.specs.declared.item.StreamState.TheVariants.{Reading, Clos
 use Rattle.mig_stream.specs.PageRecord.{PageRecord}
 use Rattle.mig_stream.specs.Progress.{StreamProgress, start}
 use Rattle.mig_stream.specs.Items.{size}
-use Rattle.mig_stream.specs.Reading.{Reads, Settings, StreamReading, IsReading, state_at}
+use Rattle.mig_stream.specs.Reading.{Front, Reads, Settings, StreamReading, IsReading, state_at}
 
 -- what a reader holds
 pub record Reader : Type 0 where
@@ -16,8 +16,8 @@ pub record Reader : Type 0 where
   pub pending : List ℕ
   -- how the bytes fed stand, whether or not the text is over
   pub found : StreamState
-  -- how many bytes had been read when it was closed
-  pub closed_at : ℕ
+  -- how many bytes fed are whole items without a fault
+  pub valid_up_to : ℕ
   pub fed : ℕ
   pub ended : Bool
 
@@ -69,7 +69,7 @@ pub record Stands (given : Settings) (so_far : SoFar) (r : Reader) : Type 0 wher
   pub rest : List ℕ
   pub reads : Reads (start given.frame given.mode given.page_size given.limit) so_far.text (with_taken rounds r.progress) rest r.found
   pub has_pending : r.found ≡ Reading → rest ≡ r.pending
-  pub has_closed_at : r.found ≡ Closed → r.closed_at + length rest ≡ length so_far.text
+  pub has_valid_up_to : r.valid_up_to + length rest ≡ length so_far.text
 
 -- A call takes this step: whatever the reader stood for before it, it stands for that with the step
 -- done.
@@ -99,6 +99,24 @@ pub record IsClosedAt (given : Settings) (text : List ℕ) (n : ℕ) : Type 0 wh
   pub fits : n ≤ length text
   pub is_closed : HasState given (take n text) false Closed
   pub is_first : (m : ℕ) → m < n → HasState given (take m text) false Closed → ⊥
+
+-- The first n bytes of the text are whole items without a fault.
+pub record HasFront (given : Settings) (text : List ℕ) (n : ℕ) : Type 0 where
+  pub to : StreamProgress
+  pub front : List ℕ
+  pub rest : List ℕ
+  pub has_text : text ≡ front ++ rest
+  pub has_length : length front ≡ n
+  pub leads : Front (start given.frame given.mode given.page_size given.limit) front to
+
+-- The text is read to its first n bytes: these are its longest front of whole items without a
+-- fault. Where it is bad, the item at fault begins after them.
+pub record IsValidUpTo (given : Settings) (text : List ℕ) (n : ℕ) : Type 0 where
+  pub to : StreamProgress
+  pub rest : List ℕ
+  pub state : StreamState
+  pub reads : Reads (start given.frame given.mode given.page_size given.limit) text to rest state
+  pub has_length : length reads.front ≡ n
 
 -- where the text is closed, if it is
 abbrev pub HasClosedAt : Settings → List ℕ → Option ℕ → Type 0

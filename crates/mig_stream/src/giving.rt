@@ -15,7 +15,7 @@ ghost use Rattle.mig_stream.specs.declared.item.Mode.TheVariants.{Single};
 ghost use Rattle.mig_stream.specs.declared.item.StreamState.TheVariants as state;
 ghost use Rattle.mig_stream.specs.Progress.{whole_table};
 ghost use Rattle.mig_stream.specs.Reading.{settings, in_frame, Settings, Ends};
-ghost use Rattle.mig_stream.specs.Reader.{HasTable, IsUnfinished};
+ghost use Rattle.mig_stream.specs.Reader.{HasTable, HasFront, IsValidUpTo, IsUnfinished};
 ghost use Rattle.mig_stream.specs.Giving.{none_given, with_given, Gives, GivesOn, left, LeavesLess, GiverTells, EndsSo, TellsFound, IsBehind, GivenSoFar, LeavesNone, HasNoneLeft, IsUnread, PausesAt, PauseTells};
 ghost use Rattle.mig_stream.specs.Taking.{HasTaken, HasTakenTo};
 ghost use Rattle.mig_stream.specs.Kept.{bytes_of};
@@ -29,7 +29,7 @@ use crate::stop::Stop;
 use mig_mem::{NoMemory, Table};
 use std::alloc::{Allocator, Global};
 use std::marker::Model;
-use std::mem;
+use std::{fmt, mem};
 
 /// What a call of `RecordReader::read_on` gave.
 #[derive(Clone, Copy, Debug, PartialEq, Eq)]
@@ -54,6 +54,8 @@ pub struct RecordReader<'a, A: Allocator = Global> {
     // how the pending bytes and the rest stand, once they aren't read any further
     found: Option<StreamState>,
     given: StreamRound<'a, A>,
+    // how many bytes the stream has up to the end of the rest
+    fed: u64,
 }
 
 impl<'a, A: Allocator> Model for RecordReader<'a, A> {
@@ -63,9 +65,16 @@ impl<'a, A: Allocator> Model for RecordReader<'a, A> {
 
     ghost Value = { Giver };
 
-    ghost view = { λ r. record { progress = r.progress; rest = r.pending.items ++ bytes_of r.rest; found = r.found; given = r.given } };
+    ghost view = { λ r. record { progress = r.progress; rest = r.pending.items ++ bytes_of r.rest; found = r.found; given = r.given; fed = r.fed } };
 
     ghost invariant = { λ r. IsUnread r.found r.progress r.pending.items (bytes_of r.rest) };
+}
+
+// The guest's bytes aren't printed.
+impl<'a, A: Allocator> fmt::Debug for RecordReader<'a, A> {
+    fn fmt<W: fmt::Write>(&self, f: &mut fmt::Formatter<W>) -> fmt::Result {
+        f.pad("RecordReader { .. }")
+    }
 }
 
 /// A single stream between two of its pieces: how far it was read, and the bytes of an item that
@@ -76,6 +85,8 @@ impl<'a, A: Allocator> Model for RecordReader<'a, A> {
 pub struct Pause<A: Allocator = Global> {
     progress: Progress<'static, A>,
     pending: Vec<u8, A>,
+    // how many bytes the stream has so far
+    fed: u64,
 }
 
 impl<A: Allocator> Model for Pause<A> {
@@ -83,9 +94,16 @@ impl<A: Allocator> Model for Pause<A> {
 
     ghost Value = { Paused };
 
-    ghost view = { λ p. record { progress = p.progress; pending = p.pending.items } };
+    ghost view = { λ p. record { progress = p.progress; pending = p.pending.items; fed = p.fed } };
 
-    ghost invariant = { λ p. IsPaused (record { progress = p.progress; pending = p.pending.items }) };
+    ghost invariant = { λ p. IsPaused (record { progress = p.progress; pending = p.pending.items; fed = p.fed }) };
+}
+
+// The guest's bytes aren't printed.
+impl<A: Allocator> fmt::Debug for Pause<A> {
+    fn fmt<W: fmt::Write>(&self, f: &mut fmt::Formatter<W>) -> fmt::Result {
+        f.pad("Pause { .. }")
+    }
 }
 
 // Reads the item whose first bytes are pending, with the rest of it from a piece. Returns what is
@@ -163,6 +181,7 @@ impl<A: Allocator + Copy> Pause<A> {
         Pause {
             progress: Progress::new(alloc, frame, Mode::Single, page_size, limit),
             pending: Vec::new(alloc),
+            fed: 0,
         }
     }
 
@@ -173,7 +192,11 @@ impl<A: Allocator + Copy> Pause<A> {
         ensures left { left result ≡ 2 * length (self.pending ++ piece.now) + 1 }
         ensures given { result.given ≡ record { page_size = self.progress.page_size; records = [] } }
     {
-        let Pause { progress, pending } = self;
+        let Pause {
+            progress,
+            pending,
+            fed,
+        } = self;
         let progress = progress.without_records();
         let given = progress.no_round();
         RecordReader {
@@ -182,11 +205,22 @@ impl<A: Allocator + Copy> Pause<A> {
             rest: Piece::Staying(piece),
             found: None,
             given,
+            fed: fed.saturating_add(piece.len() as u64),
         }
     }
 }
 
 impl<A: Allocator> Pause<A> {
+    /// Returns how many of the stream's bytes are complete items, from the first byte on. The item
+    /// that isn't complete yet begins after them.
+    ///
+    /// The number is exact for a stream of less than 2^64 bytes.
+    pub fn valid_up_to(&self) -> u64
+        ensures { PauseTells self.now (λ given text so_far. length text < 2 ^ 64 → IsValidUpTo given text result) }
+    {
+        self.fed.saturating_sub(self.pending.len() as u64)
+    }
+
     /// Returns the stream's table, once its size list was read whole.
     pub fn table(&self) -> Option<&Table<A>>
         ensures whole { option_copied result ≡ whole_table self.now.progress }
@@ -231,6 +265,7 @@ impl<'a, A: Allocator + Copy> RecordReader<'a, A> {
             rest: Piece::Staying(text),
             found: None,
             given: StreamRound::new(page_size, Records::new(alloc)),
+            fed: text.len() as u64,
         }
     }
 
@@ -292,12 +327,14 @@ impl<'a, A: Allocator + Copy> RecordReader<'a, A> {
             progress,
             mut pending,
             rest,
+            fed,
             ..
         } = self;
         pending.extend_from_slice(rest.bytes())?;
         Ok(Pause {
             progress: progress.without_records(),
             pending,
+            fed,
         })
     }
 }
@@ -364,6 +401,21 @@ impl<'a, A: Allocator> RecordReader<'a, A> {
             return None;
         }
         Some(self.rest.into_bytes())
+    }
+
+    /// Returns how many of the stream's bytes are complete items without a fault that were read,
+    /// from the first byte on. Once `read_on` returned `End`, no more of them follow: if the stream
+    /// is bad, the item at fault begins after them; if it is closed, it ends there; otherwise an
+    /// item that isn't complete begins there.
+    ///
+    /// Bytes of the pieces before this one count. The number is exact for a stream of less than
+    /// 2^64 bytes.
+    pub fn valid_up_to(&self) -> u64
+        ensures front { GiverTells self.now (λ given text so_far. length text < 2 ^ 64 → HasFront given text result) }
+        ensures end { self.now.found ≢ None → GiverTells self.now (λ given text so_far. length text < 2 ^ 64 → IsValidUpTo given text result) }
+    {
+        let left = self.pending.len() + self.rest.bytes().len();
+        self.fed.saturating_sub(left as u64)
     }
 
     fn is_closed(&self) -> bool

@@ -4,8 +4,9 @@
 //! Each law is the clause of a function that does nothing, so that it is proved with the crate and
 //! callers can have it.
 
-ghost use Rattle.mig_stream.specs.MachineWritten.{MachineSinglesAreTexts, MachineMainsAreTexts};
+ghost use Rattle.mig_stream.specs.MachineWritten.{MachineSinglesAreTexts, MachineMainsAreTexts, WrittenIsClosed, ConfiguredIsWritten, ConfiguredIsClosed};
 ghost use Rattle.mig_stream.specs.Law.{HasOneReading, SpelledIsRead, ReadIsSpelled, ClosedIsText, MachineClosedIsText, HasOneText, SinglesAreTexts, MainsAreTexts, RecordsStandForPages, ReadingsKeepLimits, LongerTextsStay};
+ghost use Rattle.mig_stream.specs.Law.{IsValidUpToOnePlace, LongerTextsStayValid, ClosedIsValid, BadIsValidBefore};
 
 /// Each text has exactly one reading. So whoever reads it, in whatever pieces, finds the same
 /// table, the same rounds and the same first fault.
@@ -56,6 +57,17 @@ pub fn longer_texts_stay()
     ensures { LongerTextsStay }
 {}
 
+/// A text is valid up to exactly one place, which `valid_up_to` of each reader returns: so many of
+/// its bytes are complete items without a fault, and no more are. Bytes that follow only move it
+/// on. Once the text is closed or bad, it stays: where the text is closed, or where the item at
+/// fault begins.
+pub fn text_is_valid_up_to_one_place()
+    ensures one { IsValidUpToOnePlace }
+    ensures longer { LongerTextsStayValid }
+    ensures closed { ClosedIsValid }
+    ensures bad { BadIsValidBefore }
+{}
+
 /// Bytes are read as a machine's stream to the footer of RAM's END exactly where a prefix of them
 /// is the text of one, of that table and those rounds, whatever follows it.
 pub fn machine_closed_is_text()
@@ -68,4 +80,13 @@ pub fn machine_closed_is_text()
 pub fn machine_written_is_text()
     ensures single { MachineSinglesAreTexts }
     ensures main { MachineMainsAreTexts }
+{}
+
+/// The bytes that a writer makes after the file header go with each machine: with a configuration
+/// between them they are what it makes for a machine of that name, up to RAM's END or with the end
+/// byte. Without a name that is what it makes of RAM alone.
+pub fn configured_is_written()
+    ensures open_end { ConfiguredIsWritten }
+    ensures closed_end { ConfiguredIsClosed }
+    ensures no_name { WrittenIsClosed }
 {}

@@ -34,9 +34,9 @@ pub use fault::StreamFault;
 pub use giving::{Given, Pause, RecordReader};
 pub use item::{Frame, Mode, StreamState};
 pub use laws::{
-    bytes_have_one_text, closed_is_text, longer_texts_stay, machine_closed_is_text,
-    machine_written_is_text, read_is_spelled, readings_keep_limits, spelled_is_read,
-    text_has_one_reading, written_is_text,
+    bytes_have_one_text, closed_is_text, configured_is_written, longer_texts_stay,
+    machine_closed_is_text, machine_written_is_text, read_is_spelled, readings_keep_limits,
+    spelled_is_read, text_has_one_reading, text_is_valid_up_to_one_place, written_is_text,
 };
 pub use reader::StreamReader;
 pub use round::StreamRound;

@@ -15,7 +15,7 @@ ghost use Rattle.mig_stream.specs.Items.{size};
 ghost use Rattle.mig_stream.specs.Taking.{HasTaken};
 ghost use Rattle.mig_stream.specs.Reading.{settings, in_frame, state_at};
 ghost use Rattle.mig_stream.specs.Kept.{bytes_of};
-ghost use Rattle.mig_stream.specs.Reader.{IsUnfinished, ReadsOn, nothing_yet, with_piece, over, one_taken, Stands, StepsOn, Tells, waiting, HasState, IsSettled, HasClosedAt, HasTable, HasRound};
+ghost use Rattle.mig_stream.specs.Reader.{IsUnfinished, ReadsOn, nothing_yet, with_piece, over, one_taken, Stands, StepsOn, Tells, waiting, HasState, IsSettled, IsValidUpTo, HasClosedAt, HasTable, HasRound};
 
 use crate::StreamFault;
 use crate::item::{Frame, Mode, StreamState};
@@ -25,6 +25,7 @@ use crate::round::StreamRound;
 use crate::stop::Stop;
 use mig_mem::{NoMemory, Table};
 use std::alloc::{Allocator, Global};
+use std::fmt;
 use std::marker::Model;
 
 /// Reads a stream from pieces of its text. What it tells is the reading of all bytes fed, however
@@ -36,8 +37,8 @@ pub struct StreamReader<'a, A: Allocator = Global> {
     pending: Vec<u8, A>,
     // how the bytes fed stand
     found: StreamState,
-    // how many bytes the stream has, once it is closed
-    closed_at: u64,
+    // how many of the bytes fed are complete items without a fault
+    valid_up_to: u64,
     fed: u64,
     ended: bool,
 }
@@ -49,9 +50,16 @@ impl<'a, A: Allocator> Model for StreamReader<'a, A> {
 
     ghost Value = { Reader };
 
-    ghost view = { λ r. record { progress = r.progress; pending = r.pending.items; found = r.found; closed_at = r.closed_at; fed = r.fed; ended = r.ended } };
+    ghost view = { λ r. record { progress = r.progress; pending = r.pending.items; found = r.found; valid_up_to = r.valid_up_to; fed = r.fed; ended = r.ended } };
 
     ghost invariant = { λ r. r.found ≡ state.Reading → IsUnfinished r.progress r.pending.items };
+}
+
+// The guest's bytes aren't printed.
+impl<'a, A: Allocator> fmt::Debug for StreamReader<'a, A> {
+    fn fmt<W: fmt::Write>(&self, f: &mut fmt::Formatter<W>) -> fmt::Result {
+        f.pad("StreamReader { .. }")
+    }
 }
 
 // How a text stands that may be over.
@@ -180,7 +188,7 @@ impl<'a, A: Allocator + Copy> StreamReader<'a, A> {
             progress: Progress::new(alloc, frame, mode, page_size, limit),
             pending: Vec::new(alloc),
             found: StreamState::Reading,
-            closed_at: 0,
+            valid_up_to: 0,
             fed: 0,
             ended: false,
         }
@@ -232,7 +240,7 @@ impl<'a, A: Allocator + Copy> StreamReader<'a, A> {
             progress,
             pending,
             found,
-            closed_at: text.len().saturating_sub(left) as u64,
+            valid_up_to: text.len().saturating_sub(left) as u64,
             fed: text.len() as u64,
             ended: false,
         })
@@ -255,7 +263,7 @@ impl<'a, A: Allocator + Copy> StreamReader<'a, A> {
         }
         let left = self.read_on(piece)?;
         self.fed += piece.len() as u64;
-        self.closed_at = self.fed.saturating_sub(left as u64);
+        self.valid_up_to = self.fed.saturating_sub(left as u64);
         Ok(())
     }
 
@@ -323,6 +331,15 @@ impl<'a, A: Allocator> StreamReader<'a, A> {
         state_at(self.ended, self.found)
     }
 
+    /// Returns how many of the bytes fed are complete items without a fault, from the first byte
+    /// on. If the stream is bad, the item at fault begins after them. If it is closed, it ends
+    /// there. Otherwise an item that isn't complete begins there.
+    pub fn valid_up_to(&self) -> u64
+        ensures { Tells self.now (λ given so_far. IsValidUpTo given so_far.text result) }
+    {
+        self.valid_up_to
+    }
+
     /// Returns how many of the bytes fed the stream has, once it is closed: those up to its end
     /// byte, or in a machine's stream up to the footer of RAM's END. The bytes fed after them are
     /// left to the caller.
@@ -330,7 +347,7 @@ impl<'a, A: Allocator> StreamReader<'a, A> {
         ensures { Tells self.now (λ given so_far. HasClosedAt given so_far.text result) }
     {
         match self.found {
-            StreamState::Closed => Some(self.closed_at),
+            StreamState::Closed => Some(self.valid_up_to),
             _ => None,
         }
     }

@@ -11,7 +11,7 @@ use crate::record::{Record, content_at, next_buffer, place_of, put_behind};
 use mig_mem::{NoMemory, Place};
 use std::alloc::{Allocator, Global};
 use std::marker::Model;
-use std::mem;
+use std::{fmt, mem};
 
 // Makes room for one more record: as much again as there is, and at first for one, since a text may
 // have many rounds of few records.
@@ -214,6 +214,13 @@ impl<'a, A: Allocator> Model for StreamRound<'a, A> {
     ghost view = { λ r. record { page_size = r.page_size; records = r.records } };
 
     ghost invariant = { λ r. AreWhole r.page_size r.records };
+}
+
+// The guest's bytes aren't printed.
+impl<'a, A: Allocator> fmt::Debug for StreamRound<'a, A> {
+    fn fmt<W: fmt::Write>(&self, f: &mut fmt::Formatter<W>) -> fmt::Result {
+        f.pad("StreamRound { .. }")
+    }
 }
 
 impl<'a, A: Allocator> StreamRound<'a, A> {

@@ -3,24 +3,26 @@
 //!
 //! It only appends. Which rounds there are, and which stream a part belongs to, is for its caller.
 
-ghost use Rattle.std.specs.Prelude.{◌≡◌, ◌+◌, ◌*◌, ◌<◌, ◌^◌, ◌++◌, ◌==◌, if◌then◌else◌, ℕ, List, [], ◌∷◌, length, take, None, Some, IfOk, IfErr, OnOk, OnErr};
+ghost use Rattle.std.specs.Prelude.{◌≡◌, ◌+◌, ◌*◌, ◌<◌, ◌^◌, ◌++◌, ◌==◌, ◌≤◌, if◌then◌else◌, ℕ, List, [], ◌∷◌, length, take, None, Some, IfOk, IfErr, OnOk, OnErr};
 ghost use Rattle.mig_mem.specs.RamTable.{block as block_at};
 ghost use Rattle.mig_mem.specs.Place.{IsPlace};
 ghost use Rattle.mig_mem.specs.Image.{Page};
 ghost use Rattle.mig_mem.specs.Round.{round_of};
 ghost use Rattle.mig_zero.specs.Zero.{is_zero as zero_test};
 ghost use Rattle.mig_stream.specs.Fields.{counted};
-ghost use Rattle.mig_stream.specs.Format.{flags_of};
+ghost use Rattle.mig_stream.specs.Format.{flags_of, most_name_bytes};
+ghost use Rattle.mig_stream.specs.Text.{file_header, configuration};
 ghost use Rattle.mig_stream.specs.PageRecord.{page_kind};
 ghost use Rattle.mig_stream.specs.Written.{Part, RoundPart, FlushPart, is_named, opening, closing, written, written_so_far};
 ghost use Rattle.mig_stream.specs.MachineWritten.{machine_written};
 ghost use Rattle.mig_stream.specs.Writer.{HasWritten, HasDrained, HasPut, with_pages, with_part, KeepsFront};
 
 use crate::format::{CONTINUED_PAGE, CONTINUED_ZERO, RAM_SAVE_FLAG_PAGE, RAM_SAVE_FLAG_ZERO};
-use crate::opening::{SECTION_END, opening_of};
+use crate::opening::{SECTION_END, configuration_of, opening_of, start_of};
 use mig_mem::{Dirty, GuestPages, NoMemory, Place, Table};
 use mig_zero::is_zero;
 use std::alloc::{Allocator, Global};
+use std::fmt;
 use std::marker::Model;
 
 // QEMU_VM_SECTION_PART and the section id.
@@ -58,6 +60,13 @@ impl<A: Allocator> Model for StreamWriter<A> {
     ghost view = { λ w. record { table = w.table; text = w.text.items; named = w.named } };
 }
 
+// The guest's bytes aren't printed.
+impl<A: Allocator> fmt::Debug for StreamWriter<A> {
+    fn fmt<W: fmt::Write>(&self, f: &mut fmt::Formatter<W>) -> fmt::Result {
+        f.pad("StreamWriter { .. }")
+    }
+}
+
 // Whether a page is of zeros.
 fn is_zero_page(content: &[u8]) -> bool
     ensures { result ≡ zero_test content.now }
@@ -78,6 +87,32 @@ impl<A: Allocator + Copy> StreamWriter<A> {
             text,
             named: None,
         })
+    }
+
+    /// Creates a machine's stream: returns its first bytes, the file header and a configuration
+    /// with the machine's `name`, and the writer of what follows them. QEMU refuses a stream with
+    /// another name than its own machine's (`configuration_post_load` in `migration/savevm.c`).
+    ///
+    /// `configured_is_written` says what both make together.
+    ///
+    /// # Errors
+    ///
+    /// `NoMemory`: an allocation was refused.
+    pub fn with_configuration<B: Allocator>(
+        alloc: A,
+        table: &Table<B>,
+        name: &[u8],
+    ) -> Result<(Vec<u8, A>, StreamWriter<A>), NoMemory>
+        requires name { length name.now ≤ most_name_bytes }
+        ensures first { IfOk result (λ r. r.0.items ≡ file_header ++ configuration (Some name.now)) }
+        ensures table { IfOk result (λ r. r.1.table ≡ table.now) }
+        ensures none { IfOk result (λ r. HasDrained file_header r.1 []) }
+    {
+        let first = configuration_of(alloc, name)?;
+        let text = start_of(alloc, table)?;
+        let table = table.copy_in(alloc)?;
+        let named = None;
+        Ok((first, StreamWriter { table, text, named }))
     }
 }
 
@@ -348,6 +383,13 @@ impl<A: Allocator> Model for OpenPart<A> {
     ghost view = { λ p. record { before = record { table = p.writer.table; text = take p.len p.writer.text; named = p.named }; now = p.writer } };
 
     ghost invariant = { λ p. p.len ≤ length p.writer.text };
+}
+
+// The guest's bytes aren't printed.
+impl<A: Allocator> fmt::Debug for OpenPart<A> {
+    fn fmt<W: fmt::Write>(&self, f: &mut fmt::Formatter<W>) -> fmt::Result {
+        f.pad("OpenPart { .. }")
+    }
 }
 
 impl<A: Allocator> OpenPart<A> {

@@ -14,7 +14,8 @@ pub returns-then-len-ne0-clause-gives : goal.returns-then-len-ne0-clause-gives
 returns-then-len-ne0-clause-gives g c given text so_far h =
     let are : c.give_records.new.given.records ≡ c.args.self.now.progress.records = ap (λ (r : RoundOfRecords). r.records) c.give_records.ensures.given ∙ ap (λ (x : Giver). x.progress.records) c.self.view_is in
     gives_more given text so_far c.args.self.now _ c.give_records.new.given.records are c.requires
-    (c.give_records.ensures.same ∙ ap (λ (x : Giver). record x.progress { records = [] }) c.self.view_is) (ap (λ (x : Giver). x.rest) c.self.view_is) (ap (λ (x : Giver). x.found) c.self.view_is) h
+    (c.give_records.ensures.same ∙ ap (λ (x : Giver). record x.progress { records = [] }) c.self.view_is) (ap (λ (x : Giver). x.rest) c.self.view_is) (ap (λ (x : Giver). x.found) c.self.view_is)
+    (ap (λ (x : Giver). x.fed) c.self.view_is) h
 
 pub returns-then-len-ne0-clause-page_size : goal.returns-then-len-ne0-clause-page_size
 returns-then-len-ne0-clause-page_size g c given text so_far h =
@@ -47,10 +48,11 @@ returns-clause-gives g c given text so_far h =
     let none : records ≡ [] = nil_from_length records (sym c.len.ensures ∙ c.if-len-ne0.false) in
     let same : with_more records so_far ≡ so_far =
     ap (λ (x : List PageRecord). with_more x so_far) none ∙ ap (λ (x : List PageRecord). record so_far { open_section = x }) (append-nil so_far.open_section) in
-    let new : Giver = record { progress = c.give_records.new.self; rest = c.self.inside.pending.items ++ bytes_of c.self.inside.rest; found = c.self.inside.found; given = c.give_records.new.given } in
+    let new : Giver = record { progress = c.give_records.new.self; rest = c.self.inside.pending.items ++ bytes_of c.self.inside.rest; found = c.self.inside.found; given = c.give_records.new.given; fed = c.self.inside.fed } in
     let more : Gives given text (with_more records so_far) new =
     gives_more given text so_far c.args.self.now new records are c.requires
-    (c.give_records.ensures.same ∙ ap (λ (x : Giver). record x.progress { records = [] }) c.self.view_is) (ap (λ (x : Giver). x.rest) c.self.view_is) (ap (λ (x : Giver). x.found) c.self.view_is) h in
+    (c.give_records.ensures.same ∙ ap (λ (x : Giver). record x.progress { records = [] }) c.self.view_is) (ap (λ (x : Giver). x.rest) c.self.view_is) (ap (λ (x : Giver). x.found) c.self.view_is)
+    (ap (λ (x : Giver). x.fed) c.self.view_is) h in
     elim c.match-self.branch [
       | in-Some w ↦ subst (λ (x : Given). Gives given text (with_given x records so_far) new) (sym w.result-is) (subst (λ (x : GivenSoFar). Gives given text x new) same more)
       | in-None w ↦ subst (λ (x : Given). Gives given text (with_given x records so_far) new) (sym w.result-is) more

@@ -6,4 +6,4 @@ use Rattle.mig_stream.proofs.giving.RecordReader.new_in.Goals as goal
 
 pub returns-clause-gives : goal.returns-clause-gives
 returns-clause-gives g c =
-    gives_first (in_frame c.args.frame (settings Single c.args.page_size c.args.limit)) c.args.text.now _ refl c.requires.page_size c.new-progress.ensures (ap (λ (x : List ℕ). x ++ c.args.text.now) c.new.ensures.items) refl
+    gives_first (in_frame c.args.frame (settings Single c.args.page_size c.args.limit)) c.args.text.now _ refl c.requires.page_size c.new-progress.ensures (ap (λ (x : List ℕ). x ++ c.args.text.now) c.new.ensures.items) refl refl

@@ -1,4 +1,4 @@
-use Rattle.std.proofs.Common.{◌≡◌, ◌<◌, sym, ap, subst, ◌∙◌, ◌++◌, ℕ, length, take, rules}
+use Rattle.std.proofs.Common.{◌≡◌, ◌<◌, refl, sym, ap, subst, ◌∙◌, ◌++◌, ℕ, length, take, rules}
 use Rattle.std.specs.Prelude.{Option}
 use Rattle.mig_stream.specs.declared.item.StreamState.{StreamState}
 use Rattle.mig_stream.specs.Kept.{bytes_of}
@@ -36,7 +36,7 @@ invariant_of-self-in-Err g c =
 
 pub returns-in-Ok-clause-ok : goal.returns-in-Ok-clause-ok
 returns-in-Ok-clause-ok g c given text so_far h =
-    reads_behind given text so_far _ _ c.in-Ok.ensures.taken c.in-Ok.ensures.stands (subst (λ (x : Giver). Gives given text so_far x) (sym c.self.view_is) h)
+    reads_behind given text so_far _ _ c.in-Ok.ensures.taken c.in-Ok.ensures.stands refl (subst (λ (x : Giver). Gives given text so_far x) (sym c.self.view_is) h)
 
 pub returns-in-Err-clause-err : goal.returns-in-Err-clause-err
 returns-in-Err-clause-err g c =
@@ -52,6 +52,6 @@ returns-in-Ok-clause-less g c =
     let some = page_size_some c.self.inside.progress.page_size c.checkpoint-checkpoint.ensures.listed.has_page_size in
     let none = ap (λ (x : Giver). x.found) c.self.view_is ∙ c.requires in
     let same = c.args.self.now.given in
-    let old : Giver = record { progress = c.self.inside.progress; rest = c.self.inside.pending.items ++ bytes_of c.self.inside.rest; found = c.self.inside.found; given = same } in
-    let new : Giver = record { progress = c.read_to_pause.new.progress; rest = c.read_to_pause.new.pending.items ++ bytes_of c.in-Ok.rest; found = c.in-Ok.found; given = same } in
+    let old : Giver = record { progress = c.self.inside.progress; rest = c.self.inside.pending.items ++ bytes_of c.self.inside.rest; found = c.self.inside.found; given = same; fed = c.self.inside.fed } in
+    let new : Giver = record { progress = c.read_to_pause.new.progress; rest = c.read_to_pause.new.pending.items ++ bytes_of c.in-Ok.rest; found = c.in-Ok.found; given = same; fed = c.self.inside.fed } in
     subst (λ (x : Giver). left new < left x) c.self.view_is (reads_less old new some none c.in-Ok.ensures.taken c.in-Ok.ensures.moves)

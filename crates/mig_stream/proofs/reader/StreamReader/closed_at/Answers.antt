@@ -7,7 +7,7 @@ use Rattle.mig_stream.proofs.reader.StreamReader.closed_at.Goals as goal
 pub returns-in-Closed : goal.returns-in-Closed
 returns-in-Closed g c given so_far s =
     let found : c.args.self.now.found ≡ state.Closed = ap (λ (x : Reader). x.found) (sym c.self.view_is) ∙ c.in-Closed.is in
-    subst (IsClosedAt given so_far.text) (ap (λ (x : Reader). x.closed_at) (sym c.self.view_is)) (closed_stands c.args.self.now found given so_far s)
+    subst (IsClosedAt given so_far.text) (ap (λ (x : Reader). x.valid_up_to) (sym c.self.view_is)) (closed_stands c.args.self.now found given so_far s)
 
 pub returns-in_default : goal.returns-in_default
 returns-in_default g c given so_far s =
