@@ -14,7 +14,6 @@ use Rattle.mig_mem.specs.Round.{with_round, with_rounds, all_pages, last_at}
 use Rattle.mig_mem.proofs.PlaceOrder.{place_eq-true}
 use Rattle.mig_mem.proofs.Images.{content_at-image_of}
 use Rattle.mig_mem.proofs.Rounds.{onto-nil, last_at-nil, last_at-cons}
-use Rattle.mig_stream.specs.declared.item.Frame.TheVariants.{Ram}
 use Rattle.mig_stream.specs.declared.item.Mode.TheVariants.{Single}
 use Rattle.mig_stream.specs.declared.item.StreamState.{StreamState}
 use Rattle.mig_stream.specs.declared.item.StreamState.TheVariants.{Reading, Closed, Bad}
@@ -23,7 +22,7 @@ use Rattle.mig_stream.specs.declared.giving.Given.{Given}
 use Rattle.mig_stream.specs.declared.giving.Given.TheVariants.{Records, Section, End}
 use Rattle.mig_stream.specs.PageRecord.{PageRecord, page_of}
 use Rattle.mig_stream.specs.Progress.{StreamProgress, start, whole_table}
-use Rattle.mig_stream.specs.Reading.{Settings, settings, StreamReading, IsReading, Ends}
+use Rattle.mig_stream.specs.Reading.{Settings, StreamReading, IsReading, Ends}
 use Rattle.mig_stream.specs.Reader.{HasTable}
 use Rattle.mig_stream.specs.Round.{RoundOfRecords}
 use Rattle.mig_stream.specs.Giving.{Giver, GivenSoFar, none_given, with_more, with_last, with_given, Gives, GivesOn, GiverTells, EndsSo, LeavesNone, HasNoneLeft, HasReading, left, LeavesLess, all_read, Paused, giver_at, PausesAt}
@@ -34,6 +33,8 @@ use Rattle.mig_stream.proofs.Feeding.{reads_short}
 use Rattle.mig_stream.proofs.Longer.{longer_law}
 use Rattle.mig_stream.proofs.Giver.{none_before_table, few_sections, table_each, paused_table, same_page_size}
 use Rattle.mig_assemble.specs.Target.{FitsTable, pages_of_round}
+use Rattle.mig_single_load.specs.Settings.{for_table}
+use Rattle.mig_single_load.specs.declared.settings.LoadSettings.{LoadSettings}
 use Rattle.mig_single_load.specs.declared.eager_state.LoadState.{LoadState}
 use Rattle.mig_single_load.specs.declared.eager_state.LoadState.TheVariants as load_state
 use Rattle.mig_single_load.specs.declared.fault.LoadFault.{LoadFault}
@@ -54,14 +55,14 @@ pub record Step (gave : Given) (old new : Giver) : Type 0 where
   pub none : LeavesNone gave new
   pub less : LeavesLess gave old new
 
-pub gave_on : (limit : ℕ) (table : RamTable) (text : List ℕ) (so_far : GivenSoFar) (gave : Given) (old new : Giver) → Gives (settings_for table limit) text so_far old → Step gave old new
-    → GaveNext limit table text so_far gave new
-gave_on limit table text so_far gave old new gives step =
-    let given = settings_for table limit in record {
-      gives = step.ok given text so_far gives;
-      is_size = step.page_size given text so_far gives;
-      has_places = step.places given text so_far gives table;
-      ends = step.end given text so_far gives;
+pub gave_on : (given : LoadSettings) (table : RamTable) (text : List ℕ) (so_far : GivenSoFar) (gave : Given) (old new : Giver) → Gives (settings_for table given) text so_far old → Step gave old new
+    → GaveNext given table text so_far gave new
+gave_on given table text so_far gave old new gives step =
+    let single = settings_for table given in record {
+      gives = step.ok single text so_far gives;
+      is_size = step.page_size single text so_far gives;
+      has_places = step.places single text so_far gives table;
+      ends = step.end single text so_far gives;
       leaves_none = step.none;
     }
 
@@ -72,10 +73,10 @@ same_so_far so_far records none =
     ap (λ (x : List PageRecord). with_more x so_far) none ∙ ap (λ (x : List PageRecord). record so_far { open_section = x }) (append-nil so_far.open_section)
 
 -- nothing was given last
-pub gave_none : (limit : ℕ) (table : RamTable) (text : List ℕ) (so_far : GivenSoFar) (r : Giver) → Gives (settings_for table limit) text so_far r → r.given.records ≡ []
-    → r.given.page_size ≡ table.page_size → GaveNext limit table text so_far Records r
-gave_none limit table text so_far r gives none size = record {
-  gives = subst (λ (x : GivenSoFar). Gives (settings_for table limit) text x r) (sym (same_so_far so_far r.given.records none)) gives;
+pub gave_none : (given : LoadSettings) (table : RamTable) (text : List ℕ) (so_far : GivenSoFar) (r : Giver) → Gives (settings_for table given) text so_far r → r.given.records ≡ []
+    → r.given.page_size ≡ table.page_size → GaveNext given table text so_far Records r
+gave_none given table text so_far r gives none size = record {
+  gives = subst (λ (x : GivenSoFar). Gives (settings_for table given) text x r) (sym (same_so_far so_far r.given.records none)) gives;
   is_size = size;
   has_places = λ has. subst (λ (l : List PageRecord). All (λ x. IsPlace table x.place) l) (sym none) (All-nil (λ (x : PageRecord). IsPlace table x.place));
   ends = tt;
@@ -99,17 +100,17 @@ given_none Section records so_far no_sections none = absurd (some_last so_far.se
 given_none (End found) records so_far no_sections none = refl
 
 -- before the table nothing was
-pub gave_before : (limit : ℕ) (table : RamTable) (text : List ℕ) (so_far : GivenSoFar) (gave : Given) (r : Giver) → GaveNext limit table text so_far gave r → whole_table r.progress ≡ None
-    → Gives (settings_for table limit) text so_far r
-gave_before limit table text so_far gave r next none =
+pub gave_before : (given : LoadSettings) (table : RamTable) (text : List ℕ) (so_far : GivenSoFar) (gave : Given) (r : Giver) → GaveNext given table text so_far gave r → whole_table r.progress ≡ None
+    → Gives (settings_for table given) text so_far r
+gave_before given table text so_far gave r next none =
     let then : GivenSoFar = with_given gave r.given.records so_far in
-    let both = none_before_table (settings_for table limit) text then r next.gives none in
-    subst (λ (x : GivenSoFar). Gives (settings_for table limit) text x r) (given_none gave r.given.records so_far both.0 both.1) next.gives
+    let both = none_before_table (settings_for table given) text then r next.gives none in
+    subst (λ (x : GivenSoFar). Gives (settings_for table given) text x r) (given_none gave r.given.records so_far both.0 both.1) next.gives
 
 -- ---- putting
 
-pub put_fits : (limit : ℕ) (table : RamTable) (text : List ℕ) (so_far : GivenSoFar) (gave : Given) (r : Giver) (n : ℕ) → (IsEnd gave → ⊥) → PutsNext limit table text so_far gave r n → FitsTable table r.given
-put_fits limit table text so_far gave r n more puts =
+pub put_fits : (given : LoadSettings) (table : RamTable) (text : List ℕ) (so_far : GivenSoFar) (gave : Given) (r : Giver) (n : ℕ) → (IsEnd gave → ⊥) → PutsNext given table text so_far gave r n → FitsTable table r.given
+put_fits given table text so_far gave r n more puts =
     elim puts.has_table [
       | inl end ↦ absurd (more end)
       | inr has ↦ record { has_page_size = puts.gave_next.is_size; has_places = puts.gave_next.has_places has }
@@ -125,11 +126,11 @@ count_more Records records so_far = refl
 count_more Section records so_far = sym (length-append so_far.sections ((so_far.open_section ++ records) ∷ []))
 count_more (End found) records so_far = refl
 
-pub puts_more : (limit : ℕ) (table : RamTable) (text : List ℕ) (so_far : GivenSoFar) (gave next : Given) (r s : Giver) (n : ℕ) → (IsEnd gave → ⊥) → PutsNext limit table text so_far gave r n → Step next r s
-    → PutsNext limit table text (with_given gave r.given.records so_far) next s (one_more gave n)
-puts_more limit table text so_far gave next r s n more puts step =
+pub puts_more : (given : LoadSettings) (table : RamTable) (text : List ℕ) (so_far : GivenSoFar) (gave next : Given) (r s : Giver) (n : ℕ) → (IsEnd gave → ⊥) → PutsNext given table text so_far gave r n → Step next r s
+    → PutsNext given table text (with_given gave r.given.records so_far) next s (one_more gave n)
+puts_more given table text so_far gave next r s n more puts step =
     let then : GivenSoFar = with_given gave r.given.records so_far in record {
-      gave_next = gave_on limit table text then next r s puts.gave_next.gives step;
+      gave_next = gave_on given table text then next r s puts.gave_next.gives step;
       has_sections = ap (one_more gave) puts.has_sections ∙ count_more gave r.given.records so_far;
       has_table = elim puts.has_table [ inl end ↦ absurd (more end) | inr has ↦ inr has ];
     }
@@ -150,68 +151,68 @@ memory_more first so_far gave r m new more size before is =
 
 -- what is put of the records that were given last, and of those that follow, by a loop that has come from there to here
 abbrev pub PutsSoFar : Given → Giver → Image → ℕ → Given → Giver → Image → ℕ → Type 0
-PutsSoFar gave r memory sections next s after more = (limit : ℕ) (first : Image) (text : List ℕ) (so_far : GivenSoFar) → PutsNext limit first.table text so_far gave r sections
+PutsSoFar gave r memory sections next s after more = (given : LoadSettings) (first : Image) (text : List ℕ) (so_far : GivenSoFar) → PutsNext given first.table text so_far gave r sections
     → memory ≡ with_round first (given_pages first so_far)
-    → (then : GivenSoFar) × PutsNext limit first.table text then next s more × (after ≡ with_round first (given_pages first then))
+    → (then : GivenSoFar) × PutsNext given first.table text then next s more × (after ≡ with_round first (given_pages first then))
 
 -- the same of the records alone
 abbrev pub GivesSoFar : Given → Giver → ℕ → Given → Giver → ℕ → Type 0
-GivesSoFar gave r sections next s more = (limit : ℕ) (table : RamTable) (text : List ℕ) (so_far : GivenSoFar) → PutsNext limit table text so_far gave r sections
-    → (then : GivenSoFar) × PutsNext limit table text then next s more
+GivesSoFar gave r sections next s more = (given : LoadSettings) (table : RamTable) (text : List ℕ) (so_far : GivenSoFar) → PutsNext given table text so_far gave r sections
+    → (then : GivenSoFar) × PutsNext given table text then next s more
 
 pub gives_none : (gave : Given) (r : Giver) (n : ℕ) → GivesSoFar gave r n gave r n
-gives_none gave r n = λ limit table text so_far puts. (so_far, puts)
+gives_none gave r n = λ given table text so_far puts. (so_far, puts)
 
 pub gives_on : (first_gave gave next : Given) (r0 r s : Giver) (n0 n more_n : ℕ) → (IsEnd gave → ⊥) → more_n ≡ one_more gave n → Step next r s → GivesSoFar first_gave r0 n0 gave r n
     → GivesSoFar first_gave r0 n0 next s more_n
-gives_on first_gave gave next r0 r s n0 n more_n more count step so = λ limit table text so_far puts.
-    let was = so limit table text so_far puts in (
+gives_on first_gave gave next r0 r s n0 n more_n more count step so = λ given table text so_far puts.
+    let was = so given table text so_far puts in (
       with_given gave r.given.records was.0,
-      subst (λ (k : ℕ). PutsNext limit table text (with_given gave r.given.records was.0) next s k) (sym count) (puts_more limit table text was.0 gave next r s n more was.1 step),
+      subst (λ (k : ℕ). PutsNext given table text (with_given gave r.given.records was.0) next s k) (sym count) (puts_more given table text was.0 gave next r s n more was.1 step),
     )
 
 pub gives_all : (first_gave gave : Given) (found : StreamState) (r0 r : Giver) (n0 n : ℕ) → gave ≡ End found → GivesSoFar first_gave r0 n0 gave r n → GivesAll first_gave r0 n0 found r n
-gives_all first_gave gave found r0 r n0 n is so = λ limit table text so_far puts.
-    let was = so limit table text so_far puts in
-    let last : PutsNext limit table text was.0 (End found) r n = subst (λ (x : Given). PutsNext limit table text was.0 x r n) is was.1 in (
+gives_all first_gave gave found r0 r n0 n is so = λ given table text so_far puts.
+    let was = so given table text so_far puts in
+    let last : PutsNext given table text was.0 (End found) r n = subst (λ (x : Given). PutsNext given table text was.0 x r n) is was.1 in (
       was.0,
       record { gives = last.gave_next.gives; has_reading = last.gave_next.ends; has_none_left = last.gave_next.leaves_none; has_sections = last.has_sections },
     )
 
 pub puts_none : (gave : Given) (r : Giver) (m : Image) (n : ℕ) → PutsSoFar gave r m n gave r m n
-puts_none gave r m n = λ limit first text so_far puts is. (so_far, puts, is)
+puts_none gave r m n = λ given first text so_far puts is. (so_far, puts, is)
 
 pub puts_on : (first_gave gave next : Given) (r0 r s : Giver) (m0 m new : Image) (n0 n more_n : ℕ) → (IsEnd gave → ⊥) → more_n ≡ one_more gave n → new ≡ with_round m (pages_of_round r.given) → Step next r s
     → PutsSoFar first_gave r0 m0 n0 gave r m n → PutsSoFar first_gave r0 m0 n0 next s new more_n
-puts_on first_gave gave next r0 r s m0 m new n0 n more_n more count is step so = λ limit first text so_far puts before.
-    let was = so limit first text so_far puts before in (
+puts_on first_gave gave next r0 r s m0 m new n0 n more_n more count is step so = λ given first text so_far puts before.
+    let was = so given first text so_far puts before in (
       with_given gave r.given.records was.0,
-      subst (λ (k : ℕ). PutsNext limit first.table text (with_given gave r.given.records was.0) next s k) (sym count) (puts_more limit first.table text was.0 gave next r s n more was.1 step),
+      subst (λ (k : ℕ). PutsNext given first.table text (with_given gave r.given.records was.0) next s k) (sym count) (puts_more given first.table text was.0 gave next r s n more was.1 step),
       memory_more first was.0 gave r.given m new more was.1.gave_next.is_size was.2 is,
     )
 
 pub some_on : (table : RamTable) (gave next : Given) (r s : Giver) (n more_n : ℕ) → (IsEnd gave → ⊥) → more_n ≡ one_more gave n → Step next r s → PutsNextSome table gave r n → PutsNextSome table next s more_n
 some_on table gave next r s n more_n more count step some = record {
-  limit = some.limit;
+  given = some.given;
   text = some.text;
   is_short = some.is_short;
   so_far = with_given gave r.given.records some.so_far;
-  puts = subst (λ (k : ℕ). PutsNext some.limit table some.text (with_given gave r.given.records some.so_far) next s k) (sym count)
-      (puts_more some.limit table some.text some.so_far gave next r s n more some.puts step);
+  puts = subst (λ (k : ℕ). PutsNext some.given table some.text (with_given gave r.given.records some.so_far) next s k) (sym count)
+      (puts_more some.given table some.text some.so_far gave next r s n more some.puts step);
 }
 
 -- a section more is counted
 pub few_more : (table : RamTable) (gave : Given) (r : Giver) (n : ℕ) → gave ≡ Section → PutsNextSome table gave r n → n + 1 < 2 ^ 63
 few_more table gave r n are some =
-    let puts : PutsNext some.limit table some.text some.so_far Section r n = subst (λ (x : Given). PutsNext some.limit table some.text some.so_far x r n) are some.puts in
-    let few = few_sections (settings_for table some.limit) some.text (with_last r.given.records some.so_far) r puts.gave_next.gives in
+    let puts : PutsNext some.given table some.text some.so_far Section r n = subst (λ (x : Given). PutsNext some.given table some.text some.so_far x r n) are some.puts in
+    let few = few_sections (settings_for table some.given) some.text (with_last r.given.records some.so_far) r puts.gave_next.gives in
     omega (arith, few, some.is_short, puts.has_sections, length-append some.so_far.sections ((some.so_far.open_section ++ r.given.records) ∷ []))
 
 -- all was put
 pub puts_all : (first_gave gave : Given) (found : StreamState) (r0 r : Giver) (m0 m : Image) (n0 n : ℕ) → gave ≡ End found → PutsSoFar first_gave r0 m0 n0 gave r m n → PutsAll first_gave r0 m0 n0 found r m n
-puts_all first_gave gave found r0 r m0 m n0 n is so = λ limit first text so_far puts before.
-    let was = so limit first text so_far puts before in
-    let last : PutsNext limit first.table text was.0 (End found) r n = subst (λ (x : Given). PutsNext limit first.table text was.0 x r n) is was.1 in (
+puts_all first_gave gave found r0 r m0 m n0 n is so = λ given first text so_far puts before.
+    let was = so given first text so_far puts before in
+    let last : PutsNext given first.table text was.0 (End found) r n = subst (λ (x : Given). PutsNext given first.table text was.0 x r n) is was.1 in (
       was.0,
       record { gives = last.gave_next.gives; has_reading = last.gave_next.ends; has_none_left = last.gave_next.leaves_none; has_sections = last.has_sections },
       was.2,
@@ -232,17 +233,17 @@ fewer (End found) next r s more less = absurd (more tt)
 -- ---- where a piece was read
 
 -- the text has the memory's table, or none
-pub own_of : (limit : ℕ) (first : Image) (text : List ℕ) (reading : StreamReading) → IsPageSize first.table.page_size → IsReading (settings_of first limit) text reading → IsOfTable limit first.table text
+pub own_of : (given : LoadSettings) (first : Image) (text : List ℕ) (reading : StreamReading) → IsPageSize first.table.page_size → IsReading (settings_of first given) text reading → IsOfTable given first.table text
     → IsOfOwnTable first reading
-own_of limit first text reading size is (inl has) =
-    inl (ap (λ (x : StreamReading). x.table) (same_reading first.table.page_size limit text reading has.0 size is has.1) ∙ sym has.2)
-own_of limit first text reading size is (inr has) =
-    inr (ap (λ (x : StreamReading). x.table) (same_reading first.table.page_size limit text reading has.0 size is has.1) ∙ sym has.2)
+own_of given first text reading size is (inl has) =
+    inl (ap (λ (x : StreamReading). x.table) (same_reading (for_table first.table given) text reading has.0 size is has.1) ∙ sym has.2)
+own_of given first text reading size is (inr has) =
+    inr (ap (λ (x : StreamReading). x.table) (same_reading (for_table first.table given) text reading has.0 size is has.1) ∙ sym has.2)
 
 -- what was given is what the text has
-pub records_onto : (limit : ℕ) (first : Image) (text : List ℕ) (so_far : GivenSoFar) (found : StreamState) (m : Image) (n : ℕ) → IsPageSize first.table.page_size → IsOfTable limit first.table text
-    → HasReading (settings_of first limit) text so_far found → m ≡ with_round first (given_pages first so_far) → n ≡ length so_far.sections → HasRecordsOnto limit first text m n
-records_onto limit first text so_far found m n size own has memory count = record {
+pub records_onto : (given : LoadSettings) (first : Image) (text : List ℕ) (so_far : GivenSoFar) (found : StreamState) (m : Image) (n : ℕ) → IsPageSize first.table.page_size → IsOfTable given first.table text
+    → HasReading (settings_of first given) text so_far found → m ≡ with_round first (given_pages first so_far) → n ≡ length so_far.sections → HasRecordsOnto given first text m n
+records_onto given first text so_far found m n size own has memory count = record {
   reading = has.reading;
   is_reading = has.is_reading;
   same_table = ap (λ (x : Image). x.table) memory;
@@ -253,31 +254,31 @@ records_onto limit first text so_far found m n size own has memory count = recor
         ∙ ap (λ (l : List PageRecord). with_round (with_rounds first (map (pages_on first) has.reading.rounds)) (pages_on first l)) (sym has.has_open),
     count ∙ ap (λ (l : List (List PageRecord)). length l) (sym has.has_sections),
   );
-  other = λ o. absurd (apart first has.reading (own_of limit first text has.reading size has.is_reading own) o);
+  other = λ o. absurd (apart first has.reading (own_of given first text has.reading size has.is_reading own) o);
 }
 
 -- ---- how the text stands then
 
 -- it goes on, and was paused
-pub stands_at : (limit : ℕ) (first : Image) (text : List ℕ) (so_far : GivenSoFar) (p : Paused) (m : Image) (n : ℕ) → IsPageSize first.table.page_size → IsOfTable limit first.table text
-    → HasReading (settings_of first limit) text so_far Reading → PausesAt (settings_of first limit) text so_far p → m ≡ with_round first (given_pages first so_far) → n ≡ length so_far.sections
-    → StandsOnto limit first text m n (Some p) (load_state.Stream Reading)
+pub stands_at : (given : LoadSettings) (first : Image) (text : List ℕ) (so_far : GivenSoFar) (p : Paused) (m : Image) (n : ℕ) → IsPageSize first.table.page_size → IsOfTable given first.table text
+    → HasReading (settings_of first given) text so_far Reading → PausesAt (settings_of first given) text so_far p → m ≡ with_round first (given_pages first so_far) → n ≡ length so_far.sections
+    → StandsOnto given first text m n (Some p) (load_state.Stream Reading)
 unfolding records_onto
-stands_at limit first text so_far p m n size own has at memory count = record {
-  has_records = records_onto limit first text so_far Reading m n size own has memory count;
+stands_at given first text so_far p m n size own has at memory count = record {
+  has_records = records_onto given first text so_far Reading m n size own has memory count;
   pauses = record { so_far = so_far; pauses = at; is_own = own; has_memory = memory; has_sections = count };
-  is_in_state = (own_of limit first text has.reading size has.is_reading own, refl, has.has_state);
+  is_in_state = (own_of given first text has.reading size has.is_reading own, refl, has.has_state);
 }
 
 -- it doesn't
-pub stands_off : (limit : ℕ) (first : Image) (text : List ℕ) (so_far : GivenSoFar) (found : StreamState) (m : Image) (n : ℕ) → IsPageSize first.table.page_size → IsOfTable limit first.table text
-    → HasReading (settings_of first limit) text so_far found → found ≢ Reading → m ≡ with_round first (given_pages first so_far) → n ≡ length so_far.sections
-    → StandsOnto limit first text m n None (load_state.Stream found)
+pub stands_off : (given : LoadSettings) (first : Image) (text : List ℕ) (so_far : GivenSoFar) (found : StreamState) (m : Image) (n : ℕ) → IsPageSize first.table.page_size → IsOfTable given first.table text
+    → HasReading (settings_of first given) text so_far found → found ≢ Reading → m ≡ with_round first (given_pages first so_far) → n ≡ length so_far.sections
+    → StandsOnto given first text m n None (load_state.Stream found)
 unfolding records_onto
-stands_off limit first text so_far found m n size own has over memory count = record {
-  has_records = records_onto limit first text so_far found m n size own has memory count;
+stands_off given first text so_far found m n size own has over memory count = record {
+  has_records = records_onto given first text so_far found m n size own has memory count;
   pauses = tt;
-  is_in_state = (own_of limit first text has.reading size has.is_reading own, over, has.has_state);
+  is_in_state = (own_of given first text has.reading size has.is_reading own, over, has.has_state);
 }
 
 -- the table of a text, all of which was given
@@ -294,55 +295,55 @@ all_table given text so_far found r g is =
 table_told : (given : Settings) (text : List ℕ) (so_far : GivenSoFar) (r : Giver) (table : RamTable) → Gives given text so_far r → whole_table r.progress ≡ Some table → HasTable given text (Some table)
 table_told given text so_far r table g whole = table_each r (Some table) (Some table) refl (sym whole) given text so_far g
 
-end_table : (limit : ℕ) (table : RamTable) (text : List ℕ) (so_far : GivenSoFar) (gave : Given) (r : Giver) → IsEnd gave → GaveNext limit table text so_far gave r → whole_table r.progress ≡ None
-    → HasTable (settings_for table limit) text None
-end_table limit table text so_far Records r end next none = absurd end
-end_table limit table text so_far Section r end next none = absurd end
-end_table limit table text so_far (End found) r end next none =
-    subst (λ (o : Option RamTable). HasTable (settings_for table limit) text o) none (all_table (settings_for table limit) text so_far found r next.gives next.leaves_none.has_found)
+end_table : (given : LoadSettings) (table : RamTable) (text : List ℕ) (so_far : GivenSoFar) (gave : Given) (r : Giver) → IsEnd gave → GaveNext given table text so_far gave r → whole_table r.progress ≡ None
+    → HasTable (settings_for table given) text None
+end_table given table text so_far Records r end next none = absurd end
+end_table given table text so_far Section r end next none = absurd end
+end_table given table text so_far (End found) r end next none =
+    subst (λ (o : Option RamTable). HasTable (settings_for table given) text o) none (all_table (settings_for table given) text so_far found r next.gives next.leaves_none.has_found)
 
 -- the table of the text is the memory's, as far as it has one
-pub own_text : (limit : ℕ) (table : RamTable) (text : List ℕ) (so_far : GivenSoFar) (gave : Given) (r : Giver) → GaveNext limit table text so_far gave r → IsEnd gave ⊎ (whole_table r.progress ≢ None)
-    → (whole_table r.progress ≡ None) ⊎ (whole_table r.progress ≡ Some table) → IsOfTable limit table text
-own_text limit table text so_far gave r next there (inr some) = inr (table_told (settings_for table limit) text (with_given gave r.given.records so_far) r table next.gives some)
-own_text limit table text so_far gave r next (inl end) (inl none) = inl (end_table limit table text so_far gave r end next none)
-own_text limit table text so_far gave r next (inr some) (inl none) = absurd (some none)
+pub own_text : (given : LoadSettings) (table : RamTable) (text : List ℕ) (so_far : GivenSoFar) (gave : Given) (r : Giver) → GaveNext given table text so_far gave r → IsEnd gave ⊎ (whole_table r.progress ≢ None)
+    → (whole_table r.progress ≡ None) ⊎ (whole_table r.progress ≡ Some table) → IsOfTable given table text
+own_text given table text so_far gave r next there (inr some) = inr (table_told (settings_for table given) text (with_given gave r.given.records so_far) r table next.gives some)
+own_text given table text so_far gave r next (inl end) (inl none) = inl (end_table given table text so_far gave r end next none)
+own_text given table text so_far gave r next (inr some) (inl none) = absurd (some none)
 
 -- and so what was given last may be put
-pub puts_first : (limit : ℕ) (table : RamTable) (text : List ℕ) (so_far : GivenSoFar) (gave : Given) (r : Giver) (n : ℕ) → GaveNext limit table text so_far gave r → IsEnd gave ⊎ (whole_table r.progress ≢ None)
-    → (whole_table r.progress ≡ None) ⊎ (whole_table r.progress ≡ Some table) → n ≡ length so_far.sections → PutsNext limit table text so_far gave r n
-puts_first limit table text so_far gave r n next there own count = record { gave_next = next; has_sections = count; has_table = at there own }
+pub puts_first : (given : LoadSettings) (table : RamTable) (text : List ℕ) (so_far : GivenSoFar) (gave : Given) (r : Giver) (n : ℕ) → GaveNext given table text so_far gave r → IsEnd gave ⊎ (whole_table r.progress ≢ None)
+    → (whole_table r.progress ≡ None) ⊎ (whole_table r.progress ≡ Some table) → n ≡ length so_far.sections → PutsNext given table text so_far gave r n
+puts_first given table text so_far gave r n next there own count = record { gave_next = next; has_sections = count; has_table = at there own }
   where
-    at : IsEnd gave ⊎ (whole_table r.progress ≢ None) → (whole_table r.progress ≡ None) ⊎ (whole_table r.progress ≡ Some table) → IsEnd gave ⊎ HasTable (settings_for table limit) text (Some table)
+    at : IsEnd gave ⊎ (whole_table r.progress ≢ None) → (whole_table r.progress ≡ None) ⊎ (whole_table r.progress ≡ Some table) → IsEnd gave ⊎ HasTable (settings_for table given) text (Some table)
     at (inl end) o = inl end
     at (inr some) (inl none) = absurd (some none)
-    at (inr some) (inr whole) = inr (table_told (settings_for table limit) text (with_given gave r.given.records so_far) r table next.gives whole)
+    at (inr some) (inr whole) = inr (table_told (settings_for table given) text (with_given gave r.given.records so_far) r table next.gives whole)
 
 -- ---- another table
 
 -- a longer text keeps its table
-table_longer : (limit : ℕ) (table : RamTable) (text piece : List ℕ) (t : RamTable) → IsPageSize table.page_size → HasTable (settings_for table limit) text (Some t) → (now : StreamReading)
-    → IsReading (settings_for table limit) (text ++ piece) now → now.table ≡ Some t
-table_longer limit table text piece t size has now is_now = (longer_law (settings_for table limit) text piece has.0 now size has.1 is_now).same_table t (sym has.2)
+table_longer : (given : LoadSettings) (table : RamTable) (text piece : List ℕ) (t : RamTable) → IsPageSize table.page_size → HasTable (settings_for table given) text (Some t) → (now : StreamReading)
+    → IsReading (settings_for table given) (text ++ piece) now → now.table ≡ Some t
+table_longer given table text piece t size has now is_now = (longer_law (settings_for table given) text piece has.0 now size has.1 is_now).same_table t (sym has.2)
 
 -- nothing was put of it
-pub stands_other : (limit : ℕ) (first : Image) (text piece : List ℕ) (p : Paused) (m : Image) (n : ℕ) (so_far : GivenSoFar) (r : Giver) (t : RamTable) → IsImage first → PausesOnto limit first text p m n
-    → Gives (settings_of first limit) (text ++ piece) so_far r → whole_table r.progress ≡ Some t → t ≢ first.table → StandsOnto limit first (text ++ piece) m n None load_state.OtherTable
-stands_other limit first text piece p m n so_far r t image at g whole differ =
-    let given = settings_of first limit in
-    let has : HasTable given (text ++ piece) (Some t) = table_told given (text ++ piece) so_far r t g whole in
+pub stands_other : (given : LoadSettings) (first : Image) (text piece : List ℕ) (p : Paused) (m : Image) (n : ℕ) (so_far : GivenSoFar) (r : Giver) (t : RamTable) → IsImage first → PausesOnto given first text p m n
+    → Gives (settings_of first given) (text ++ piece) so_far r → whole_table r.progress ≡ Some t → t ≢ first.table → StandsOnto given first (text ++ piece) m n None load_state.OtherTable
+stands_other given first text piece p m n so_far r t image at g whole differ =
+    let single = settings_of first given in
+    let has : HasTable single (text ++ piece) (Some t) = table_told single (text ++ piece) so_far r t g whole in
     let reading : StreamReading = has.0 in
     let other : IsOfOtherTable first reading = (t, sym has.2, differ) in
     let size : IsPageSize first.table.page_size = g.is_page_size in
-    let before : HasTable given text None =
+    let before : HasTable single text None =
     elim at.is_own [
       | inl none ↦ none
-      | inr own ↦ absurd (differ (let both : Some t ≡ Some first.table = has.2 ∙ table_longer limit first.table text piece first.table size own reading has.1 in cc))
+      | inr own ↦ absurd (differ (let both : Some t ≡ Some first.table = has.2 ∙ table_longer given first.table text piece first.table size own reading has.1 in cc))
     ] in
-    let told : HasTable given text (whole_table p.progress) = paused_table given text at.so_far p at.pauses in
+    let told : HasTable single text (whole_table p.progress) = paused_table single text at.so_far p at.pauses in
     let none : whole_table p.progress ≡ None =
-    told.2 ∙ ap (λ (x : StreamReading). x.table) (same_reading first.table.page_size limit text told.0 before.0 size told.1 before.1) ∙ sym before.2 in
-    let both = none_before_table given text at.so_far (giver_at p) at.pauses none in
+    told.2 ∙ ap (λ (x : StreamReading). x.table) (same_reading (for_table first.table given) text told.0 before.0 size told.1 before.1) ∙ sym before.2 in
+    let both = none_before_table single text at.so_far (giver_at p) at.pauses none in
     let nothing : given_pages first at.so_far ≡ [] =
     ap (λ (l : List (List PageRecord)). all_pages (map (pages_on first) l) ++ pages_on first at.so_far.open_section) both.0 ∙ ap (λ (l : List PageRecord). pages_on first l) both.1 in
     record {
@@ -359,12 +360,12 @@ stands_other limit first text piece p m n so_far r t image at g whole differ =
 
 -- ---- before the first byte
 
-pub eager_first : (limit : ℕ) (first : Image) (p : Paused) (table : RamTable) → IsTable first.table → IsImage first → first.table ≡ table → PausesAt (settings_for first.table limit) [] none_given p
-    → EagerlyLoads first limit first (eager_load (Some p) (load_state.Stream Reading) table 0 0 false) [] false
-eager_first limit first p table is image same at =
-    let begin : StreamProgress = start Ram Single first.table.page_size limit in
+pub eager_first : (given : LoadSettings) (first : Image) (p : Paused) (table : RamTable) → IsTable first.table → IsImage first → first.table ≡ table → PausesAt (settings_for first.table given) [] none_given p
+    → EagerlyLoads first given first (eager_load (Some p) (load_state.Stream Reading) table 0 0 false) [] false
+eager_first given first p table is image same at =
+    let begin : StreamProgress = start given.frame Single first.table.page_size given.limit in
     let reading : StreamReading = record { table = None; rounds = []; state = Reading } in
-    let is_reading : IsReading (settings_of first limit) [] reading = record { to = begin; rest = []; reads = reads_short begin [] (omega arith); has_table = refl; has_rounds = refl } in
+    let is_reading : IsReading (settings_of first given) [] reading = record { to = begin; rest = []; reads = reads_short begin [] (omega arith); has_table = refl; has_rounds = refl } in
     let nothing : first ≡ with_rounds first [] = sym (onto-nil first image) in
     record {
       is_table = is;
@@ -387,9 +388,9 @@ eager_first limit first p table is image same at =
 
 -- ---- the verdict
 
-pub verdict_onto : (limit : ℕ) (first : Image) (text : List ℕ) (m : Image) (n : ℕ) (pause : Option Paused) (found : StreamState) (v : Result ⊤ LoadFault) → StandsOnto limit first text m n pause (load_state.Stream found)
-    → v ≡ verdict_of n found → HasVerdictOnto limit first text v
-verdict_onto limit first text m n pause found v st is =
+pub verdict_onto : (given : LoadSettings) (first : Image) (text : List ℕ) (m : Image) (n : ℕ) (pause : Option Paused) (found : StreamState) (v : Result ⊤ LoadFault) → StandsOnto given first text m n pause (load_state.Stream found)
+    → v ≡ verdict_of n found → HasVerdictOnto given first text v
+verdict_onto given first text m n pause found v st is =
     let reading : StreamReading = st.has_records.reading in
     let so : IsOfOwnTable first reading × (reading.state ≡ found) = of_state first reading pause found st.is_in_state in
     record {
@@ -425,16 +426,16 @@ reading_more given text piece reading is over = record {
   has_rounds = is.has_rounds;
 }
 
-pub stands_more : (limit : ℕ) (first : Image) (text piece : List ℕ) (m : Image) (n : ℕ) (found : LoadState) → IsPageSize first.table.page_size → StandsOnto limit first text m n None found
-    → StandsOnto limit first (text ++ piece) m n None found
+pub stands_more : (given : LoadSettings) (first : Image) (text piece : List ℕ) (m : Image) (n : ℕ) (found : LoadState) → IsPageSize first.table.page_size → StandsOnto given first text m n None found
+    → StandsOnto given first (text ++ piece) m n None found
 unfolding reading_more
-stands_more limit first text piece m n (load_state.Stream found) size st =
+stands_more given first text piece m n (load_state.Stream found) size st =
     let has = st.has_records in
     let over : has.reading.state ≢ Reading = λ e. st.is_in_state.1 (sym st.is_in_state.2 ∙ e) in
     record {
       has_records = record {
         reading = has.reading;
-        is_reading = reading_more (settings_of first limit) text piece has.reading has.is_reading over;
+        is_reading = reading_more (settings_of first given) text piece has.reading has.is_reading over;
         same_table = has.same_table;
         own = has.own;
         other = has.other;
@@ -442,11 +443,11 @@ stands_more limit first text piece m n (load_state.Stream found) size st =
       pauses = tt;
       is_in_state = st.is_in_state;
     }
-stands_more limit first text piece m n load_state.OtherTable size st =
+stands_more given first text piece m n load_state.OtherTable size st =
     let has = st.has_records in
-    let given = settings_of first limit in
-    let now = one_reading_law given (text ++ piece) size in
-    let stays : StaysRead has.reading now.0 = longer_law given text piece has.reading now.0 size has.is_reading now.1 in
+    let single = settings_of first given in
+    let now = one_reading_law single (text ++ piece) size in
+    let stays : StaysRead has.reading now.0 = longer_law single text piece has.reading now.0 size has.is_reading now.1 in
     let other : IsOfOtherTable first now.0 = (st.is_in_state.0, stays.same_table st.is_in_state.0 st.is_in_state.1, st.is_in_state.2) in
     record {
       has_records = record {
@@ -459,113 +460,113 @@ stands_more limit first text piece m n load_state.OtherTable size st =
       pauses = tt;
       is_in_state = other;
     }
-stands_more limit first text piece m n load_state.NoMemory size st = absurd st.is_in_state
+stands_more given first text piece m n load_state.NoMemory size st = absurd st.is_in_state
 
 -- ---- a piece of it
 
 -- what a pause that goes on is given by
-gave_of : (limit : ℕ) (table : RamTable) (text : List ℕ) (so_far : GivenSoFar) (p : Paused) → PausesAt (settings_for table limit) text so_far p → p.progress.page_size ≡ table.page_size
-gave_of limit table text so_far p at = same_page_size (settings_for table limit) text so_far (giver_at p) at
+gave_of : (given : LoadSettings) (table : RamTable) (text : List ℕ) (so_far : GivenSoFar) (p : Paused) → PausesAt (settings_for table given) text so_far p → p.progress.page_size ≡ table.page_size
+gave_of given table text so_far p at = same_page_size (settings_for table given) text so_far (giver_at p) at
 
 -- a reader that was made of a pause, and has found the table, or the end of its piece
 pub record Found (p : Paused) (piece : List ℕ) (first r : Giver) (gave : Given) : Type 0 where
-  pub resumed : (given : Settings) (text : List ℕ) (so_far : GivenSoFar) → PausesAt given text so_far p → Gives given (text ++ piece) so_far first
+  pub resumed : (single : Settings) (text : List ℕ) (so_far : GivenSoFar) → PausesAt single text so_far p → Gives single (text ++ piece) so_far first
   pub is_fresh : first.given ≡ record { page_size = p.progress.page_size; records = [] }
-  pub gave_next : (limit : ℕ) (table : RamTable) (text : List ℕ) (so_far : GivenSoFar) → Gives (settings_for table limit) text so_far first → first.given.page_size ≡ table.page_size
-      → GaveNext limit table text so_far gave r
+  pub gave_next : (given : LoadSettings) (table : RamTable) (text : List ℕ) (so_far : GivenSoFar) → Gives (settings_for table given) text so_far first → first.given.page_size ≡ table.page_size
+      → GaveNext given table text so_far gave r
   pub there : IsEnd gave ⊎ (whole_table r.progress ≢ None)
 
-pub found_next : (limit : ℕ) (table : RamTable) (text piece : List ℕ) (so_far : GivenSoFar) (p : Paused) (first r : Giver) (gave : Given) → Found p piece first r gave → PausesAt (settings_for table limit) text so_far p
-    → GaveNext limit table (text ++ piece) so_far gave r
-found_next limit table text piece so_far p first r gave f at =
-    f.gave_next limit table (text ++ piece) so_far (f.resumed (settings_for table limit) text so_far at)
-    (ap (λ (x : RoundOfRecords). x.page_size) f.is_fresh ∙ gave_of limit table text so_far p at)
+pub found_next : (given : LoadSettings) (table : RamTable) (text piece : List ℕ) (so_far : GivenSoFar) (p : Paused) (first r : Giver) (gave : Given) → Found p piece first r gave → PausesAt (settings_for table given) text so_far p
+    → GaveNext given table (text ++ piece) so_far gave r
+found_next given table text piece so_far p first r gave f at =
+    f.gave_next given table (text ++ piece) so_far (f.resumed (settings_for table given) text so_far at)
+    (ap (λ (x : RoundOfRecords). x.page_size) f.is_fresh ∙ gave_of given table text so_far p at)
 
-pub found_puts : (limit : ℕ) (table : RamTable) (text piece : List ℕ) (so_far : GivenSoFar) (p : Paused) (first r : Giver) (gave : Given) (n : ℕ) → Found p piece first r gave
-    → PausesAt (settings_for table limit) text so_far p → (whole_table r.progress ≡ None) ⊎ (whole_table r.progress ≡ Some table) → n ≡ length so_far.sections
-    → PutsNext limit table (text ++ piece) so_far gave r n
-found_puts limit table text piece so_far p first r gave n f at own count =
-    puts_first limit table (text ++ piece) so_far gave r n (found_next limit table text piece so_far p first r gave f at) f.there own count
+pub found_puts : (given : LoadSettings) (table : RamTable) (text piece : List ℕ) (so_far : GivenSoFar) (p : Paused) (first r : Giver) (gave : Given) (n : ℕ) → Found p piece first r gave
+    → PausesAt (settings_for table given) text so_far p → (whole_table r.progress ≡ None) ⊎ (whole_table r.progress ≡ Some table) → n ≡ length so_far.sections
+    → PutsNext given table (text ++ piece) so_far gave r n
+found_puts given table text piece so_far p first r gave n f at own count =
+    puts_first given table (text ++ piece) so_far gave r n (found_next given table text piece so_far p first r gave f at) f.there own count
 
-pub found_some : (limit fed : ℕ) (table : RamTable) (piece : List ℕ) (p : Paused) (first r : Giver) (gave : Given) (n : ℕ) → Found p piece first r gave → PausesSome limit table p n fed
+pub found_some : (given : LoadSettings) (fed : ℕ) (table : RamTable) (piece : List ℕ) (p : Paused) (first r : Giver) (gave : Given) (n : ℕ) → Found p piece first r gave → PausesSome given table p n fed
     → fed + length piece < 2 ^ 63 → (whole_table r.progress ≡ None) ⊎ (whole_table r.progress ≡ Some table) → PutsNextSome table gave r n
-found_some limit fed table piece p first r gave n f some short own = record {
-  limit = limit;
+found_some given fed table piece p first r gave n f some short own = record {
+  given = given;
   text = some.text ++ piece;
   is_short = omega (arith, short, some.has_fed, length-append some.text piece);
   so_far = some.so_far;
-  puts = found_puts limit table some.text piece some.so_far p first r gave n f some.pauses own some.has_sections;
+  puts = found_puts given table some.text piece some.so_far p first r gave n f some.pauses own some.has_sections;
 }
 
-pub found_other : (limit : ℕ) (first : Image) (text piece : List ℕ) (p : Paused) (m : Image) (n : ℕ) (fresh r : Giver) (gave : Given) (t : RamTable) → IsImage first → Found p piece fresh r gave
-    → PausesOnto limit first text p m n → whole_table r.progress ≡ Some t → t ≢ first.table → StandsOnto limit first (text ++ piece) m n None load_state.OtherTable
-found_other limit first text piece p m n fresh r gave t image f at whole differ =
-    stands_other limit first text piece p m n (with_given gave r.given.records at.so_far) r t image at
-    (found_next limit first.table text piece at.so_far p fresh r gave f at.pauses).gives whole differ
+pub found_other : (given : LoadSettings) (first : Image) (text piece : List ℕ) (p : Paused) (m : Image) (n : ℕ) (fresh r : Giver) (gave : Given) (t : RamTable) → IsImage first → Found p piece fresh r gave
+    → PausesOnto given first text p m n → whole_table r.progress ≡ Some t → t ≢ first.table → StandsOnto given first (text ++ piece) m n None load_state.OtherTable
+found_other given first text piece p m n fresh r gave t image f at whole differ =
+    stands_other given first text piece p m n (with_given gave r.given.records at.so_far) r t image at
+    (found_next given first.table text piece at.so_far p fresh r gave f at.pauses).gives whole differ
 
 -- all was put
-pub found_all : (limit : ℕ) (first : Image) (text piece : List ℕ) (p : Paused) (m new : Image) (n more : ℕ) (fresh r s : Giver) (gave : Given) (found : StreamState) → Found p piece fresh r gave
-    → PausesOnto limit first text p m n → (whole_table r.progress ≡ None) ⊎ (whole_table r.progress ≡ Some first.table) → PutsAll gave r m n found s new more
-    → (then : GivenSoFar) × GaveAll limit first.table (text ++ piece) then found s more × (new ≡ with_round first (given_pages first then)) × IsOfTable limit first.table (text ++ piece)
-found_all limit first text piece p m new n more fresh r s gave found f at own puts =
-    let next = found_puts limit first.table text piece at.so_far p fresh r gave n f at.pauses own at.has_sections in
-    let all = puts limit first (text ++ piece) at.so_far next at.has_memory in (
+pub found_all : (given : LoadSettings) (first : Image) (text piece : List ℕ) (p : Paused) (m new : Image) (n more : ℕ) (fresh r s : Giver) (gave : Given) (found : StreamState) → Found p piece fresh r gave
+    → PausesOnto given first text p m n → (whole_table r.progress ≡ None) ⊎ (whole_table r.progress ≡ Some first.table) → PutsAll gave r m n found s new more
+    → (then : GivenSoFar) × GaveAll given first.table (text ++ piece) then found s more × (new ≡ with_round first (given_pages first then)) × IsOfTable given first.table (text ++ piece)
+found_all given first text piece p m new n more fresh r s gave found f at own puts =
+    let next = found_puts given first.table text piece at.so_far p fresh r gave n f at.pauses own at.has_sections in
+    let all = puts given first (text ++ piece) at.so_far next at.has_memory in (
       all.0,
       all.1,
       all.2,
-      own_text limit first.table (text ++ piece) at.so_far gave r next.gave_next f.there own,
+      own_text given first.table (text ++ piece) at.so_far gave r next.gave_next f.there own,
     )
 
-pub found_off : (limit : ℕ) (first : Image) (text piece : List ℕ) (p : Paused) (m new : Image) (n more : ℕ) (fresh r s : Giver) (gave : Given) (found : StreamState) → Found p piece fresh r gave
-    → PausesOnto limit first text p m n → (whole_table r.progress ≡ None) ⊎ (whole_table r.progress ≡ Some first.table) → PutsAll gave r m n found s new more → found ≢ Reading
-    → StandsOnto limit first (text ++ piece) new more None (load_state.Stream found)
-found_off limit first text piece p m new n more fresh r s gave found f at own puts over =
-    let all = found_all limit first text piece p m new n more fresh r s gave found f at own puts in
-    stands_off limit first (text ++ piece) all.0 found new more all.1.gives.is_page_size all.3 all.1.has_reading over all.2 all.1.has_sections
+pub found_off : (given : LoadSettings) (first : Image) (text piece : List ℕ) (p : Paused) (m new : Image) (n more : ℕ) (fresh r s : Giver) (gave : Given) (found : StreamState) → Found p piece fresh r gave
+    → PausesOnto given first text p m n → (whole_table r.progress ≡ None) ⊎ (whole_table r.progress ≡ Some first.table) → PutsAll gave r m n found s new more → found ≢ Reading
+    → StandsOnto given first (text ++ piece) new more None (load_state.Stream found)
+found_off given first text piece p m new n more fresh r s gave found f at own puts over =
+    let all = found_all given first text piece p m new n more fresh r s gave found f at own puts in
+    stands_off given first (text ++ piece) all.0 found new more all.1.gives.is_page_size all.3 all.1.has_reading over all.2 all.1.has_sections
 
-pub found_on : (limit : ℕ) (first : Image) (text piece : List ℕ) (p q : Paused) (m new : Image) (n more : ℕ) (fresh r s : Giver) (gave : Given) (found : StreamState) → Found p piece fresh r gave
-    → PausesOnto limit first text p m n → (whole_table r.progress ≡ None) ⊎ (whole_table r.progress ≡ Some first.table) → PutsAll gave r m n found s new more → found ≡ Reading
-    → ((given : Settings) (text : List ℕ) (so_far : GivenSoFar) → Gives given text so_far s → PausesAt given text so_far q) → StandsOnto limit first (text ++ piece) new more (Some q) (load_state.Stream found)
-found_on limit first text piece p q m new n more fresh r s gave found f at own puts is pauses =
-    let all = found_all limit first text piece p m new n more fresh r s gave found f at own puts in
-    let has : HasReading (settings_of first limit) (text ++ piece) all.0 Reading = subst (λ (x : StreamState). HasReading (settings_of first limit) (text ++ piece) all.0 x) is all.1.has_reading in
-    subst (λ (x : StreamState). StandsOnto limit first (text ++ piece) new more (Some q) (load_state.Stream x)) (sym is)
-    (stands_at limit first (text ++ piece) all.0 q new more all.1.gives.is_page_size all.3 has (pauses (settings_of first limit) (text ++ piece) all.0 all.1.gives) all.2 all.1.has_sections)
+pub found_on : (given : LoadSettings) (first : Image) (text piece : List ℕ) (p q : Paused) (m new : Image) (n more : ℕ) (fresh r s : Giver) (gave : Given) (found : StreamState) → Found p piece fresh r gave
+    → PausesOnto given first text p m n → (whole_table r.progress ≡ None) ⊎ (whole_table r.progress ≡ Some first.table) → PutsAll gave r m n found s new more → found ≡ Reading
+    → ((single : Settings) (text : List ℕ) (so_far : GivenSoFar) → Gives single text so_far s → PausesAt single text so_far q) → StandsOnto given first (text ++ piece) new more (Some q) (load_state.Stream found)
+found_on given first text piece p q m new n more fresh r s gave found f at own puts is pauses =
+    let all = found_all given first text piece p m new n more fresh r s gave found f at own puts in
+    let has : HasReading (settings_of first given) (text ++ piece) all.0 Reading = subst (λ (x : StreamState). HasReading (settings_of first given) (text ++ piece) all.0 x) is all.1.has_reading in
+    subst (λ (x : StreamState). StandsOnto given first (text ++ piece) new more (Some q) (load_state.Stream x)) (sym is)
+    (stands_at given first (text ++ piece) all.0 q new more all.1.gives.is_page_size all.3 has (pauses (settings_of first given) (text ++ piece) all.0 all.1.gives) all.2 all.1.has_sections)
 
 -- and of any text so much was given
-pub found_on_some : (limit fed : ℕ) (table : RamTable) (piece : List ℕ) (p q : Paused) (n more : ℕ) (fresh r s : Giver) (gave : Given) (found : StreamState) → Found p piece fresh r gave
-    → PausesSome limit table p n fed → (whole_table r.progress ≡ None) ⊎ (whole_table r.progress ≡ Some table) → GivesAll gave r n found s more
-    → ((given : Settings) (text : List ℕ) (so_far : GivenSoFar) → Gives given text so_far s → PausesAt given text so_far q) → PausesSome limit table q more (fed + length piece)
-found_on_some limit fed table piece p q n more fresh r s gave found f some own gives pauses =
-    let next = found_puts limit table some.text piece some.so_far p fresh r gave n f some.pauses own some.has_sections in
-    let all = gives limit table (some.text ++ piece) some.so_far next in
+pub found_on_some : (given : LoadSettings) (fed : ℕ) (table : RamTable) (piece : List ℕ) (p q : Paused) (n more : ℕ) (fresh r s : Giver) (gave : Given) (found : StreamState) → Found p piece fresh r gave
+    → PausesSome given table p n fed → (whole_table r.progress ≡ None) ⊎ (whole_table r.progress ≡ Some table) → GivesAll gave r n found s more
+    → ((single : Settings) (text : List ℕ) (so_far : GivenSoFar) → Gives single text so_far s → PausesAt single text so_far q) → PausesSome given table q more (fed + length piece)
+found_on_some given fed table piece p q n more fresh r s gave found f some own gives pauses =
+    let next = found_puts given table some.text piece some.so_far p fresh r gave n f some.pauses own some.has_sections in
+    let all = gives given table (some.text ++ piece) some.so_far next in
     record {
       text = some.text ++ piece;
       has_fed = ap (λ (k : ℕ). k + length piece) some.has_fed ∙ sym (length-append some.text piece);
       so_far = all.0;
-      pauses = pauses (settings_for table limit) (some.text ++ piece) all.0 all.1.gives;
+      pauses = pauses (settings_for table given) (some.text ++ piece) all.0 all.1.gives;
       has_sections = all.1.has_sections;
     }
 
 -- what some text says, all of which was given
-pub found_none_left : (limit fed : ℕ) (table : RamTable) (piece : List ℕ) (p : Paused) (n more : ℕ) (fresh r s : Giver) (gave : Given) (found : StreamState) → Found p piece fresh r gave
-    → PausesSome limit table p n fed → (whole_table r.progress ≡ None) ⊎ (whole_table r.progress ≡ Some table) → GivesAll gave r n found s more → HasNoneLeft found s
-found_none_left limit fed table piece p n more fresh r s gave found f some own gives =
-    let next = found_puts limit table some.text piece some.so_far p fresh r gave n f some.pauses own some.has_sections in
-    (gives limit table (some.text ++ piece) some.so_far next).1.has_none_left
+pub found_none_left : (given : LoadSettings) (fed : ℕ) (table : RamTable) (piece : List ℕ) (p : Paused) (n more : ℕ) (fresh r s : Giver) (gave : Given) (found : StreamState) → Found p piece fresh r gave
+    → PausesSome given table p n fed → (whole_table r.progress ≡ None) ⊎ (whole_table r.progress ≡ Some table) → GivesAll gave r n found s more → HasNoneLeft found s
+found_none_left given fed table piece p n more fresh r s gave found f some own gives =
+    let next = found_puts given table some.text piece some.so_far p fresh r gave n f some.pauses own some.has_sections in
+    (gives given table (some.text ++ piece) some.so_far next).1.has_none_left
 
 -- ---- a call
 
 pub at_some : {X : Type 0} (P : X → Type 0) (o : Option X) (x : X) → o ≡ Some x → IfSome o P → P x
 at_some {X} P o x is h = subst (λ (y : Option X). IfSome y P) is h
 
-pub some_each : (limit fed : ℕ) (t table : RamTable) (n : ℕ) (o : Option Paused) → t ≡ table → IfSome o (λ p. PausesSome limit t p n fed) → IfSome o (λ p. (l : ℕ) × PausesSome l table p n fed)
-some_each limit fed t table n None same h = tt
-some_each limit fed t table n (Some p) same h = (limit, subst (λ (x : RamTable). PausesSome limit x p n fed) same h)
+pub some_each : (given : LoadSettings) (fed : ℕ) (t table : RamTable) (n : ℕ) (o : Option Paused) → t ≡ table → IfSome o (λ p. PausesSome given t p n fed) → IfSome o (λ p. (l : LoadSettings) × PausesSome l table p n fed)
+some_each given fed t table n None same h = tt
+some_each given fed t table n (Some p) same h = (given, subst (λ (x : RamTable). PausesSome given x p n fed) same h)
 
-pub eager_on : (memory new : Image) (limit : ℕ) (first : Image) (s : EagerLoad) (text piece : List ℕ) (pause : Option Paused) (found : LoadState) (n : ℕ) → EagerlyLoads memory limit first s text false
-    → StandsOnto limit first (text ++ piece) new n pause found → EagerlyLoads new limit first (eager_load pause found s.table n (s.fed + length piece) s.ended) (text ++ piece) false
-eager_on memory new limit first s text piece pause found n loads stands = record {
+pub eager_on : (memory new : Image) (given : LoadSettings) (first : Image) (s : EagerLoad) (text piece : List ℕ) (pause : Option Paused) (found : LoadState) (n : ℕ) → EagerlyLoads memory given first s text false
+    → StandsOnto given first (text ++ piece) new n pause found → EagerlyLoads new given first (eager_load pause found s.table n (s.fed + length piece) s.ended) (text ++ piece) false
+eager_on memory new given first s text piece pause found n loads stands = record {
   is_table = loads.is_table;
   is_image = loads.is_image;
   same_table = loads.same_table;
@@ -574,11 +575,11 @@ eager_on memory new limit first s text piece pause found n loads stands = record
   stands = stands;
 }
 
-pub eager_past : (memory : Image) (limit : ℕ) (first : Image) (s : EagerLoad) (text piece : List ℕ) → s.pause ≡ None → EagerlyLoads memory limit first s text false
-    → EagerlyLoads memory limit first (eager_load None s.state s.table s.rounds (s.fed + length piece) s.ended) (text ++ piece) false
-eager_past memory limit first s text piece none loads =
-    eager_on memory memory limit first s text piece None s.state s.rounds loads
-    (stands_more limit first text piece memory s.rounds s.state loads.is_table.has_page_size (subst (λ (o : Option Paused). StandsOnto limit first text memory s.rounds o s.state) none loads.stands))
+pub eager_past : (memory : Image) (given : LoadSettings) (first : Image) (s : EagerLoad) (text piece : List ℕ) → s.pause ≡ None → EagerlyLoads memory given first s text false
+    → EagerlyLoads memory given first (eager_load None s.state s.table s.rounds (s.fed + length piece) s.ended) (text ++ piece) false
+eager_past memory given first s text piece none loads =
+    eager_on memory memory given first s text piece None s.state s.rounds loads
+    (stands_more given first text piece memory s.rounds s.state loads.is_table.has_page_size (subst (λ (o : Option Paused). StandsOnto given first text memory s.rounds o s.state) none loads.stands))
 
 -- ---- where memory was refused
 
@@ -587,41 +588,41 @@ pub any_err : {X Y : Type 0} (r : Result X Y) (P : Type 0) → P → OnErr r P
 any_err (Ok x) P p = tt
 any_err (Err y) P p = p
 
-pub some_so_far : (limit : ℕ) (first : Image) (text : List ℕ) (so_far : GivenSoFar) (r : Giver) (m : Image) (n : ℕ) → Gives (settings_of first limit) text so_far r → m ≡ with_round first (given_pages first so_far)
-    → n ≡ length so_far.sections → HasSomeOnto limit first text m n
-some_so_far limit first text so_far r m n gives memory count = record { so_far = so_far; reader = r; gives = gives; has_memory = memory; has_sections = count }
+pub some_so_far : (given : LoadSettings) (first : Image) (text : List ℕ) (so_far : GivenSoFar) (r : Giver) (m : Image) (n : ℕ) → Gives (settings_of first given) text so_far r → m ≡ with_round first (given_pages first so_far)
+    → n ≡ length so_far.sections → HasSomeOnto given first text m n
+some_so_far given first text so_far r m n gives memory count = record { so_far = so_far; reader = r; gives = gives; has_memory = memory; has_sections = count }
 
 -- in the loop
 pub puts_some : (first_gave gave : Given) (r0 r : Giver) (m0 m new : Image) (n0 n more_n : ℕ) → (IsEnd gave → ⊥) → more_n ≡ one_more gave n → new ≡ with_round m (pages_of_round r.given)
     → PutsSoFar first_gave r0 m0 n0 gave r m n → PutsSome first_gave r0 m0 n0 new more_n
-puts_some first_gave gave r0 r m0 m new n0 n more_n more count is so = λ limit first text so_far puts before.
-    let was = so limit first text so_far puts before in
-    some_so_far limit first text (with_given gave r.given.records was.0) r new more_n was.1.gave_next.gives (memory_more first was.0 gave r.given m new more was.1.gave_next.is_size was.2 is)
+puts_some first_gave gave r0 r m0 m new n0 n more_n more count is so = λ given first text so_far puts before.
+    let was = so given first text so_far puts before in
+    some_so_far given first text (with_given gave r.given.records was.0) r new more_n was.1.gave_next.gives (memory_more first was.0 gave r.given m new more was.1.gave_next.is_size was.2 is)
     (count ∙ ap (one_more gave) was.1.has_sections ∙ count_more gave r.given.records was.0)
 
 -- before the table
-pub some_first : (limit : ℕ) (first : Image) (text piece : List ℕ) (p : Paused) (r : Giver) (m : Image) (n : ℕ)
-    → ((given : Settings) (text : List ℕ) (so_far : GivenSoFar) → PausesAt given text so_far p → Gives given (text ++ piece) so_far r) → PausesOnto limit first text p m n
-    → HasSomeOnto limit first (text ++ piece) m n
-some_first limit first text piece p r m n resumed at =
-    some_so_far limit first (text ++ piece) at.so_far r m n (resumed (settings_of first limit) text at.so_far at.pauses) at.has_memory at.has_sections
+pub some_first : (given : LoadSettings) (first : Image) (text piece : List ℕ) (p : Paused) (r : Giver) (m : Image) (n : ℕ)
+    → ((single : Settings) (text : List ℕ) (so_far : GivenSoFar) → PausesAt single text so_far p → Gives single (text ++ piece) so_far r) → PausesOnto given first text p m n
+    → HasSomeOnto given first (text ++ piece) m n
+some_first given first text piece p r m n resumed at =
+    some_so_far given first (text ++ piece) at.so_far r m n (resumed (settings_of first given) text at.so_far at.pauses) at.has_memory at.has_sections
 
 -- after the table
-pub some_put : (limit : ℕ) (first : Image) (text piece : List ℕ) (p : Paused) (m new : Image) (n more : ℕ) (fresh r : Giver) (gave : Given) → Found p piece fresh r gave
-    → PausesOnto limit first text p m n → (whole_table r.progress ≡ None) ⊎ (whole_table r.progress ≡ Some first.table) → PutsSome gave r m n new more → HasSomeOnto limit first (text ++ piece) new more
-some_put limit first text piece p m new n more fresh r gave f at own puts =
-    puts limit first (text ++ piece) at.so_far (found_puts limit first.table text piece at.so_far p fresh r gave n f at.pauses own at.has_sections) at.has_memory
+pub some_put : (given : LoadSettings) (first : Image) (text piece : List ℕ) (p : Paused) (m new : Image) (n more : ℕ) (fresh r : Giver) (gave : Given) → Found p piece fresh r gave
+    → PausesOnto given first text p m n → (whole_table r.progress ≡ None) ⊎ (whole_table r.progress ≡ Some first.table) → PutsSome gave r m n new more → HasSomeOnto given first (text ++ piece) new more
+some_put given first text piece p m new n more fresh r gave f at own puts =
+    puts given first (text ++ piece) at.so_far (found_puts given first.table text piece at.so_far p fresh r gave n f at.pauses own at.has_sections) at.has_memory
 
 -- and where all was put
-pub some_all : (limit : ℕ) (first : Image) (text piece : List ℕ) (p : Paused) (m new : Image) (n more : ℕ) (fresh r s : Giver) (gave : Given) (found : StreamState) → Found p piece fresh r gave
-    → PausesOnto limit first text p m n → (whole_table r.progress ≡ None) ⊎ (whole_table r.progress ≡ Some first.table) → PutsAll gave r m n found s new more → HasSomeOnto limit first (text ++ piece) new more
-some_all limit first text piece p m new n more fresh r s gave found f at own puts =
-    let all = found_all limit first text piece p m new n more fresh r s gave found f at own puts in
-    some_so_far limit first (text ++ piece) all.0 s new more all.1.gives all.2 all.1.has_sections
+pub some_all : (given : LoadSettings) (first : Image) (text piece : List ℕ) (p : Paused) (m new : Image) (n more : ℕ) (fresh r s : Giver) (gave : Given) (found : StreamState) → Found p piece fresh r gave
+    → PausesOnto given first text p m n → (whole_table r.progress ≡ None) ⊎ (whole_table r.progress ≡ Some first.table) → PutsAll gave r m n found s new more → HasSomeOnto given first (text ++ piece) new more
+some_all given first text piece p m new n more fresh r s gave found f at own puts =
+    let all = found_all given first text piece p m new n more fresh r s gave found f at own puts in
+    some_so_far given first (text ++ piece) all.0 s new more all.1.gives all.2 all.1.has_sections
 
 -- a text that is longer
-some_longer : (limit : ℕ) (first : Image) (text piece : List ℕ) (m : Image) (n : ℕ) → HasSomeOnto limit first text m n → HasSomeOnto limit first (text ++ piece) m n
-some_longer limit first text piece m n has =
+some_longer : (given : LoadSettings) (first : Image) (text piece : List ℕ) (m : Image) (n : ℕ) → HasSomeOnto given first text m n → HasSomeOnto given first (text ++ piece) m n
+some_longer given first text piece m n has =
     let g = has.gives in record {
       so_far = has.so_far;
       reader = record { progress = has.reader.progress; rest = has.reader.rest ++ piece; found = None; given = has.reader.given };
@@ -637,9 +638,9 @@ some_longer limit first text piece m n has =
       has_sections = has.has_sections;
     }
 
-pub lacks_now : (memory new : Image) (limit : ℕ) (first : Image) (s : EagerLoad) (text piece : List ℕ) (n : ℕ) → EagerlyLoads memory limit first s text false → HasSomeOnto limit first (text ++ piece) new n
-    → LacksMemory new limit first (eager_load None load_state.NoMemory s.table n (s.fed + length piece) s.ended) (text ++ piece) false
-lacks_now memory new limit first s text piece n loads some = record {
+pub lacks_now : (memory new : Image) (given : LoadSettings) (first : Image) (s : EagerLoad) (text piece : List ℕ) (n : ℕ) → EagerlyLoads memory given first s text false → HasSomeOnto given first (text ++ piece) new n
+    → LacksMemory new given first (eager_load None load_state.NoMemory s.table n (s.fed + length piece) s.ended) (text ++ piece) false
+lacks_now memory new given first s text piece n loads some = record {
   is_table = loads.is_table;
   is_image = loads.is_image;
   same_table = loads.same_table;
@@ -650,15 +651,15 @@ lacks_now memory new limit first s text piece n loads some = record {
   has_failed = refl;
 }
 
-pub lacks_more : (memory : Image) (limit : ℕ) (first : Image) (s : EagerLoad) (text piece : List ℕ) → LacksMemory memory limit first s text false
-    → LacksMemory memory limit first (eager_load None s.state s.table s.rounds (s.fed + length piece) s.ended) (text ++ piece) false
-lacks_more memory limit first s text piece lacks = record {
+pub lacks_more : (memory : Image) (given : LoadSettings) (first : Image) (s : EagerLoad) (text piece : List ℕ) → LacksMemory memory given first s text false
+    → LacksMemory memory given first (eager_load None s.state s.table s.rounds (s.fed + length piece) s.ended) (text ++ piece) false
+lacks_more memory given first s text piece lacks = record {
   is_table = lacks.is_table;
   is_image = lacks.is_image;
   same_table = lacks.same_table;
   has_fed = ap (λ (k : ℕ). k + length piece) lacks.has_fed ∙ sym (length-append text piece);
   has_ended = lacks.has_ended;
-  has_some = some_longer limit first text piece memory s.rounds lacks.has_some;
+  has_some = some_longer given first text piece memory s.rounds lacks.has_some;
   has_no_pause = refl;
   has_failed = lacks.has_failed;
 }
@@ -679,7 +680,7 @@ last_none first p (r ∷ records) all =
     ]
 
 pub other_places : EagerKeepsOtherPlaces
-other_places limit first text memory sections has p own is none =
+other_places given first text memory sections has p own is none =
     let whole : Image = with_rounds first (map (pages_on first) has.reading.rounds) in
     let records : List PageRecord = has.is_reading.to.records in
     ap (λ (m : Image). content_at m p) (has.own own).0
@@ -687,9 +688,9 @@ other_places limit first text memory sections has p own is none =
     ∙ ap (λ (o : Option Page). option_map_or (λ (x : Page). x.content) o (content_at whole p)) (last_none first p records none)
 
 pub closed_by_sections : EagerOkIsBySections
-closed_by_sections limit first text memory sections table image has v =
+closed_by_sections given first text memory sections table image has v =
     let size : IsPageSize first.table.page_size = table.has_page_size in
-    let same : v.reading ≡ has.reading = same_reading first.table.page_size limit text v.reading has.reading size v.is_reading has.is_reading in
+    let same : v.reading ≡ has.reading = same_reading (for_table first.table given) text v.reading has.reading size v.is_reading has.is_reading in
     record {
       reading = has.reading;
       is_reading = has.is_reading;
@@ -699,7 +700,7 @@ closed_by_sections limit first text memory sections table image has v =
           let told : Ok _ ≡ verdict_of (length v.reading.rounds) v.reading.state = v.own (subst (λ (x : StreamReading). IsOfOwnTable first x) (sym same) own) in
           let closed : has.reading.state ≡ Closed = ap (λ (x : StreamReading). x.state) (sym same) ∙ ok_closed (length v.reading.rounds) v.reading.state told in
           let due : has.is_reading.to.due ≡ Nothing = subst (λ (s : StreamState). Ends has.is_reading.to has.is_reading.rest s) closed has.is_reading.reads.ends in
-          let none : has.is_reading.to.records ≡ [] = closed_is_empty Ram Single first.table.page_size limit has.is_reading.reads.front has.is_reading.to refl has.is_reading.reads.leads due in (
+          let none : has.is_reading.to.records ≡ [] = closed_is_empty given.frame Single first.table.page_size given.limit has.is_reading.reads.front has.is_reading.to refl has.is_reading.reads.leads due in (
             (has.own own).0
                 ∙ ap (λ (l : List PageRecord). with_round (with_round first before) (pages_on first l)) none
                 ∙ put_behind first before []

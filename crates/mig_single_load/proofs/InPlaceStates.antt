@@ -19,6 +19,8 @@ use Rattle.mig_stream.specs.Law.{StaysRead}
 use Rattle.mig_stream.proofs.Exists.{one_reading_law}
 use Rattle.mig_stream.proofs.Longer.{longer_law}
 use Rattle.mig_assemble.specs.Target.{FitsTable, pages_of_round}
+use Rattle.mig_single_load.specs.Settings.{for_table}
+use Rattle.mig_single_load.specs.declared.settings.LoadSettings.{LoadSettings}
 use Rattle.mig_single_load.specs.Loader.{put_so_far, HasPutSections}
 use Rattle.mig_single_load.specs.InPlace.{settings_of, IsOfOwnTable, IsOfOtherTable, LoadsOnto, StandsAtAll}
 use Rattle.mig_single_load.specs.InPlaceState.{InPlaceState, in_place_state, memory_with, loader_with, LoadsWith, FedWith, AreSections, first_sections, PutsAlike, LoadsWithMemory, FedWithSome}
@@ -66,33 +68,33 @@ zeros_there table = subst IsImage (after-nil table) (after_image table [] (All-n
 
 -- ---- what a state stands for
 
-pub fed_with : (memory : Image) (limit : ℕ) (first : Image) (s : InPlaceState) (text : List ℕ) (ended : Bool) → LoadsWith memory limit first s text ended → FedWith memory limit first s text ended
-fed_with memory limit first s text ended loads = record { same_table = loads.same_table; fed = fed_of limit first s.reader (memory_with memory s.rounds) text ended loads.loads }
+pub fed_with : (memory : Image) (given : LoadSettings) (first : Image) (s : InPlaceState) (text : List ℕ) (ended : Bool) → LoadsWith memory given first s text ended → FedWith memory given first s text ended
+fed_with memory given first s text ended loads = record { same_table = loads.same_table; fed = fed_of given first s.reader (memory_with memory s.rounds) text ended loads.loads }
 
 -- the memory is of its table
-pub fed_table : (memory : Image) (limit : ℕ) (first : Image) (s : InPlaceState) (text : List ℕ) (ended : Bool) → FedWith memory limit first s text ended → memory.table ≡ s.table
-fed_table memory limit first s text ended fed = fed.fed.same_table ∙ fed.same_table
+pub fed_table : (memory : Image) (given : LoadSettings) (first : Image) (s : InPlaceState) (text : List ℕ) (ended : Bool) → FedWith memory given first s text ended → memory.table ≡ s.table
+fed_table memory given first s text ended fed = fed.fed.same_table ∙ fed.same_table
 
-pub loads_table : (memory : Image) (limit : ℕ) (first : Image) (s : InPlaceState) (text : List ℕ) (ended : Bool) → LoadsWith memory limit first s text ended → memory.table ≡ s.table
-loads_table memory limit first s text ended loads = loads.loads.has_sections.same_table ∙ loads.same_table
+pub loads_table : (memory : Image) (given : LoadSettings) (first : Image) (s : InPlaceState) (text : List ℕ) (ended : Bool) → LoadsWith memory given first s text ended → memory.table ≡ s.table
+loads_table memory given first s text ended loads = loads.loads.has_sections.same_table ∙ loads.same_table
 
 -- what it always stands for
-pub of_some_text : (s : InPlaceState) (some : FedWithSome s) → FedWith some.memory some.fed.limit some.fed.first s some.fed.text some.fed.ended
+pub of_some_text : (s : InPlaceState) (some : FedWithSome s) → FedWith some.memory some.fed.given some.fed.first s some.fed.text some.fed.ended
 of_some_text s some = record { same_table = sym some.fed.has_fed.same_table ∙ some.same_table; fed = some.fed.has_fed }
 
-pub some_text : (memory : Image) (limit : ℕ) (first : Image) (s : InPlaceState) (text : List ℕ) (ended : Bool) → length text < 2 ^ 63 → FedWith memory limit first s text ended → FedWithSome s
-some_text memory limit first s text ended short fed = record {
+pub some_text : (memory : Image) (given : LoadSettings) (first : Image) (s : InPlaceState) (text : List ℕ) (ended : Bool) → length text < 2 ^ 63 → FedWith memory given first s text ended → FedWithSome s
+some_text memory given first s text ended short fed = record {
   memory = memory;
-  same_table = fed_table memory limit first s text ended fed;
-  fed = record { limit = limit; first = first; text = text; ended = ended; is_short = short; has_fed = fed.fed };
+  same_table = fed_table memory given first s text ended fed;
+  fed = record { given = given; first = first; text = text; ended = ended; is_short = short; has_fed = fed.fed };
 }
 
 -- ---- the sections that are put
 
 -- none
-pub sections_none : (memory : Image) (limit : ℕ) (first : Image) (s : InPlaceState) (text : List ℕ) (ended : Bool) → FedWith memory limit first s text ended
-    → AreSections s.rounds s.rounds limit first text []
-sections_none memory limit first s text ended fed = record {
+pub sections_none : (memory : Image) (given : LoadSettings) (first : Image) (s : InPlaceState) (text : List ℕ) (ended : Bool) → FedWith memory given first s text ended
+    → AreSections s.rounds s.rounds given first text []
+sections_none memory given first s text ended fed = record {
   reading = fed.fed.reading;
   is_reading = fed.fed.is_reading;
   own = λ _. append-nil (first_sections first fed.fed.reading s.rounds);
@@ -100,15 +102,15 @@ sections_none memory limit first s text ended fed = record {
 }
 
 -- one more, by its number
-pub sections_more : (memory : Image) (m limit : ℕ) (first : Image) (s : InPlaceState) (text : List ℕ) (ended : Bool) (rounds : List (List Page)) (n : ℕ) (section : RoundOfRecords)
-    → FedWith memory limit first s text ended → AreSections m n limit first text rounds → HasRound (settings_of first limit) text n section.records
-    → section.page_size ≡ first.table.page_size → s.rounds ≡ n + 1 → AreSections m s.rounds limit first text (rounds ++ pages_of_round section ∷ [])
-sections_more memory m limit first s text ended rounds n section fed are is_round is_size more =
+pub sections_more : (memory : Image) (m : ℕ) (given : LoadSettings) (first : Image) (s : InPlaceState) (text : List ℕ) (ended : Bool) (rounds : List (List Page)) (n : ℕ) (section : RoundOfRecords)
+    → FedWith memory given first s text ended → AreSections m n given first text rounds → HasRound (settings_of first given) text n section.records
+    → section.page_size ≡ first.table.page_size → s.rounds ≡ n + 1 → AreSections m s.rounds given first text (rounds ++ pages_of_round section ∷ [])
+sections_more memory m given first s text ended rounds n section fed are is_round is_size more =
     let p : ℕ = first.table.page_size in
     let size : IsPageSize p = fed.fed.is_table.has_page_size in
     let reading : StreamReading = are.reading in
-    let one : is_round.0 ≡ reading = same_reading p limit text is_round.0 reading size is_round.1 are.is_reading in
-    let there : fed.fed.reading ≡ reading = same_reading p limit text fed.fed.reading reading size fed.fed.is_reading are.is_reading in
+    let one : is_round.0 ≡ reading = same_reading (for_table first.table given) text is_round.0 reading size is_round.1 are.is_reading in
+    let there : fed.fed.reading ≡ reading = same_reading (for_table first.table given) text fed.fed.reading reading size fed.fed.is_reading are.is_reading in
     let few : n < length reading.rounds = subst (λ (x : StreamReading). n < length x.rounds) one is_round.2 in
     let here : slice_index_or reading.rounds n [] ≡ section.records = subst (λ (x : StreamReading). slice_index_or x.rounds n [] ≡ section.records) one is_round.3 in
     let before : List (List PageRecord) = take n reading.rounds in
@@ -133,12 +135,12 @@ sections_more memory m limit first s text ended rounds n section fed are is_roun
 
 -- ---- what a longer text has
 
-pub round_longer : (limit : ℕ) (first : Image) (text piece : List ℕ) (i : ℕ) (records : List PageRecord) → IsPageSize first.table.page_size
-    → HasRound (settings_of first limit) text i records → HasRound (settings_of first limit) (text ++ piece) i records
-round_longer limit first text piece i records size has =
-    let given : Settings = settings_of first limit in
-    let now = one_reading_law given (text ++ piece) size in
-    let stays : StaysRead has.0 now.0 = longer_law given text piece has.0 now.0 size has.1 now.1 in
+pub round_longer : (given : LoadSettings) (first : Image) (text piece : List ℕ) (i : ℕ) (records : List PageRecord) → IsPageSize first.table.page_size
+    → HasRound (settings_of first given) text i records → HasRound (settings_of first given) (text ++ piece) i records
+round_longer given first text piece i records size has =
+    let single : Settings = settings_of first given in
+    let now = one_reading_law single (text ++ piece) size in
+    let stays : StaysRead has.0 now.0 = longer_law single text piece has.0 now.0 size has.1 now.1 in
     let count = ap (λ (l : List (List PageRecord)). length l) stays.has_rounds ∙ length-append has.0.rounds stays.more_rounds in
     let few = has.2 in (
       now.0,
@@ -147,22 +149,22 @@ round_longer limit first text piece i records size has =
       ap (λ (l : List (List PageRecord)). slice_index_or l i []) stays.has_rounds ∙ get_or_append_left has.0.rounds stays.more_rounds [] i few ∙ has.3,
     )
 
-pub sections_longer : (limit : ℕ) (first : Image) (text piece : List ℕ) (before now : StreamReading) (n : ℕ) → IsPageSize first.table.page_size
-    → IsReading (settings_of first limit) text before → IsReading (settings_of first limit) (text ++ piece) now → n ≤ length before.rounds → IsOfOwnTable first now
+pub sections_longer : (given : LoadSettings) (first : Image) (text piece : List ℕ) (before now : StreamReading) (n : ℕ) → IsPageSize first.table.page_size
+    → IsReading (settings_of first given) text before → IsReading (settings_of first given) (text ++ piece) now → n ≤ length before.rounds → IsOfOwnTable first now
     → IsOfOwnTable first before × (first_sections first before n ≡ first_sections first now n)
-sections_longer limit first text piece before now n size is_before is_now few own =
-    let stays : StaysRead before now = longer_law (settings_of first limit) text piece before now size is_before is_now in
+sections_longer given first text piece before now n size is_before is_now few own =
+    let stays : StaysRead before now = longer_law (settings_of first given) text piece before now size is_before is_now in
     let front : take n now.rounds ≡ take n before.rounds =
     ap (λ (l : List (List PageRecord)). take n l) stays.has_rounds ∙ take-append-le n before.rounds stays.more_rounds few in
     (own_before first before now before.table refl stays own, ap (λ (l : List (List PageRecord)). pages_in first.table.page_size l) (sym front))
 
 -- ---- a piece more, and the end
 
-pub with_piece_more : (memory : Image) (limit : ℕ) (first : Image) (r s : Reader) (table : RamTable) (n : ℕ) (text piece : List ℕ) → StepsOn (with_piece piece) r s
-    → FedWith memory limit first (in_place_state r table n) text false → FedWith memory limit first (in_place_state s table n) (text ++ piece) false
-with_piece_more memory limit first r s table n text piece step fed = record {
+pub with_piece_more : (memory : Image) (given : LoadSettings) (first : Image) (r s : Reader) (table : RamTable) (n : ℕ) (text piece : List ℕ) → StepsOn (with_piece piece) r s
+    → FedWith memory given first (in_place_state r table n) text false → FedWith memory given first (in_place_state s table n) (text ++ piece) false
+with_piece_more memory given first r s table n text piece step fed = record {
   same_table = fed.same_table;
-  fed = onto_longer limit first r s (memory_with memory n) text piece false step fed.fed;
+  fed = onto_longer given first r s (memory_with memory n) text piece false step fed.fed;
 }
 
 pub some_piece_more : (r s : Reader) (table : RamTable) (n : ℕ) (piece : List ℕ) → StepsOn (with_piece piece) r s → r.fed + length piece < 2 ^ 63 → FedWithSome (in_place_state r table n)
@@ -191,117 +193,117 @@ abbrev pub TellsTable : Reader → RamTable → Type 0
 TellsTable r table = Tells r (λ given so_far. HasTable given so_far.text (Some table))
 
 -- the sections so far
-put_with : (memory : Image) (limit : ℕ) (first : Image) (r : Reader) (table streamed : RamTable) (n : ℕ) (text : List ℕ) (ended : Bool) → FedWith memory limit first (in_place_state r table n) text ended
-    → TellsTable r streamed → streamed ≡ table → HasPutSections first.table.page_size limit first text ended r (memory_with memory n)
-put_with memory limit first r table streamed n text ended stood tells same =
-    put_own limit first r (memory_with memory n) text ended streamed stood.fed (tells (settings_of first limit) (put_so_far text ended stood.fed.taken) stood.fed.stands)
-    (same ∙ sym (fed_table memory limit first (in_place_state r table n) text ended stood))
+put_with : (memory : Image) (given : LoadSettings) (first : Image) (r : Reader) (table streamed : RamTable) (n : ℕ) (text : List ℕ) (ended : Bool) → FedWith memory given first (in_place_state r table n) text ended
+    → TellsTable r streamed → streamed ≡ table → HasPutSections (for_table first.table given) first text ended r (memory_with memory n)
+put_with memory given first r table streamed n text ended stood tells same =
+    put_own given first r (memory_with memory n) text ended streamed stood.fed (tells (settings_of first given) (put_so_far text ended stood.fed.taken) stood.fed.stands)
+    (same ∙ sym (fed_table memory given first (in_place_state r table n) text ended stood))
 
-pub section_more : (memory : Image) (limit : ℕ) (first : Image) (r s : Reader) (table streamed : RamTable) (n : ℕ) (section : RoundOfRecords) (text : List ℕ) (ended : Bool)
-    → TellsTable r streamed → streamed ≡ table → GivesSection r section → StepsOn one_taken r s → FedWith memory limit first (in_place_state r table n) text ended
-    → FedWith (with_round memory (pages_of_round section)) limit first (in_place_state s table (n + 1)) text ended
-section_more memory limit first r s table streamed n section text ended tells same gives step stood =
-    let put = put_with memory limit first r table streamed n text ended stood tells same in
-    let given = settings_of first limit in
+pub section_more : (memory : Image) (given : LoadSettings) (first : Image) (r s : Reader) (table streamed : RamTable) (n : ℕ) (section : RoundOfRecords) (text : List ℕ) (ended : Bool)
+    → TellsTable r streamed → streamed ≡ table → GivesSection r section → StepsOn one_taken r s → FedWith memory given first (in_place_state r table n) text ended
+    → FedWith (with_round memory (pages_of_round section)) given first (in_place_state s table (n + 1)) text ended
+section_more memory given first r s table streamed n section text ended tells same gives step stood =
+    let put = put_with memory given first r table streamed n text ended stood tells same in
+    let single = settings_of first given in
     let so_far = put_so_far text ended n in
-    let round = gives given so_far put.stands in
+    let round = gives single so_far put.stands in
     let now : Image = with_round memory (pages_of_round section) in
     record {
       same_table = stood.same_table;
-      fed = fed_own limit first s (memory_with now (n + 1)) text ended stood.fed.is_table stood.fed.is_image
-          (put_more first.table.page_size limit first text ended r s (memory_with memory n) (memory_with now (n + 1)) section put round.0 round.1 (step given so_far put.stands) refl refl);
+      fed = fed_own given first s (memory_with now (n + 1)) text ended stood.fed.is_table stood.fed.is_image
+          (put_more (for_table first.table given) first text ended r s (memory_with memory n) (memory_with now (n + 1)) section put round.0 round.1 (step single so_far put.stands) refl refl);
     }
 
 -- which the section is
-pub section_is : (memory : Image) (limit : ℕ) (first : Image) (r : Reader) (table streamed : RamTable) (n : ℕ) (section : RoundOfRecords) (text : List ℕ) (ended : Bool)
-    → TellsTable r streamed → streamed ≡ table → GivesSection r section → FedWith memory limit first (in_place_state r table n) text ended
-    → HasRound (settings_of first limit) text n section.records
-section_is memory limit first r table streamed n section text ended tells same gives stood =
-    let put = put_with memory limit first r table streamed n text ended stood tells same in
-    (gives (settings_of first limit) (put_so_far text ended n) put.stands).1
+pub section_is : (memory : Image) (given : LoadSettings) (first : Image) (r : Reader) (table streamed : RamTable) (n : ℕ) (section : RoundOfRecords) (text : List ℕ) (ended : Bool)
+    → TellsTable r streamed → streamed ≡ table → GivesSection r section → FedWith memory given first (in_place_state r table n) text ended
+    → HasRound (settings_of first given) text n section.records
+section_is memory given first r table streamed n section text ended tells same gives stood =
+    let put = put_with memory given first r table streamed n text ended stood tells same in
+    (gives (settings_of first given) (put_so_far text ended n) put.stands).1
 
 pub section_fits : (r : Reader) (table streamed : RamTable) (n : ℕ) (section : RoundOfRecords) → FedWithSome (in_place_state r table n) → TellsTable r streamed → streamed ≡ table
     → GivesSection r section → GivesPlaces r section → FitsTable table section
 section_fits r table streamed n section some tells same gives places =
     let stood = of_some_text (in_place_state r table n) some in
     let first : Image = some.fed.first in
-    let limit : ℕ = some.fed.limit in
+    let given : LoadSettings = some.fed.given in
     let text : List ℕ = some.fed.text in
-    let put = put_with some.memory limit first r table streamed n text some.fed.ended stood tells same in
+    let put = put_with some.memory given first r table streamed n text some.fed.ended stood tells same in
     let so_far = put_so_far text some.fed.ended n in
     subst (λ (x : RamTable). FitsTable x section) some.same_table
-    (fits_is first.table.page_size limit first text some.fed.ended r (memory_with some.memory n) section put (gives (settings_of first limit) so_far put.stands).0
-    (places (settings_of first limit) so_far put.stands first.table put.has_first.has_table))
+    (fits_is (for_table first.table given) first text some.fed.ended r (memory_with some.memory n) section put (gives (settings_of first given) so_far put.stands).0
+    (places (settings_of first given) so_far put.stands first.table put.has_first.has_table))
 
 -- it isn't the 2^63rd
 pub section_few : (r : Reader) (table streamed : RamTable) (n : ℕ) (section : RoundOfRecords) → FedWithSome (in_place_state r table n) → TellsTable r streamed → streamed ≡ table
     → GivesSection r section → n < 2 ^ 63
 section_few r table streamed n section some tells same gives =
     let first : Image = some.fed.first in
-    let put = put_with some.memory some.fed.limit first r table streamed n some.fed.text some.fed.ended (of_some_text (in_place_state r table n) some) tells same in
-    let few = is_few first.table.page_size some.fed.limit n some.fed.text section.records put.is_page_size (gives (settings_of first some.fed.limit) (put_so_far some.fed.text some.fed.ended n) put.stands).1 in
+    let put = put_with some.memory some.fed.given first r table streamed n some.fed.text some.fed.ended (of_some_text (in_place_state r table n) some) tells same in
+    let few = is_few (for_table first.table some.fed.given) n some.fed.text section.records put.is_page_size (gives (settings_of first some.fed.given) (put_so_far some.fed.text some.fed.ended n) put.stands).1 in
     let short = some.fed.is_short in
     omega (arith, few, short)
 
 -- ---- no section more
 
 -- no table
-pub none_without_table : (memory : Image) (limit : ℕ) (first : Image) (r : Reader) (table : RamTable) (n : ℕ) (text : List ℕ) (ended : Bool)
-    → Tells r (λ given so_far. HasTable given so_far.text None) → FedWith memory limit first (in_place_state r table n) text ended → LoadsWith memory limit first (in_place_state r table n) text ended
-none_without_table memory limit first r table n text ended tells stood = record {
+pub none_without_table : (memory : Image) (given : LoadSettings) (first : Image) (r : Reader) (table : RamTable) (n : ℕ) (text : List ℕ) (ended : Bool)
+    → Tells r (λ single so_far. HasTable single so_far.text None) → FedWith memory given first (in_place_state r table n) text ended → LoadsWith memory given first (in_place_state r table n) text ended
+none_without_table memory given first r table n text ended tells stood = record {
   same_table = stood.same_table;
-  loads = put_none limit first r (memory_with memory n) text ended stood.fed (tells (settings_of first limit) (put_so_far text ended stood.fed.taken) stood.fed.stands);
+  loads = put_none given first r (memory_with memory n) text ended stood.fed (tells (settings_of first given) (put_so_far text ended stood.fed.taken) stood.fed.stands);
 }
 
 -- another table
-pub none_of_another : (memory : Image) (limit : ℕ) (first : Image) (r s : Reader) (table streamed : RamTable) (n : ℕ) (text : List ℕ) (ended : Bool) → TellsTable r streamed
-    → (streamed ≡ table → ⊥) → StandsAtAll (settings_of first limit) text ended s → FedWith memory limit first (in_place_state r table n) text ended
-    → LoadsWith memory limit first (in_place_state s table n) text ended
-none_of_another memory limit first r s table streamed n text ended tells differ stands stood = record {
+pub none_of_another : (memory : Image) (given : LoadSettings) (first : Image) (r s : Reader) (table streamed : RamTable) (n : ℕ) (text : List ℕ) (ended : Bool) → TellsTable r streamed
+    → (streamed ≡ table → ⊥) → StandsAtAll (settings_of first given) text ended s → FedWith memory given first (in_place_state r table n) text ended
+    → LoadsWith memory given first (in_place_state s table n) text ended
+none_of_another memory given first r s table streamed n text ended tells differ stands stood = record {
   same_table = stood.same_table;
-  loads = loads_other limit first r s (memory_with memory n) text ended streamed stood.fed (tells (settings_of first limit) (put_so_far text ended stood.fed.taken) stood.fed.stands)
-      (λ e. differ (e ∙ fed_table memory limit first (in_place_state r table n) text ended stood)) stands;
+  loads = loads_other given first r s (memory_with memory n) text ended streamed stood.fed (tells (settings_of first given) (put_so_far text ended stood.fed.taken) stood.fed.stands)
+      (λ e. differ (e ∙ fed_table memory given first (in_place_state r table n) text ended stood)) stands;
 }
 
 -- all were taken
-pub none_left : (memory : Image) (limit : ℕ) (first : Image) (r s : Reader) (table streamed : RamTable) (n : ℕ) (text : List ℕ) (ended : Bool) → TellsTable r streamed → streamed ≡ table
-    → Tells r (λ given so_far. (i : ℕ) (round : List PageRecord) → HasRound given so_far.text i round → i < so_far.taken) → s ≡ r → FedWith memory limit first (in_place_state r table n) text ended
-    → LoadsWith memory limit first (in_place_state s table n) text ended
-none_left memory limit first r s table streamed n text ended tells same last is stood =
-    let put = put_with memory limit first r table streamed n text ended stood tells same in
-    subst (λ (x : Reader). LoadsWith memory limit first (in_place_state x table n) text ended) (sym is) (record {
+pub none_left : (memory : Image) (given : LoadSettings) (first : Image) (r s : Reader) (table streamed : RamTable) (n : ℕ) (text : List ℕ) (ended : Bool) → TellsTable r streamed → streamed ≡ table
+    → Tells r (λ single so_far. (i : ℕ) (round : List PageRecord) → HasRound single so_far.text i round → i < so_far.taken) → s ≡ r → FedWith memory given first (in_place_state r table n) text ended
+    → LoadsWith memory given first (in_place_state s table n) text ended
+none_left memory given first r s table streamed n text ended tells same last is stood =
+    let put = put_with memory given first r table streamed n text ended stood tells same in
+    subst (λ (x : Reader). LoadsWith memory given first (in_place_state x table n) text ended) (sym is) (record {
       same_table = stood.same_table;
-      loads = loads_own limit first r (memory_with memory n) text ended stood.fed.is_table stood.fed.is_image put
-          (all_put first.table.page_size limit first text ended r (memory_with memory n) put (last (settings_of first limit) (put_so_far text ended n) put.stands));
+      loads = loads_own given first r (memory_with memory n) text ended stood.fed.is_table stood.fed.is_image put
+          (all_put (for_table first.table given) first text ended r (memory_with memory n) put (last (settings_of first given) (put_so_far text ended n) put.stands));
     })
 
 -- ---- a state with the memory of its loader
 
-pub with_memory : (memory : Image) (limit : ℕ) (first : Image) (s : InPlaceState) (text : List ℕ) (ended : Bool) → LoadsWithMemory s memory → LoadsOnto limit first (loader_with s memory) text ended
-    → LoadsWith memory limit first s text ended
-with_memory memory limit first s text ended some loads = record { same_table = sym loads.has_sections.same_table ∙ some.same_table; loads = loads }
+pub with_memory : (memory : Image) (given : LoadSettings) (first : Image) (s : InPlaceState) (text : List ℕ) (ended : Bool) → LoadsWithMemory s memory → LoadsOnto given first (loader_with s memory) text ended
+    → LoadsWith memory given first s text ended
+with_memory memory given first s text ended some loads = record { same_table = sym loads.has_sections.same_table ∙ some.same_table; loads = loads }
 
-pub memory_some : (memory : Image) (limit : ℕ) (first : Image) (s : InPlaceState) (text : List ℕ) (ended : Bool) → length text < 2 ^ 63 → LoadsWith memory limit first s text ended
+pub memory_some : (memory : Image) (given : LoadSettings) (first : Image) (s : InPlaceState) (text : List ℕ) (ended : Bool) → length text < 2 ^ 63 → LoadsWith memory given first s text ended
     → LoadsWithMemory s memory
-memory_some memory limit first s text ended short stood = record {
-  same_table = loads_table memory limit first s text ended stood;
-  loads = onto_some limit first s.reader (memory_with memory s.rounds) text ended short stood.loads;
+memory_some memory given first s text ended short stood = record {
+  same_table = loads_table memory given first s text ended stood;
+  loads = onto_some given first s.reader (memory_with memory s.rounds) text ended short stood.loads;
 }
 
 -- a piece more
 pub memory_piece : (before after : Image) (old new : InPlaceState) (piece : List ℕ) → LoadsWithMemory old before → IsFalse old.reader.ended → old.reader.fed + length piece < 2 ^ 63
-    → ((limit : ℕ) (first : Image) (text : List ℕ) → LoadsWith before limit first old text false → LoadsWith after limit first new (text ++ piece) false) → LoadsWithMemory new after
+    → ((given : LoadSettings) (first : Image) (text : List ℕ) → LoadsWith before given first old text false → LoadsWith after given first new (text ++ piece) false) → LoadsWithMemory new after
 memory_piece before after old new piece some unended room more =
     let has = some.loads in
-    let loads : LoadsOnto has.limit has.first (loader_with old before) has.text false =
-    subst (λ (b : Bool). LoadsOnto has.limit has.first (loader_with old before) has.text b) (sym has.loads.stands.has_ended ∙ unended) has.loads in
+    let loads : LoadsOnto has.given has.first (loader_with old before) has.text false =
+    subst (λ (b : Bool). LoadsOnto has.given has.first (loader_with old before) has.text b) (sym has.loads.stands.has_ended ∙ unended) has.loads in
     let fed = has.loads.stands.has_fed in
-    memory_some after has.limit has.first new (has.text ++ piece) false (omega (arith, fed, room, length-append has.text piece))
-    (more has.limit has.first has.text (with_memory before has.limit has.first old has.text false some loads))
+    memory_some after has.given has.first new (has.text ++ piece) false (omega (arith, fed, room, length-append has.text piece))
+    (more has.given has.first has.text (with_memory before has.given has.first old has.text false some loads))
 
 -- the end
 pub memory_over : (memory : Image) (old new : InPlaceState) → LoadsWithMemory old memory
-    → ((limit : ℕ) (first : Image) (text : List ℕ) (ended : Bool) → LoadsWith memory limit first old text ended → LoadsWith memory limit first new text true) → LoadsWithMemory new memory
+    → ((given : LoadSettings) (first : Image) (text : List ℕ) (ended : Bool) → LoadsWith memory given first old text ended → LoadsWith memory given first new text true) → LoadsWithMemory new memory
 memory_over memory old new some ends =
     let has = some.loads in
-    memory_some memory has.limit has.first new has.text true has.is_short (ends has.limit has.first has.text has.ended (with_memory memory has.limit has.first old has.text has.ended some has.loads))
+    memory_some memory has.given has.first new has.text true has.is_short (ends has.given has.first has.text has.ended (with_memory memory has.given has.first old has.text has.ended some has.loads))

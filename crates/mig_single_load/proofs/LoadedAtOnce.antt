@@ -8,17 +8,18 @@ use Rattle.mig_mem.specs.Place.{IsPlace}
 use Rattle.mig_mem.specs.Image.{Page, Image, zero_image}
 use Rattle.mig_mem.specs.Round.{after, with_round, with_rounds, all_pages}
 use Rattle.mig_mem.proofs.Rounds.{after-nil, all_pages-push, onto-push, onto-zeros}
-use Rattle.mig_stream.specs.declared.item.Mode.TheVariants.{Single}
 use Rattle.mig_stream.specs.declared.item.StreamState.{StreamState}
 use Rattle.mig_stream.specs.declared.item.StreamState.TheVariants.{Closed}
 use Rattle.mig_stream.specs.declared.giving.Given.{Given}
 use Rattle.mig_stream.specs.declared.giving.Given.TheVariants.{Records, Section, End}
 use Rattle.mig_stream.specs.PageRecord.{PageRecord, page_of}
-use Rattle.mig_stream.specs.Reading.{settings, StreamReading, IsReading}
+use Rattle.mig_stream.specs.Reading.{StreamReading, IsReading}
 use Rattle.mig_stream.specs.Reader.{HasTable}
 use Rattle.mig_stream.specs.Round.{RoundOfRecords}
 use Rattle.mig_stream.specs.Giving.{Giver, GivenSoFar, none_given, with_more, with_last, with_given, Gives, GivesOn, GiverTells, EndsSo, HasReading, left, LeavesLess}
 use Rattle.mig_assemble.specs.Target.{pages_of_round, FitsTable}
+use Rattle.mig_single_load.specs.Settings.{single_of}
+use Rattle.mig_single_load.specs.declared.settings.LoadSettings.{LoadSettings}
 use Rattle.mig_single_load.specs.declared.loaded.Loaded.{Loaded}
 use Rattle.mig_single_load.specs.SingleLoad.{memory_after, verdict_of, IsSingleAnswer}
 use Rattle.mig_single_load.proofs.Sections.{pages_in, same_reading, size_is}
@@ -57,15 +58,15 @@ calls (End found) r = 0
 calls other r = 1 + left r
 
 -- A reader gave this last, and the memory has what it gave before that.
-pub record HasPut (p limit : ℕ) (text : List ℕ) (table : RamTable) (gave : Given) (r : Giver) (m : Image) (sections : ℕ) : Type 0 where
+pub record HasPut (given : LoadSettings) (text : List ℕ) (table : RamTable) (gave : Given) (r : Giver) (m : Image) (sections : ℕ) : Type 0 where
   pub so_far : GivenSoFar
-  pub is_page_size : IsPageSize p
-  pub has_table : HasTable (settings Single p limit) text (Some table)
-  pub gives : Gives (settings Single p limit) text (with_given gave r.given.records so_far) r
-  pub is_size : r.given.page_size ≡ p
+  pub is_page_size : IsPageSize given.page_size
+  pub has_table : HasTable (single_of given) text (Some table)
+  pub gives : Gives (single_of given) text (with_given gave r.given.records so_far) r
+  pub is_size : r.given.page_size ≡ given.page_size
   pub has_places : All (λ x. IsPlace table x.place) r.given.records
-  pub ends : EndsSo gave (settings Single p limit) text so_far
-  pub has_memory : m ≡ with_round (zero_image table) (pages_given p so_far)
+  pub ends : EndsSo gave (single_of given) text so_far
+  pub has_memory : m ≡ with_round (zero_image table) (pages_given given.page_size so_far)
   pub has_sections : sections ≡ length so_far.sections
   pub is_few : sections + calls gave r ≤ 2 * length text + 1
 
@@ -83,27 +84,27 @@ pub record Gave (gave : Given) (old new : Giver) : Type 0 where
   pub end : GiverTells old (EndsSo gave)
   pub less : LeavesLess gave old new
 
-pub put_first : (p limit : ℕ) (text : List ℕ) (table : RamTable) (gave : Given) (old new : Giver) (m : Image) → IsPageSize p → Gives (settings Single p limit) text none_given old → left old ≡ 2 * length text + 1
-    → Gave gave old new → HasTable (settings Single p limit) text (Some table) → m ≡ zero_image table → HasPut p limit text table gave new m 0
-put_first p limit text table gave old new m size first long step has zeros =
-    let given = settings Single p limit in record {
+pub put_first : (given : LoadSettings) (text : List ℕ) (table : RamTable) (gave : Given) (old new : Giver) (m : Image) → IsPageSize given.page_size → Gives (single_of given) text none_given old → left old ≡ 2 * length text + 1
+    → Gave gave old new → HasTable (single_of given) text (Some table) → m ≡ zero_image table → HasPut given text table gave new m 0
+put_first given text table gave old new m size first long step has zeros =
+    let single = single_of given in record {
       so_far = none_given;
       is_page_size = size;
       has_table = has;
-      gives = step.ok given text none_given first;
-      is_size = step.page_size given text none_given first;
-      has_places = step.places given text none_given first table has;
-      ends = step.end given text none_given first;
+      gives = step.ok single text none_given first;
+      is_size = step.page_size single text none_given first;
+      has_places = step.places single text none_given first table has;
+      ends = step.end single text none_given first;
       has_memory = zeros ∙ sym (after-nil table) ∙ onto-zeros table [];
       has_sections = refl;
       is_few = omega (arith, few_first gave old new step.less, long);
     }
 
 -- what is put next is of the memory
-pub put_fits : (p limit : ℕ) (text : List ℕ) (table : RamTable) (gave : Given) (r : Giver) (m : Image) (sections : ℕ) → HasPut p limit text table gave r m sections → FitsTable m.table r.given
-put_fits p limit text table gave r m sections h =
+pub put_fits : (given : LoadSettings) (text : List ℕ) (table : RamTable) (gave : Given) (r : Giver) (m : Image) (sections : ℕ) → HasPut given text table gave r m sections → FitsTable m.table r.given
+put_fits given text table gave r m sections h =
     let same : m.table ≡ table = ap (λ (x : Image). x.table) h.has_memory in record {
-      has_page_size = h.is_size ∙ sym (size_is p limit text table h.is_page_size h.has_table) ∙ ap (λ (t : RamTable). t.page_size) (sym same);
+      has_page_size = h.is_size ∙ sym (size_is given text table h.is_page_size h.has_table) ∙ ap (λ (t : RamTable). t.page_size) (sym same);
       has_places = subst (λ (t : RamTable). All (λ x. IsPlace t x.place) r.given.records) (sym same) h.has_places;
     }
 
@@ -117,42 +118,42 @@ put_on p table so_far then given m new before size pages is =
     ∙ put_behind (zero_image table) (pages_given p so_far) (map (page_of p) given.records)
     ∙ ap (with_round (zero_image table)) pages
 
-goes_on : (p limit : ℕ) (text : List ℕ) (table : RamTable) (then : GivenSoFar) (gave : Given) (r s : Giver) (m : Image) (sections : ℕ) → IsPageSize p → HasTable (settings Single p limit) text (Some table)
-    → Gives (settings Single p limit) text then r → m ≡ with_round (zero_image table) (pages_given p then) → sections ≡ length then.sections → sections + left r ≤ 2 * length text + 1
-    → Gave gave r s → HasPut p limit text table gave s m sections
-goes_on p limit text table then gave r s m sections size has gives memory count few step =
-    let given = settings Single p limit in record {
+goes_on : (given : LoadSettings) (text : List ℕ) (table : RamTable) (then : GivenSoFar) (gave : Given) (r s : Giver) (m : Image) (sections : ℕ) → IsPageSize given.page_size → HasTable (single_of given) text (Some table)
+    → Gives (single_of given) text then r → m ≡ with_round (zero_image table) (pages_given given.page_size then) → sections ≡ length then.sections → sections + left r ≤ 2 * length text + 1
+    → Gave gave r s → HasPut given text table gave s m sections
+goes_on given text table then gave r s m sections size has gives memory count few step =
+    let single = single_of given in record {
       so_far = then;
       is_page_size = size;
       has_table = has;
-      gives = step.ok given text then gives;
-      is_size = step.page_size given text then gives;
-      has_places = step.places given text then gives table has;
-      ends = step.end given text then gives;
+      gives = step.ok single text then gives;
+      is_size = step.page_size single text then gives;
+      has_places = step.places single text then gives table has;
+      ends = step.end single text then gives;
       has_memory = memory;
       has_sections = count;
       is_few = omega (arith, few_first gave r s step.less, few);
     }
 
 -- the records of a section that isn't whole
-pub put_records_more : (p limit : ℕ) (text : List ℕ) (table : RamTable) (gave next : Given) (r s : Giver) (m new : Image) (sections : ℕ) → gave ≡ Records → HasPut p limit text table gave r m sections
-    → new ≡ with_round m (pages_of_round r.given) → Gave next r s → HasPut p limit text table next s new sections
-put_records_more p limit text table gave next r s m new sections are before is step =
-    let h : HasPut p limit text table Records r m sections = subst (λ (x : Given). HasPut p limit text table x r m sections) are before in
+pub put_records_more : (given : LoadSettings) (text : List ℕ) (table : RamTable) (gave next : Given) (r s : Giver) (m new : Image) (sections : ℕ) → gave ≡ Records → HasPut given text table gave r m sections
+    → new ≡ with_round m (pages_of_round r.given) → Gave next r s → HasPut given text table next s new sections
+put_records_more given text table gave next r s m new sections are before is step =
+    let h : HasPut given text table Records r m sections = subst (λ (x : Given). HasPut given text table x r m sections) are before in
     let then : GivenSoFar = with_more r.given.records h.so_far in
-    let memory = put_on p table h.so_far then r.given m new h.has_memory h.is_size (given_more p h.so_far r.given.records) is in
-    goes_on p limit text table then next r s new sections h.is_page_size h.has_table h.gives memory h.has_sections (omega (arith, h.is_few)) step
+    let memory = put_on given.page_size table h.so_far then r.given m new h.has_memory h.is_size (given_more given.page_size h.so_far r.given.records) is in
+    goes_on given text table then next r s new sections h.is_page_size h.has_table h.gives memory h.has_sections (omega (arith, h.is_few)) step
 
 -- the last records of a section
-pub put_section_more : (p limit : ℕ) (text : List ℕ) (table : RamTable) (gave next : Given) (r s : Giver) (m new : Image) (sections : ℕ) → gave ≡ Section → HasPut p limit text table gave r m sections
-    → new ≡ with_round m (pages_of_round r.given) → Gave next r s → HasPut p limit text table next s new (sections + 1)
-put_section_more p limit text table gave next r s m new sections are before is step =
-    let h : HasPut p limit text table Section r m sections = subst (λ (x : Given). HasPut p limit text table x r m sections) are before in
+pub put_section_more : (given : LoadSettings) (text : List ℕ) (table : RamTable) (gave next : Given) (r s : Giver) (m new : Image) (sections : ℕ) → gave ≡ Section → HasPut given text table gave r m sections
+    → new ≡ with_round m (pages_of_round r.given) → Gave next r s → HasPut given text table next s new (sections + 1)
+put_section_more given text table gave next r s m new sections are before is step =
+    let h : HasPut given text table Section r m sections = subst (λ (x : Given). HasPut given text table x r m sections) are before in
     let last : List PageRecord = h.so_far.open_section ++ r.given.records in
     let then : GivenSoFar = with_last r.given.records h.so_far in
-    let memory = put_on p table h.so_far then r.given m new h.has_memory h.is_size (given_last p h.so_far r.given.records) is in
+    let memory = put_on given.page_size table h.so_far then r.given m new h.has_memory h.is_size (given_last given.page_size h.so_far r.given.records) is in
     let count : sections + 1 ≡ length then.sections = omega (arith, h.has_sections, length-append h.so_far.sections (last ∷ [])) in
-    goes_on p limit text table then next r s new (sections + 1) h.is_page_size h.has_table h.gives memory count (omega (arith, h.is_few)) step
+    goes_on given text table then next r s new (sections + 1) h.is_page_size h.has_table h.gives memory count (omega (arith, h.is_few)) step
 
 -- and fewer calls are left
 pub fewer_records : (gave next : Given) (r s : Giver) → gave ≡ Records → LeavesLess next r s → calls next s < calls gave r
@@ -164,29 +165,29 @@ fewer_section gave next r s are less = subst (λ (x : Given). calls next s < cal
 -- ---- the end
 
 -- Where the text is closed the memory is that after its sections.
-closed_answer : {A : Type 0} (p limit : ℕ) (text : List ℕ) (table : RamTable) (r : Giver) (m : Image) (sections : ℕ) → HasPut p limit text table (End Closed) r m sections
-    → IsSingleAnswer {A = A} p limit text (record { memory = Some m; rounds = sections; verdict = Ok _ })
-closed_answer p limit text table r m sections h =
-    let end : HasReading (settings Single p limit) text h.so_far Closed = h.ends in
+closed_answer : {A : Type 0} (given : LoadSettings) (text : List ℕ) (table : RamTable) (r : Giver) (m : Image) (sections : ℕ) → HasPut given text table (End Closed) r m sections
+    → IsSingleAnswer {A = A} given text (record { memory = Some m; rounds = sections; verdict = Ok _ })
+closed_answer given text table r m sections h =
+    let end : HasReading (single_of given) text h.so_far Closed = h.ends in
     let reading : StreamReading = end.reading in
-    let same : reading ≡ h.has_table.0 = same_reading p limit text reading h.has_table.0 h.is_page_size end.is_reading h.has_table.1 in
+    let same : reading ≡ h.has_table.0 = same_reading given text reading h.has_table.0 h.is_page_size end.is_reading h.has_table.1 in
     let whole : reading.table ≡ Some table = ap (λ (x : StreamReading). x.table) same ∙ sym h.has_table.2 in
-    let pages : pages_given p h.so_far ≡ all_pages (pages_in p reading.rounds) =
-    ap (λ (x : List PageRecord). all_pages (pages_in p h.so_far.sections) ++ map (page_of p) x) (end.has_none_open refl) ∙ append-nil (all_pages (pages_in p h.so_far.sections))
-    ∙ ap (λ (x : List (List PageRecord)). all_pages (pages_in p x)) (sym end.has_sections) in
+    let pages : pages_given given.page_size h.so_far ≡ all_pages (pages_in given.page_size reading.rounds) =
+    ap (λ (x : List PageRecord). all_pages (pages_in given.page_size h.so_far.sections) ++ map (page_of given.page_size) x) (end.has_none_open refl) ∙ append-nil (all_pages (pages_in given.page_size h.so_far.sections))
+    ∙ ap (λ (x : List (List PageRecord)). all_pages (pages_in given.page_size x)) (sym end.has_sections) in
     record {
       reading = reading;
       is_reading = end.is_reading;
       has_memory =
-          ap (λ (x : Image). Some x) (h.has_memory ∙ ap (with_round (zero_image table)) pages ∙ sym (onto-zeros table (pages_in p reading.rounds)))
-          ∙ ap (λ (t : Option RamTable). memory_after p t reading.rounds) (sym whole);
+          ap (λ (x : Image). Some x) (h.has_memory ∙ ap (with_round (zero_image table)) pages ∙ sym (onto-zeros table (pages_in given.page_size reading.rounds)))
+          ∙ ap (λ (t : Option RamTable). memory_after given.page_size t reading.rounds) (sym whole);
       has_rounds = h.has_sections ∙ ap (λ (x : List (List PageRecord)). length x) (sym end.has_sections);
       has_verdict = ap (verdict_of sections) (sym end.has_state);
     }
 
-pub answers_each : {A : Type 0} (p limit : ℕ) (text : List ℕ) (table : RamTable) (gave : Given) (found : StreamState) (r : Giver) (m : Image) (sections : ℕ) (o : Option (Loaded A)) → gave ≡ End found
-    → HasPut p limit text table gave r m sections → IfSome o (λ a. (found ≡ Closed) × (a ≡ record { memory = Some m; rounds = sections; verdict = Ok _ })) → IfSome o (λ a. IsSingleAnswer p limit text a)
-answers_each p limit text table gave found r m sections None is put h = tt
-answers_each p limit text table gave found r m sections (Some a) is put h =
-    let closed : HasPut p limit text table (End Closed) r m sections = subst (λ (x : Given). HasPut p limit text table x r m sections) (is ∙ ap (λ (x : StreamState). End x) h.0) put in
-    subst (λ x. IsSingleAnswer p limit text x) (sym h.1) (closed_answer p limit text table r m sections closed)
+pub answers_each : {A : Type 0} (given : LoadSettings) (text : List ℕ) (table : RamTable) (gave : Given) (found : StreamState) (r : Giver) (m : Image) (sections : ℕ) (o : Option (Loaded A)) → gave ≡ End found
+    → HasPut given text table gave r m sections → IfSome o (λ a. (found ≡ Closed) × (a ≡ record { memory = Some m; rounds = sections; verdict = Ok _ })) → IfSome o (λ a. IsSingleAnswer given text a)
+answers_each given text table gave found r m sections None is put h = tt
+answers_each given text table gave found r m sections (Some a) is put h =
+    let closed : HasPut given text table (End Closed) r m sections = subst (λ (x : Given). HasPut given text table x r m sections) (is ∙ ap (λ (x : StreamState). End x) h.0) put in
+    subst (λ x. IsSingleAnswer given text x) (sym h.1) (closed_answer given text table r m sections closed)

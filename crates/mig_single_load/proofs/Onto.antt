@@ -7,7 +7,6 @@ use Rattle.mig_mem.specs.RamTable.{RamTable, IsTable}
 use Rattle.mig_mem.specs.Image.{Page, Image, IsImage}
 use Rattle.mig_mem.specs.Round.{with_round, with_rounds}
 use Rattle.mig_mem.proofs.Rounds.{onto-nil}
-use Rattle.mig_stream.specs.declared.item.Frame.TheVariants.{Ram}
 use Rattle.mig_stream.specs.declared.item.Mode.TheVariants.{Single}
 use Rattle.mig_stream.specs.declared.item.StreamState.{StreamState}
 use Rattle.mig_stream.specs.declared.item.StreamState.TheVariants.{Reading}
@@ -24,6 +23,8 @@ use Rattle.mig_stream.proofs.Longer.{longer_law}
 use Rattle.mig_stream.proofs.SpelledText.{spelled_law}
 use Rattle.mig_stream.proofs.WrittenText.{written_single}
 use Rattle.mig_assemble.specs.Target.{LoadTarget, target_over}
+use Rattle.mig_single_load.specs.Settings.{for_table, ram_settings}
+use Rattle.mig_single_load.specs.declared.settings.LoadSettings.{LoadSettings}
 use Rattle.mig_single_load.specs.declared.fault.LoadFault.{LoadFault}
 use Rattle.mig_single_load.specs.declared.fault.Fault.TheVariants.{OtherTable}
 use Rattle.mig_single_load.specs.SingleLoad.{at_main, verdict_of}
@@ -45,8 +46,8 @@ own_before first before now (Some x) is stays (inl none) = absurd (let both : So
 own_before first before now (Some x) is stays (inr own) = inr (is ∙ (sym (stays.same_table x is) ∙ own))
 
 -- a text without a table has no section
-no_rounds : (first : Image) (limit : ℕ) (text : List ℕ) (reading : StreamReading) → IsTable first.table → IsReading (settings_of first limit) text reading → reading.table ≡ None → reading.rounds ≡ []
-no_rounds first limit text reading table is none = (limits_law (settings_of first limit) text reading table.has_page_size is).has_table_first none
+no_rounds : (first : Image) (given : LoadSettings) (text : List ℕ) (reading : StreamReading) → IsTable first.table → IsReading (settings_of first given) text reading → reading.table ≡ None → reading.rounds ≡ []
+no_rounds first given text reading table is none = (limits_law (settings_of first given) text reading table.has_page_size is).has_table_first none
 
 -- of another table it was none before, or that
 none_before : (first : Image) (before now : StreamReading) (o : Option RamTable) (memory : Image) (n taken : ℕ) → before.table ≡ o → StaysRead before now → IsImage first → IsOfOtherTable first now
@@ -67,9 +68,9 @@ none_before first before now (Some x) memory n taken is stays image other few no
 -- ---- what was fed, of which sections may wait
 
 -- a loader with all sections
-pub fed_of : (limit : ℕ) (first : Image) (r : Reader) (t : LoadTarget) (text : List ℕ) (ended : Bool) → LoadsOnto limit first (in_place r t) text ended → WasFedOnto limit first (in_place r t) text ended
-fed_of limit first r t text ended loads =
-    let has : HasSectionsOnto limit first text t = loads.has_sections in
+pub fed_of : (given : LoadSettings) (first : Image) (r : Reader) (t : LoadTarget) (text : List ℕ) (ended : Bool) → LoadsOnto given first (in_place r t) text ended → WasFedOnto given first (in_place r t) text ended
+fed_of given first r t text ended loads =
+    let has : HasSectionsOnto given first text t = loads.has_sections in
     let sections : List (List PageRecord) = has.reading.rounds in
     record {
       is_table = loads.is_table;
@@ -88,20 +89,20 @@ fed_of limit first r t text ended loads =
     }
 
 -- a piece more
-pub onto_longer : (limit : ℕ) (first : Image) (r s : Reader) (t : LoadTarget) (text piece : List ℕ) (ended : Bool) → StepsOn (with_piece piece) r s
-    → WasFedOnto limit first (in_place r t) text ended → WasFedOnto limit first (in_place s t) (text ++ piece) ended
-onto_longer limit first r s t text piece ended step fed =
-    let given : Settings = settings_of first limit in
+pub onto_longer : (given : LoadSettings) (first : Image) (r s : Reader) (t : LoadTarget) (text piece : List ℕ) (ended : Bool) → StepsOn (with_piece piece) r s
+    → WasFedOnto given first (in_place r t) text ended → WasFedOnto given first (in_place s t) (text ++ piece) ended
+onto_longer given first r s t text piece ended step fed =
+    let single : Settings = settings_of first given in
     let size : IsPageSize first.table.page_size = fed.is_table.has_page_size in
     let before : StreamReading = fed.reading in
-    let now = one_reading_law given (text ++ piece) size in
-    let stays : StaysRead before now.0 = longer_law given text piece before now.0 size fed.is_reading now.1 in
-    let few : fed.taken ≤ length before.rounds = are_given first.table.page_size limit text ended r fed.taken before size fed.is_reading fed.stands in
+    let now = one_reading_law single (text ++ piece) size in
+    let stays : StaysRead before now.0 = longer_law single text piece before now.0 size fed.is_reading now.1 in
+    let few : fed.taken ≤ length before.rounds = are_given (for_table first.table given) text ended r fed.taken before size fed.is_reading fed.stands in
     record {
       is_table = fed.is_table;
       is_image = fed.is_image;
       taken = fed.taken;
-      stands = step given (put_so_far text ended fed.taken) fed.stands;
+      stands = step single (put_so_far text ended fed.taken) fed.stands;
       reading = now.0;
       is_reading = now.1;
       same_table = fed.same_table;
@@ -113,48 +114,48 @@ onto_longer limit first r s t text piece ended step fed =
             both.1,
           );
       other = λ o. none_before first before now.0 before.table t.memory t.rounds fed.taken refl stays fed.is_image o few
-          (no_rounds first limit text before fed.is_table fed.is_reading) fed.own fed.other;
+          (no_rounds first given text before fed.is_table fed.is_reading) fed.own fed.other;
     }
 
 pub onto_piece : (r s : Reader) (t : LoadTarget) (piece : List ℕ) → StepsOn (with_piece piece) r s → WasFedOntoSome (in_place r t) → r.fed + length piece < 2 ^ 63 → WasFedOntoSome (in_place s t)
 onto_piece r s t piece step some room =
     let fed = some.has_fed.stands.has_fed in
     record {
-      limit = some.limit;
+      given = some.given;
       first = some.first;
       text = some.text ++ piece;
       ended = some.ended;
       is_short = omega (arith, fed, room, length-append some.text piece);
-      has_fed = onto_longer some.limit some.first r s t some.text piece some.ended step some.has_fed;
+      has_fed = onto_longer some.given some.first r s t some.text piece some.ended step some.has_fed;
     }
 
 -- the text is over
-pub onto_over : (limit : ℕ) (first : Image) (r s : Reader) (t : LoadTarget) (text : List ℕ) (ended : Bool) → StepsOn over r s → LoadsOnto limit first (in_place r t) text ended
-    → LoadsOnto limit first (in_place s t) text true
-onto_over limit first r s t text ended step loads = record {
+pub onto_over : (given : LoadSettings) (first : Image) (r s : Reader) (t : LoadTarget) (text : List ℕ) (ended : Bool) → StepsOn over r s → LoadsOnto given first (in_place r t) text ended
+    → LoadsOnto given first (in_place s t) text true
+onto_over given first r s t text ended step loads = record {
   is_table = loads.is_table;
   is_image = loads.is_image;
   has_sections = loads.has_sections;
-  stands = step (settings_of first limit) (put_so_far text ended (length loads.has_sections.reading.rounds)) loads.stands;
+  stands = step (settings_of first given) (put_so_far text ended (length loads.has_sections.reading.rounds)) loads.stands;
 }
 
 pub onto_over_some : (r s : Reader) (t : LoadTarget) → StepsOn over r s → LoadsOntoSome (in_place r t) → LoadsOntoSome (in_place s t)
 onto_over_some r s t step some = record {
-  limit = some.limit;
+  given = some.given;
   first = some.first;
   text = some.text;
   ended = true;
   is_short = some.is_short;
-  loads = onto_over some.limit some.first r s t some.text some.ended step some.loads;
+  loads = onto_over some.given some.first r s t some.text some.ended step some.loads;
 }
 
-pub fed_over : (limit : ℕ) (first : Image) (r s : Reader) (t : LoadTarget) (text : List ℕ) (ended : Bool) → StepsOn over r s → WasFedOnto limit first (in_place r t) text ended
-    → WasFedOnto limit first (in_place s t) text true
-fed_over limit first r s t text ended step fed = record {
+pub fed_over : (given : LoadSettings) (first : Image) (r s : Reader) (t : LoadTarget) (text : List ℕ) (ended : Bool) → StepsOn over r s → WasFedOnto given first (in_place r t) text ended
+    → WasFedOnto given first (in_place s t) text true
+fed_over given first r s t text ended step fed = record {
   is_table = fed.is_table;
   is_image = fed.is_image;
   taken = fed.taken;
-  stands = step (settings_of first limit) (put_so_far text ended fed.taken) fed.stands;
+  stands = step (settings_of first given) (put_so_far text ended fed.taken) fed.stands;
   reading = fed.reading;
   is_reading = fed.is_reading;
   same_table = fed.same_table;
@@ -164,19 +165,19 @@ fed_over limit first r s t text ended step fed = record {
 
 pub fed_over_some : (r s : Reader) (t : LoadTarget) → StepsOn over r s → WasFedOntoSome (in_place r t) → WasFedOntoSome (in_place s t)
 fed_over_some r s t step some = record {
-  limit = some.limit;
+  given = some.given;
   first = some.first;
   text = some.text;
   ended = true;
   is_short = some.is_short;
-  has_fed = fed_over some.limit some.first r s t some.text some.ended step some.has_fed;
+  has_fed = fed_over some.given some.first r s t some.text some.ended step some.has_fed;
 }
 
 -- before the first piece
-pub onto_nothing : (limit : ℕ) (first : Image) (r : Reader) (t : LoadTarget) → IsTable first.table → IsImage first → Stands (settings_of first limit) nothing_yet r → t ≡ target_over first
-    → LoadsOnto limit first (in_place r t) [] false
-onto_nothing limit first r t table image stands is =
-    let begin : StreamProgress = start Ram Single first.table.page_size limit in
+pub onto_nothing : (given : LoadSettings) (first : Image) (r : Reader) (t : LoadTarget) → IsTable first.table → IsImage first → Stands (settings_of first given) nothing_yet r → t ≡ target_over first
+    → LoadsOnto given first (in_place r t) [] false
+onto_nothing given first r t table image stands is =
+    let begin : StreamProgress = start given.frame Single first.table.page_size given.limit in
     let reading : StreamReading = record { table = None; rounds = []; state = Reading } in
     rw is (record {
       is_table = table;
@@ -191,28 +192,28 @@ onto_nothing limit first r t table image stands is =
       };
     })
 
-pub onto_some : (limit : ℕ) (first : Image) (r : Reader) (t : LoadTarget) (text : List ℕ) (ended : Bool) → length text < 2 ^ 63 → LoadsOnto limit first (in_place r t) text ended
+pub onto_some : (given : LoadSettings) (first : Image) (r : Reader) (t : LoadTarget) (text : List ℕ) (ended : Bool) → length text < 2 ^ 63 → LoadsOnto given first (in_place r t) text ended
     → LoadsOntoSome (in_place r t)
-onto_some limit first r t text ended short loads = record { limit = limit; first = first; text = text; ended = ended; is_short = short; loads = loads }
+onto_some given first r t text ended short loads = record { given = given; first = first; text = text; ended = ended; is_short = short; loads = loads }
 
 -- ---- its sections are put, or dropped
 
 -- no table, and so no section
-pub put_none : (limit : ℕ) (first : Image) (r : Reader) (t : LoadTarget) (text : List ℕ) (ended : Bool) → WasFedOnto limit first (in_place r t) text ended → HasTable (settings_of first limit) text None
-    → LoadsOnto limit first (in_place r t) text ended
-put_none limit first r t text ended fed has =
+pub put_none : (given : LoadSettings) (first : Image) (r : Reader) (t : LoadTarget) (text : List ℕ) (ended : Bool) → WasFedOnto given first (in_place r t) text ended → HasTable (settings_of first given) text None
+    → LoadsOnto given first (in_place r t) text ended
+put_none given first r t text ended fed has =
     let size : IsPageSize first.table.page_size = fed.is_table.has_page_size in
-    let one : has.0 ≡ fed.reading = same_reading first.table.page_size limit text has.0 fed.reading size has.1 fed.is_reading in
+    let one : has.0 ≡ fed.reading = same_reading (for_table first.table given) text has.0 fed.reading size has.1 fed.is_reading in
     let none : fed.reading.table ≡ None = sym (has.2 ∙ ap (λ (x : StreamReading). x.table) one) in
-    let empty : fed.reading.rounds ≡ [] = no_rounds first limit text fed.reading fed.is_table fed.is_reading none in
+    let empty : fed.reading.rounds ≡ [] = no_rounds first given text fed.reading fed.is_table fed.is_reading none in
     let own : IsOfOwnTable first fed.reading = inl none in
     let both = fed.own own in
-    let few : fed.taken ≤ length fed.reading.rounds = are_given first.table.page_size limit text ended r fed.taken fed.reading size fed.is_reading fed.stands in
+    let few : fed.taken ≤ length fed.reading.rounds = are_given (for_table first.table given) text ended r fed.taken fed.reading size fed.is_reading fed.stands in
     let n : t.rounds ≡ length fed.reading.rounds = (let len = ap (λ (l : List (List PageRecord)). length l) empty in let taken = both.1 in omega (arith, few, len, taken)) in
     record {
       is_table = fed.is_table;
       is_image = fed.is_image;
-      stands = subst (λ n. Stands (settings_of first limit) (put_so_far text ended n) r) (both.1 ∙ n) fed.stands;
+      stands = subst (λ n. Stands (settings_of first given) (put_so_far text ended n) r) (both.1 ∙ n) fed.stands;
       has_sections = record {
         reading = fed.reading;
         is_reading = fed.is_reading;
@@ -226,31 +227,31 @@ put_none limit first r t text ended fed has =
     }
 
 -- the stream's table, by the reader, against the memory's
-mine : (limit : ℕ) (first : Image) (r : Reader) (t : LoadTarget) (text : List ℕ) (ended : Bool) (table : RamTable) → WasFedOnto limit first (in_place r t) text ended
-    → (has : HasTable (settings_of first limit) text (Some table)) → table ≡ t.memory.table → (Some first.table ≡ has.0.table)
-mine limit first r t text ended table fed has same = ap (λ (x : RamTable). Some x) (sym (same ∙ fed.same_table)) ∙ has.2
+mine : (given : LoadSettings) (first : Image) (r : Reader) (t : LoadTarget) (text : List ℕ) (ended : Bool) (table : RamTable) → WasFedOnto given first (in_place r t) text ended
+    → (has : HasTable (settings_of first given) text (Some table)) → table ≡ t.memory.table → (Some first.table ≡ has.0.table)
+mine given first r t text ended table fed has same = ap (λ (x : RamTable). Some x) (sym (same ∙ fed.same_table)) ∙ has.2
 
-pub put_own : (limit : ℕ) (first : Image) (r : Reader) (t : LoadTarget) (text : List ℕ) (ended : Bool) (table : RamTable) → WasFedOnto limit first (in_place r t) text ended
-    → HasTable (settings_of first limit) text (Some table) → table ≡ t.memory.table → HasPutSections first.table.page_size limit first text ended r t
-put_own limit first r t text ended table fed has same =
+pub put_own : (given : LoadSettings) (first : Image) (r : Reader) (t : LoadTarget) (text : List ℕ) (ended : Bool) (table : RamTable) → WasFedOnto given first (in_place r t) text ended
+    → HasTable (settings_of first given) text (Some table) → table ≡ t.memory.table → HasPutSections (for_table first.table given) first text ended r t
+put_own given first r t text ended table fed has same =
     let p : ℕ = first.table.page_size in
     let size : IsPageSize p = fed.is_table.has_page_size in
-    let is : Some first.table ≡ has.0.table = mine limit first r t text ended table fed has same in
-    let one : has.0 ≡ fed.reading = same_reading p limit text has.0 fed.reading size has.1 fed.is_reading in
+    let is : Some first.table ≡ has.0.table = mine given first r t text ended table fed has same in
+    let one : has.0 ≡ fed.reading = same_reading (for_table first.table given) text has.0 fed.reading size has.1 fed.is_reading in
     let both = fed.own (inr (sym (is ∙ ap (λ (x : StreamReading). x.table) one))) in
     record {
       is_page_size = size;
-      stands = subst (λ n. Stands (settings_of first limit) (put_so_far text ended n) r) both.1 fed.stands;
+      stands = subst (λ n. Stands (settings_of first given) (put_so_far text ended n) r) both.1 fed.stands;
       has_first = record {
         has_table = (has.0, has.1, is);
-        has_memory = λ reading is_reading. both.0 ∙ ap (λ (x : StreamReading). with_rounds first (pages_in p (take t.rounds x.rounds))) (same_reading p limit text fed.reading reading size fed.is_reading is_reading);
+        has_memory = λ reading is_reading. both.0 ∙ ap (λ (x : StreamReading). with_rounds first (pages_in p (take t.rounds x.rounds))) (same_reading (for_table first.table given) text fed.reading reading size fed.is_reading is_reading);
       };
     }
 
 -- some of its sections are in it
-pub fed_own : (limit : ℕ) (first : Image) (s : Reader) (u : LoadTarget) (text : List ℕ) (ended : Bool) → IsTable first.table → IsImage first
-    → HasPutSections first.table.page_size limit first text ended s u → WasFedOnto limit first (in_place s u) text ended
-fed_own limit first s u text ended table image put =
+pub fed_own : (given : LoadSettings) (first : Image) (s : Reader) (u : LoadTarget) (text : List ℕ) (ended : Bool) → IsTable first.table → IsImage first
+    → HasPutSections (for_table first.table given) first text ended s u → WasFedOnto given first (in_place s u) text ended
+fed_own given first s u text ended table image put =
     let has = put.has_first.has_table in
     record {
       is_table = table;
@@ -259,23 +260,23 @@ fed_own limit first s u text ended table image put =
       stands = put.stands;
       reading = has.0;
       is_reading = has.1;
-      same_table = put_table first.table.page_size limit first text u put.has_first;
+      same_table = put_table (for_table first.table given) first text u put.has_first;
       own = λ _. (put.has_first.has_memory has.0 has.1, refl);
       other = λ o. absurd (apart first has.0 (inr (sym has.2)) o);
     }
 
 -- all sections of the memory's own table are in it
-pub loads_own : (limit : ℕ) (first : Image) (s : Reader) (u : LoadTarget) (text : List ℕ) (ended : Bool) → IsTable first.table → IsImage first
-    → HasPutSections first.table.page_size limit first text ended s u → HasPutAllSections first.table.page_size limit first text u → LoadsOnto limit first (in_place s u) text ended
-loads_own limit first s u text ended table image put all =
+pub loads_own : (given : LoadSettings) (first : Image) (s : Reader) (u : LoadTarget) (text : List ℕ) (ended : Bool) → IsTable first.table → IsImage first
+    → HasPutSections (for_table first.table given) first text ended s u → HasPutAllSections (for_table first.table given) first text u → LoadsOnto given first (in_place s u) text ended
+loads_own given first s u text ended table image put all =
     let p : ℕ = first.table.page_size in
     let has = put.has_first.has_table in
-    let one : has.0 ≡ all.reading = same_reading p limit text has.0 all.reading put.is_page_size has.1 all.is_reading in
+    let one : has.0 ≡ all.reading = same_reading (for_table first.table given) text has.0 all.reading put.is_page_size has.1 all.is_reading in
     let is : all.reading.table ≡ Some first.table = sym (has.2 ∙ ap (λ (x : StreamReading). x.table) one) in
     record {
       is_table = table;
       is_image = image;
-      stands = subst (λ n. Stands (settings_of first limit) (put_so_far text ended n) s) all.has_rounds put.stands;
+      stands = subst (λ n. Stands (settings_of first given) (put_so_far text ended n) s) all.has_rounds put.stands;
       has_sections = record {
         reading = all.reading;
         is_reading = all.is_reading;
@@ -286,17 +287,17 @@ loads_own limit first s u text ended table image put all =
     }
 
 -- the text is of another table
-others : (limit : ℕ) (first : Image) (t : LoadTarget) (text : List ℕ) (table : RamTable) (reading : StreamReading) → IsTable first.table → t.memory.table ≡ first.table
-    → IsReading (settings_of first limit) text reading → HasTable (settings_of first limit) text (Some table) → (table ≡ t.memory.table → ⊥) → IsOfOtherTable first reading
-others limit first t text table reading is same is_reading has differ =
-    let one : has.0 ≡ reading = same_reading first.table.page_size limit text has.0 reading is.has_page_size has.1 is_reading in
+others : (given : LoadSettings) (first : Image) (t : LoadTarget) (text : List ℕ) (table : RamTable) (reading : StreamReading) → IsTable first.table → t.memory.table ≡ first.table
+    → IsReading (settings_of first given) text reading → HasTable (settings_of first given) text (Some table) → (table ≡ t.memory.table → ⊥) → IsOfOtherTable first reading
+others given first t text table reading is same is_reading has differ =
+    let one : has.0 ≡ reading = same_reading (for_table first.table given) text has.0 reading is.has_page_size has.1 is_reading in
     (table, sym (has.2 ∙ ap (λ (x : StreamReading). x.table) one), λ e. differ (e ∙ sym same))
 
 -- sections of another table are dropped
-pub loads_other : (limit : ℕ) (first : Image) (r s : Reader) (t : LoadTarget) (text : List ℕ) (ended : Bool) (table : RamTable) → WasFedOnto limit first (in_place r t) text ended
-    → HasTable (settings_of first limit) text (Some table) → (table ≡ t.memory.table → ⊥) → StandsAtAll (settings_of first limit) text ended s → LoadsOnto limit first (in_place s t) text ended
-loads_other limit first r s t text ended table fed has differ stands =
-    let o : IsOfOtherTable first fed.reading = others limit first t text table fed.reading fed.is_table fed.same_table fed.is_reading has differ in
+pub loads_other : (given : LoadSettings) (first : Image) (r s : Reader) (t : LoadTarget) (text : List ℕ) (ended : Bool) (table : RamTable) → WasFedOnto given first (in_place r t) text ended
+    → HasTable (settings_of first given) text (Some table) → (table ≡ t.memory.table → ⊥) → StandsAtAll (settings_of first given) text ended s → LoadsOnto given first (in_place s t) text ended
+loads_other given first r s t text ended table fed has differ stands =
+    let o : IsOfOtherTable first fed.reading = others given first t text table fed.reading fed.is_table fed.same_table fed.is_reading has differ in
     record {
       is_table = fed.is_table;
       is_image = fed.is_image;
@@ -313,16 +314,16 @@ loads_other limit first r s t text ended table fed has differ stands =
 -- ---- the verdict
 
 -- on a text of no other table
-pub judged_own : (limit : ℕ) (first : Image) (r : Reader) (t : LoadTarget) (text : List ℕ) (ended : Bool) (table : RamTable) (state : StreamState) (v : Result ⊤ LoadFault)
-    → WasFedOnto limit first (in_place r t) text ended → HasTable (settings_of first limit) text (Some table) → table ≡ t.memory.table
-    → HasState (settings_of first limit) text ended state → v ≡ verdict_of t.rounds state → HasVerdictBehind t.rounds limit first text v
-judged_own limit first r t text ended table state v fed has same told is =
+pub judged_own : (given : LoadSettings) (first : Image) (r : Reader) (t : LoadTarget) (text : List ℕ) (ended : Bool) (table : RamTable) (state : StreamState) (v : Result ⊤ LoadFault)
+    → WasFedOnto given first (in_place r t) text ended → HasTable (settings_of first given) text (Some table) → table ≡ t.memory.table
+    → HasState (settings_of first given) text ended state → v ≡ verdict_of t.rounds state → HasVerdictBehind t.rounds given first text v
+judged_own given first r t text ended table state v fed has same told is =
     let p : ℕ = first.table.page_size in
     let size : IsPageSize p = fed.is_table.has_page_size in
     let reading : StreamReading = fed.reading in
-    let one : has.0 ≡ reading = same_reading p limit text has.0 reading size has.1 fed.is_reading in
+    let one : has.0 ≡ reading = same_reading (for_table first.table given) text has.0 reading size has.1 fed.is_reading in
     let mine : reading.table ≡ Some first.table = sym (ap (λ (x : RamTable). Some x) (sym (same ∙ fed.same_table)) ∙ has.2 ∙ ap (λ (x : StreamReading). x.table) one) in
-    let other : told.0 ≡ reading = same_reading p limit text told.0 reading size told.1 fed.is_reading in
+    let other : told.0 ≡ reading = same_reading (for_table first.table given) text told.0 reading size told.1 fed.is_reading in
     let said : state ≡ state_at ended reading.state = told.2 ∙ ap (λ (x : StreamReading). state_at ended x.state) other in
     record {
       reading = reading;
@@ -332,20 +333,20 @@ judged_own limit first r t text ended table state v fed has same told is =
     }
 
 -- without a table
-pub judged_none : (limit : ℕ) (first : Image) (r : Reader) (t : LoadTarget) (text : List ℕ) (ended : Bool) (state : StreamState) (v : Result ⊤ LoadFault)
-    → WasFedOnto limit first (in_place r t) text ended → HasTable (settings_of first limit) text None
-    → HasState (settings_of first limit) text ended state → v ≡ verdict_of 0 state → HasVerdictBehind t.rounds limit first text v
-judged_none limit first r t text ended state v fed has told is =
+pub judged_none : (given : LoadSettings) (first : Image) (r : Reader) (t : LoadTarget) (text : List ℕ) (ended : Bool) (state : StreamState) (v : Result ⊤ LoadFault)
+    → WasFedOnto given first (in_place r t) text ended → HasTable (settings_of first given) text None
+    → HasState (settings_of first given) text ended state → v ≡ verdict_of 0 state → HasVerdictBehind t.rounds given first text v
+judged_none given first r t text ended state v fed has told is =
     let p : ℕ = first.table.page_size in
     let size : IsPageSize p = fed.is_table.has_page_size in
     let reading : StreamReading = fed.reading in
-    let one : has.0 ≡ reading = same_reading p limit text has.0 reading size has.1 fed.is_reading in
+    let one : has.0 ≡ reading = same_reading (for_table first.table given) text has.0 reading size has.1 fed.is_reading in
     let none : reading.table ≡ None = sym (has.2 ∙ ap (λ (x : StreamReading). x.table) one) in
-    let few : fed.taken ≤ length reading.rounds = are_given p limit text ended r fed.taken reading size fed.is_reading fed.stands in
-    let len = ap (λ (l : List (List PageRecord)). length l) (no_rounds first limit text reading fed.is_table fed.is_reading none) in
+    let few : fed.taken ≤ length reading.rounds = are_given (for_table first.table given) text ended r fed.taken reading size fed.is_reading fed.stands in
+    let len = ap (λ (l : List (List PageRecord)). length l) (no_rounds first given text reading fed.is_table fed.is_reading none) in
     let taken = (fed.own (inl none)).1 in
     let n : 0 ≡ t.rounds = omega (arith, few, len, taken) in
-    let other : told.0 ≡ reading = same_reading p limit text told.0 reading size told.1 fed.is_reading in
+    let other : told.0 ≡ reading = same_reading (for_table first.table given) text told.0 reading size told.1 fed.is_reading in
     let said : state ≡ state_at ended reading.state = told.2 ∙ ap (λ (x : StreamReading). state_at ended x.state) other in
     record {
       reading = reading;
@@ -355,20 +356,20 @@ judged_none limit first r t text ended state v fed has told is =
     }
 
 -- of another table
-pub judged_other : (limit : ℕ) (first : Image) (r : Reader) (t : LoadTarget) (text : List ℕ) (ended : Bool) (table : RamTable) (v : Result ⊤ LoadFault)
-    → WasFedOnto limit first (in_place r t) text ended → HasTable (settings_of first limit) text (Some table) → (table ≡ t.memory.table → ⊥)
-    → v ≡ at_main 0 OtherTable → HasVerdictBehind t.rounds limit first text v
-judged_other limit first r t text ended table v fed has differ is =
-    let o : IsOfOtherTable first fed.reading = others limit first t text table fed.reading fed.is_table fed.same_table fed.is_reading has differ in
+pub judged_other : (given : LoadSettings) (first : Image) (r : Reader) (t : LoadTarget) (text : List ℕ) (ended : Bool) (table : RamTable) (v : Result ⊤ LoadFault)
+    → WasFedOnto given first (in_place r t) text ended → HasTable (settings_of first given) text (Some table) → (table ≡ t.memory.table → ⊥)
+    → v ≡ at_main 0 OtherTable → HasVerdictBehind t.rounds given first text v
+judged_other given first r t text ended table v fed has differ is =
+    let o : IsOfOtherTable first fed.reading = others given first t text table fed.reading fed.is_table fed.same_table fed.is_reading has differ in
     record { reading = fed.reading; is_reading = fed.is_reading; own = λ own. absurd (apart first fed.reading own o); other = λ _. is }
 
 -- where no section waits it is the verdict on the text
-pub judged_all : (limit : ℕ) (first : Image) (r : Reader) (t : LoadTarget) (text : List ℕ) (ended : Bool) (v : Result ⊤ LoadFault) → LoadsOnto limit first (in_place r t) text ended
-    → HasVerdictBehind t.rounds limit first text v → HasVerdictOnto limit first text v
-judged_all limit first r t text ended v loads judged =
-    let has : HasSectionsOnto limit first text t = loads.has_sections in
+pub judged_all : (given : LoadSettings) (first : Image) (r : Reader) (t : LoadTarget) (text : List ℕ) (ended : Bool) (v : Result ⊤ LoadFault) → LoadsOnto given first (in_place r t) text ended
+    → HasVerdictBehind t.rounds given first text v → HasVerdictOnto given first text v
+judged_all given first r t text ended v loads judged =
+    let has : HasSectionsOnto given first text t = loads.has_sections in
     let one : judged.reading ≡ has.reading =
-    same_reading first.table.page_size limit text judged.reading has.reading loads.is_table.has_page_size judged.is_reading has.is_reading in
+    same_reading (for_table first.table given) text judged.reading has.reading loads.is_table.has_page_size judged.is_reading has.is_reading in
     record {
       reading = judged.reading;
       is_reading = judged.is_reading;
@@ -384,13 +385,14 @@ pub sent_onto : SentIsLoadedInPlace
 sent_onto limit first rounds t verdict is room all onto v =
     let table : RamTable = first.table in
     let p : ℕ = table.page_size in
-    let given : Settings = settings_of first limit in
+    let load : LoadSettings = ram_settings p limit in
+    let given : Settings = settings_of first load in
     let text : List ℕ = single table rounds in
     let sections : List (List PageRecord) = [] ∷ map (map written_record) rounds ++ [] ∷ [] in
     let read : IsReading given text (closed table sections) =
     subst (λ x. IsReading given x (closed table sections)) (append-nil text) (spelled_law Single limit text [] table sections (written_single table rounds limit is room all)) in
-    let one : onto.reading ≡ closed table sections = same_reading p limit text onto.reading (closed table sections) is.has_page_size onto.is_reading read in
-    let other : v.reading ≡ closed table sections = same_reading p limit text v.reading (closed table sections) is.has_page_size v.is_reading read in
+    let one : onto.reading ≡ closed table sections = same_reading load text onto.reading (closed table sections) is.has_page_size onto.is_reading read in
+    let other : v.reading ≡ closed table sections = same_reading load text v.reading (closed table sections) is.has_page_size v.is_reading read in
     let both = onto.own (inr (ap (λ (x : StreamReading). x.table) one)) in
     let said : verdict ≡ verdict_of (length v.reading.rounds) v.reading.state = v.own (inr (ap (λ (x : StreamReading). x.table) other)) in
     let records : List (List PageRecord) = map (map written_record) rounds in (

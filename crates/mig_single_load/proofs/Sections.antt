@@ -30,6 +30,8 @@ use Rattle.mig_stream.proofs.SpelledText.{spelled_law}
 use Rattle.mig_stream.proofs.WrittenText.{written_single}
 use Rattle.mig_stream.proofs.WrittenPages.{written_pages}
 use Rattle.mig_assemble.specs.Target.{LoadTarget, new_target, pages_of_round, FitsTable}
+use Rattle.mig_single_load.specs.Settings.{single_of, ram_settings}
+use Rattle.mig_single_load.specs.declared.settings.LoadSettings.{LoadSettings}
 use Rattle.mig_single_load.specs.declared.loaded.Loaded.{Loaded}
 use Rattle.mig_single_load.specs.declared.fault.LoadFault.{LoadFault}
 use Rattle.mig_single_load.specs.SingleLoad.{memory_after, verdict_of, IsSingleAnswer, IsSingleWithoutMemory, loaded, unloaded}
@@ -41,58 +43,58 @@ pages_in page_size sections = map (map (page_of page_size)) sections
 
 -- ---- one reading
 
-pub same_reading : (p limit : ℕ) (text : List ℕ) (a b : StreamReading) → IsPageSize p → IsReading (settings Single p limit) text a → IsReading (settings Single p limit) text b → a ≡ b
-same_reading p limit text a b size is_a is_b =
-    let one = one_reading_law (settings Single p limit) text size in
+pub same_reading : (given : LoadSettings) (text : List ℕ) (a b : StreamReading) → IsPageSize given.page_size → IsReading (single_of given) text a → IsReading (single_of given) text b → a ≡ b
+same_reading given text a b size is_a is_b =
+    let one = one_reading_law (single_of given) text size in
     one.2 a is_a ∙ sym (one.2 b is_b)
 
 -- ---- the loop
 
 -- before the first section
-pub put_new : (p limit : ℕ) (text : List ℕ) (ended : Bool) (r : Reader) (table : RamTable) (t : LoadTarget) → WasFed p limit (loader r None) text ended
-    → HasTable (settings Single p limit) text (Some table) → t ≡ new_target table → HasPutSections p limit (zero_image table) text ended r t
-put_new p limit text ended r table t fed has is = rw is record {
+pub put_new : (given : LoadSettings) (text : List ℕ) (ended : Bool) (r : Reader) (table : RamTable) (t : LoadTarget) → WasFed given (loader r None) text ended
+    → HasTable (single_of given) text (Some table) → t ≡ new_target table → HasPutSections given (zero_image table) text ended r t
+put_new given text ended r table t fed has is = rw is record {
   is_page_size = fed.is_page_size;
   stands = fed.stands;
   has_first = record { has_table = has; has_memory = λ reading _. sym (after-nil table) ∙ onto-zeros table [] };
 }
 
 -- the page size of the table, and that a round that is still to come isn't the 2^63rd
-pub size_is : (p limit : ℕ) (text : List ℕ) (table : RamTable) → IsPageSize p → HasTable (settings Single p limit) text (Some table) → table.page_size ≡ p
-size_is p limit text table size has = (limits_law (settings Single p limit) text has.0 size has.1).has_page_size table (sym has.2)
+pub size_is : (given : LoadSettings) (text : List ℕ) (table : RamTable) → IsPageSize given.page_size → HasTable (single_of given) text (Some table) → table.page_size ≡ given.page_size
+size_is given text table size has = (limits_law (single_of given) text has.0 size has.1).has_page_size table (sym has.2)
 
-pub is_few : (p limit i : ℕ) (text : List ℕ) (records : List PageRecord) → IsPageSize p → HasRound (settings Single p limit) text i records → i < length text
-is_few p limit i text records size has =
-    let few = (limits_law (settings Single p limit) text has.0 size has.1).has_few in
+pub is_few : (given : LoadSettings) (i : ℕ) (text : List ℕ) (records : List PageRecord) → IsPageSize given.page_size → HasRound (single_of given) text i records → i < length text
+is_few given i text records size has =
+    let few = (limits_law (single_of given) text has.0 size has.1).has_few in
     let lt = has.2 in
     omega (arith, few, lt)
 
 -- the memory keeps its table
-pub put_table : (p limit : ℕ) (first : Image) (text : List ℕ) (t : LoadTarget) → HasFirst p limit first text t → t.memory.table ≡ first.table
-put_table p limit first text t has = ap (λ (m : Image). m.table) (has.has_memory has.has_table.0 has.has_table.1)
+pub put_table : (given : LoadSettings) (first : Image) (text : List ℕ) (t : LoadTarget) → HasFirst given first text t → t.memory.table ≡ first.table
+put_table given first text t has = ap (λ (m : Image). m.table) (has.has_memory has.has_table.0 has.has_table.1)
 
-pub fits_is : (p limit : ℕ) (first : Image) (text : List ℕ) (ended : Bool) (r : Reader) (t : LoadTarget) (round : RoundOfRecords) → HasPutSections p limit first text ended r t
-    → round.page_size ≡ p → All (λ x. IsPlace first.table x.place) round.records → FitsTable t.memory.table round
-fits_is p limit first text ended r t round put is places =
-    rw (put_table p limit first text t put.has_first) (record {
-      has_page_size = is ∙ sym (size_is p limit text first.table put.is_page_size put.has_first.has_table);
+pub fits_is : (given : LoadSettings) (first : Image) (text : List ℕ) (ended : Bool) (r : Reader) (t : LoadTarget) (round : RoundOfRecords) → HasPutSections given first text ended r t
+    → round.page_size ≡ given.page_size → All (λ x. IsPlace first.table x.place) round.records → FitsTable t.memory.table round
+fits_is given first text ended r t round put is places =
+    rw (put_table given first text t put.has_first) (record {
+      has_page_size = is ∙ sym (size_is given text first.table put.is_page_size put.has_first.has_table);
       has_places = places;
     })
 
 -- one section more
-pub put_more : (p limit : ℕ) (first : Image) (text : List ℕ) (ended : Bool) (r s : Reader) (t u : LoadTarget) (round : RoundOfRecords) → HasPutSections p limit first text ended r t
-    → round.page_size ≡ p → HasRound (settings Single p limit) text t.rounds round.records → Stands (settings Single p limit) (put_so_far text ended (t.rounds + 1)) s
-    → u.memory ≡ with_round t.memory (pages_of_round round) → u.rounds ≡ t.rounds + 1 → HasPutSections p limit first text ended s u
-put_more p limit first text ended r s t u round put is_size is_round stands memory rounds =
-    let has : HasFirst p limit first text t = put.has_first in
-    let size : IsPageSize p = put.is_page_size in
+pub put_more : (given : LoadSettings) (first : Image) (text : List ℕ) (ended : Bool) (r s : Reader) (t u : LoadTarget) (round : RoundOfRecords) → HasPutSections given first text ended r t
+    → round.page_size ≡ given.page_size → HasRound (single_of given) text t.rounds round.records → Stands (single_of given) (put_so_far text ended (t.rounds + 1)) s
+    → u.memory ≡ with_round t.memory (pages_of_round round) → u.rounds ≡ t.rounds + 1 → HasPutSections given first text ended s u
+put_more given first text ended r s t u round put is_size is_round stands memory rounds =
+    let has : HasFirst given first text t = put.has_first in
+    let size : IsPageSize given.page_size = put.is_page_size in
     record {
       is_page_size = size;
-      stands = subst (λ n. Stands (settings Single p limit) (put_so_far text ended n) s) (sym rounds) stands;
+      stands = subst (λ n. Stands (single_of given) (put_so_far text ended n) s) (sym rounds) stands;
       has_first = record {
         has_table = has.has_table;
         has_memory = λ reading is.
-            let one : is_round.0 ≡ reading = same_reading p limit text is_round.0 reading size is_round.1 is in
+            let one : is_round.0 ≡ reading = same_reading given text is_round.0 reading size is_round.1 is in
             let few : t.rounds < length reading.rounds = subst (λ (x : StreamReading). t.rounds < length x.rounds) one is_round.2 in
             let here : slice_index_or reading.rounds t.rounds [] ≡ round.records =
             subst (λ (x : StreamReading). slice_index_or x.rounds t.rounds [] ≡ round.records) one is_round.3 in
@@ -101,30 +103,30 @@ put_more p limit first text ended r s t u round put is_size is_round stands memo
             ap (λ (x : List PageRecord). before ++ x ∷ []) (sym here) ∙ sym (take_more reading.rounds t.rounds [] few) in
             memory
             ∙ ap (λ (m : Image). with_round m (pages_of_round round)) (has.has_memory reading is)
-            ∙ ap (λ (n : ℕ). with_round (with_rounds first (pages_in p before)) (map (page_of n) round.records)) is_size
-            ∙ sym (onto-push first (pages_in p before) (map (page_of p) round.records))
-            ∙ ap (λ (l : List (List Page)). with_rounds first l) (sym (map-append (map (page_of p)) before (round.records ∷ [])))
-            ∙ ap (λ (l : List (List PageRecord)). with_rounds first (pages_in p l)) more
-            ∙ ap (λ (n : ℕ). with_rounds first (pages_in p (take n reading.rounds))) (sym rounds);
+            ∙ ap (λ (n : ℕ). with_round (with_rounds first (pages_in given.page_size before)) (map (page_of n) round.records)) is_size
+            ∙ sym (onto-push first (pages_in given.page_size before) (map (page_of given.page_size) round.records))
+            ∙ ap (λ (l : List (List Page)). with_rounds first l) (sym (map-append (map (page_of given.page_size)) before (round.records ∷ [])))
+            ∙ ap (λ (l : List (List PageRecord)). with_rounds first (pages_in given.page_size l)) more
+            ∙ ap (λ (n : ℕ). with_rounds first (pages_in given.page_size (take n reading.rounds))) (sym rounds);
       };
     }
 
 -- no section is left
-pub not_more : (p limit : ℕ) (text : List ℕ) (reading : StreamReading) (n : ℕ) → IsReading (settings Single p limit) text reading
-    → ((i : ℕ) (round : List PageRecord) → HasRound (settings Single p limit) text i round → i < n) → length reading.rounds ≤ n
-not_more p limit text reading n is last = elim (cases_lt n (length reading.rounds)) [
+pub not_more : (given : LoadSettings) (text : List ℕ) (reading : StreamReading) (n : ℕ) → IsReading (single_of given) text reading
+    → ((i : ℕ) (round : List PageRecord) → HasRound (single_of given) text i round → i < n) → length reading.rounds ≤ n
+not_more given text reading n is last = elim (cases_lt n (length reading.rounds)) [
   | inl lt ↦ let bad = last n (slice_index_or reading.rounds n []) (reading, is, lt, refl) in absurd (omega (arith, bad))
   | inr le ↦ le
 ]
 
 -- those that were given are the text's
-pub are_given : (p limit : ℕ) (text : List ℕ) (ended : Bool) (r : Reader) (n : ℕ) (reading : StreamReading) → IsPageSize p → IsReading (settings Single p limit) text reading
-    → Stands (settings Single p limit) (put_so_far text ended n) r → n ≤ length reading.rounds
-are_given p limit text ended r n reading size is stands =
+pub are_given : (given : LoadSettings) (text : List ℕ) (ended : Bool) (r : Reader) (n : ℕ) (reading : StreamReading) → IsPageSize given.page_size → IsReading (single_of given) text reading
+    → Stands (single_of given) (put_so_far text ended n) r → n ≤ length reading.rounds
+are_given given text ended r n reading size is stands =
     let to : StreamProgress = with_taken stands.rounds r.progress in
     let other : StreamReading = record { table = whole_table to; rounds = to.rounds; state = r.found } in
-    let is_other : IsReading (settings Single p limit) text other = record { to = to; rest = stands.rest; reads = stands.reads; has_table = refl; has_rounds = refl } in
-    let one : other ≡ reading = same_reading p limit text other reading size is_other is in
+    let is_other : IsReading (single_of given) text other = record { to = to; rest = stands.rest; reads = stands.reads; has_table = refl; has_rounds = refl } in
+    let one : other ≡ reading = same_reading given text other reading size is_other is in
     let len : length (stands.rounds ++ r.progress.rounds) ≡ length reading.rounds = ap (λ (x : StreamReading). length x.rounds) one in
     let both = length-append stands.rounds r.progress.rounds in
     let taken = stands.has_taken in
@@ -133,57 +135,57 @@ are_given p limit text ended r n reading size is stands =
 -- ---- all sections
 
 -- after the loop
-pub all_put : (p limit : ℕ) (first : Image) (text : List ℕ) (ended : Bool) (r : Reader) (t : LoadTarget) → HasPutSections p limit first text ended r t
-    → ((i : ℕ) (round : List PageRecord) → HasRound (settings Single p limit) text i round → i < t.rounds) → HasPutAllSections p limit first text t
-all_put p limit first text ended r t put last =
-    let has : HasFirst p limit first text t = put.has_first in
+pub all_put : (given : LoadSettings) (first : Image) (text : List ℕ) (ended : Bool) (r : Reader) (t : LoadTarget) → HasPutSections given first text ended r t
+    → ((i : ℕ) (round : List PageRecord) → HasRound (single_of given) text i round → i < t.rounds) → HasPutAllSections given first text t
+all_put given first text ended r t put last =
+    let has : HasFirst given first text t = put.has_first in
     let reading : StreamReading = has.has_table.0 in
     let is_reading = has.has_table.1 in
     let sections : List (List PageRecord) = reading.rounds in
-    let most : length sections ≤ t.rounds = not_more p limit text reading t.rounds is_reading last in
-    let least : t.rounds ≤ length sections = are_given p limit text ended r t.rounds reading put.is_page_size is_reading put.stands in
+    let most : length sections ≤ t.rounds = not_more given text reading t.rounds is_reading last in
+    let least : t.rounds ≤ length sections = are_given given text ended r t.rounds reading put.is_page_size is_reading put.stands in
     record {
       reading = reading;
       is_reading = is_reading;
-      has_memory = has.has_memory reading is_reading ∙ ap (λ (l : List (List PageRecord)). with_rounds first (pages_in p l)) (take_all t.rounds sections most);
+      has_memory = has.has_memory reading is_reading ∙ ap (λ (l : List (List PageRecord)). with_rounds first (pages_in given.page_size l)) (take_all t.rounds sections most);
       has_rounds = omega (arith, most, least);
     }
 
 -- a loader's memory began with zeros
-pub put_of : (p limit : ℕ) (text : List ℕ) (ended : Bool) (r : Reader) (t : LoadTarget) → WasFed p limit (loader r (Some t)) text ended
-    → HasPutSections p limit (zero_image t.memory.table) text ended r t
-put_of p limit text ended r t fed = record { is_page_size = fed.is_page_size; stands = fed.stands; has_first = fed.has_first }
+pub put_of : (given : LoadSettings) (text : List ℕ) (ended : Bool) (r : Reader) (t : LoadTarget) → WasFed given (loader r (Some t)) text ended
+    → HasPutSections given (zero_image t.memory.table) text ended r t
+put_of given text ended r t fed = record { is_page_size = fed.is_page_size; stands = fed.stands; has_first = fed.has_first }
 
 -- all that was put into zeros
-pub loads_put : (p limit : ℕ) (text : List ℕ) (ended : Bool) (r : Reader) (table : RamTable) (t : LoadTarget) → HasPutSections p limit (zero_image table) text ended r t
-    → HasPutAllSections p limit (zero_image table) text t → Loads p limit (loader r (Some t)) text ended × HasAllSections p limit (loader r (Some t)) text
-loads_put p limit text ended r table t put all =
+pub loads_put : (given : LoadSettings) (text : List ℕ) (ended : Bool) (r : Reader) (table : RamTable) (t : LoadTarget) → HasPutSections given (zero_image table) text ended r t
+    → HasPutAllSections given (zero_image table) text t → Loads given (loader r (Some t)) text ended × HasAllSections given (loader r (Some t)) text
+loads_put given text ended r table t put all =
     let reading : StreamReading = all.reading in
-    let one : put.has_first.has_table.0 ≡ reading = same_reading p limit text put.has_first.has_table.0 reading put.is_page_size put.has_first.has_table.1 all.is_reading in
+    let one : put.has_first.has_table.0 ≡ reading = same_reading given text put.has_first.has_table.0 reading put.is_page_size put.has_first.has_table.1 all.is_reading in
     let is_table : Some table ≡ reading.table = put.has_first.has_table.2 ∙ ap (λ (x : StreamReading). x.table) one in
-    let has : HasAllSections p limit (loader r (Some t)) text = record {
+    let has : HasAllSections given (loader r (Some t)) text = record {
       reading = reading;
       is_reading = all.is_reading;
-      has_memory = ap (λ (m : Image). Some m) (all.has_memory ∙ sym (onto-zeros table (pages_in p reading.rounds)))
-          ∙ ap (λ (x : Option RamTable). memory_after p x reading.rounds) is_table;
+      has_memory = ap (λ (m : Image). Some m) (all.has_memory ∙ sym (onto-zeros table (pages_in given.page_size reading.rounds)))
+          ∙ ap (λ (x : Option RamTable). memory_after given.page_size x reading.rounds) is_table;
       has_rounds = all.has_rounds;
     } in
     (record { is_page_size = put.is_page_size; stands = put.stands; has_sections = inl has }, has)
 
 -- a text without a table has no section
-pub none_there : (p limit : ℕ) (text : List ℕ) (r : Reader) → IsPageSize p → HasTable (settings Single p limit) text None → HasAllSections p limit (loader r None) text
-none_there p limit text r size has =
+pub none_there : (given : LoadSettings) (text : List ℕ) (r : Reader) → IsPageSize given.page_size → HasTable (single_of given) text None → HasAllSections given (loader r None) text
+none_there given text r size has =
     let reading : StreamReading = has.0 in
-    let none : reading.rounds ≡ [] = (limits_law (settings Single p limit) text reading size has.1).has_table_first (sym has.2) in
+    let none : reading.rounds ≡ [] = (limits_law (single_of given) text reading size has.1).has_table_first (sym has.2) in
     record {
       reading = reading;
       is_reading = has.1;
-      has_memory = ap (λ (x : Option RamTable). memory_after p x reading.rounds) has.2;
+      has_memory = ap (λ (x : Option RamTable). memory_after given.page_size x reading.rounds) has.2;
       has_rounds = sym (ap (λ (x : List (List PageRecord)). length x) none);
     }
 
-pub loads_all : (p limit : ℕ) (l : Loader) (text : List ℕ) (ended : Bool) → WasFed p limit l text ended → HasAllSections p limit l text → Loads p limit l text ended × HasAllSections p limit l text
-loads_all p limit l text ended fed all = (record { is_page_size = fed.is_page_size; stands = fed.stands; has_sections = inl all }, all)
+pub loads_all : (given : LoadSettings) (l : Loader) (text : List ℕ) (ended : Bool) → WasFed given l text ended → HasAllSections given l text → Loads given l text ended × HasAllSections given l text
+loads_all given l text ended fed all = (record { is_page_size = fed.is_page_size; stands = fed.stands; has_sections = inl all }, all)
 
 -- ---- what a loader stands for
 
@@ -196,36 +198,36 @@ table_there p m (Some table) sections e =
     let same : m.table ≡ table = ap (λ (x : Image). x.table) is in
     (ap (λ (x : RamTable). Some x) same, is ∙ ap (λ (x : RamTable). after x (pages_in p sections)) (sym same))
 
-first_of_all : (p limit : ℕ) (text : List ℕ) (r : Reader) (t : LoadTarget) → IsPageSize p → HasAllSections p limit (loader r (Some t)) text
-    → HasFirst p limit (zero_image t.memory.table) text t
-first_of_all p limit text r t size all =
-    let there = table_there p t.memory all.reading.table all.reading.rounds all.has_memory in
+first_of_all : (given : LoadSettings) (text : List ℕ) (r : Reader) (t : LoadTarget) → IsPageSize given.page_size → HasAllSections given (loader r (Some t)) text
+    → HasFirst given (zero_image t.memory.table) text t
+first_of_all given text r t size all =
+    let there = table_there given.page_size t.memory all.reading.table all.reading.rounds all.has_memory in
     record {
       has_table = (all.reading, all.is_reading, there.0);
       has_memory = λ reading is.
-          let one : all.reading ≡ reading = same_reading p limit text all.reading reading size all.is_reading is in
+          let one : all.reading ≡ reading = same_reading given text all.reading reading size all.is_reading is in
           let most : length reading.rounds ≤ t.rounds = subst (λ (x : StreamReading). length x.rounds ≤ t.rounds) one (omega (arith, all.has_rounds)) in
-          there.1 ∙ ap (λ (x : StreamReading). after t.memory.table (pages_in p x.rounds)) one
-          ∙ ap (λ (l : List (List PageRecord)). after t.memory.table (pages_in p l)) (sym (take_all t.rounds reading.rounds most))
-          ∙ onto-zeros t.memory.table (pages_in p (take t.rounds reading.rounds));
+          there.1 ∙ ap (λ (x : StreamReading). after t.memory.table (pages_in given.page_size x.rounds)) one
+          ∙ ap (λ (l : List (List PageRecord)). after t.memory.table (pages_in given.page_size l)) (sym (take_all t.rounds reading.rounds most))
+          ∙ onto-zeros t.memory.table (pages_in given.page_size (take t.rounds reading.rounds));
     }
 
 -- a loader that stands for a text was fed it
-pub fed_of : (p limit : ℕ) (r : Reader) (o : Option LoadTarget) (text : List ℕ) (ended : Bool) → Loads p limit (loader r o) text ended → WasFed p limit (loader r o) text ended
-fed_of p limit r None text ended loads = record { is_page_size = loads.is_page_size; stands = loads.stands; has_first = tt }
-fed_of p limit r (Some t) text ended loads = record {
+pub fed_of : (given : LoadSettings) (r : Reader) (o : Option LoadTarget) (text : List ℕ) (ended : Bool) → Loads given (loader r o) text ended → WasFed given (loader r o) text ended
+fed_of given r None text ended loads = record { is_page_size = loads.is_page_size; stands = loads.stands; has_first = tt }
+fed_of given r (Some t) text ended loads = record {
   is_page_size = loads.is_page_size;
   stands = loads.stands;
   has_first = elim loads.has_sections [
-    | inl all ↦ first_of_all p limit text r t loads.is_page_size all
+    | inl all ↦ first_of_all given text r t loads.is_page_size all
     | inr waits ↦ absurd (let none = waits.has_no_memory in cc)
   ];
 }
 
 -- where there is a memory no section waits
-pub all_there : (p limit : ℕ) (r : Reader) (o : Option LoadTarget) (t : LoadTarget) (text : List ℕ) (ended : Bool) → o ≡ Some t → Loads p limit (loader r o) text ended
-    → HasAllSections p limit (loader r o) text
-all_there p limit r o t text ended is loads = elim loads.has_sections [
+pub all_there : (given : LoadSettings) (r : Reader) (o : Option LoadTarget) (t : LoadTarget) (text : List ℕ) (ended : Bool) → o ≡ Some t → Loads given (loader r o) text ended
+    → HasAllSections given (loader r o) text
+all_there given r o t text ended is loads = elim loads.has_sections [
   | inl all ↦ all
   | inr waits ↦ absurd (let none = waits.has_no_memory in cc)
 ]
@@ -240,10 +242,10 @@ verdict_over true n Closed = refl
 verdict_over true n (state.Bad f) = refl
 
 -- of a loader that has all sections
-pub judged : (p limit : ℕ) (l : Loader) (text : List ℕ) (ended : Bool) (state : StreamState) (v : Result ⊤ LoadFault) → IsPageSize p → HasAllSections p limit l text
-    → HasState (settings Single p limit) text ended state → v ≡ verdict_of (sections_loaded l) state → Judges p limit l text v
-judged p limit l text ended state v size all told is =
-    let one : told.0 ≡ all.reading = same_reading p limit text told.0 all.reading size told.1 all.is_reading in
+pub judged : (given : LoadSettings) (l : Loader) (text : List ℕ) (ended : Bool) (state : StreamState) (v : Result ⊤ LoadFault) → IsPageSize given.page_size → HasAllSections given l text
+    → HasState (single_of given) text ended state → v ≡ verdict_of (sections_loaded l) state → Judges given l text v
+judged given l text ended state v size all told is =
+    let one : told.0 ≡ all.reading = same_reading given text told.0 all.reading size told.1 all.is_reading in
     let said : state ≡ state_at ended all.reading.state = told.2 ∙ ap (λ (x : StreamReading). state_at ended x.state) one in
     inl (
       all,
@@ -258,12 +260,12 @@ loaded_is : {A : Type 0} (a b : Loaded A) → a.memory ≡ b.memory → a.rounds
 loaded_is a b m n v = grind (rules)
 
 -- an answer is the memory, the count and the verdict
-pub answered : {A : Type 0} (p limit : ℕ) (l : Loader) (text : List ℕ) (a : Loaded A) → IsPageSize p → a.memory ≡ memory_of l → a.rounds ≡ sections_loaded l
-    → Judges p limit l text a.verdict → Answers p limit l text a
-answered p limit l text a size memory rounds (inl both) =
-    let all : HasAllSections p limit l text = both.0 in
-    let v : HasVerdict p limit text a.verdict = both.1 in
-    let one : v.reading ≡ all.reading = same_reading p limit text v.reading all.reading size v.is_reading all.is_reading in
+pub answered : {A : Type 0} (given : LoadSettings) (l : Loader) (text : List ℕ) (a : Loaded A) → IsPageSize given.page_size → a.memory ≡ memory_of l → a.rounds ≡ sections_loaded l
+    → Judges given l text a.verdict → Answers given l text a
+answered given l text a size memory rounds (inl both) =
+    let all : HasAllSections given l text = both.0 in
+    let v : HasVerdict given text a.verdict = both.1 in
+    let one : v.reading ≡ all.reading = same_reading given text v.reading all.reading size v.is_reading all.is_reading in
     let count : a.rounds ≡ length all.reading.rounds = rounds ∙ all.has_rounds in
     inl (
       all,
@@ -275,8 +277,8 @@ answered p limit l text a size memory rounds (inl both) =
         has_verdict = v.is_verdict ∙ ap (λ (x : StreamReading). verdict_of (length x.rounds) x.state) one ∙ ap (λ (n : ℕ). verdict_of n all.reading.state) (sym count);
       },
     )
-answered p limit l text a size memory rounds (inr both) =
-    let w : Waits p limit l text = both.0 in
+answered given l text a size memory rounds (inr both) =
+    let w : Waits given l text = both.0 in
     inr (
       w,
       loaded_is a unloaded (memory ∙ ap (λ (o : Option LoadTarget). memory_of (loader l.reader o)) w.has_no_memory)
@@ -284,9 +286,9 @@ answered p limit l text a size memory rounds (inr both) =
     )
 
 -- where an allocation was refused before any section
-pub none_put : {A : Type 0} (p limit : ℕ) (text : List ℕ) → IsPageSize p → IsSingleWithoutMemory p limit text (unloaded {A = A})
-none_put p limit text size =
-    let one = one_reading_law (settings Single p limit) text size in record {
+pub none_put : {A : Type 0} (given : LoadSettings) (text : List ℕ) → IsPageSize given.page_size → IsSingleWithoutMemory given text (unloaded {A = A})
+none_put given text size =
+    let one = one_reading_law (single_of given) text size in record {
       reading = one.0;
       is_reading = one.1;
       has_verdict = refl;
@@ -295,10 +297,10 @@ none_put p limit text size =
     }
 
 -- what a loader answers is what a load answers
-pub load_answers : {A : Type 0} (p limit : ℕ) (l : Loader) (text : List ℕ) (a : Loaded A) → IsPageSize p → Answers p limit l text a
-    → IsSingleAnswer p limit text a ⊎ IsSingleWithoutMemory p limit text a
-load_answers p limit l text a size (inl both) = inl both.1
-load_answers p limit l text a size (inr both) = inr (rw both.1 (none_put p limit text size))
+pub load_answers : {A : Type 0} (given : LoadSettings) (l : Loader) (text : List ℕ) (a : Loaded A) → IsPageSize given.page_size → Answers given l text a
+    → IsSingleAnswer given text a ⊎ IsSingleWithoutMemory given text a
+load_answers given l text a size (inl both) = inl both.1
+load_answers given l text a size (inr both) = inr (rw both.1 (none_put given text size))
 
 -- ---- the text of a sender
 
@@ -332,7 +334,7 @@ counted rounds =
     omega (arith, both, same)
 
 -- THE TEXT OF A SENDER is loaded whole.
-pub sent_answer_is : {A : Type 0} (p limit : ℕ) (text : List ℕ) (a : Loaded A) → IsPageSize p → IsSingleAnswer p limit text a
+pub sent_answer_is : {A : Type 0} (p limit : ℕ) (text : List ℕ) (a : Loaded A) → IsPageSize p → IsSingleAnswer (ram_settings p limit) text a
     → (table : RamTable) (rounds : List (List Page)) → IsTable table → table.page_size ≡ p → total_bytes table ≤ limit
     → All (IsRound table) rounds → text ≡ single table rounds → a ≡ loaded table rounds
 sent_answer_is p limit text a size answer table rounds is same room all sent =
@@ -341,7 +343,7 @@ sent_answer_is p limit text a size answer table rounds is same room all sent =
     spelled_law Single limit text [] table sections (subst (λ x. IsText Single limit x table sections) (sym sent) (written_single table rounds limit is room all)) in
     let read : IsReading (settings Single p limit) text (closed table sections) =
     subst (λ x. IsReading (settings Single p limit) x (closed table sections)) (append-nil text) (subst (λ x. IsReading (settings Single x limit) (text ++ []) (closed table sections)) same spelled) in
-    let one : answer.reading ≡ closed table sections = same_reading p limit text answer.reading (closed table sections) size answer.is_reading read in
+    let one : answer.reading ≡ closed table sections = same_reading (ram_settings p limit) text answer.reading (closed table sections) size answer.is_reading read in
     let count : length sections ≡ length rounds + 2 = counted rounds in
     let n : a.rounds ≡ length rounds + 2 = answer.has_rounds ∙ ap (λ (x : StreamReading). length x.rounds) one ∙ count in
     loaded_is a (loaded table rounds)
@@ -350,9 +352,9 @@ sent_answer_is p limit text a size answer table rounds is same room all sent =
     n
     (answer.has_verdict ∙ ap (λ (x : StreamReading). verdict_of a.rounds x.state) one)
 
-pub sent_is_loaded : {A : Type 0} (p limit : ℕ) (text : List ℕ) (a : Loaded A) → IsPageSize p → IsSingleAnswer p limit text a ⊎ IsSingleWithoutMemory p limit text a
+pub sent_is_loaded : {A : Type 0} (p limit : ℕ) (text : List ℕ) (a : Loaded A) → IsPageSize p → IsSingleAnswer (ram_settings p limit) text a ⊎ IsSingleWithoutMemory (ram_settings p limit) text a
     → (table : RamTable) (rounds : List (List Page)) → IsTable table → table.page_size ≡ p → total_bytes table ≤ limit
-    → All (IsRound table) rounds → text ≡ single table rounds → (a ≡ loaded table rounds) ⊎ IsSingleWithoutMemory p limit text a
+    → All (IsRound table) rounds → text ≡ single table rounds → (a ≡ loaded table rounds) ⊎ IsSingleWithoutMemory (ram_settings p limit) text a
 sent_is_loaded p limit text a size (inr want) table rounds is same room all sent = inr want
 sent_is_loaded p limit text a size (inl answer) table rounds is same room all sent =
     inl (sent_answer_is p limit text a size answer table rounds is same room all sent)

@@ -11,10 +11,11 @@ use Rattle.mig_stream.specs.declared.item.StreamState.TheVariants as state
 use Rattle.mig_stream.specs.declared.giving.Given.{Given}
 use Rattle.mig_stream.specs.declared.giving.Given.TheVariants as gave
 use Rattle.mig_stream.specs.PageRecord.{PageRecord, page_of}
-use Rattle.mig_stream.specs.declared.item.Mode.TheVariants.{Single}
-use Rattle.mig_stream.specs.Reading.{Settings, settings, StreamReading, IsReading}
+use Rattle.mig_stream.specs.Reading.{Settings, StreamReading, IsReading}
 use Rattle.mig_stream.specs.Reader.{HasTable}
 use Rattle.mig_stream.specs.Giving.{Giver, GivenSoFar, with_given, Gives, EndsSo, LeavesNone, HasNoneLeft, HasReading, Paused, PausesAt}
+use Rattle.mig_single_load.specs.Settings.{single_of, for_table}
+use Rattle.mig_single_load.specs.declared.settings.LoadSettings.{LoadSettings}
 use Rattle.mig_single_load.specs.declared.eager_state.LoadState.{LoadState}
 use Rattle.mig_single_load.specs.declared.eager_state.LoadState.TheVariants as load_state
 use Rattle.mig_single_load.specs.InPlace.{settings_of, IsOfOwnTable, IsOfOtherTable, HasVerdictOnto, HasSectionsOnto}
@@ -29,9 +30,9 @@ pages_on first records = map (page_of first.table.page_size) records
 -- The memory has all page records of the text so far, on top of what it held first: those of its
 -- complete sections, `sections` of them, and then those of the section that isn't complete. Of a
 -- text of another table it has none.
-pub record HasRecordsOnto (limit : ℕ) (first : Image) (text : List ℕ) (memory : Image) (sections : ℕ) : Type 0 where
+pub record HasRecordsOnto (given : LoadSettings) (first : Image) (text : List ℕ) (memory : Image) (sections : ℕ) : Type 0 where
   pub reading : StreamReading
-  pub is_reading : IsReading (settings_of first limit) text reading
+  pub is_reading : IsReading (settings_of first given) text reading
   pub same_table : memory.table ≡ first.table
   pub own : IsOfOwnTable first reading
       → (memory ≡ with_round (with_rounds first (map (pages_on first) reading.rounds)) (pages_on first is_reading.to.records)) × (sections ≡ length reading.rounds)
@@ -40,15 +41,15 @@ pub record HasRecordsOnto (limit : ℕ) (first : Image) (text : List ℕ) (memor
 -- A place without a record in the section that isn't complete holds what the complete sections
 -- left.
 abbrev pub EagerKeepsOtherPlaces : Type 0
-EagerKeepsOtherPlaces = (limit : ℕ) (first : Image) (text : List ℕ) (memory : Image) (sections : ℕ) (has : HasRecordsOnto limit first text memory sections) (p : Place)
+EagerKeepsOtherPlaces = (given : LoadSettings) (first : Image) (text : List ℕ) (memory : Image) (sections : ℕ) (has : HasRecordsOnto given first text memory sections) (p : Place)
     → IsOfOwnTable first has.reading → IsPlace first.table p → All (λ r. r.place ≢ p) has.is_reading.to.records
     → content_at memory p ≡ content_at (with_rounds first (map (pages_on first) has.reading.rounds)) p
 
 -- Where the verdict is Ok the memory has the complete sections and nothing else: what a load that
 -- writes complete sections gives.
 abbrev pub EagerOkIsBySections : Type 0
-EagerOkIsBySections = (limit : ℕ) (first : Image) (text : List ℕ) (memory : Image) (sections : ℕ) → IsTable first.table → IsImage first
-    → HasRecordsOnto limit first text memory sections → HasVerdictOnto limit first text (Ok _) → HasSectionsOnto limit first text (memory_with memory sections)
+EagerOkIsBySections = (given : LoadSettings) (first : Image) (text : List ℕ) (memory : Image) (sections : ℕ) → IsTable first.table → IsImage first
+    → HasRecordsOnto given first text memory sections → HasVerdictOnto given first text (Ok _) → HasSectionsOnto given first text (memory_with memory sections)
 
 -- ---- what such a load keeps
 
@@ -65,13 +66,13 @@ pub record EagerLoad : Type 0 where
 abbrev pub eager_load : Option Paused → LoadState → RamTable → ℕ → ℕ → Bool → EagerLoad
 eager_load pause state table rounds fed ended = record { pause = pause; state = state; table = table; rounds = rounds; fed = fed; ended = ended }
 
--- the settings of a reader for a single stream of this table
-abbrev pub settings_for : RamTable → ℕ → Settings
-settings_for table limit = settings Single table.page_size limit
+-- the settings of the reader of a single stream of this table
+abbrev pub settings_for : RamTable → LoadSettings → Settings
+settings_for table given = single_of (for_table table given)
 
 -- the text has this table, or its table isn't known yet
-abbrev pub IsOfTable : ℕ → RamTable → List ℕ → Type 0
-IsOfTable limit table text = HasTable (settings_for table limit) text None ⊎ HasTable (settings_for table limit) text (Some table)
+abbrev pub IsOfTable : LoadSettings → RamTable → List ℕ → Type 0
+IsOfTable given table text = HasTable (settings_for table given) text None ⊎ HasTable (settings_for table given) text (Some table)
 
 -- all pages that a reader gave so far, in the order of the text
 abbrev pub given_pages : Image → GivenSoFar → List Page
@@ -79,10 +80,10 @@ given_pages first so_far = all_pages (map (pages_on first) so_far.sections) ++ p
 
 -- The pause is at the end of the text, all records of which are in the memory. The text's table is
 -- the memory's, or isn't known yet.
-pub record PausesOnto (limit : ℕ) (first : Image) (text : List ℕ) (p : Paused) (memory : Image) (sections : ℕ) : Type 0 where
+pub record PausesOnto (given : LoadSettings) (first : Image) (text : List ℕ) (p : Paused) (memory : Image) (sections : ℕ) : Type 0 where
   pub so_far : GivenSoFar
-  pub pauses : PausesAt (settings_of first limit) text so_far p
-  pub is_own : IsOfTable limit first.table text
+  pub pauses : PausesAt (settings_of first given) text so_far p
+  pub is_own : IsOfTable given first.table text
   pub has_memory : memory ≡ with_round first (given_pages first so_far)
   pub has_sections : sections ≡ length so_far.sections
 
@@ -96,41 +97,41 @@ IsInState first reading pause other = ⊥
 
 -- The memory has all records of the text so far, and `pause` and `found` are what the load keeps of
 -- it.
-pub record StandsOnto (limit : ℕ) (first : Image) (text : List ℕ) (memory : Image) (sections : ℕ) (pause : Option Paused) (found : LoadState) : Type 0 where
-  pub has_records : HasRecordsOnto limit first text memory sections
-  pub pauses : IfSome pause (λ p. PausesOnto limit first text p memory sections)
+pub record StandsOnto (given : LoadSettings) (first : Image) (text : List ℕ) (memory : Image) (sections : ℕ) (pause : Option Paused) (found : LoadState) : Type 0 where
+  pub has_records : HasRecordsOnto given first text memory sections
+  pub pauses : IfSome pause (λ p. PausesOnto given first text p memory sections)
   pub is_in_state : IsInState first has_records.reading pause found
 
--- A load that was made for the memory `first` and a limit, and fed this text, which may be over.
+-- A load that was made for the memory `first` with these settings, and fed this text, which may be over.
 -- The memory is now what all page records of the text make of `first`.
-pub record EagerlyLoads (memory : Image) (limit : ℕ) (first : Image) (s : EagerLoad) (text : List ℕ) (ended : Bool) : Type 0 where
+pub record EagerlyLoads (memory : Image) (given : LoadSettings) (first : Image) (s : EagerLoad) (text : List ℕ) (ended : Bool) : Type 0 where
   pub is_table : IsTable first.table
   pub is_image : IsImage first
   pub same_table : first.table ≡ s.table
   pub has_fed : s.fed ≡ length text
   pub has_ended : s.ended ≡ ended
-  pub stands : StandsOnto limit first text memory s.rounds s.pause s.state
+  pub stands : StandsOnto given first text memory s.rounds s.pause s.state
 
 -- ---- where an allocation was refused
 
 -- The memory has the first of the text's page records, in their order, on top of what it held
 -- first. Those of the sections counted are among them.
-pub record HasSomeOnto (limit : ℕ) (first : Image) (text : List ℕ) (memory : Image) (sections : ℕ) : Type 0 where
+pub record HasSomeOnto (given : LoadSettings) (first : Image) (text : List ℕ) (memory : Image) (sections : ℕ) : Type 0 where
   pub so_far : GivenSoFar
   pub reader : Giver
-  pub gives : Gives (settings_of first limit) text so_far reader
+  pub gives : Gives (settings_of first given) text so_far reader
   pub has_memory : memory ≡ with_round first (given_pages first so_far)
   pub has_sections : sections ≡ length so_far.sections
 
 -- A load as above in which an allocation was refused. It has failed for good, and the memory has
 -- the first of the records.
-pub record LacksMemory (memory : Image) (limit : ℕ) (first : Image) (s : EagerLoad) (text : List ℕ) (ended : Bool) : Type 0 where
+pub record LacksMemory (memory : Image) (given : LoadSettings) (first : Image) (s : EagerLoad) (text : List ℕ) (ended : Bool) : Type 0 where
   pub is_table : IsTable first.table
   pub is_image : IsImage first
   pub same_table : first.table ≡ s.table
   pub has_fed : s.fed ≡ length text
   pub has_ended : s.ended ≡ ended
-  pub has_some : HasSomeOnto limit first text memory s.rounds
+  pub has_some : HasSomeOnto given first text memory s.rounds
   pub has_no_pause : s.pause ≡ None
   pub has_failed : s.state ≡ load_state.NoMemory
 
@@ -142,60 +143,60 @@ IsEnd (gave.End found) = ⊤
 IsEnd other = ⊥
 
 -- A reader gave this last, after `so_far`.
-pub record GaveNext (limit : ℕ) (table : RamTable) (text : List ℕ) (so_far : GivenSoFar) (gave : Given) (r : Giver) : Type 0 where
-  pub gives : Gives (settings_for table limit) text (with_given gave r.given.records so_far) r
+pub record GaveNext (given : LoadSettings) (table : RamTable) (text : List ℕ) (so_far : GivenSoFar) (gave : Given) (r : Giver) : Type 0 where
+  pub gives : Gives (settings_for table given) text (with_given gave r.given.records so_far) r
   pub is_size : r.given.page_size ≡ table.page_size
-  pub has_places : HasTable (settings_for table limit) text (Some table) → All (λ x. IsPlace table x.place) r.given.records
-  pub ends : EndsSo gave (settings_for table limit) text so_far
+  pub has_places : HasTable (settings_for table given) text (Some table) → All (λ x. IsPlace table x.place) r.given.records
+  pub ends : EndsSo gave (settings_for table given) text so_far
   pub leaves_none : LeavesNone gave r
 
 -- In addition the sections before are counted, and the text has this table, so the records fit a
 -- memory.
-pub record PutsNext (limit : ℕ) (table : RamTable) (text : List ℕ) (so_far : GivenSoFar) (gave : Given) (r : Giver) (sections : ℕ) : Type 0 where
-  pub gave_next : GaveNext limit table text so_far gave r
+pub record PutsNext (given : LoadSettings) (table : RamTable) (text : List ℕ) (so_far : GivenSoFar) (gave : Given) (r : Giver) (sections : ℕ) : Type 0 where
+  pub gave_next : GaveNext given table text so_far gave r
   pub has_sections : sections ≡ length so_far.sections
-  pub has_table : IsEnd gave ⊎ HasTable (settings_for table limit) text (Some table)
+  pub has_table : IsEnd gave ⊎ HasTable (settings_for table given) text (Some table)
 
 -- There is such a text, of fewer than 2^63 bytes.
 pub record PutsNextSome (table : RamTable) (gave : Given) (r : Giver) (sections : ℕ) : Type 0 where
-  pub limit : ℕ
+  pub given : LoadSettings
   pub text : List ℕ
   pub is_short : length text < 2 ^ 63
   pub so_far : GivenSoFar
-  pub puts : PutsNext limit table text so_far gave r sections
+  pub puts : PutsNext given table text so_far gave r sections
 
 -- All records of the text were given, and this is its state.
-pub record GaveAll (limit : ℕ) (table : RamTable) (text : List ℕ) (so_far : GivenSoFar) (found : StreamState) (r : Giver) (sections : ℕ) : Type 0 where
-  pub gives : Gives (settings_for table limit) text so_far r
-  pub has_reading : HasReading (settings_for table limit) text so_far found
+pub record GaveAll (given : LoadSettings) (table : RamTable) (text : List ℕ) (so_far : GivenSoFar) (found : StreamState) (r : Giver) (sections : ℕ) : Type 0 where
+  pub gives : Gives (settings_for table given) text so_far r
+  pub has_reading : HasReading (settings_for table given) text so_far found
   pub has_none_left : HasNoneLeft found r
   pub has_sections : sections ≡ length so_far.sections
 
 -- From a reader that gave this last, all records that follow were given.
 abbrev pub GivesAll : Given → Giver → ℕ → StreamState → Giver → ℕ → Type 0
-GivesAll gave r sections found s more = (limit : ℕ) (table : RamTable) (text : List ℕ) (so_far : GivenSoFar) → PutsNext limit table text so_far gave r sections
-    → (then : GivenSoFar) × GaveAll limit table text then found s more
+GivesAll gave r sections found s more = (given : LoadSettings) (table : RamTable) (text : List ℕ) (so_far : GivenSoFar) → PutsNext given table text so_far gave r sections
+    → (then : GivenSoFar) × GaveAll given table text then found s more
 
 -- These records were written into a memory that had those before.
 abbrev pub PutsAll : Given → Giver → Image → ℕ → StreamState → Giver → Image → ℕ → Type 0
-PutsAll gave r memory sections found s after more = (limit : ℕ) (first : Image) (text : List ℕ) (so_far : GivenSoFar) → PutsNext limit first.table text so_far gave r sections
+PutsAll gave r memory sections found s after more = (given : LoadSettings) (first : Image) (text : List ℕ) (so_far : GivenSoFar) → PutsNext given first.table text so_far gave r sections
     → memory ≡ with_round first (given_pages first so_far)
-    → (then : GivenSoFar) × GaveAll limit first.table text then found s more × (after ≡ with_round first (given_pages first then))
+    → (then : GivenSoFar) × GaveAll given first.table text then found s more × (after ≡ with_round first (given_pages first then))
 
 -- Of these records the first were written: where an allocation was refused.
 abbrev pub PutsSome : Given → Giver → Image → ℕ → Image → ℕ → Type 0
-PutsSome gave r memory sections after more = (limit : ℕ) (first : Image) (text : List ℕ) (so_far : GivenSoFar) → PutsNext limit first.table text so_far gave r sections
-    → memory ≡ with_round first (given_pages first so_far) → HasSomeOnto limit first text after more
+PutsSome gave r memory sections after more = (given : LoadSettings) (first : Image) (text : List ℕ) (so_far : GivenSoFar) → PutsNext given first.table text so_far gave r sections
+    → memory ≡ with_round first (given_pages first so_far) → HasSomeOnto given first text after more
 
 -- A pause at the end of some text of `fed` bytes and this table, with `sections` complete sections.
-pub record PausesSome (limit : ℕ) (table : RamTable) (p : Paused) (sections fed : ℕ) : Type 0 where
+pub record PausesSome (given : LoadSettings) (table : RamTable) (p : Paused) (sections fed : ℕ) : Type 0 where
   pub text : List ℕ
   pub has_fed : fed ≡ length text
   pub so_far : GivenSoFar
-  pub pauses : PausesAt (settings_for table limit) text so_far p
+  pub pauses : PausesAt (settings_for table given) text so_far p
   pub has_sections : sections ≡ length so_far.sections
 
 -- the invariant of what an eager load keeps
 pub record IsEager (s : EagerLoad) : Type 0 where
   pub is_table : IsTable s.table
-  pub pauses : IfSome s.pause (λ p. (limit : ℕ) × PausesSome limit s.table p s.rounds s.fed)
+  pub pauses : IfSome s.pause (λ p. (given : LoadSettings) × PausesSome given s.table p s.rounds s.fed)

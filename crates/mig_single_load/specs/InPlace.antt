@@ -3,13 +3,14 @@ use Rattle.std.specs.Prelude.{◌≡◌, ◌≢◌, ◌≤◌, ◌<◌, ◌+◌,
 use Rattle.mig_mem.specs.RamTable.{RamTable, IsTable}
 use Rattle.mig_mem.specs.Image.{Image, Page, IsImage}
 use Rattle.mig_mem.specs.Round.{IsRound, with_rounds}
-use Rattle.mig_stream.specs.declared.item.Mode.TheVariants.{Single}
 use Rattle.mig_stream.specs.PageRecord.{page_of}
-use Rattle.mig_stream.specs.Reading.{Settings, settings, StreamReading, IsReading}
+use Rattle.mig_stream.specs.Reading.{Settings, StreamReading, IsReading}
 use Rattle.mig_stream.specs.Reader.{Reader, Stands}
 use Rattle.mig_stream.specs.Text.{total_bytes}
 use Rattle.mig_stream.specs.Written.{single}
 use Rattle.mig_assemble.specs.Target.{LoadTarget}
+use Rattle.mig_single_load.specs.Settings.{single_of, for_table, ram_settings}
+use Rattle.mig_single_load.specs.declared.settings.LoadSettings.{LoadSettings}
 use Rattle.mig_single_load.specs.declared.fault.LoadFault.{LoadFault}
 use Rattle.mig_single_load.specs.declared.fault.Fault.TheVariants.{OtherTable}
 use Rattle.mig_single_load.specs.SingleLoad.{at_main, verdict_of}
@@ -24,8 +25,8 @@ abbrev pub in_place : Reader → LoadTarget → InPlace
 in_place reader target = record { reader = reader; target = target }
 
 -- the settings for the stream of a memory, whose table may have so many bytes at most
-abbrev pub settings_of : Image → ℕ → Settings
-settings_of m limit = settings Single m.table.page_size limit
+abbrev pub settings_of : Image → LoadSettings → Settings
+settings_of m given = single_of (for_table m.table given)
 
 -- the text is of the memory's table, as far as it has one
 abbrev pub IsOfOwnTable : Image → StreamReading → Type 0
@@ -36,33 +37,33 @@ abbrev pub IsOfOtherTable : Image → StreamReading → Type 0
 IsOfOtherTable m reading = (table : RamTable) × (reading.table ≡ Some table) × (table ≢ m.table)
 
 -- All whole sections of the text are in the memory, on top of what it held at first. Where the text is of another table none is.
-pub record HasSectionsOnto (limit : ℕ) (first : Image) (text : List ℕ) (t : LoadTarget) : Type 0 where
+pub record HasSectionsOnto (given : LoadSettings) (first : Image) (text : List ℕ) (t : LoadTarget) : Type 0 where
   pub reading : StreamReading
-  pub is_reading : IsReading (settings_of first limit) text reading
+  pub is_reading : IsReading (settings_of first given) text reading
   pub same_table : t.memory.table ≡ first.table
   pub own : IsOfOwnTable first reading
       → (t.memory ≡ with_rounds first (map (map (page_of first.table.page_size)) reading.rounds)) × (t.rounds ≡ length reading.rounds)
   pub other : IsOfOtherTable first reading → (t.memory ≡ first) × (t.rounds ≡ 0)
 
--- The loader was made with this memory and limit, and fed this text, which may be over. Its memory has all whole sections, or none of
+-- The loader was made with this memory and these settings, and fed this text, which may be over. Its memory has all whole sections, or none of
 -- another table; no section waits in the reader.
-pub record LoadsOnto (limit : ℕ) (first : Image) (l : InPlace) (text : List ℕ) (ended : Bool) : Type 0 where
+pub record LoadsOnto (given : LoadSettings) (first : Image) (l : InPlace) (text : List ℕ) (ended : Bool) : Type 0 where
   pub is_table : IsTable first.table
   pub is_image : IsImage first
-  pub has_sections : HasSectionsOnto limit first text l.target
-  pub stands : Stands (settings_of first limit) (put_so_far text ended (length has_sections.reading.rounds)) l.reader
+  pub has_sections : HasSectionsOnto given first text l.target
+  pub stands : Stands (settings_of first given) (put_so_far text ended (length has_sections.reading.rounds)) l.reader
 
 -- the verdict on a text as far as it is there, as if it were over; and `OtherTable` where the text is of another table
-pub record HasVerdictOnto (limit : ℕ) (first : Image) (text : List ℕ) (verdict : Result ⊤ LoadFault) : Type 0 where
+pub record HasVerdictOnto (given : LoadSettings) (first : Image) (text : List ℕ) (verdict : Result ⊤ LoadFault) : Type 0 where
   pub reading : StreamReading
-  pub is_reading : IsReading (settings_of first limit) text reading
+  pub is_reading : IsReading (settings_of first given) text reading
   pub own : IsOfOwnTable first reading → verdict ≡ verdict_of (length reading.rounds) reading.state
   pub other : IsOfOtherTable first reading → verdict ≡ at_main 0 OtherTable
 
 -- The verdict on a text as far as it is there, by a loader that has put so many sections of it, where others may wait.
-pub record HasVerdictBehind (n limit : ℕ) (first : Image) (text : List ℕ) (verdict : Result ⊤ LoadFault) : Type 0 where
+pub record HasVerdictBehind (n : ℕ) (given : LoadSettings) (first : Image) (text : List ℕ) (verdict : Result ⊤ LoadFault) : Type 0 where
   pub reading : StreamReading
-  pub is_reading : IsReading (settings_of first limit) text reading
+  pub is_reading : IsReading (settings_of first given) text reading
   pub own : IsOfOwnTable first reading → verdict ≡ verdict_of n reading.state
   pub other : IsOfOtherTable first reading → verdict ≡ at_main 0 OtherTable
 
@@ -71,19 +72,19 @@ pub record HasVerdictBehind (n limit : ℕ) (first : Image) (text : List ℕ) (v
 abbrev pub SentIsLoadedInPlace : Type 0
 SentIsLoadedInPlace = (limit : ℕ) (first : Image) (rounds : List (List Page)) (t : LoadTarget) (verdict : Result ⊤ LoadFault) → IsTable first.table
     → total_bytes first.table ≤ limit → All (IsRound first.table) rounds
-    → HasSectionsOnto limit first (single first.table rounds) t → HasVerdictOnto limit first (single first.table rounds) verdict
+    → HasSectionsOnto (ram_settings first.table.page_size limit) first (single first.table rounds) t → HasVerdictOnto (ram_settings first.table.page_size limit) first (single first.table rounds) verdict
     → (t.memory ≡ with_rounds first rounds) × (t.rounds ≡ length rounds + 2) × (verdict ≡ Ok _)
 
 -- ---- in the midst of a call
 
 -- The loader was fed this text, and the sections that its reader gave are in the memory, but for those of another table. Others may wait.
-pub record WasFedOnto (limit : ℕ) (first : Image) (l : InPlace) (text : List ℕ) (ended : Bool) : Type 0 where
+pub record WasFedOnto (given : LoadSettings) (first : Image) (l : InPlace) (text : List ℕ) (ended : Bool) : Type 0 where
   pub is_table : IsTable first.table
   pub is_image : IsImage first
   pub taken : ℕ
-  pub stands : Stands (settings_of first limit) (put_so_far text ended taken) l.reader
+  pub stands : Stands (settings_of first given) (put_so_far text ended taken) l.reader
   pub reading : StreamReading
-  pub is_reading : IsReading (settings_of first limit) text reading
+  pub is_reading : IsReading (settings_of first given) text reading
   pub same_table : l.target.memory.table ≡ first.table
   pub own : IsOfOwnTable first reading
       → (l.target.memory ≡ with_rounds first (map (map (page_of first.table.page_size)) (take l.target.rounds reading.rounds))) × (taken ≡ l.target.rounds)
@@ -91,21 +92,21 @@ pub record WasFedOnto (limit : ℕ) (first : Image) (l : InPlace) (text : List �
 
 -- It was fed some text, of fewer than 2^63 bytes.
 pub record WasFedOntoSome (l : InPlace) : Type 0 where
-  pub limit : ℕ
+  pub given : LoadSettings
   pub first : Image
   pub text : List ℕ
   pub ended : Bool
   pub is_short : length text < 2 ^ 63
-  pub has_fed : WasFedOnto limit first l text ended
+  pub has_fed : WasFedOnto given first l text ended
 
 -- It stands for some text, of fewer than 2^63 bytes.
 pub record LoadsOntoSome (l : InPlace) : Type 0 where
-  pub limit : ℕ
+  pub given : LoadSettings
   pub first : Image
   pub text : List ℕ
   pub ended : Bool
   pub is_short : length text < 2 ^ 63
-  pub loads : LoadsOnto limit first l text ended
+  pub loads : LoadsOnto given first l text ended
 
 -- Of the text that the reader stands for some sections were taken.
 abbrev pub StandsAtSome : Settings → List ℕ → Bool → Reader → Type 0

@@ -8,6 +8,7 @@ use Rattle.mig_stream.specs.PageRecord.{page_of}
 use Rattle.mig_stream.specs.Reading.{StreamReading, IsReading}
 use Rattle.mig_stream.specs.Reader.{Reader}
 use Rattle.mig_assemble.specs.Target.{LoadTarget}
+use Rattle.mig_single_load.specs.declared.settings.LoadSettings.{LoadSettings}
 use Rattle.mig_single_load.specs.InPlace.{InPlace, in_place, settings_of, IsOfOwnTable, IsOfOtherTable, LoadsOnto, LoadsOntoSome, WasFedOnto, WasFedOntoSome}
 
 -- what it keeps: the reader of its text, the table of its memory, and how many sections were put into that
@@ -27,29 +28,29 @@ memory_with memory rounds = record { memory = memory; rounds = rounds; base = 0 
 abbrev pub loader_with : InPlaceState → Image → InPlace
 loader_with s memory = in_place s.reader (memory_with memory s.rounds)
 
--- With this memory the state is a loader in place that was made with the memory `first` and a limit, and fed this text, which may be over.
+-- With this memory the state is a loader in place that was made with the memory `first` and these settings, and fed this text, which may be over.
 -- So it is where each piece was put into the memory that the one before it left.
-pub record LoadsWith (memory : Image) (limit : ℕ) (first : Image) (s : InPlaceState) (text : List ℕ) (ended : Bool) : Type 0 where
+pub record LoadsWith (memory : Image) (given : LoadSettings) (first : Image) (s : InPlaceState) (text : List ℕ) (ended : Bool) : Type 0 where
   pub same_table : first.table ≡ s.table
-  pub loads : LoadsOnto limit first (loader_with s memory) text ended
+  pub loads : LoadsOnto given first (loader_with s memory) text ended
 
 -- The same, but sections may wait: those that were taken are in the memory.
-pub record FedWith (memory : Image) (limit : ℕ) (first : Image) (s : InPlaceState) (text : List ℕ) (ended : Bool) : Type 0 where
+pub record FedWith (memory : Image) (given : LoadSettings) (first : Image) (s : InPlaceState) (text : List ℕ) (ended : Bool) : Type 0 where
   pub same_table : first.table ≡ s.table
-  pub fed : WasFedOnto limit first (loader_with s memory) text ended
+  pub fed : WasFedOnto given first (loader_with s memory) text ended
 
--- Where it was fed a text, of which sections may wait, this is so of the memory, the limit, the memory at first, and the text.
-abbrev pub WhereFed : InPlaceState → (Image → ℕ → Image → List ℕ → Bool → Type 0) → Type 0
-WhereFed s IsSo = (memory : Image) (limit : ℕ) (first : Image) (text : List ℕ) (ended : Bool) → FedWith memory limit first s text ended → IsSo memory limit first text ended
+-- Where it was fed a text, of which sections may wait, this is so of the memory, the settings, the memory at first, and the text.
+abbrev pub WhereFed : InPlaceState → (Image → LoadSettings → Image → List ℕ → Bool → Type 0) → Type 0
+WhereFed s IsSo = (memory : Image) (given : LoadSettings) (first : Image) (text : List ℕ) (ended : Bool) → FedWith memory given first s text ended → IsSo memory given first text ended
 
 -- The first sections of a text, so many of them, as rounds of pages.
 abbrev pub first_sections : Image → StreamReading → ℕ → List (List Page)
 first_sections first reading n = map (map (page_of first.table.page_size)) (take n reading.rounds)
 
 -- Rounds are the sections of a text behind the first m of them, up to the first n; of a text of another table none.
-pub record AreSections (m n limit : ℕ) (first : Image) (text : List ℕ) (rounds : List (List Page)) : Type 0 where
+pub record AreSections (m n : ℕ) (given : LoadSettings) (first : Image) (text : List ℕ) (rounds : List (List Page)) : Type 0 where
   pub reading : StreamReading
-  pub is_reading : IsReading (settings_of first limit) text reading
+  pub is_reading : IsReading (settings_of first given) text reading
   pub own : IsOfOwnTable first reading → first_sections first reading m ++ rounds ≡ first_sections first reading n
   pub other : IsOfOtherTable first reading → rounds ≡ []
 
@@ -61,13 +62,13 @@ pub record PutsAlike (before after : Image) (IsSo : List (List Page) → Image �
 
 -- Rounds that were put between one state and the next are the sections between the two, and the memory with them has all.
 abbrev pub ArePut : InPlaceState → InPlaceState → List (List Page) → Image → Image → Type 0
-ArePut old new rounds kept now = (limit : ℕ) (first : Image) (text : List ℕ) (ended : Bool) → FedWith kept limit first old text ended
-    → AreSections old.rounds new.rounds limit first text rounds × LoadsWith now limit first new text ended
+ArePut old new rounds kept now = (given : LoadSettings) (first : Image) (text : List ℕ) (ended : Bool) → FedWith kept given first old text ended
+    → AreSections old.rounds new.rounds given first text rounds × LoadsWith now given first new text ended
 
 -- The same of a piece that came between them.
 abbrev pub ArePutOf : List ℕ → InPlaceState → InPlaceState → List (List Page) → Image → Image → Type 0
-ArePutOf piece old new rounds kept now = (limit : ℕ) (first : Image) (text : List ℕ) → FedWith kept limit first old text false
-    → AreSections old.rounds new.rounds limit first (text ++ piece) rounds × LoadsWith now limit first new (text ++ piece) false
+ArePutOf piece old new rounds kept now = (given : LoadSettings) (first : Image) (text : List ℕ) → FedWith kept given first old text false
+    → AreSections old.rounds new.rounds given first (text ++ piece) rounds × LoadsWith now given first new (text ++ piece) false
 
 -- ---- what is always so
 

@@ -1,5 +1,6 @@
--- To read first, in this order: the answer of a load of a single stream, and the numbers of the
--- faults of every load
+-- To read first, in this order: what is passed to a load, the answer of a load of a single stream,
+-- and the numbers of the faults of every load
+pub mod Settings
 pub mod SingleLoad
 pub mod LoadFaultNumber
 -- Loads that are fed in pieces: into a memory of their own, into one that exists already, and the

@@ -4,12 +4,13 @@ use Rattle.std.specs.Option.{option_map}
 use Rattle.mig_mem.specs.RamTable.{RamTable}
 use Rattle.mig_mem.specs.Image.{Page, Image}
 use Rattle.mig_mem.specs.Round.{after}
-use Rattle.mig_stream.specs.declared.item.Mode.TheVariants.{Single}
 use Rattle.mig_stream.specs.declared.item.StreamState.{StreamState}
 use Rattle.mig_stream.specs.declared.item.StreamState.TheVariants.{Reading, Closed, Bad}
 use Rattle.mig_stream.specs.declared.fault.StreamFault.TheVariants.{Truncated}
 use Rattle.mig_stream.specs.PageRecord.{PageRecord, page_of}
-use Rattle.mig_stream.specs.Reading.{settings, StreamReading, IsReading}
+use Rattle.mig_stream.specs.Reading.{StreamReading, IsReading}
+use Rattle.mig_single_load.specs.Settings.{single_of}
+use Rattle.mig_single_load.specs.declared.settings.LoadSettings.{LoadSettings}
 use Rattle.mig_single_load.specs.declared.loaded.Loaded.{Loaded}
 use Rattle.mig_single_load.specs.declared.fault.LoadFault.{LoadFault}
 use Rattle.mig_single_load.specs.declared.fault.Origin.TheVariants as origin
@@ -36,21 +37,21 @@ no_memory_at rounds = Err (record { round = rounds; source = origin.Round; fault
 
 -- The answer on a text: the memory is that after its whole sections, None where its size list isn't whole, and `rounds` is
 -- the number of them; it is Ok where the text has its end byte, and else the text's first fault.
-pub record IsSingleAnswer {A : Type 0} (page_size limit : ℕ) (text : List ℕ) (a : Loaded A) : Type 0 where
+pub record IsSingleAnswer {A : Type 0} (given : LoadSettings) (text : List ℕ) (a : Loaded A) : Type 0 where
   pub reading : StreamReading
-  pub is_reading : IsReading (settings Single page_size limit) text reading
-  pub has_memory : a.memory ≡ memory_after page_size reading.table reading.rounds
+  pub is_reading : IsReading (single_of given) text reading
+  pub has_memory : a.memory ≡ memory_after given.page_size reading.table reading.rounds
   pub has_rounds : a.rounds ≡ length reading.rounds
   pub has_verdict : a.verdict ≡ verdict_of a.rounds reading.state
 
 -- The answer where an allocation was refused: the memory is that after the sections counted, which the text has, or None where none
 -- was counted.
-pub record IsSingleWithoutMemory {A : Type 0} (page_size limit : ℕ) (text : List ℕ) (a : Loaded A) : Type 0 where
+pub record IsSingleWithoutMemory {A : Type 0} (given : LoadSettings) (text : List ℕ) (a : Loaded A) : Type 0 where
   pub reading : StreamReading
-  pub is_reading : IsReading (settings Single page_size limit) text reading
+  pub is_reading : IsReading (single_of given) text reading
   pub has_verdict : a.verdict ≡ no_memory_at a.rounds
   pub has_rounds : a.rounds ≤ length reading.rounds
-  pub has_memory : (a.memory ≡ memory_after page_size reading.table (take a.rounds reading.rounds)) ⊎ ((a.memory ≡ None) × (a.rounds ≡ 0))
+  pub has_memory : (a.memory ≡ memory_after given.page_size reading.table (take a.rounds reading.rounds)) ⊎ ((a.memory ≡ None) × (a.rounds ≡ 0))
 
 -- the answer where an allocation was refused before any section
 abbrev pub unloaded : {A : Type 0} → Loaded A

@@ -8,7 +8,7 @@ ghost use Rattle.mig_mem.specs.PageSize.{IsPageSize};
 ghost use Rattle.mig_stream.specs.declared.item.StreamState.TheVariants.{Closed};
 ghost use Rattle.mig_single_load.specs.SingleLoad.{IsSingleAnswer};
 
-use crate::Loaded;
+use crate::{LoadSettings, Loaded};
 use mig_assemble::put_records;
 use mig_mem::{Memory, NoMemory};
 use mig_stream::{Given, RecordReader, StreamState};
@@ -17,15 +17,20 @@ use std::alloc::Allocator;
 /// Loads a guest from a text that is read to its end byte. None where the text has a fault.
 pub(crate) fn load_at_once<A: Allocator + Copy>(
     alloc: A,
-    page_size: u64,
+    settings: LoadSettings,
     text: &[u8],
-    limit: u64,
 ) -> Result<Option<Loaded<A>>, NoMemory>
-    requires page_size { IsPageSize page_size }
-    requires limit { limit ≤ 2 ^ 40 }
-    ensures { IfOk result (λ answer. IfSome answer (λ loaded. IsSingleAnswer page_size limit text.now loaded)) }
+    requires page_size { IsPageSize settings.page_size }
+    requires limit { settings.limit ≤ 2 ^ 40 }
+    ensures { IfOk result (λ answer. IfSome answer (λ loaded. IsSingleAnswer settings text.now loaded)) }
 {
-    let mut reader = RecordReader::new(alloc, page_size, limit, text);
+    let mut reader = RecordReader::new_in(
+        alloc,
+        settings.frame,
+        settings.page_size,
+        settings.limit,
+        text,
+    );
     let mut gave = reader.read_on()?;
     let Some(table) = reader.table() else {
         return Ok(None);

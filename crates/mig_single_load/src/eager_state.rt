@@ -9,13 +9,15 @@ ghost use Rattle.mig_stream.specs.Progress.{whole_table};
 ghost use Rattle.mig_stream.specs.Giving.{Giver, GivenSoFar, Gives};
 ghost use Rattle.mig_single_load.specs.declared.fault.InPlaceFault.TheVariants as in_place_fault;
 ghost use Rattle.mig_single_load.specs.declared.eager_state.LoadState.TheVariants as load_state;
+ghost use Rattle.mig_single_load.specs.declared.settings.LoadSettings.{LoadSettings};
+ghost use Rattle.mig_single_load.specs.Settings.{ram_settings};
 ghost use Rattle.mig_single_load.specs.SingleLoad.{no_memory_at};
 ghost use Rattle.mig_single_load.specs.InPlace.{HasVerdictOnto};
 ghost use Rattle.mig_single_load.specs.Eager.{EagerKeepsOtherPlaces, EagerOkIsBySections, EagerlyLoads, settings_for, GaveNext, PutsNextSome, PutsAll, GivesAll, IsEnd, PausesSome, PausesOnto, StandsOnto, PutsSome, HasSomeOnto, LacksMemory};
 
 use crate::in_place_state::other_table;
 use crate::settle::{no_memory, verdict_at};
-use crate::{InPlaceFault, LoadFault};
+use crate::{InPlaceFault, LoadFault, LoadSettings};
 use mig_assemble::put_records;
 use mig_mem::{GuestTarget, NoMemory, Table};
 use mig_stream::{Given, Pause, RecordReader, StreamState};
@@ -71,8 +73,8 @@ impl<A: Allocator> Model for EagerState<A> {
 // last.
 fn find_table<A: Allocator + Copy>(reader: &mut RecordReader<'_, A>) -> Result<Given, NoMemory>
     requires { reader.old.given.records ≡ [] }
-    ensures gave { IfOk result (λ gave. (limit : ℕ) (table : RamTable) (text : List ℕ) (so_far : GivenSoFar) → Gives (settings_for table limit) text so_far reader.old
-        → reader.old.given.page_size ≡ table.page_size → GaveNext limit table text so_far gave reader.new) }
+    ensures gave { IfOk result (λ gave. (given : LoadSettings) (table : RamTable) (text : List ℕ) (so_far : GivenSoFar) → Gives (settings_for table given) text so_far reader.old
+        → reader.old.given.page_size ≡ table.page_size → GaveNext given table text so_far gave reader.new) }
     ensures there { IfOk result (λ gave. IsEnd gave ⊎ (whole_table reader.new.progress ≢ None)) }
 {
     let mut gave = Given::Records;
@@ -130,13 +132,13 @@ fn load_piece<A: Allocator + Copy, M: GuestTarget>(
     memory: &mut M,
     sections: &mut u64,
 ) -> Result<(Option<Pause<A>>, LoadState), NoMemory>
-    requires { (limit : ℕ) × (fed : ℕ) × PausesSome limit (M.image memory.old).table pause sections.old fed × (fed + length piece.now < 2 ^ 63) }
-    ensures ok { IfOk result (λ r. (limit : ℕ) (first : Image) (text : List ℕ) → IsImage first → PausesOnto limit first text pause (M.image memory.old) sections.old
-        → StandsOnto limit first (text ++ piece.now) (M.image memory.new) sections.new r.0 r.1) }
-    ensures some { IfOk result (λ r. (limit fed : ℕ) → PausesSome limit (M.image memory.old).table pause sections.old fed
-        → IfSome r.0 (λ p. PausesSome limit (M.image memory.old).table p sections.new (fed + length piece.now))) }
-    ensures err { OnErr result ((limit : ℕ) (first : Image) (text : List ℕ) → PausesOnto limit first text pause (M.image memory.old) sections.old
-        → HasSomeOnto limit first (text ++ piece.now) (M.image memory.new) sections.new) }
+    requires { (given : LoadSettings) × (fed : ℕ) × PausesSome given (M.image memory.old).table pause sections.old fed × (fed + length piece.now < 2 ^ 63) }
+    ensures ok { IfOk result (λ r. (given : LoadSettings) (first : Image) (text : List ℕ) → IsImage first → PausesOnto given first text pause (M.image memory.old) sections.old
+        → StandsOnto given first (text ++ piece.now) (M.image memory.new) sections.new r.0 r.1) }
+    ensures some { IfOk result (λ r. (given : LoadSettings) (fed : ℕ) → PausesSome given (M.image memory.old).table pause sections.old fed
+        → IfSome r.0 (λ p. PausesSome given (M.image memory.old).table p sections.new (fed + length piece.now))) }
+    ensures err { OnErr result ((given : LoadSettings) (first : Image) (text : List ℕ) → PausesOnto given first text pause (M.image memory.old) sections.old
+        → HasSomeOnto given first (text ++ piece.now) (M.image memory.new) sections.new) }
     ensures table { (M.image memory.new).table ≡ (M.image memory.old).table }
 {
     let mut reader = pause.resume(piece);
@@ -161,7 +163,24 @@ impl<A: Allocator + Copy> EagerState<A> {
         limit: u64,
     ) -> Result<EagerState<A>, NoMemory>
         requires { limit ≤ 2 ^ 40 }
-        ensures loads { IfOk result (λ s. (first : Image) → IsImage first → first.table ≡ table.now → EagerlyLoads first limit first s [] false) }
+        ensures loads { IfOk result (λ s. (first : Image) → IsImage first → first.table ≡ table.now → EagerlyLoads first (ram_settings table.now.page_size limit) first s [] false) }
+        ensures table { IfOk result (λ s. s.table ≡ table.now) }
+        ensures open { IfOk result (λ s. IsFalse s.ended) }
+        ensures fed { IfOk result (λ s. s.fed ≡ 0) }
+    {
+        EagerState::new_in(alloc, table, LoadSettings::new(table.page_size(), limit))
+    }
+
+    /// Creates a load into a memory of `table`, of which it takes a copy. Of `settings` the limit
+    /// and the frame count: the pages have the size that `table` has. The limit must be at least
+    /// the table's own total.
+    pub fn new_in<B: Allocator>(
+        alloc: A,
+        table: &Table<B>,
+        settings: LoadSettings,
+    ) -> Result<EagerState<A>, NoMemory>
+        requires { settings.limit ≤ 2 ^ 40 }
+        ensures loads { IfOk result (λ s. (first : Image) → IsImage first → first.table ≡ table.now → EagerlyLoads first settings first s [] false) }
         ensures table { IfOk result (λ s. s.table ≡ table.now) }
         ensures open { IfOk result (λ s. IsFalse s.ended) }
         ensures fed { IfOk result (λ s. s.fed ≡ 0) }
@@ -170,7 +189,7 @@ impl<A: Allocator + Copy> EagerState<A> {
         let page_size = table.page_size();
         let table = table.copy_in(alloc)?;
         Ok(EagerState {
-            pause: Some(Pause::new(alloc, page_size, limit)),
+            pause: Some(Pause::new_in(alloc, settings.frame, page_size, settings.limit)),
             state: LoadState::Stream(StreamState::Reading),
             table,
             rounds: 0,
@@ -192,14 +211,14 @@ impl<A: Allocator + Copy> EagerState<A> {
     pub fn feed<M: GuestTarget>(&mut self, memory: &mut M, piece: &[u8]) -> Result<(), InPlaceFault>
         requires open { IsFalse self.old.ended }
         requires room { self.old.fed + length piece.now < 2 ^ 63 }
-        ensures ok { OnOk result ((limit : ℕ) (first : Image) (text : List ℕ) → EagerlyLoads (M.image memory.old) limit first self.old text false
-            → EagerlyLoads (M.image memory.new) limit first self.new (text ++ piece.now) false) }
+        ensures ok { OnOk result ((given : LoadSettings) (first : Image) (text : List ℕ) → EagerlyLoads (M.image memory.old) given first self.old text false
+            → EagerlyLoads (M.image memory.new) given first self.new (text ++ piece.now) false) }
         ensures other { (result ≡ Err in_place_fault.OtherTable) ↔ ((M.image memory.old).table ≢ self.old.table) }
         ensures unchanged { result ≡ Err in_place_fault.OtherTable → (self.new ≡ self.old) × (M.image memory.new ≡ M.image memory.old) }
-        ensures failed { result ≡ Err in_place_fault.NoMemory → (limit : ℕ) (first : Image) (text : List ℕ) → EagerlyLoads (M.image memory.old) limit first self.old text false
-            → LacksMemory (M.image memory.new) limit first self.new (text ++ piece.now) false }
-        ensures lacking { result ≢ Err in_place_fault.OtherTable → (limit : ℕ) (first : Image) (text : List ℕ) → LacksMemory (M.image memory.old) limit first self.old text false
-            → LacksMemory (M.image memory.new) limit first self.new (text ++ piece.now) false × IsOk result }
+        ensures failed { result ≡ Err in_place_fault.NoMemory → (given : LoadSettings) (first : Image) (text : List ℕ) → EagerlyLoads (M.image memory.old) given first self.old text false
+            → LacksMemory (M.image memory.new) given first self.new (text ++ piece.now) false }
+        ensures lacking { result ≢ Err in_place_fault.OtherTable → (given : LoadSettings) (first : Image) (text : List ℕ) → LacksMemory (M.image memory.old) given first self.old text false
+            → LacksMemory (M.image memory.new) given first self.new (text ++ piece.now) false × IsOk result }
         ensures table { (self.new.table ≡ self.old.table) × ((M.image memory.new).table ≡ (M.image memory.old).table) }
         ensures open { IsFalse self.new.ended }
         ensures fed { result ≢ Err in_place_fault.OtherTable → self.new.fed ≡ self.old.fed + length piece.now }
@@ -229,8 +248,8 @@ impl<A: Allocator> EagerState<A> {
     /// Marks the end of the stream: no piece may be fed after it. A second call changes nothing.
     pub fn end(&mut self)
         ensures value { self.new ≡ record self.old { ended = true } }
-        ensures loads { (memory : Image) (limit : ℕ) (first : Image) (text : List ℕ) (ended : Bool) → EagerlyLoads memory limit first self.old text ended
-            → EagerlyLoads memory limit first self.new text true }
+        ensures loads { (memory : Image) (given : LoadSettings) (first : Image) (text : List ℕ) (ended : Bool) → EagerlyLoads memory given first self.old text ended
+            → EagerlyLoads memory given first self.new text true }
     {
         self.ended = true;
     }
@@ -272,10 +291,10 @@ impl<A: Allocator> EagerState<A> {
     /// - `OtherTable` if the size list is complete and names another table than the memory's;
     /// - `NoMemory` if an allocation was refused in a `feed`.
     pub fn verdict(&self) -> Result<(), LoadFault>
-        ensures lacking { (memory : Image) (limit : ℕ) (first : Image) (text : List ℕ) (ended : Bool) → LacksMemory memory limit first self.now text ended
+        ensures lacking { (memory : Image) (given : LoadSettings) (first : Image) (text : List ℕ) (ended : Bool) → LacksMemory memory given first self.now text ended
             → result ≡ no_memory_at self.now.rounds }
-        ensures loads { (memory : Image) (limit : ℕ) (first : Image) (text : List ℕ) (ended : Bool) → EagerlyLoads memory limit first self.now text ended
-            → HasVerdictOnto limit first text result }
+        ensures loads { (memory : Image) (given : LoadSettings) (first : Image) (text : List ℕ) (ended : Bool) → EagerlyLoads memory given first self.now text ended
+            → HasVerdictOnto given first text result }
     {
         match self.state {
             LoadState::Stream(found) => verdict_at(self.rounds, found),

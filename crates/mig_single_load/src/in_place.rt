@@ -4,9 +4,11 @@ ghost use Rattle.std.specs.Prelude.{◌≡◌, ◌+◌, ◌<◌, ◌≤◌, ◌^
 ghost use Rattle.mig_mem.specs.Image.{Image};
 ghost use Rattle.mig_stream.specs.Reader.{IsSettled};
 ghost use Rattle.mig_assemble.specs.Target.{target_over};
+ghost use Rattle.mig_single_load.specs.declared.settings.LoadSettings.{LoadSettings};
+ghost use Rattle.mig_single_load.specs.Settings.{ram_settings};
 ghost use Rattle.mig_single_load.specs.InPlace.{settings_of, LoadsOnto, HasVerdictOnto, SentIsLoadedInPlace};
 
-use crate::{InPlaceFault, InPlaceState, LoadFault};
+use crate::{InPlaceFault, InPlaceState, LoadFault, LoadSettings};
 use mig_mem::{GuestTarget, Memory, NoMemory};
 use std::alloc::{Allocator, Global};
 use std::marker::Model;
@@ -39,13 +41,32 @@ impl<A: Allocator + Copy, M: GuestTarget> InPlaceLoader<A, M> {
     /// at least what the memory's own have. It takes a copy of the table. An `Err` gives the memory back: an allocation was refused.
     pub fn new(alloc: A, memory: M, limit: u64) -> Result<InPlaceLoader<A, M>, M>
         requires { limit ≤ 2 ^ 40 }
-        ensures loads { IfOk result (λ l. LoadsOnto limit (M.image memory) l [] false) }
+        ensures loads { IfOk result (λ l. LoadsOnto (ram_settings (M.image memory).table.page_size limit) (M.image memory) l [] false) }
         ensures first { IfOk result (λ l. l.target ≡ target_over (M.image memory)) }
         ensures open { IfOk result (λ l. IsFalse l.reader.ended) }
         ensures fed { IfOk result (λ l. l.reader.fed ≡ 0) }
         ensures err { IfErr result (λ m. M.image m ≡ M.image memory) }
     {
-        let Ok(state) = InPlaceState::new(alloc, memory.table(), limit) else {
+        let page_size = memory.table().page_size();
+        InPlaceLoader::new_in(alloc, memory, LoadSettings::new(page_size, limit))
+    }
+
+    /// Creates a loader that was fed nothing, into `memory`. It takes a copy of the table. Of
+    /// `settings` the limit and the frame count: the pages have the size that the memory has. The
+    /// limit must be at least what the memory's blocks have together.
+    ///
+    /// # Errors
+    ///
+    /// An allocation was refused: the memory is given back.
+    pub fn new_in(alloc: A, memory: M, settings: LoadSettings) -> Result<InPlaceLoader<A, M>, M>
+        requires { settings.limit ≤ 2 ^ 40 }
+        ensures loads { IfOk result (λ l. LoadsOnto settings (M.image memory) l [] false) }
+        ensures first { IfOk result (λ l. l.target ≡ target_over (M.image memory)) }
+        ensures open { IfOk result (λ l. IsFalse l.reader.ended) }
+        ensures fed { IfOk result (λ l. l.reader.fed ≡ 0) }
+        ensures err { IfErr result (λ m. M.image m ≡ M.image memory) }
+    {
+        let Ok(state) = InPlaceState::new_in(alloc, memory.table(), settings) else {
             return Err(memory);
         };
         Ok(InPlaceLoader { state, memory })
@@ -56,9 +77,9 @@ impl<A: Allocator + Copy, M: GuestTarget> InPlaceLoader<A, M> {
     pub fn feed(&mut self, piece: &[u8]) -> Result<(), NoMemory>
         requires open { IsFalse self.old.reader.ended }
         requires room { self.old.reader.fed + length piece.now < 2 ^ 63 }
-        ensures ok { OnOk result ((limit : ℕ) (first : Image) (text : List ℕ) → LoadsOnto limit first self.old text false
-            → LoadsOnto limit first self.new (text ++ piece.now) false) }
-        ensures settled { (limit : ℕ) (first : Image) (text : List ℕ) → LoadsOnto limit first self.old text false → IsSettled (settings_of first limit) text → IsOk result }
+        ensures ok { OnOk result ((given : LoadSettings) (first : Image) (text : List ℕ) → LoadsOnto given first self.old text false
+            → LoadsOnto given first self.new (text ++ piece.now) false) }
+        ensures settled { (given : LoadSettings) (first : Image) (text : List ℕ) → LoadsOnto given first self.old text false → IsSettled (settings_of first given) text → IsOk result }
         ensures err { OnErr result (self.new ≡ self.old) }
         ensures open { IsFalse self.new.reader.ended }
         ensures fed { OnOk result (self.new.reader.fed ≡ self.old.reader.fed + length piece.now) }
@@ -77,7 +98,7 @@ impl<A: Allocator, M: GuestTarget> InPlaceLoader<A, M> {
     /// The text is over: no piece is fed from now on. A second call changes nothing.
     pub fn end(&mut self)
         ensures value { self.new ≡ record self.old { reader = record self.old.reader { ended = true } } }
-        ensures loads { (limit : ℕ) (first : Image) (text : List ℕ) (ended : Bool) → LoadsOnto limit first self.old text ended → LoadsOnto limit first self.new text true }
+        ensures loads { (given : LoadSettings) (first : Image) (text : List ℕ) (ended : Bool) → LoadsOnto given first self.old text ended → LoadsOnto given first self.new text true }
     {
         self.state.end();
     }
@@ -113,7 +134,7 @@ impl<A: Allocator, M: GuestTarget> InPlaceLoader<A, M> {
     /// The verdict on the text so far, as if it were over here: Ok where the end byte was read, else its first fault, which is
     /// `Truncated` where it is whole so far. Of another table than the memory's it is `OtherTable`, as soon as the size list is whole.
     pub fn verdict(&self) -> Result<(), LoadFault>
-        ensures { (limit : ℕ) (first : Image) (text : List ℕ) (ended : Bool) → LoadsOnto limit first self.now text ended → HasVerdictOnto limit first text result }
+        ensures { (given : LoadSettings) (first : Image) (text : List ℕ) (ended : Bool) → LoadsOnto given first self.now text ended → HasVerdictOnto given first text result }
     {
         self.state.verdict()
     }

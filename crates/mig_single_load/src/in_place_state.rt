@@ -4,18 +4,18 @@ ghost use Rattle.std.specs.Prelude.{◌≡◌, ◌≢◌, ◌+◌, ◌<◌, ◌�
 ghost use Rattle.mig_mem.specs.PageSize.{IsPageSize};
 ghost use Rattle.mig_mem.specs.Image.{Image, IsImage};
 ghost use Rattle.mig_mem.specs.Round.{with_round};
-ghost use Rattle.mig_stream.specs.declared.item.Mode.TheVariants.{Single};
-ghost use Rattle.mig_stream.specs.Reading.{settings};
 ghost use Rattle.mig_stream.specs.Reader.{IsSettled, HasRound, waiting};
 ghost use Rattle.mig_assemble.specs.Target.{FitsTable, pages_of_round};
 ghost use Rattle.mig_single_load.specs.declared.fault.Fault.TheVariants.{OtherTable};
 ghost use Rattle.mig_single_load.specs.declared.fault.InPlaceFault.TheVariants as in_place_fault;
+ghost use Rattle.mig_single_load.specs.declared.settings.LoadSettings.{LoadSettings};
+ghost use Rattle.mig_single_load.specs.Settings.{ram_settings, single_of};
 ghost use Rattle.mig_single_load.specs.SingleLoad.{at_main};
 ghost use Rattle.mig_single_load.specs.InPlace.{settings_of, HasVerdictOnto, HasVerdictBehind, StandsAtSome, StandsAtAll};
 ghost use Rattle.mig_single_load.specs.InPlaceState.{LoadsWith, FedWith, WhereFed, PutsAlike, ArePut, ArePutOf};
 
 use crate::settle::verdict_at;
-use crate::{Fault, InPlaceFault, LoadFault, Origin};
+use crate::{Fault, InPlaceFault, LoadFault, LoadSettings, Origin};
 use mig_assemble::put_records;
 use mig_mem::{GuestTarget, NoMemory, Table};
 use mig_stream::{Mode, StreamReader, StreamRound};
@@ -53,8 +53,8 @@ impl<A: Allocator> Model for InPlaceState<A> {
 
 // Takes each whole section that waits, and drops it.
 fn drop_sections<A: Allocator>(reader: &mut StreamReader<'_, A>)
-    ensures stands { (page_size limit : ℕ) (text : List ℕ) (ended : Bool) → IsPageSize page_size
-        → StandsAtSome (settings Single page_size limit) text ended reader.old → StandsAtAll (settings Single page_size limit) text ended reader.new }
+    ensures stands { (given : LoadSettings) (text : List ℕ) (ended : Bool) → IsPageSize given.page_size
+        → StandsAtSome (single_of given) text ended reader.old → StandsAtAll (single_of given) text ended reader.new }
     ensures fed { reader.new.fed ≡ reader.old.fed }
     ensures ended { reader.new.ended ≡ reader.old.ended }
 {
@@ -94,7 +94,25 @@ impl<A: Allocator + Copy> InPlaceState<A> {
         limit: u64,
     ) -> Result<InPlaceState<A>, NoMemory>
         requires { limit ≤ 2 ^ 40 }
-        ensures loads { IfOk result (λ s. (first : Image) → IsImage first → first.table ≡ table.now → LoadsWith first limit first s [] false) }
+        ensures loads { IfOk result (λ s. (first : Image) → IsImage first → first.table ≡ table.now → LoadsWith first (ram_settings table.now.page_size limit) first s [] false) }
+        ensures table { IfOk result (λ s. s.table ≡ table.now) }
+        ensures rounds { IfOk result (λ s. s.rounds ≡ 0) }
+        ensures open { IfOk result (λ s. IsFalse s.reader.ended) }
+        ensures fed { IfOk result (λ s. s.reader.fed ≡ 0) }
+    {
+        InPlaceState::new_in(alloc, table, LoadSettings::new(table.page_size(), limit))
+    }
+
+    /// Creates a load that was fed nothing, into a memory of `table`, of which it takes a copy. Of
+    /// `settings` the limit and the frame count: the pages have the size that `table` has. The
+    /// limit must be at least what the table's blocks have together.
+    pub fn new_in<B: Allocator>(
+        alloc: A,
+        table: &Table<B>,
+        settings: LoadSettings,
+    ) -> Result<InPlaceState<A>, NoMemory>
+        requires { settings.limit ≤ 2 ^ 40 }
+        ensures loads { IfOk result (λ s. (first : Image) → IsImage first → first.table ≡ table.now → LoadsWith first settings first s [] false) }
         ensures table { IfOk result (λ s. s.table ≡ table.now) }
         ensures rounds { IfOk result (λ s. s.rounds ≡ 0) }
         ensures open { IfOk result (λ s. IsFalse s.reader.ended) }
@@ -103,7 +121,13 @@ impl<A: Allocator + Copy> InPlaceState<A> {
         table.keeps_limits();
         let page_size = table.page_size();
         let table = table.copy_in(alloc)?;
-        let reader = StreamReader::new(alloc, Mode::Single, page_size, limit);
+        let reader = StreamReader::new_in(
+            alloc,
+            settings.frame,
+            Mode::Single,
+            page_size,
+            settings.limit,
+        );
         Ok(InPlaceState {
             reader,
             table,
@@ -117,12 +141,12 @@ impl<A: Allocator + Copy> InPlaceState<A> {
     pub fn feed<M: GuestTarget>(&mut self, memory: &mut M, piece: &[u8]) -> Result<(), InPlaceFault>
         requires open { IsFalse self.old.reader.ended }
         requires room { self.old.reader.fed + length piece.now < 2 ^ 63 }
-        ensures ok { OnOk result ((limit : ℕ) (first : Image) (text : List ℕ) → FedWith (M.image memory.old) limit first self.old text false
-            → LoadsWith (M.image memory.new) limit first self.new (text ++ piece.now) false) }
+        ensures ok { OnOk result ((given : LoadSettings) (first : Image) (text : List ℕ) → FedWith (M.image memory.old) given first self.old text false
+            → LoadsWith (M.image memory.new) given first self.new (text ++ piece.now) false) }
         ensures alike { OnOk result (PutsAlike (M.image memory.old) (M.image memory.new) (ArePutOf piece.now self.old self.new)) }
         ensures other { (result ≡ Err in_place_fault.OtherTable) ↔ ((M.image memory.old).table ≢ self.old.table) }
-        ensures settled { (kept : Image) (limit : ℕ) (first : Image) (text : List ℕ) → FedWith kept limit first self.old text false
-            → IsSettled (settings_of first limit) text → (M.image memory.old).table ≡ self.old.table → IsOk result }
+        ensures settled { (kept : Image) (given : LoadSettings) (first : Image) (text : List ℕ) → FedWith kept given first self.old text false
+            → IsSettled (settings_of first given) text → (M.image memory.old).table ≡ self.old.table → IsOk result }
         ensures err { OnErr result ((self.new ≡ self.old) × (M.image memory.new ≡ M.image memory.old)) }
         ensures table { self.new.table ≡ self.old.table }
         ensures open { IsFalse self.new.reader.ended }
@@ -142,10 +166,10 @@ impl<A: Allocator + Copy> InPlaceState<A> {
     pub fn read_piece(&mut self, piece: &[u8]) -> Result<(), NoMemory>
         requires open { IsFalse self.old.reader.ended }
         requires room { self.old.reader.fed + length piece.now < 2 ^ 63 }
-        ensures ok { OnOk result ((memory : Image) (limit : ℕ) (first : Image) (text : List ℕ) → FedWith memory limit first self.old text false
-            → FedWith memory limit first self.new (text ++ piece.now) false) }
-        ensures settled { (memory : Image) (limit : ℕ) (first : Image) (text : List ℕ) → FedWith memory limit first self.old text false
-            → IsSettled (settings_of first limit) text → IsOk result }
+        ensures ok { OnOk result ((memory : Image) (given : LoadSettings) (first : Image) (text : List ℕ) → FedWith memory given first self.old text false
+            → FedWith memory given first self.new (text ++ piece.now) false) }
+        ensures settled { (memory : Image) (given : LoadSettings) (first : Image) (text : List ℕ) → FedWith memory given first self.old text false
+            → IsSettled (settings_of first given) text → IsOk result }
         ensures err { OnErr result (self.new ≡ self.old) }
         ensures rounds { self.new.rounds ≡ self.old.rounds }
         ensures table { self.new.table ≡ self.old.table }
@@ -162,12 +186,12 @@ impl<A: Allocator> InPlaceState<A> {
     /// page; None where no section waits. Those of another table are dropped. It allocates nothing.
     pub fn take_section(&mut self) -> Option<StreamRound<'static, A>>
         ensures fits { IfSome result (λ section. FitsTable self.old.table section) }
-        ensures round { IfSome result (λ section. WhereFed self.old (λ memory limit first text ended.
-            HasRound (settings_of first limit) text self.old.rounds section.records)) }
+        ensures round { IfSome result (λ section. WhereFed self.old (λ memory given first text ended.
+            HasRound (settings_of first given) text self.old.rounds section.records)) }
         ensures rounds { IfSome result (λ section. self.new.rounds ≡ self.old.rounds + 1) }
-        ensures some { IfSome result (λ section. WhereFed self.old (λ memory limit first text ended.
-            FedWith (with_round memory (pages_of_round section)) limit first self.new text ended)) }
-        ensures none { IfNone result (WhereFed self.old (λ memory limit first text ended. LoadsWith memory limit first self.new text ended)) }
+        ensures some { IfSome result (λ section. WhereFed self.old (λ memory given first text ended.
+            FedWith (with_round memory (pages_of_round section)) given first self.new text ended)) }
+        ensures none { IfNone result (WhereFed self.old (λ memory given first text ended. LoadsWith memory given first self.new text ended)) }
         ensures none_more { IfNone result (self.new.rounds ≡ self.old.rounds) }
         ensures fewer { IsSome result → waiting self.new.reader < waiting self.old.reader }
         ensures table { self.new.table ≡ self.old.table }
@@ -191,9 +215,9 @@ impl<A: Allocator> InPlaceState<A> {
     /// The text is over: no piece is fed from now on. A second call changes nothing.
     pub fn end(&mut self)
         ensures value { self.new ≡ record self.old { reader = record self.old.reader { ended = true } } }
-        ensures loads { (memory : Image) (limit : ℕ) (first : Image) (text : List ℕ) (ended : Bool) → LoadsWith memory limit first self.old text ended
-            → LoadsWith memory limit first self.new text true }
-        ensures fed { WhereFed self.old (λ memory limit first text ended. FedWith memory limit first self.new text true) }
+        ensures loads { (memory : Image) (given : LoadSettings) (first : Image) (text : List ℕ) (ended : Bool) → LoadsWith memory given first self.old text ended
+            → LoadsWith memory given first self.new text true }
+        ensures fed { WhereFed self.old (λ memory given first text ended. FedWith memory given first self.new text true) }
     {
         self.reader.end();
     }
@@ -230,9 +254,9 @@ impl<A: Allocator> InPlaceState<A> {
     /// `Truncated` where it is whole so far. Of another table than the memory's it is `OtherTable`, as soon as the size list is whole. It counts
     /// the sections that were put or taken, so that of a text of which some wait a fault is told with fewer rounds before it.
     pub fn verdict(&self) -> Result<(), LoadFault>
-        ensures loads { (memory : Image) (limit : ℕ) (first : Image) (text : List ℕ) (ended : Bool) → LoadsWith memory limit first self.now text ended
-            → HasVerdictOnto limit first text result }
-        ensures fed { WhereFed self.now (λ memory limit first text ended. HasVerdictBehind self.now.rounds limit first text result) }
+        ensures loads { (memory : Image) (given : LoadSettings) (first : Image) (text : List ℕ) (ended : Bool) → LoadsWith memory given first self.now text ended
+            → HasVerdictOnto given first text result }
+        ensures fed { WhereFed self.now (λ memory given first text ended. HasVerdictBehind self.now.rounds given first text result) }
     {
         let Some(table) = self.reader.table() else {
             return verdict_at(0, self.reader.state());

@@ -1,19 +1,20 @@
 //! Loads single streams: makes a guest's memory from the bytes of one migration stream.
 //!
-//! What a load answers is a function of the stream's bytes, the page size and the limit: the memory
-//! after the whole sections, how many these are, and the first fault after them. The exception is a
-//! refused allocation. `mig_stream` defines the format, and `mig_assemble` how a section is applied
+//! What a load answers is a function of the stream's bytes and the settings (`LoadSettings`): the
+//! memory after the whole sections, how many these are, and the first fault after them. The
+//! exception is a refused allocation. `mig_stream` defines the format, and `mig_assemble` how a section is applied
 //! to memory. No sender is needed here.
 //!
 //! `load_single` loads a stream that is there whole. `SingleLoader` loads one that is fed in
 //! pieces. Loads in place write into memory that exists already: whole sections (`InPlaceState`,
 //! and `InPlaceLoader`, which keeps the memory too), or each page when its bytes have come
-//! (`EagerState`).
+//! (`EagerState`). Each has a constructor for RAM's sections alone, and one for any settings, whose
+//! name ends with `_in`.
 //!
 //! `LoadFault` and `Loaded` are of every load, also on several channels: those crates stand on this
 //! one.
 //!
-//! Definitions, in reading order: `SingleLoad`, `LoadFaultNumber`, `Loader`, `InPlace`,
+//! Definitions, in reading order: `Settings`, `SingleLoad`, `LoadFaultNumber`, `Loader`, `InPlace`,
 //! `InPlaceState`, `Eager` (`specs/`).
 #![tactic(auto)]
 
@@ -24,6 +25,7 @@ mod in_place;
 mod in_place_state;
 mod loaded;
 mod loader;
+mod settings;
 mod settle;
 mod single;
 
@@ -33,5 +35,6 @@ pub use in_place::{InPlaceLoader, sent_is_loaded_in_place};
 pub use in_place_state::InPlaceState;
 pub use loaded::Loaded;
 pub use loader::SingleLoader;
+pub use settings::LoadSettings;
 pub use settle::{no_memory, without_memory};
-pub use single::load_single;
+pub use single::{load_single, load_single_in};

@@ -3,14 +3,14 @@
 ghost use Rattle.std.specs.Prelude.{◌≡◌, ◌+◌, ◌<◌, ◌≤◌, ◌^◌, ◌++◌, ℕ, Bool, List, [], length, true, false, IsFalse, IsOk, OnOk, OnErr, IfErr};
 ghost use Rattle.std.specs.Option.{option_copied};
 ghost use Rattle.mig_mem.specs.PageSize.{IsPageSize};
-ghost use Rattle.mig_stream.specs.declared.item.Mode.TheVariants.{Single};
-ghost use Rattle.mig_stream.specs.Reading.{settings};
 ghost use Rattle.mig_stream.specs.Reader.{IsSettled};
 ghost use Rattle.mig_single_load.specs.declared.fault.FeedFault.TheVariants.{NoMemory as fault_no_memory, NoGuestMemory as fault_no_guest_memory};
+ghost use Rattle.mig_single_load.specs.declared.settings.LoadSettings.{LoadSettings};
+ghost use Rattle.mig_single_load.specs.Settings.{ram_settings, single_of};
 ghost use Rattle.mig_single_load.specs.Loader.{memory_of, sections_loaded, HasAllSections, Waits, Loads, Judges, Answers};
 
 use crate::settle::{answer, settle, verdict};
-use crate::{FeedFault, LoadFault, Loaded};
+use crate::{FeedFault, LoadFault, LoadSettings, Loaded};
 use mig_assemble::Target;
 use mig_mem::{Memory, NoMemory};
 use mig_stream::{Mode, StreamReader};
@@ -43,14 +43,32 @@ impl<A: Allocator + Copy> SingleLoader<A> {
     pub fn new(alloc: A, page_size: u64, limit: u64) -> SingleLoader<A>
         requires page_size { IsPageSize page_size }
         requires limit { limit ≤ 2 ^ 40 }
-        ensures loads { Loads page_size limit result [] false }
-        ensures sections { HasAllSections page_size limit result [] }
+        ensures loads { Loads (ram_settings page_size limit) result [] false }
+        ensures sections { HasAllSections (ram_settings page_size limit) result [] }
+        ensures open { IsFalse result.reader.ended }
+        ensures fed { result.reader.fed ≡ 0 }
+    {
+        SingleLoader::new_in(alloc, LoadSettings::new(page_size, limit))
+    }
+
+    /// Creates a loader that was fed nothing, of a stream that is read with `settings`.
+    pub fn new_in(alloc: A, settings: LoadSettings) -> SingleLoader<A>
+        requires page_size { IsPageSize settings.page_size }
+        requires limit { settings.limit ≤ 2 ^ 40 }
+        ensures loads { Loads settings result [] false }
+        ensures sections { HasAllSections settings result [] }
         ensures open { IsFalse result.reader.ended }
         ensures fed { result.reader.fed ≡ 0 }
     {
         SingleLoader {
             alloc,
-            reader: StreamReader::new(alloc, Mode::Single, page_size, limit),
+            reader: StreamReader::new_in(
+                alloc,
+                settings.frame,
+                Mode::Single,
+                settings.page_size,
+                settings.limit,
+            ),
             target: None,
         }
     }
@@ -60,14 +78,14 @@ impl<A: Allocator + Copy> SingleLoader<A> {
     pub fn feed(&mut self, piece: &[u8]) -> Result<(), FeedFault>
         requires open { IsFalse self.old.reader.ended }
         requires room { self.old.reader.fed + length piece.now < 2 ^ 63 }
-        ensures ok { OnOk result ((page_size limit : ℕ) (text : List ℕ) → Loads page_size limit self.old text false
-            → Loads page_size limit self.new (text ++ piece.now) false × HasAllSections page_size limit self.new (text ++ piece.now)) }
+        ensures ok { OnOk result ((given : LoadSettings) (text : List ℕ) → Loads given self.old text false
+            → Loads given self.new (text ++ piece.now) false × HasAllSections given self.new (text ++ piece.now)) }
         ensures refused { IfErr result (λ fault. fault ≡ fault_no_memory → self.new ≡ self.old) }
-        ensures waiting { IfErr result (λ fault. fault ≡ fault_no_guest_memory → (page_size limit : ℕ) (text : List ℕ) → Loads page_size limit self.old text false
-            → Loads page_size limit self.new (text ++ piece.now) false × Waits page_size limit self.new (text ++ piece.now)) }
+        ensures waiting { IfErr result (λ fault. fault ≡ fault_no_guest_memory → (given : LoadSettings) (text : List ℕ) → Loads given self.old text false
+            → Loads given self.new (text ++ piece.now) false × Waits given self.new (text ++ piece.now)) }
         ensures open { IsFalse self.new.reader.ended }
-        ensures settled { IfErr result (λ fault. fault ≡ fault_no_memory → (page_size limit : ℕ) (text : List ℕ) → Loads page_size limit self.old text false
-            → IsSettled (settings Single page_size limit) text → ⊥) }
+        ensures settled { IfErr result (λ fault. fault ≡ fault_no_memory → (given : LoadSettings) (text : List ℕ) → Loads given self.old text false
+            → IsSettled (single_of given) text → ⊥) }
         ensures fed { OnOk result (self.new.reader.fed ≡ self.old.reader.fed + length piece.now) }
         ensures counted { IfErr result (λ fault. fault ≡ fault_no_guest_memory → self.new.reader.fed ≡ self.old.reader.fed + length piece.now) }
     {
@@ -82,10 +100,10 @@ impl<A: Allocator + Copy> SingleLoader<A> {
 
     /// Puts the sections that wait into the memory, where that couldn't be had before. An `Err` changes nothing.
     pub fn settle(&mut self) -> Result<(), NoMemory>
-        ensures ok { OnOk result ((page_size limit : ℕ) (text : List ℕ) (ended : Bool) → Loads page_size limit self.old text ended
-            → Loads page_size limit self.new text ended × HasAllSections page_size limit self.new text) }
+        ensures ok { OnOk result ((given : LoadSettings) (text : List ℕ) (ended : Bool) → Loads given self.old text ended
+            → Loads given self.new text ended × HasAllSections given self.new text) }
         ensures err { OnErr result (self.new ≡ self.old) }
-        ensures waits { OnErr result ((page_size limit : ℕ) (text : List ℕ) (ended : Bool) → Loads page_size limit self.old text ended → Waits page_size limit self.old text) }
+        ensures waits { OnErr result ((given : LoadSettings) (text : List ℕ) (ended : Bool) → Loads given self.old text ended → Waits given self.old text) }
         ensures same { (self.new.reader.fed ≡ self.old.reader.fed) × (self.new.reader.ended ≡ self.old.reader.ended) }
     {
         settle(self.alloc, &mut self.reader, &mut self.target)
@@ -96,7 +114,7 @@ impl<A: Allocator> SingleLoader<A> {
     /// The text is over: no piece is fed from now on. A second call changes nothing.
     pub fn end(&mut self)
         ensures value { self.new ≡ record self.old { reader = record self.old.reader { ended = true } } }
-        ensures loads { (page_size limit : ℕ) (text : List ℕ) (ended : Bool) → Loads page_size limit self.old text ended → Loads page_size limit self.new text true }
+        ensures loads { (given : LoadSettings) (text : List ℕ) (ended : Bool) → Loads given self.old text ended → Loads given self.new text true }
     {
         self.reader.end();
     }
@@ -135,14 +153,14 @@ impl<A: Allocator> SingleLoader<A> {
     /// The verdict that `finish` would give now: Ok where the end byte was read, else the text's first fault, which is `Truncated` where
     /// it is whole so far; or `NoMemory`, where sections wait.
     pub fn verdict(&self) -> Result<(), LoadFault>
-        ensures { (page_size limit : ℕ) (text : List ℕ) (ended : Bool) → Loads page_size limit self.now text ended → Judges page_size limit self.now text result }
+        ensures { (given : LoadSettings) (text : List ℕ) (ended : Bool) → Loads given self.now text ended → Judges given self.now text result }
     {
         verdict(&self.reader, &self.target)
     }
 
     /// The answer on the text, as if it were over here: that of `load_single`. Where sections wait it is the one without memory.
     pub fn finish(self) -> Loaded<A>
-        ensures { (page_size limit : ℕ) (text : List ℕ) (ended : Bool) → Loads page_size limit self text ended → Answers page_size limit self text result }
+        ensures { (given : LoadSettings) (text : List ℕ) (ended : Bool) → Loads given self text ended → Answers given self text result }
     {
         let SingleLoader {
             alloc: _,

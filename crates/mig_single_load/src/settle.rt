@@ -3,6 +3,7 @@
 //! verdicts from here, and have loops of their own.
 
 ghost use Rattle.std.specs.Prelude.{◌≡◌, ℕ, Bool, List, None, Some, OnOk, OnErr};
+ghost use Rattle.mig_single_load.specs.declared.settings.LoadSettings.{LoadSettings};
 ghost use Rattle.mig_single_load.specs.SingleLoad.{no_memory_at, verdict_of, unloaded};
 ghost use Rattle.mig_mem.specs.Image.{Image};
 ghost use Rattle.mig_single_load.specs.Loader.{loader, HasAllSections, Waits, Loads, Judges, Answers, HasPutSections, HasPutSectionsSome, HasPutAllSections, WasFed, WasFedSome};
@@ -19,8 +20,8 @@ pub(crate) fn put_sections<A: Allocator, M: GuestTarget>(
     target: &mut Target<A, M>,
 )
     requires { HasPutSectionsSome reader.old target.old }
-    ensures all { (page_size limit : ℕ) (first : Image) (text : List ℕ) (ended : Bool) → HasPutSections page_size limit first text ended reader.old target.old
-        → HasPutSections page_size limit first text ended reader.new target.new × HasPutAllSections page_size limit first text target.new }
+    ensures all { (given : LoadSettings) (first : Image) (text : List ℕ) (ended : Bool) → HasPutSections given first text ended reader.old target.old
+        → HasPutSections given first text ended reader.new target.new × HasPutAllSections given first text target.new }
     ensures fed { reader.new.fed ≡ reader.old.fed }
     ensures ended { reader.new.ended ≡ reader.old.ended }
 {
@@ -36,11 +37,11 @@ pub(crate) fn settle<A: Allocator + Copy>(
     target: &mut Option<Target<A>>,
 ) -> Result<(), NoMemory>
     requires { WasFedSome (loader reader.old target.old) }
-    ensures ok { OnOk result ((page_size limit : ℕ) (text : List ℕ) (ended : Bool) → WasFed page_size limit (loader reader.old target.old) text ended
-        → Loads page_size limit (loader reader.new target.new) text ended × HasAllSections page_size limit (loader reader.new target.new) text) }
+    ensures ok { OnOk result ((given : LoadSettings) (text : List ℕ) (ended : Bool) → WasFed given (loader reader.old target.old) text ended
+        → Loads given (loader reader.new target.new) text ended × HasAllSections given (loader reader.new target.new) text) }
     ensures err { OnErr result ((reader.new ≡ reader.old) × (target.new ≡ target.old)) }
-    ensures waits { OnErr result ((page_size limit : ℕ) (text : List ℕ) (ended : Bool) → WasFed page_size limit (loader reader.old target.old) text ended
-        → Waits page_size limit (loader reader.old target.old) text) }
+    ensures waits { OnErr result ((given : LoadSettings) (text : List ℕ) (ended : Bool) → WasFed given (loader reader.old target.old) text ended
+        → Waits given (loader reader.old target.old) text) }
     ensures fed { reader.new.fed ≡ reader.old.fed }
     ensures ended { reader.new.ended ≡ reader.old.ended }
 {
@@ -89,8 +90,8 @@ pub(crate) fn verdict<A: Allocator>(
     reader: &StreamReader<'_, A>,
     target: &Option<Target<A>>,
 ) -> Result<(), LoadFault>
-    ensures { (page_size limit : ℕ) (text : List ℕ) (ended : Bool) → Loads page_size limit (loader reader.now target.now) text ended
-        → Judges page_size limit (loader reader.now target.now) text result }
+    ensures { (given : LoadSettings) (text : List ℕ) (ended : Bool) → Loads given (loader reader.now target.now) text ended
+        → Judges given (loader reader.now target.now) text result }
 {
     match (target, reader.table()) {
         (Some(target), _) => verdict_at(target.rounds(), reader.state()),
@@ -104,8 +105,8 @@ pub(crate) fn answer<A: Allocator>(
     reader: &StreamReader<'_, A>,
     target: Option<Target<A>>,
 ) -> Loaded<A>
-    ensures { (page_size limit : ℕ) (text : List ℕ) (ended : Bool) → Loads page_size limit (loader reader.now target) text ended
-        → Answers page_size limit (loader reader.now target) text result }
+    ensures { (given : LoadSettings) (text : List ℕ) (ended : Bool) → Loads given (loader reader.now target) text ended
+        → Answers given (loader reader.now target) text result }
 {
     let verdict = verdict(reader, &target);
     match target {

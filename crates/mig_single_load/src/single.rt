@@ -7,11 +7,12 @@ ghost use Rattle.mig_mem.specs.Image.{Page};
 ghost use Rattle.mig_mem.specs.Round.{IsRound};
 ghost use Rattle.mig_stream.specs.Text.{total_bytes};
 ghost use Rattle.mig_stream.specs.Written.{single};
+ghost use Rattle.mig_single_load.specs.Settings.{ram_settings};
 ghost use Rattle.mig_single_load.specs.SingleLoad.{IsSingleAnswer, IsSingleWithoutMemory, loaded};
 
-use crate::Loaded;
 use crate::at_once::load_at_once;
 use crate::settle::{answer, settle, without_memory};
+use crate::{LoadSettings, Loaded};
 use mig_stream::{Mode, StreamReader};
 use std::alloc::Allocator;
 
@@ -26,24 +27,47 @@ pub fn load_single<A: Allocator + Copy>(
 ) -> Loaded<A>
     requires page_size { IsPageSize page_size }
     requires limit { limit ≤ 2 ^ 40 }
-    ensures answer { IsSingleAnswer page_size limit text.now result ⊎ IsSingleWithoutMemory page_size limit text.now result }
+    ensures answer { IsSingleAnswer (ram_settings page_size limit) text.now result ⊎ IsSingleWithoutMemory (ram_settings page_size limit) text.now result }
     ensures sent { (table : RamTable) (rounds : List (List Page)) → IsTable table → table.page_size ≡ page_size → total_bytes table ≤ limit
-        → All (IsRound table) rounds → text.now ≡ single table rounds → (result ≡ loaded table rounds) ⊎ IsSingleWithoutMemory page_size limit text.now result }
+        → All (IsRound table) rounds → text.now ≡ single table rounds → (result ≡ loaded table rounds) ⊎ IsSingleWithoutMemory (ram_settings page_size limit) text.now result }
 {
-    match load_at_once(alloc, page_size, text, limit) {
+    load_single_in(alloc, LoadSettings::new(page_size, limit), text)
+}
+
+/// Loads a guest from the bytes of a single stream that is there whole, read with `settings`. What
+/// follows the stream isn't looked at: the bytes after its end byte, or in a machine's stream those
+/// after the footer of RAM's END. A stream without a fault is read once. Any other is read a second
+/// time, and its memory begun anew.
+pub fn load_single_in<A: Allocator + Copy>(
+    alloc: A,
+    settings: LoadSettings,
+    text: &[u8],
+) -> Loaded<A>
+    requires page_size { IsPageSize settings.page_size }
+    requires limit { settings.limit ≤ 2 ^ 40 }
+    ensures answer { IsSingleAnswer settings text.now result ⊎ IsSingleWithoutMemory settings text.now result }
+{
+    match load_at_once(alloc, settings, text) {
         Ok(Some(loaded)) => loaded,
-        Ok(None) => load(alloc, page_size, text, limit),
+        Ok(None) => load(alloc, settings, text),
         Err(_) => without_memory(),
     }
 }
 
 // Reads the text, and puts its sections into memory, each when it is whole.
-fn load<A: Allocator + Copy>(alloc: A, page_size: u64, text: &[u8], limit: u64) -> Loaded<A>
-    requires page_size { IsPageSize page_size }
-    requires limit { limit ≤ 2 ^ 40 }
-    ensures { IsSingleAnswer page_size limit text.now result ⊎ IsSingleWithoutMemory page_size limit text.now result }
+fn load<A: Allocator + Copy>(alloc: A, settings: LoadSettings, text: &[u8]) -> Loaded<A>
+    requires page_size { IsPageSize settings.page_size }
+    requires limit { settings.limit ≤ 2 ^ 40 }
+    ensures { IsSingleAnswer settings text.now result ⊎ IsSingleWithoutMemory settings text.now result }
 {
-    let Ok(mut reader) = StreamReader::of_text(alloc, Mode::Single, page_size, limit, text) else {
+    let Ok(mut reader) = StreamReader::of_text_in(
+        alloc,
+        settings.frame,
+        Mode::Single,
+        settings.page_size,
+        settings.limit,
+        text,
+    ) else {
         return without_memory();
     };
     reader.end();

@@ -2,30 +2,28 @@ use Rattle.std.proofs.Common.{◌≡◌, ℕ, ◌<◌, List, sym, ap, refl, subs
 use Rattle.mig_mem.specs.RamTable.{RamTable}
 use Rattle.mig_mem.specs.Image.{Image}
 use Rattle.mig_mem.specs.Round.{with_round}
-use Rattle.mig_stream.specs.declared.item.Mode.TheVariants.{Single}
-use Rattle.mig_stream.specs.Reading.{settings}
 use Rattle.mig_stream.specs.Round.{RoundOfRecords}
 use Rattle.mig_stream.specs.Giving.{none_given}
 use Rattle.mig_assemble.specs.Target.{pages_of_round, FitsTable}
+use Rattle.mig_single_load.specs.Settings.{single_of}
 use Rattle.mig_single_load.proofs.LoadedAtOnce.{calls, Gave, HasPut, put_first, put_fits, put_records_more, put_section_more, fewer_records, fewer_section, answers_each}
 use Rattle.mig_single_load.proofs.at_once.load_at_once.Goals as goal
 use Rattle.mig_single_load.proofs.at_once.load_at_once.Goals.{in-Records, in-Section}
 
 pub pieces-init : goal.pieces-init
 pieces-init g c =
-    let p = c.args.page_size in
-    let limit = c.args.limit in
+    let given = c.args.settings in
     let text = c.args.text.now in
     let table : RamTable = c.in-Some.table.now in
     let e = c.in_ok-gave.ensures in
-    let step : Gave c.in_ok-gave.gave c.new-reader.result c.read_on.new.self = record { ok = e.ok; page_size = e.page_size; places = e.places; end = e.end; less = e.less } in
-    let has = c.in-Some.ensures.table (settings Single p limit) text _ (e.ok (settings Single p limit) text none_given c.new-reader.ensures.gives) in
-    (table, put_first p limit text table c.in_ok-gave.gave c.new-reader.result c.read_on.new.self c.in_ok-memory.memory c.requires.page_size c.new-reader.ensures.gives c.new-reader.ensures.left step has c.in_ok-memory.ensures)
+    let step : Gave c.in_ok-gave.gave c.new_in-reader.result c.read_on.new.self = record { ok = e.ok; page_size = e.page_size; places = e.places; end = e.end; less = e.less } in
+    let has = c.in-Some.ensures.table (single_of given) text _ (e.ok (single_of given) text none_given c.new_in-reader.ensures.gives) in
+    (table, put_first given text table c.in_ok-gave.gave c.new_in-reader.result c.read_on.new.self c.in_ok-memory.memory c.requires.page_size c.new_in-reader.ensures.gives c.new_in-reader.ensures.left step has c.in_ok-memory.ensures)
 
 pub put_records-requires : goal.put_records-requires
 put_records-requires g c =
     subst (λ (x : RoundOfRecords). FitsTable c.pieces.memory.table x) (sym c.given.ensures)
-    (put_fits c.args.page_size c.args.limit c.args.text.now c.pieces.invariant.0 c.pieces.gave c.pieces.reader c.pieces.memory c.pieces.sections c.pieces.invariant.1)
+    (put_fits c.args.settings c.args.text.now c.pieces.invariant.0 c.pieces.gave c.pieces.reader c.pieces.memory c.pieces.sections c.pieces.invariant.1)
 
 pub pieces-smaller : goal.pieces-smaller
 pieces-smaller g c = elim c.match-gave.branch [
@@ -35,8 +33,7 @@ pieces-smaller g c = elim c.match-gave.branch [
 
 pub pieces-preserved : goal.pieces-preserved
 pieces-preserved g c =
-    let p = c.args.page_size in
-    let limit = c.args.limit in
+    let given = c.args.settings in
     let text = c.args.text.now in
     let table : RamTable = c.pieces.invariant.0 in
     let old = c.pieces.reader in
@@ -49,14 +46,14 @@ pieces-preserved g c =
       table,
       elim c.match-gave.branch [
         | in-Records w ↦
-            subst (λ (n : ℕ). HasPut p limit text table next new c.put_records.new.memory n) (sym w.sections-is)
-            (put_records_more p limit text table c.pieces.gave next old new m c.put_records.new.memory c.pieces.sections w.in-Records.is c.pieces.invariant.1 put step)
+            subst (λ (n : ℕ). HasPut given text table next new c.put_records.new.memory n) (sym w.sections-is)
+            (put_records_more given text table c.pieces.gave next old new m c.put_records.new.memory c.pieces.sections w.in-Records.is c.pieces.invariant.1 put step)
         | in-Section w ↦
-            subst (λ (n : ℕ). HasPut p limit text table next new c.put_records.new.memory n) (sym w.sections-is)
-            (put_section_more p limit text table c.pieces.gave next old new m c.put_records.new.memory c.pieces.sections w.in-Section.is c.pieces.invariant.1 put step)
+            subst (λ (n : ℕ). HasPut given text table next new c.put_records.new.memory n) (sym w.sections-is)
+            (put_section_more given text table c.pieces.gave next old new m c.put_records.new.memory c.pieces.sections w.in-Section.is c.pieces.invariant.1 put step)
       ],
     )
 
 pub returns-in-End : goal.returns-in-End
 returns-in-End g c =
-    answers_each c.args.page_size c.args.limit c.args.text.now c.pieces.invariant.0 c.pieces.gave c.in-End.found c.pieces.reader c.pieces.memory c.pieces.sections _ c.in-End.is c.pieces.invariant.1 c.answer_if_closed.ensures
+    answers_each c.args.settings c.args.text.now c.pieces.invariant.0 c.pieces.gave c.in-End.found c.pieces.reader c.pieces.memory c.pieces.sections _ c.in-End.is c.pieces.invariant.1 c.answer_if_closed.ensures

@@ -1,4 +1,4 @@
-use Rattle.std.proofs.Common.{◌≡◌, ◌≢◌, ◌⊎◌, ◌+◌, ◌++◌, ℕ, List, length, Some, None, sym, ap, refl, subst, ◌∙◌}
+use Rattle.std.proofs.Common.{◌≡◌, ◌≢◌, ◌⊎◌, ◌+◌, ◌++◌, List, length, Some, None, sym, ap, refl, subst, ◌∙◌}
 use Rattle.mig_mem.specs.RamTable.{RamTable}
 use Rattle.mig_mem.specs.Image.{Image}
 use Rattle.mig_stream.specs.Progress.{whole_table}
@@ -9,12 +9,12 @@ use Rattle.mig_single_load.proofs.Eager.{Found, found_some, found_other, found_o
 use Rattle.mig_single_load.proofs.eager_state.load_piece.Goals as goal
 
 pub returns-then-is_of_other_table-clause-ok : goal.returns-then-is_of_other_table-clause-ok
-returns-then-is_of_other_table-clause-ok g c = λ limit first text image at.
+returns-then-is_of_other_table-clause-ok g c = λ given first text image at.
     let f : Found c.args.pause c.args.piece.now c.resume-reader.result c.find_table.new.reader c.in_ok-gave.gave =
     record { resumed = c.resume-reader.ensures.gives; is_fresh = c.resume-reader.ensures.given; gave_next = c.in_ok-gave.ensures.gave; there = c.in_ok-gave.ensures.there } in
     let other = c.if-is_of_other_table.ensures.other refl in
     let differ : other.0 ≢ first.table = λ e. other.2 (e ∙ sym (ap (λ (m : Image). m.table) at.has_memory)) in
-    found_other limit first text c.args.piece.now c.args.pause (g.M.GuestTarget.image c.args.memory.now) c.args.sections.now c.resume-reader.result c.find_table.new.reader c.in_ok-gave.gave other.0 image f at other.1 differ
+    found_other given first text c.args.piece.now c.args.pause (g.M.GuestTarget.image c.args.memory.now) c.args.sections.now c.resume-reader.result c.find_table.new.reader c.in_ok-gave.gave other.0 image f at other.1 differ
 
 pub put_given-requires : goal.put_given-requires
 put_given-requires g c =
@@ -34,52 +34,52 @@ pause-requires g c =
     c.in_ok-gave.gave c.in_ok-found.found f need.2 (c.if-is_of_other_table.ensures.own refl) c.in_ok-found.ensures.gives)
 
 pub returns-in_ok-pause-in-Reading-clause-ok : goal.returns-in_ok-pause-in-Reading-clause-ok
-returns-in_ok-pause-in-Reading-clause-ok g c = λ limit first text image at.
+returns-in_ok-pause-in-Reading-clause-ok g c = λ given first text image at.
     let f : Found c.args.pause c.args.piece.now c.resume-reader.result c.find_table.new.reader c.in_ok-gave.gave =
     record { resumed = c.resume-reader.ensures.gives; is_fresh = c.resume-reader.ensures.given; gave_next = c.in_ok-gave.ensures.gave; there = c.in_ok-gave.ensures.there } in
     let r = c.find_table.new.reader in
     let own : (whole_table r.progress ≡ None) ⊎ (whole_table r.progress ≡ Some first.table) =
     subst (λ (t : RamTable). (whole_table r.progress ≡ None) ⊎ (whole_table r.progress ≡ Some t)) (ap (λ (m : Image). m.table) at.has_memory) (c.if-is_of_other_table.ensures.own refl) in
-    found_on limit first text c.args.piece.now c.args.pause c.in_ok-pause-in-Reading.field-0 (g.M.GuestTarget.image c.args.memory.now) (g.M.GuestTarget.image c.put_given.new.memory) c.args.sections.now c.put_given.new.sections
+    found_on given first text c.args.piece.now c.args.pause c.in_ok-pause-in-Reading.field-0 (g.M.GuestTarget.image c.args.memory.now) (g.M.GuestTarget.image c.put_given.new.memory) c.args.sections.now c.put_given.new.sections
     c.resume-reader.result r c.put_given.new.reader c.in_ok-gave.gave c.in_ok-found.found f at own c.in_ok-found.ensures.ok c.in-Reading.is c.in_ok-pause-in-Reading.ensures
 
 pub returns-in_ok-pause-in-Reading-clause-some : goal.returns-in_ok-pause-in-Reading-clause-some
-returns-in_ok-pause-in-Reading-clause-some g c = λ limit fed some.
+returns-in_ok-pause-in-Reading-clause-some g c = λ given fed some.
     let f : Found c.args.pause c.args.piece.now c.resume-reader.result c.find_table.new.reader c.in_ok-gave.gave =
     record { resumed = c.resume-reader.ensures.gives; is_fresh = c.resume-reader.ensures.given; gave_next = c.in_ok-gave.ensures.gave; there = c.in_ok-gave.ensures.there } in
-    found_on_some limit fed (g.M.GuestTarget.image c.args.memory.now).table c.args.piece.now c.args.pause c.in_ok-pause-in-Reading.field-0 c.args.sections.now c.put_given.new.sections c.resume-reader.result c.find_table.new.reader
+    found_on_some given fed (g.M.GuestTarget.image c.args.memory.now).table c.args.piece.now c.args.pause c.in_ok-pause-in-Reading.field-0 c.args.sections.now c.put_given.new.sections c.resume-reader.result c.find_table.new.reader
     c.put_given.new.reader c.in_ok-gave.gave c.in_ok-found.found f some (c.if-is_of_other_table.ensures.own refl) c.in_ok-found.ensures.gives c.in_ok-pause-in-Reading.ensures
 
 pub returns-in_default-clause-ok : goal.returns-in_default-clause-ok
-returns-in_default-clause-ok g c = λ limit first text image at.
+returns-in_default-clause-ok g c = λ given first text image at.
     let f : Found c.args.pause c.args.piece.now c.resume-reader.result c.find_table.new.reader c.in_ok-gave.gave =
     record { resumed = c.resume-reader.ensures.gives; is_fresh = c.resume-reader.ensures.given; gave_next = c.in_ok-gave.ensures.gave; there = c.in_ok-gave.ensures.there } in
     let r = c.find_table.new.reader in
     let own : (whole_table r.progress ≡ None) ⊎ (whole_table r.progress ≡ Some first.table) =
     subst (λ (t : RamTable). (whole_table r.progress ≡ None) ⊎ (whole_table r.progress ≡ Some t)) (ap (λ (m : Image). m.table) at.has_memory) (c.if-is_of_other_table.ensures.own refl) in
-    found_off limit first text c.args.piece.now c.args.pause (g.M.GuestTarget.image c.args.memory.now) (g.M.GuestTarget.image c.put_given.new.memory) c.args.sections.now c.put_given.new.sections
+    found_off given first text c.args.piece.now c.args.pause (g.M.GuestTarget.image c.args.memory.now) (g.M.GuestTarget.image c.put_given.new.memory) c.args.sections.now c.put_given.new.sections
     c.resume-reader.result r c.put_given.new.reader c.in_ok-gave.gave c.in_ok-found.found f at own c.in_ok-found.ensures.ok c.in_default.not-Reading
 
 pub returns-in_err-gave-clause-err : goal.returns-in_err-gave-clause-err
-returns-in_err-gave-clause-err g c = any_err c.from_residual.result _ (λ limit first text at.
-    some_first limit first text c.args.piece.now c.args.pause c.resume-reader.result (g.M.GuestTarget.image c.args.memory.now) c.args.sections.now c.resume-reader.ensures.gives at)
+returns-in_err-gave-clause-err g c = any_err c.from_residual.result _ (λ given first text at.
+    some_first given first text c.args.piece.now c.args.pause c.resume-reader.result (g.M.GuestTarget.image c.args.memory.now) c.args.sections.now c.resume-reader.ensures.gives at)
 
 pub returns-in_err-found-clause-err : goal.returns-in_err-found-clause-err
-returns-in_err-found-clause-err g c = any_err c.from_residual-in_err-found.result _ (λ limit first text at.
+returns-in_err-found-clause-err g c = any_err c.from_residual-in_err-found.result _ (λ given first text at.
     let f : Found c.args.pause c.args.piece.now c.resume-reader.result c.find_table.new.reader c.in_ok-gave.gave =
     record { resumed = c.resume-reader.ensures.gives; is_fresh = c.resume-reader.ensures.given; gave_next = c.in_ok-gave.ensures.gave; there = c.in_ok-gave.ensures.there } in
     let r = c.find_table.new.reader in
     let own : (whole_table r.progress ≡ None) ⊎ (whole_table r.progress ≡ Some first.table) =
     subst (λ (t : RamTable). (whole_table r.progress ≡ None) ⊎ (whole_table r.progress ≡ Some t)) (ap (λ (m : Image). m.table) at.has_memory) (c.if-is_of_other_table.ensures.own refl) in
-    some_put limit first text c.args.piece.now c.args.pause (g.M.GuestTarget.image c.args.memory.now) (g.M.GuestTarget.image c.put_given.new.memory) c.args.sections.now c.put_given.new.sections
+    some_put given first text c.args.piece.now c.args.pause (g.M.GuestTarget.image c.args.memory.now) (g.M.GuestTarget.image c.put_given.new.memory) c.args.sections.now c.put_given.new.sections
     c.resume-reader.result r c.in_ok-gave.gave f at own c.in_err-found.ensures.err)
 
 pub returns-in_err-pause-in-Reading-clause-err : goal.returns-in_err-pause-in-Reading-clause-err
-returns-in_err-pause-in-Reading-clause-err g c = any_err c.from_residual-in_err-pause-in-Reading.result _ (λ limit first text at.
+returns-in_err-pause-in-Reading-clause-err g c = any_err c.from_residual-in_err-pause-in-Reading.result _ (λ given first text at.
     let f : Found c.args.pause c.args.piece.now c.resume-reader.result c.find_table.new.reader c.in_ok-gave.gave =
     record { resumed = c.resume-reader.ensures.gives; is_fresh = c.resume-reader.ensures.given; gave_next = c.in_ok-gave.ensures.gave; there = c.in_ok-gave.ensures.there } in
     let r = c.find_table.new.reader in
     let own : (whole_table r.progress ≡ None) ⊎ (whole_table r.progress ≡ Some first.table) =
     subst (λ (t : RamTable). (whole_table r.progress ≡ None) ⊎ (whole_table r.progress ≡ Some t)) (ap (λ (m : Image). m.table) at.has_memory) (c.if-is_of_other_table.ensures.own refl) in
-    some_all limit first text c.args.piece.now c.args.pause (g.M.GuestTarget.image c.args.memory.now) (g.M.GuestTarget.image c.put_given.new.memory) c.args.sections.now c.put_given.new.sections
+    some_all given first text c.args.piece.now c.args.pause (g.M.GuestTarget.image c.args.memory.now) (g.M.GuestTarget.image c.put_given.new.memory) c.args.sections.now c.put_given.new.sections
     c.resume-reader.result r c.put_given.new.reader c.in_ok-gave.gave c.in_ok-found.found f at own c.in_ok-found.ensures.ok)

@@ -1,4 +1,4 @@
-use Rattle.std.proofs.Common.{◌≡◌, ◌+◌, ◌<◌, ◌^◌, ℕ, arith, sym, ap, refl, subst, ◌∙◌}
+use Rattle.std.proofs.Common.{◌≡◌, ◌+◌, ◌<◌, ◌^◌, arith, sym, ap, refl, subst, ◌∙◌}
 use Rattle.mig_mem.specs.Image.{Image}
 use Rattle.mig_mem.specs.Round.{with_round}
 use Rattle.mig_stream.specs.declared.giving.Given.{Given}
@@ -49,7 +49,7 @@ put_records-requires g c =
     let some = c.records.invariant.some in
     let table : RamTable = (g.M.GuestTarget.image c.args.memory.now).table in
     let more : IsEnd gave → ⊥ = elim c.match-gave.branch [ in-Records w ↦ no_end_records gave w.in-Records.is | in-Section w ↦ no_end_section gave w.in-Section.is ] in
-    let fits : FitsTable table c.records.reader.given = put_fits some.limit table some.text some.so_far gave c.records.reader c.records.sections more some.puts in
+    let fits : FitsTable table c.records.reader.given = put_fits some.given table some.text some.so_far gave c.records.reader c.records.sections more some.puts in
     subst (λ (t : RamTable). FitsTable t c.given.result.now) (sym c.records.invariant.same) (subst (λ (x : RoundOfRecords). FitsTable table x) (sym c.given.ensures) fits)
 
 pub returns-in_err-gave-clause-err : goal.returns-in_err-gave-clause-err

@@ -1,10 +1,9 @@
 use Rattle.std.proofs.Common.{ℕ, ◌≡◌, ◌≤◌, List, Some, length, arith, rules, subst, sym, ◌∙◌, ◌+◌}
 use Rattle.std.specs.Prelude.{Ok}
 use Rattle.mig_stream.specs.declared.round.StreamRound.{StreamRound}
-use Rattle.mig_stream.specs.declared.item.Mode.TheVariants.{Single}
 use Rattle.mig_stream.specs.PageRecord.{PageRecord}
-use Rattle.mig_stream.specs.Reading.{settings}
 use Rattle.mig_stream.specs.Reader.{Stands, HasRound}
+use Rattle.mig_single_load.specs.Settings.{single_of}
 use Rattle.mig_single_load.specs.Loader.{put_so_far}
 use Rattle.mig_single_load.proofs.Sections.{of_some, of_none, not_more, are_given}
 use Rattle.mig_single_load.proofs.in_place_state.drop_sections.Goals as goal
@@ -19,14 +18,14 @@ sections-preserved g c = record {
 }
 
 pub returns-in_default-clause-stands : goal.returns-in_default-clause-stands
-returns-in_default-clause-stands g c = λ p limit text ended size before reading is.
-    let given = settings Single p limit in
+returns-in_default-clause-stands g c = λ given text ended size before reading is.
+    let single = single_of given in
     let none : (r : StreamRound g.row.A.Denot) → c.take_round.result ≡ Ok (Some r) → ⊥ = λ r is. search rules in
     let same = of_none _ c.take_round.result c.take_round.ensures.ok none c.take_round.ensures.none in
-    let was = c.sections.invariant.stands given text ended before in
-    let last = λ (i : ℕ) (round : List PageRecord) (has : HasRound given text i round).
-    of_none _ c.take_round.result c.take_round.ensures.ok none c.take_round.ensures.last given (put_so_far text ended was.0) was.1 i round has in
-    let most : length reading.rounds ≤ was.0 = not_more p limit text reading was.0 is last in
-    let least : was.0 ≤ length reading.rounds = are_given p limit text ended c.sections.reader was.0 reading size is was.1 in
-    subst (λ r. Stands given (put_so_far text ended (length reading.rounds)) r) (sym same)
-    (subst (λ n. Stands given (put_so_far text ended n) c.sections.reader) (omega (arith, most, least)) was.1)
+    let was = c.sections.invariant.stands single text ended before in
+    let last = λ (i : ℕ) (round : List PageRecord) (has : HasRound single text i round).
+    of_none _ c.take_round.result c.take_round.ensures.ok none c.take_round.ensures.last single (put_so_far text ended was.0) was.1 i round has in
+    let most : length reading.rounds ≤ was.0 = not_more given text reading was.0 is last in
+    let least : was.0 ≤ length reading.rounds = are_given given text ended c.sections.reader was.0 reading size is was.1 in
+    subst (λ r. Stands single (put_so_far text ended (length reading.rounds)) r) (sym same)
+    (subst (λ n. Stands single (put_so_far text ended n) c.sections.reader) (omega (arith, most, least)) was.1)

@@ -1,19 +1,13 @@
-use Rattle.std.proofs.Common.{◌≡◌, inl, inr}
-use Rattle.mig_single_load.specs.SingleLoad.{IsSingleWithoutMemory}
-use Rattle.mig_single_load.proofs.Sections.{none_put, sent_is_loaded, of_some}
+use Rattle.std.proofs.Common.{subst}
+use Rattle.std.specs.Prelude.{◌⊎◌}
+use Rattle.mig_single_load.specs.declared.settings.LoadSettings.{LoadSettings}
+use Rattle.mig_single_load.specs.SingleLoad.{IsSingleAnswer, IsSingleWithoutMemory}
+use Rattle.mig_single_load.proofs.Sections.{sent_is_loaded}
 use Rattle.mig_single_load.proofs.single.load_single.Goals as goal
 
-pub returns-in-Ok-Some-clause-sent : goal.returns-in-Ok-Some-clause-sent
-returns-in-Ok-Some-clause-sent g c =
-    sent_is_loaded c.args.page_size c.args.limit c.args.text.now c.in-Ok-Some.loaded c.requires.page_size (inl (of_some _ c.in-Ok-Some.field-0 c.in-Ok-Some.loaded c.in-Ok-Some.field-0-is c.in-Ok-Some.ensures))
-
-pub returns-in-Ok-None-clause-sent : goal.returns-in-Ok-None-clause-sent
-returns-in-Ok-None-clause-sent g c = sent_is_loaded c.args.page_size c.args.limit c.args.text.now c.load.result c.requires.page_size c.load.ensures
-
-pub returns-in-Err-clause-answer : goal.returns-in-Err-clause-answer
-returns-in-Err-clause-answer g c = inr (rw c.without_memory.ensures (none_put c.args.page_size c.args.limit c.args.text.now c.requires.page_size))
-
-pub returns-in-Err-clause-sent : goal.returns-in-Err-clause-sent
-returns-in-Err-clause-sent g c =
-    let without : IsSingleWithoutMemory c.args.page_size c.args.limit c.args.text.now c.without_memory.result = rw c.without_memory.ensures (none_put c.args.page_size c.args.limit c.args.text.now c.requires.page_size) in
-    sent_is_loaded c.args.page_size c.args.limit c.args.text.now c.without_memory.result c.requires.page_size (inr without)
+pub returns-clause-sent : goal.returns-clause-sent
+returns-clause-sent g c =
+    let text = c.args.text.now in
+    let loaded = c.load_single_in.result in
+    sent_is_loaded c.args.page_size c.args.limit text loaded c.requires.page_size
+    (subst (λ (given : LoadSettings). IsSingleAnswer given text loaded ⊎ IsSingleWithoutMemory given text loaded) c.new.ensures c.load_single_in.ensures.answer)

@@ -1,8 +1,9 @@
-use Rattle.std.proofs.Common.{◌≡◌, ◌+◌, ◌<◌, ◌^◌, ◌++◌, ℕ, List, false, length, Some, None, arith, rules, sym, ap, refl, subst, ◌∙◌}
+use Rattle.std.proofs.Common.{◌≡◌, ◌+◌, ◌<◌, ◌^◌, ◌++◌, List, false, length, Some, None, arith, rules, sym, ap, refl, subst, ◌∙◌}
 use Rattle.std.specs.Prelude.{Option, IfSome}
 use Rattle.mig_mem.specs.RamTable.{RamTable}
 use Rattle.mig_mem.specs.Image.{Image}
 use Rattle.mig_stream.specs.Giving.{Paused}
+use Rattle.mig_single_load.specs.declared.settings.LoadSettings.{LoadSettings}
 use Rattle.mig_single_load.specs.declared.eager_state.LoadState.{LoadState}
 use Rattle.mig_single_load.specs.declared.eager_state.LoadState.TheVariants as load_state
 use Rattle.mig_single_load.specs.Eager.{EagerLoad, eager_load, EagerlyLoads, PausesOnto, PausesSome, IsEager, LacksMemory, HasSomeOnto}
@@ -12,7 +13,7 @@ use Rattle.mig_single_load.proofs.eager_state.EagerState.feed.Goals as goal
 pub load_piece-requires : goal.load_piece-requires
 load_piece-requires g c =
     let is : c.self.inside.pause ≡ Some c.in-Some.pause = search rules in
-    let was = at_some (λ (p : Paused). (limit : ℕ) × PausesSome limit c.self.inside.table p c.self.inside.rounds c.self.inside.fed) c.self.inside.pause c.in-Some.pause is c.self.invariant.pauses in
+    let was = at_some (λ (p : Paused). (given : LoadSettings) × PausesSome given c.self.inside.table p c.self.inside.rounds c.self.inside.fed) c.self.inside.pause c.in-Some.pause is c.self.invariant.pauses in
     let same : c.self.inside.table ≡ (g.M.GuestTarget.image c.args.memory.now).table = c.same.ensures.0 c.if-not-same.false ∙ c.table.ensures.value in
     let fed = ap (λ (x : EagerLoad). x.fed) c.self.view_is in
     let room = c.requires.room in (
@@ -25,7 +26,7 @@ load_piece-requires g c =
 pub invariant_of-self-in-Ok : goal.invariant_of-self-in-Ok
 invariant_of-self-in-Ok g c =
     let is : c.self.inside.pause ≡ Some c.in-Some.pause = search rules in
-    let was = at_some (λ (p : Paused). (limit : ℕ) × PausesSome limit c.self.inside.table p c.self.inside.rounds c.self.inside.fed) c.self.inside.pause c.in-Some.pause is c.self.invariant.pauses in
+    let was = at_some (λ (p : Paused). (given : LoadSettings) × PausesSome given c.self.inside.table p c.self.inside.rounds c.self.inside.fed) c.self.inside.pause c.in-Some.pause is c.self.invariant.pauses in
     let same : c.self.inside.table ≡ (g.M.GuestTarget.image c.args.memory.now).table = c.same.ensures.0 c.if-not-same.false ∙ c.table.ensures.value in
     let some = c.in-Ok.ensures.some was.0 c.self.inside.fed (subst (λ (t : RamTable). PausesSome was.0 t c.in-Some.pause c.self.inside.rounds c.self.inside.fed) same was.1) in
     record {
@@ -39,48 +40,48 @@ invariant_of-self-in-Err g c =
     let none : c.take.new.self ≡ None = c.take.ensures.after in
     record {
       is_table = c.self.invariant.is_table;
-      pauses = subst (λ (o : Option Paused). IfSome o (λ p. (limit : ℕ) × PausesSome limit c.self.inside.table p c.load_piece.new.sections (c.self.inside.fed + length c.args.piece.now))) (sym none) tt;
+      pauses = subst (λ (o : Option Paused). IfSome o (λ p. (given : LoadSettings) × PausesSome given c.self.inside.table p c.load_piece.new.sections (c.self.inside.fed + length c.args.piece.now))) (sym none) tt;
     }
 
 pub returns-in_default-clause-ok : goal.returns-in_default-clause-ok
-returns-in_default-clause-ok g c = λ limit first text loads.
+returns-in_default-clause-ok g c = λ given first text loads.
     let s : EagerLoad = c.args.self.now in
     let none : c.self.inside.pause ≡ None = search rules in
-    let past = eager_past (g.M.GuestTarget.image c.args.memory.now) limit first s text c.args.piece.now (ap (λ (x : EagerLoad). x.pause) (sym c.self.view_is) ∙ none) loads in
-    subst (λ (x : EagerLoad). EagerlyLoads (g.M.GuestTarget.image c.args.memory.now) limit first (eager_load c.take.new.self x.state x.table x.rounds (x.fed + length c.args.piece.now) x.ended) (text ++ c.args.piece.now) false) (sym c.self.view_is)
-    (subst (λ (o : Option Paused). EagerlyLoads (g.M.GuestTarget.image c.args.memory.now) limit first (eager_load o s.state s.table s.rounds (s.fed + length c.args.piece.now) s.ended) (text ++ c.args.piece.now) false) (sym c.take.ensures.after) past)
+    let past = eager_past (g.M.GuestTarget.image c.args.memory.now) given first s text c.args.piece.now (ap (λ (x : EagerLoad). x.pause) (sym c.self.view_is) ∙ none) loads in
+    subst (λ (x : EagerLoad). EagerlyLoads (g.M.GuestTarget.image c.args.memory.now) given first (eager_load c.take.new.self x.state x.table x.rounds (x.fed + length c.args.piece.now) x.ended) (text ++ c.args.piece.now) false) (sym c.self.view_is)
+    (subst (λ (o : Option Paused). EagerlyLoads (g.M.GuestTarget.image c.args.memory.now) given first (eager_load o s.state s.table s.rounds (s.fed + length c.args.piece.now) s.ended) (text ++ c.args.piece.now) false) (sym c.take.ensures.after) past)
 
 pub returns-in-Ok-clause-ok : goal.returns-in-Ok-clause-ok
-returns-in-Ok-clause-ok g c = λ limit first text loads.
+returns-in-Ok-clause-ok g c = λ given first text loads.
     let s : EagerLoad = c.args.self.now in
     let old : Image = g.M.GuestTarget.image c.args.memory.now in
     let new : Image = g.M.GuestTarget.image c.load_piece.new.memory in
-    let mine : EagerlyLoads old limit first (eager_load c.self.inside.pause c.self.inside.state c.self.inside.table c.self.inside.rounds c.self.inside.fed c.self.inside.ended) text false =
-    subst (λ (x : EagerLoad). EagerlyLoads old limit first x text false) (sym c.self.view_is) loads in
+    let mine : EagerlyLoads old given first (eager_load c.self.inside.pause c.self.inside.state c.self.inside.table c.self.inside.rounds c.self.inside.fed c.self.inside.ended) text false =
+    subst (λ (x : EagerLoad). EagerlyLoads old given first x text false) (sym c.self.view_is) loads in
     let is : c.self.inside.pause ≡ Some c.in-Some.pause = search rules in
-    let at : PausesOnto limit first text c.in-Some.pause old c.self.inside.rounds =
-    at_some (λ (p : Paused). PausesOnto limit first text p old c.self.inside.rounds) c.self.inside.pause c.in-Some.pause is mine.stands.pauses in
-    let stands = c.in-Ok.ensures.ok limit first text loads.is_image at in
-    rw (c.in-Ok.pause-is, c.in-Ok.state-is) (eager_on old new limit first (eager_load c.self.inside.pause c.self.inside.state c.self.inside.table c.self.inside.rounds c.self.inside.fed c.self.inside.ended) text c.args.piece.now _ _ c.load_piece.new.sections mine stands)
+    let at : PausesOnto given first text c.in-Some.pause old c.self.inside.rounds =
+    at_some (λ (p : Paused). PausesOnto given first text p old c.self.inside.rounds) c.self.inside.pause c.in-Some.pause is mine.stands.pauses in
+    let stands = c.in-Ok.ensures.ok given first text loads.is_image at in
+    rw (c.in-Ok.pause-is, c.in-Ok.state-is) (eager_on old new given first (eager_load c.self.inside.pause c.self.inside.state c.self.inside.table c.self.inside.rounds c.self.inside.fed c.self.inside.ended) text c.args.piece.now _ _ c.load_piece.new.sections mine stands)
 
 pub returns-in_default-clause-lacking : goal.returns-in_default-clause-lacking
-returns-in_default-clause-lacking g c = λ ok limit first text lacks.
+returns-in_default-clause-lacking g c = λ ok given first text lacks.
     let s : EagerLoad = c.args.self.now in
-    let past = lacks_more (g.M.GuestTarget.image c.args.memory.now) limit first s text c.args.piece.now lacks in (
-      subst (λ (x : EagerLoad). LacksMemory (g.M.GuestTarget.image c.args.memory.now) limit first (eager_load c.take.new.self x.state x.table x.rounds (x.fed + length c.args.piece.now) x.ended) (text ++ c.args.piece.now) false) (sym c.self.view_is)
-          (subst (λ (o : Option Paused). LacksMemory (g.M.GuestTarget.image c.args.memory.now) limit first (eager_load o s.state s.table s.rounds (s.fed + length c.args.piece.now) s.ended) (text ++ c.args.piece.now) false) (sym c.take.ensures.after) past),
+    let past = lacks_more (g.M.GuestTarget.image c.args.memory.now) given first s text c.args.piece.now lacks in (
+      subst (λ (x : EagerLoad). LacksMemory (g.M.GuestTarget.image c.args.memory.now) given first (eager_load c.take.new.self x.state x.table x.rounds (x.fed + length c.args.piece.now) x.ended) (text ++ c.args.piece.now) false) (sym c.self.view_is)
+          (subst (λ (o : Option Paused). LacksMemory (g.M.GuestTarget.image c.args.memory.now) given first (eager_load o s.state s.table s.rounds (s.fed + length c.args.piece.now) s.ended) (text ++ c.args.piece.now) false) (sym c.take.ensures.after) past),
       refl,
     )
 
 pub returns-in-Err-clause-failed : goal.returns-in-Err-clause-failed
-returns-in-Err-clause-failed g c = λ failed limit first text loads.
+returns-in-Err-clause-failed g c = λ failed given first text loads.
     let old : Image = g.M.GuestTarget.image c.args.memory.now in
     let new : Image = g.M.GuestTarget.image c.load_piece.new.memory in
     let s : EagerLoad = eager_load c.self.inside.pause c.self.inside.state c.self.inside.table c.self.inside.rounds c.self.inside.fed c.self.inside.ended in
-    let mine : EagerlyLoads old limit first s text false = subst (λ (x : EagerLoad). EagerlyLoads old limit first x text false) (sym c.self.view_is) loads in
+    let mine : EagerlyLoads old given first s text false = subst (λ (x : EagerLoad). EagerlyLoads old given first x text false) (sym c.self.view_is) loads in
     let is : c.self.inside.pause ≡ Some c.in-Some.pause = search rules in
-    let at : PausesOnto limit first text c.in-Some.pause old c.self.inside.rounds =
-    at_some (λ (p : Paused). PausesOnto limit first text p old c.self.inside.rounds) c.self.inside.pause c.in-Some.pause is mine.stands.pauses in
-    let some : HasSomeOnto limit first (text ++ c.args.piece.now) new c.load_piece.new.sections = c.in-Err.ensures.err limit first text at in
-    subst (λ (o : Option Paused). LacksMemory new limit first (eager_load o load_state.NoMemory c.self.inside.table c.load_piece.new.sections (c.self.inside.fed + length c.args.piece.now) c.self.inside.ended) (text ++ c.args.piece.now) false)
-    (sym c.take.ensures.after) (lacks_now old new limit first s text c.args.piece.now c.load_piece.new.sections mine some)
+    let at : PausesOnto given first text c.in-Some.pause old c.self.inside.rounds =
+    at_some (λ (p : Paused). PausesOnto given first text p old c.self.inside.rounds) c.self.inside.pause c.in-Some.pause is mine.stands.pauses in
+    let some : HasSomeOnto given first (text ++ c.args.piece.now) new c.load_piece.new.sections = c.in-Err.ensures.err given first text at in
+    subst (λ (o : Option Paused). LacksMemory new given first (eager_load o load_state.NoMemory c.self.inside.table c.load_piece.new.sections (c.self.inside.fed + length c.args.piece.now) c.self.inside.ended) (text ++ c.args.piece.now) false)
+    (sym c.take.ensures.after) (lacks_now old new given first s text c.args.piece.now c.load_piece.new.sections mine some)

@@ -6,9 +6,9 @@ use Rattle.mig_single_load.proofs.Eager.{verdict_onto}
 use Rattle.mig_single_load.proofs.eager_state.EagerState.verdict.Goals as goal
 
 pub returns-in-Stream-clause-loads : goal.returns-in-Stream-clause-loads
-returns-in-Stream-clause-loads g c = λ memory limit first text ended loads.
+returns-in-Stream-clause-loads g c = λ memory given first text ended loads.
     let s : EagerLoad = c.args.self.now in
     let is = c.in-Stream.is in
     let same : s.state ≡ _ = ap (λ (x : EagerLoad). x.state) (sym c.self.view_is) ∙ is in
     let count = ap (λ (x : EagerLoad). x.rounds) c.self.view_is in
-    verdict_onto limit first text memory s.rounds s.pause c.in-Stream.found _ (subst (λ (x : LoadState). StandsOnto limit first text memory s.rounds s.pause x) same loads.stands) (c.verdict_at.ensures ∙ ap (λ (k : ℕ). verdict_of k c.in-Stream.found) count)
+    verdict_onto given first text memory s.rounds s.pause c.in-Stream.found _ (subst (λ (x : LoadState). StandsOnto given first text memory s.rounds s.pause x) same loads.stands) (c.verdict_at.ensures ∙ ap (λ (k : ℕ). verdict_of k c.in-Stream.found) count)

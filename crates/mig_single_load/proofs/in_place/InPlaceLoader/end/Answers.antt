@@ -11,7 +11,7 @@ invariant_of-self g c =
     memory_over memory c.self.inside.state c.end.new.self c.self.invariant (c.end.ensures.loads memory)
 
 pub returns-clause-loads : goal.returns-clause-loads
-returns-clause-loads g c = λ limit first text ended before.
+returns-clause-loads g c = λ given first text ended before.
     let memory : Image = g.M.GuestTarget.image c.self.inside.memory in
-    let loads = subst (λ (l : InPlace). LoadsOnto limit first l text ended) (sym c.self.view_is) before in
-    (c.end.ensures.loads memory limit first text ended (with_memory memory limit first c.self.inside.state text ended c.self.invariant loads)).loads
+    let loads = subst (λ (l : InPlace). LoadsOnto given first l text ended) (sym c.self.view_is) before in
+    (c.end.ensures.loads memory given first text ended (with_memory memory given first c.self.inside.state text ended c.self.invariant loads)).loads

@@ -11,16 +11,16 @@ invariant_of-self g c =
     let same = ap (λ (l : InPlace). l.reader.fed) c.self.view_is in
     let room = c.requires.room in
     memory_piece (g.M.GuestTarget.image c.self.inside.memory) (g.M.GuestTarget.image c.feed.new.memory) c.self.inside.state c.feed.new.self c.args.piece.now c.self.invariant
-    (subst (λ (l : InPlace). IsFalse l.reader.ended) (sym c.self.view_is) c.requires.open) (omega (arith, same, room)) (λ limit first text loads. c.in_default.ensures.ok limit first text (fed_with _ limit first c.self.inside.state text false loads))
+    (subst (λ (l : InPlace). IsFalse l.reader.ended) (sym c.self.view_is) c.requires.open) (omega (arith, same, room)) (λ given first text loads. c.in_default.ensures.ok given first text (fed_with _ given first c.self.inside.state text false loads))
 
 pub returns-in_default-clause-ok : goal.returns-in_default-clause-ok
-returns-in_default-clause-ok g c = λ limit first text before.
-    let loads = subst (λ (l : InPlace). LoadsOnto limit first l text false) (sym c.self.view_is) before in
-    (c.in_default.ensures.ok limit first text (fed_with _ limit first c.self.inside.state text false (with_memory (g.M.GuestTarget.image c.self.inside.memory) limit first c.self.inside.state text false c.self.invariant loads))).loads
+returns-in_default-clause-ok g c = λ given first text before.
+    let loads = subst (λ (l : InPlace). LoadsOnto given first l text false) (sym c.self.view_is) before in
+    (c.in_default.ensures.ok given first text (fed_with _ given first c.self.inside.state text false (with_memory (g.M.GuestTarget.image c.self.inside.memory) given first c.self.inside.state text false c.self.invariant loads))).loads
 
 pub returns-clause-settled : goal.returns-clause-settled
-returns-clause-settled g c = λ limit first text before settled.
+returns-clause-settled g c = λ given first text before settled.
     let memory : Image = g.M.GuestTarget.image c.self.inside.memory in
-    let loads = subst (λ (l : InPlace). LoadsOnto limit first l text false) (sym c.self.view_is) before in
-    let ok = c.feed.ensures.settled memory limit first text (fed_with memory limit first c.self.inside.state text false (with_memory memory limit first c.self.inside.state text false c.self.invariant loads)) settled c.self.invariant.same_table in
+    let loads = subst (λ (l : InPlace). LoadsOnto given first l text false) (sym c.self.view_is) before in
+    let ok = c.feed.ensures.settled memory given first text (fed_with memory given first c.self.inside.state text false (with_memory memory given first c.self.inside.state text false c.self.invariant loads)) settled c.self.invariant.same_table in
     absurd (not_err c.feed.result _ c.in-Err.is ok)

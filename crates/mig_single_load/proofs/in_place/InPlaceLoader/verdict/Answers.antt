@@ -5,7 +5,7 @@ use Rattle.mig_single_load.proofs.InPlaceStates.{with_memory}
 use Rattle.mig_single_load.proofs.in_place.InPlaceLoader.verdict.Goals as goal
 
 pub returns : goal.returns
-returns g c = λ limit first text ended before.
+returns g c = λ given first text ended before.
     let memory : Image = g.M.GuestTarget.image c.self.inside.memory in
-    let loads = subst (λ (l : InPlace). LoadsOnto limit first l text ended) (sym c.self.view_is) before in
-    c.verdict.ensures.loads memory limit first text ended (with_memory memory limit first c.self.inside.state text ended c.self.invariant loads)
+    let loads = subst (λ (l : InPlace). LoadsOnto given first l text ended) (sym c.self.view_is) before in
+    c.verdict.ensures.loads memory given first text ended (with_memory memory given first c.self.inside.state text ended c.self.invariant loads)

@@ -1,31 +1,12 @@
-use Rattle.std.proofs.Common.{ℕ, ◌≡◌, ◌∙◌, [], false, ap, arith, refl, sym, subst}
-use Rattle.mig_mem.specs.RamTable.{RamTable, IsTable}
-use Rattle.mig_mem.specs.Image.{Image, IsImage, zero_image}
-use Rattle.mig_stream.specs.declared.item.Mode.TheVariants.{Single}
-use Rattle.mig_stream.specs.Reading.{settings}
-use Rattle.mig_stream.specs.Reader.{Reader, nothing_yet, Stands}
-use Rattle.mig_single_load.specs.InPlaceState.{in_place_state, memory_with, LoadsWith}
-use Rattle.mig_single_load.proofs.Onto.{onto_nothing}
-use Rattle.mig_single_load.proofs.InPlaceStates.{zeros_there, fed_with, some_text}
+use Rattle.std.proofs.Common.{◌≡◌, ◌∙◌, ℕ, [], false, ap, subst}
+use Rattle.std.specs.Prelude.{IfOk}
+use Rattle.mig_mem.specs.Image.{Image, IsImage}
+use Rattle.mig_single_load.specs.declared.settings.LoadSettings.{LoadSettings}
+use Rattle.mig_single_load.specs.Settings.{ram_settings}
+use Rattle.mig_single_load.specs.InPlaceState.{LoadsWith}
 use Rattle.mig_single_load.proofs.in_place_state.InPlaceState.new.Goals as goal
-
--- with any memory of the table it stands for no text
-with_any : (limit n : ℕ) (r : Reader) (table kept : RamTable) → IsTable table → n ≡ table.page_size → Stands (settings Single n limit) nothing_yet r → kept ≡ table → (first : Image) → IsImage first
-    → first.table ≡ table → LoadsWith first limit first (in_place_state r kept 0) [] false
-with_any limit n r table kept is size stands copied first image same = record {
-  same_table = same ∙ sym copied;
-  loads = onto_nothing limit first r (memory_with first 0) (subst IsTable (sym same) is) image
-      (subst (λ k. Stands (settings Single k limit) nothing_yet r) (size ∙ ap (λ (t : RamTable). t.page_size) (sym same)) stands) refl;
-}
 
 pub returns-clause-loads : goal.returns-clause-loads
 returns-clause-loads g c =
-    with_any c.args.limit c.page_size-page_size.result c.new-reader.result c.args.table.now c.in_ok-table.table c.keeps_limits.ensures c.page_size-page_size.ensures c.new-reader.ensures.stands c.in_ok-table.ensures
-
-pub invariant_of-result : goal.invariant_of-result
-invariant_of-result g c =
-    let table : RamTable = c.args.table.now in
-    let first : Image = zero_image table in
-    some_text first c.args.limit first _ [] false (omega arith) (fed_with first c.args.limit first _ [] false
-    (with_any c.args.limit c.page_size-page_size.result c.new-reader.result table c.in_ok-table.table c.keeps_limits.ensures c.page_size-page_size.ensures c.new-reader.ensures.stands c.in_ok-table.ensures
-    first (zeros_there table) refl))
+    subst (λ (given : LoadSettings). IfOk c.new_in.result (λ s. (first : Image) → IsImage first → first.table ≡ c.args.table.now → LoadsWith first given first s [] false))
+    (c.new.ensures ∙ ap (λ (n : ℕ). ram_settings n c.args.limit) c.page_size.ensures) c.new_in.ensures.loads

@@ -7,9 +7,9 @@ use Rattle.mig_single_load.proofs.InPlaceStates.{with_piece_more, some_piece_mor
 use Rattle.mig_single_load.proofs.in_place_state.InPlaceState.read_piece.Goals as goal
 
 pub returns-in_err-feed-clause-settled : goal.returns-in_err-feed-clause-settled
-returns-in_err-feed-clause-settled g c = λ memory limit first text before settled.
-    let stood = subst (λ (s : InPlaceState). FedWith memory limit first s text false) (sym c.self.view_is) before in
-    let ok = c.feed.ensures.settled (settings_of first limit) (put_so_far text false stood.fed.taken) stood.fed.stands settled in
+returns-in_err-feed-clause-settled g c = λ memory given first text before settled.
+    let stood = subst (λ (s : InPlaceState). FedWith memory given first s text false) (sym c.self.view_is) before in
+    let ok = c.feed.ensures.settled (settings_of first given) (put_so_far text false stood.fed.taken) stood.fed.stands settled in
     absurd (not_err c.feed.result _ c.in_err-feed.was ok)
 
 pub invariant_of-self-2 : goal.invariant_of-self-2
@@ -19,6 +19,6 @@ invariant_of-self-2 g c =
     some_piece_more c.self.inside.reader c.feed.new.self c.self.inside.table c.self.inside.rounds c.args.piece.now c.in_ok-feed.ensures.stands (omega (arith, same, room)) c.self.invariant
 
 pub returns-clause-ok : goal.returns-clause-ok
-returns-clause-ok g c = λ memory limit first text before.
-    with_piece_more memory limit first c.self.inside.reader c.feed.new.self c.self.inside.table c.self.inside.rounds text c.args.piece.now c.in_ok-feed.ensures.stands
-    (subst (λ (s : InPlaceState). FedWith memory limit first s text false) (sym c.self.view_is) before)
+returns-clause-ok g c = λ memory given first text before.
+    with_piece_more memory given first c.self.inside.reader c.feed.new.self c.self.inside.table c.self.inside.rounds text c.args.piece.now c.in_ok-feed.ensures.stands
+    (subst (λ (s : InPlaceState). FedWith memory given first s text false) (sym c.self.view_is) before)

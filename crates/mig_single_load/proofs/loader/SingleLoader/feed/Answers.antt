@@ -1,6 +1,5 @@
 use Rattle.std.proofs.Common.{◌++◌, ap, arith, false, subst, sym}
-use Rattle.mig_stream.specs.declared.item.Mode.TheVariants.{Single}
-use Rattle.mig_stream.specs.Reading.{settings}
+use Rattle.mig_single_load.specs.Settings.{single_of}
 use Rattle.mig_single_load.specs.Loader.{Loader, loader, sections_loaded, put_so_far, Loads}
 use Rattle.mig_single_load.proofs.Sections.{fed_of}
 use Rattle.mig_single_load.proofs.Feeding.{fed_longer, fed_piece, settled_some, waits_now, not_err}
@@ -21,13 +20,13 @@ invariant_of-self-in_default-settle g c =
     c.settle.ensures.ok c.settle.ensures.waits c.settle.ensures.err
 
 pub returns-in_default-settle-clause-waiting : goal.returns-in_default-settle-clause-waiting
-returns-in_default-settle-clause-waiting g c = λ _ p limit text loads.
+returns-in_default-settle-clause-waiting g c = λ _ given text loads.
     let r = c.self.inside.reader in
     let o = c.self.inside.target in
-    let fed = fed_longer p limit r c.feed.new.self o text c.args.piece.now false c.in-Ok.ensures.stands
-    (fed_of p limit r o text false (subst (λ (l : Loader). Loads p limit l text false) (sym c.self.view_is) loads)) in
-    waits_now p limit c.feed.new.self c.settle.new.reader o c.settle.new.target (text ++ c.args.piece.now) false fed
-    (c.in_default-settle.ensures.waits p limit (text ++ c.args.piece.now) false fed) c.in_default-settle.ensures.err
+    let fed = fed_longer given r c.feed.new.self o text c.args.piece.now false c.in-Ok.ensures.stands
+    (fed_of given r o text false (subst (λ (l : Loader). Loads given l text false) (sym c.self.view_is) loads)) in
+    waits_now given c.feed.new.self c.settle.new.reader o c.settle.new.target (text ++ c.args.piece.now) false fed
+    (c.in_default-settle.ensures.waits given (text ++ c.args.piece.now) false fed) c.in_default-settle.ensures.err
 
 pub invariant_of-self-2 : goal.invariant_of-self-2
 invariant_of-self-2 g c =
@@ -38,15 +37,15 @@ invariant_of-self-2 g c =
     c.settle.ensures.ok c.settle.ensures.waits c.settle.ensures.err
 
 pub returns-clause-ok : goal.returns-clause-ok
-returns-clause-ok g c = λ p limit text loads.
+returns-clause-ok g c = λ given text loads.
     let r = c.self.inside.reader in
     let o = c.self.inside.target in
-    c.in-Ok-settle.ensures.ok p limit (text ++ c.args.piece.now) false
-    (fed_longer p limit r c.feed.new.self o text c.args.piece.now false c.in-Ok.ensures.stands
-    (fed_of p limit r o text false (subst (λ (l : Loader). Loads p limit l text false) (sym c.self.view_is) loads)))
+    c.in-Ok-settle.ensures.ok given (text ++ c.args.piece.now) false
+    (fed_longer given r c.feed.new.self o text c.args.piece.now false c.in-Ok.ensures.stands
+    (fed_of given r o text false (subst (λ (l : Loader). Loads given l text false) (sym c.self.view_is) loads)))
 
 pub returns-in_default-clause-settled : goal.returns-in_default-clause-settled
-returns-in_default-clause-settled g c = λ _ p limit text before settled.
-    let loads = subst (λ (l : Loader). Loads p limit l text false) (sym c.self.view_is) before in
-    let ok = c.feed.ensures.settled (settings Single p limit) (put_so_far text false (sections_loaded (loader c.self.inside.reader c.self.inside.target))) loads.stands settled in
+returns-in_default-clause-settled g c = λ _ given text before settled.
+    let loads = subst (λ (l : Loader). Loads given l text false) (sym c.self.view_is) before in
+    let ok = c.feed.ensures.settled (single_of given) (put_so_far text false (sections_loaded (loader c.self.inside.reader c.self.inside.target))) loads.stands settled in
     not_err c.feed.result c.in_default.field-0 c.in_default.is ok

@@ -15,13 +15,13 @@ invariant_of-self g c =
 
 pub returns-clause-ok : goal.returns-clause-ok
 returns-clause-ok g c =
-    on_ok_so c.settle.result _ _ c.settle.ensures.ok (λ puts p limit text ended loads.
-    puts p limit text ended (fed_of p limit c.self.inside.reader c.self.inside.target text ended
-    (subst (λ (l : Loader). Loads p limit l text ended) (sym c.self.view_is) loads)))
+    on_ok_so c.settle.result _ _ c.settle.ensures.ok (λ puts given text ended loads.
+    puts given text ended (fed_of given c.self.inside.reader c.self.inside.target text ended
+    (subst (λ (l : Loader). Loads given l text ended) (sym c.self.view_is) loads)))
 
 pub returns-clause-waits : goal.returns-clause-waits
 returns-clause-waits g c =
-    on_err_so c.settle.result _ _ c.settle.ensures.waits (λ waits p limit text ended loads.
-    subst (λ (l : Loader). Waits p limit l text) c.self.view_is
-    (waits p limit text ended (fed_of p limit c.self.inside.reader c.self.inside.target text ended
-    (subst (λ (l : Loader). Loads p limit l text ended) (sym c.self.view_is) loads))))
+    on_err_so c.settle.result _ _ c.settle.ensures.waits (λ waits given text ended loads.
+    subst (λ (l : Loader). Waits given l text) c.self.view_is
+    (waits given text ended (fed_of given c.self.inside.reader c.self.inside.target text ended
+    (subst (λ (l : Loader). Loads given l text ended) (sym c.self.view_is) loads))))

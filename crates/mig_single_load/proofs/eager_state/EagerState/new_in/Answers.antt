@@ -1,15 +1,16 @@
 use Rattle.std.proofs.Common.{◌≡◌, ℕ, List, [], sym, ap, subst, ◌∙◌}
 use Rattle.mig_mem.specs.RamTable.{RamTable, IsTable}
 use Rattle.mig_stream.specs.declared.item.Mode.TheVariants.{Single}
-use Rattle.mig_stream.specs.Reading.{settings}
+use Rattle.mig_stream.specs.Reading.{settings, in_frame}
 use Rattle.mig_stream.specs.Giving.{none_given, PausesAt}
+use Rattle.mig_single_load.specs.Eager.{settings_for}
 use Rattle.mig_single_load.proofs.Eager.{eager_first}
-use Rattle.mig_single_load.proofs.eager_state.EagerState.new.Goals as goal
+use Rattle.mig_single_load.proofs.eager_state.EagerState.new_in.Goals as goal
 
 pub returns-clause-loads : goal.returns-clause-loads
 returns-clause-loads g c = λ first image same.
     let is : IsTable first.table = subst IsTable (sym same) c.keeps_limits.ensures in
     let size : c.page_size-page_size.result ≡ first.table.page_size = c.page_size-page_size.ensures ∙ ap (λ (t : RamTable). t.page_size) (sym same) in
-    let at : PausesAt (settings Single first.table.page_size c.args.limit) [] none_given c.new.result =
-    subst (λ (n : ℕ). PausesAt (settings Single n c.args.limit) [] none_given c.new.result) size c.new.ensures.pauses in
-    eager_first c.args.limit first c.new.result c.in_ok-table.table is image (same ∙ sym c.in_ok-table.ensures) at
+    let at : PausesAt (settings_for first.table c.args.settings) [] none_given c.new_in.result =
+    subst (λ (n : ℕ). PausesAt (in_frame c.args.settings.frame (settings Single n c.args.settings.limit)) [] none_given c.new_in.result) size c.new_in.ensures.pauses in
+    eager_first c.args.settings first c.new_in.result c.in_ok-table.table is image (same ∙ sym c.in_ok-table.ensures) at
