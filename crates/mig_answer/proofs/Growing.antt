@@ -22,6 +22,7 @@ use Rattle.mig_packet.specs.declared.state.ChannelState.{ChannelState}
 use Rattle.mig_packet.specs.declared.state.ChannelState.TheVariants as channel
 use Rattle.mig_packet.specs.Packet.{Fields, fields_of}
 use Rattle.mig_packet.specs.Reading.{Settings, settings, ChannelReading, IsReading}
+use Rattle.mig_single_load.specs.declared.settings.LoadSettings.{LoadSettings}
 use Rattle.mig_single_load.specs.declared.fault.Origin.TheVariants as origin
 use Rattle.mig_single_load.specs.declared.fault.Fault.TheVariants as fault
 use Rattle.mig_answer.specs.declared.verdict.Verdict.{Verdict}
@@ -63,16 +64,16 @@ channels_stay given (old ∷ olds) (new ∷ news) (x ∷ befores) (y ∷ nows) s
   channels_stay given olds news befores nows size go.1 are_before.1 are_now.1,
 )
 
-pub readings_stay : (p : ℕ) (uuid : List ℕ) (limit : ℕ) (old new : Texts) (before now : Readings) → IsPageSize p → GoOn old new
-    → AreReadings p uuid limit old before → AreReadings p uuid limit new now → ReadingsStay before now
-readings_stay p uuid limit old new before now size go are_before are_now =
+pub readings_stay : (given : LoadSettings) (uuid : List ℕ) (old new : Texts) (before now : Readings) → IsPageSize given.page_size → GoOn old new
+    → AreReadings given uuid old before → AreReadings given uuid new now → ReadingsStay before now
+readings_stay given uuid old new before now size go are_before are_now =
     let many : length new.channels ≡ length old.channels = sym (length_all_zip GoesOn old.channels new.channels go.channels) in
     record {
-      main = main_stays p limit old.main new.main before.main now.main size go.main are_before.has_main are_now.has_main;
-      channels = channels_stay (settings p uuid (length old.channels)) old.channels new.channels before.channels now.channels size go.channels are_before.has_channels
-          (subst (λ (n : ℕ). AllZip (λ (text : Text) (reading : ChannelReading). IsReading (settings p uuid n) text.bytes text.ended reading) new.channels now.channels)
+      main = main_stays given old.main new.main before.main now.main size go.main are_before.has_main are_now.has_main;
+      channels = channels_stay (settings given.page_size uuid (length old.channels)) old.channels new.channels before.channels now.channels size go.channels are_before.has_channels
+          (subst (λ (n : ℕ). AllZip (λ (text : Text) (reading : ChannelReading). IsReading (settings given.page_size uuid n) text.bytes text.ended reading) new.channels now.channels)
           many are_now.has_channels);
-      has_table_first = main_table_first p limit old.main before.main size are_before.has_main;
+      has_table_first = main_table_first given old.main before.main size are_before.has_main;
     }
 
 -- ---- a source that isn't pending at a round stands there as it did
@@ -374,12 +375,12 @@ judged_settled k readings judged = elim (cases_Bool (list_any (λ (s : Standing)
 ]
 
 pub answers_law : AnswersStay
-answers_law = λ p uuid limit old new answer size go is judged.
+answers_law = λ given uuid old new answer size go is judged.
     let k : ℕ = answer.rounds in
     let before : Readings = is.readings in
-    let next = some_readings p uuid limit new size in
+    let next = some_readings given uuid new size in
     let now : Readings = next.0 in
-    let stay : ReadingsStay before now = readings_stay p uuid limit old new before now size go is.are_readings next.1 in
+    let stay : ReadingsStay before now = readings_stay given uuid old new before now size go is.are_readings next.1 in
     let same : SameAt k before now = same_at k before now stay (judged_settled k before (λ e. judged (is.has_verdict ∙ e))) in
     let passed : HavePassed k before = is.has_rounds.before in
     let base : base_at k now ≡ base_at k before = base_still before now k stay passed in
@@ -412,9 +413,9 @@ wants_memory before now k memory stay passed (inl e) = elim (some_or_none before
 ]
 
 pub wants_law : WithoutMemoryStays
-wants_law = λ p uuid limit old new answer size go is.
-    let next = some_readings p uuid limit new size in
-    let stay : ReadingsStay is.readings next.0 = readings_stay p uuid limit old new is.readings next.0 size go is.are_readings next.1 in
+wants_law = λ given uuid old new answer size go is.
+    let next = some_readings given uuid new size in
+    let stay : ReadingsStay is.readings next.0 = readings_stay given uuid old new is.readings next.0 size go is.are_readings next.1 in
     record {
       readings = next.0;
       are_readings = next.1;
@@ -424,8 +425,8 @@ wants_law = λ p uuid limit old new answer size go is.
     }
 
 pub rounds_law : RoundsStay
-rounds_law = λ p uuid limit old new before after size go is_before is_after.
-    let stay = readings_stay p uuid limit old new is_before.readings is_after.readings size go is_before.are_readings is_after.are_readings in
+rounds_law = λ given uuid old new before after size go is_before is_after.
+    let stay = readings_stay given uuid old new is_before.readings is_after.readings size go is_before.are_readings is_after.are_readings in
     elim (cases_lt after.rounds before.rounds) [
       | inr le ↦ le
       | inl lt ↦

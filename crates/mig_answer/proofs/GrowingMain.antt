@@ -3,16 +3,17 @@ use Rattle.std.proofs.Common.{◌≡◌, ◌≢◌, ℕ, Bool, true, false, List
 use Rattle.std.proofs.lemmas.Bool.{cases_Bool}
 use Rattle.std.proofs.lemmas.List.{append-nil}
 use Rattle.mig_mem.specs.PageSize.{IsPageSize}
-use Rattle.mig_stream.specs.declared.item.Mode.TheVariants.{Main}
 use Rattle.mig_stream.specs.declared.item.StreamState.{StreamState}
 use Rattle.mig_stream.specs.declared.item.StreamState.TheVariants.{Reading, Closed, Bad}
 use Rattle.mig_stream.specs.PageRecord.{PageRecord}
-use Rattle.mig_stream.specs.Reading.{Settings, settings, StreamReading, IsReading, state_at}
+use Rattle.mig_stream.specs.Reading.{Settings, StreamReading, IsReading, state_at}
 use Rattle.mig_stream.specs.Reader.{HasRound}
 use Rattle.mig_stream.specs.Law.{StaysRead}
 use Rattle.mig_stream.proofs.Exists.{one_reading_law}
 use Rattle.mig_stream.proofs.Limits.{limits_law}
 use Rattle.mig_stream.proofs.Longer.{longer_law}
+use Rattle.mig_single_load.specs.Settings.{main_of}
+use Rattle.mig_single_load.specs.declared.settings.LoadSettings.{LoadSettings}
 use Rattle.mig_answer.specs.Texts.{Text, IsMainReading}
 use Rattle.mig_answer.specs.Growing.{GoesOn}
 use Rattle.mig_answer.proofs.OneAnswer.{same_main}
@@ -42,17 +43,17 @@ at_end_same ended found other =
     ap (λ (s : StreamState). record { table = found.table; rounds = found.rounds; state = s }) (state_stays ended found.state other)
 
 -- what is read of a main stream stays read
-pub main_stays : (p limit : ℕ) (old new : Text) (before now : StreamReading) → IsPageSize p → GoesOn old new
-    → IsMainReading p limit old before → IsMainReading p limit new now → StaysRead before now
-main_stays p limit old new before now size goes is_before is_now = elim (cases_Bool old.ended) [
+pub main_stays : (given : LoadSettings) (old new : Text) (before now : StreamReading) → IsPageSize given.page_size → GoesOn old new
+    → IsMainReading given old before → IsMainReading given new now → StaysRead before now
+main_stays given old new before now size goes is_before is_now = elim (cases_Bool old.ended) [
   | inl t ↦
-      let again : IsMainReading p limit old now = subst (λ (text : Text). IsMainReading p limit text now) (goes.stays_ended t) is_now in
-      stays_same before now (same_main p limit old now before size again is_before)
+      let again : IsMainReading given old now = subst (λ (text : Text). IsMainReading given text now) (goes.stays_ended t) is_now in
+      stays_same before now (same_main given old now before size again is_before)
   | inr f ↦
       let x : StreamReading = is_before.found in
       let y : StreamReading = is_now.found in
-      let longer : StaysRead x y = longer_law (settings Main p limit) old.bytes goes.more x y size is_before.is_reading
-      (subst (λ (bytes : List ℕ). IsReading (settings Main p limit) bytes y) goes.has_bytes is_now.is_reading) in
+      let longer : StaysRead x y = longer_law (main_of given) old.bytes goes.more x y size is_before.is_reading
+      (subst (λ (bytes : List ℕ). IsReading (main_of given) bytes y) goes.has_bytes is_now.is_reading) in
       let first : before ≡ x = is_before.has_end ∙ ap (λ (ended : Bool). at_end ended x) f in
       record {
         more_rounds = longer.more_rounds;
@@ -67,10 +68,10 @@ main_stays p limit old new before now size goes is_before is_now = elim (cases_B
 ]
 
 -- there is no round before the table is known
-pub main_table_first : (p limit : ℕ) (text : Text) (reading : StreamReading) → IsPageSize p → IsMainReading p limit text reading → reading.table ≡ None
+pub main_table_first : (given : LoadSettings) (text : Text) (reading : StreamReading) → IsPageSize given.page_size → IsMainReading given text reading → reading.table ≡ None
     → reading.rounds ≡ []
-main_table_first p limit text reading size is none =
-    let limits = limits_law (settings Main p limit) text.bytes is.found size is.is_reading in
+main_table_first given text reading size is none =
+    let limits = limits_law (main_of given) text.bytes is.found size is.is_reading in
     ap (λ (r : StreamReading). r.rounds) is.has_end ∙ limits.has_table_first (sym (ap (λ (r : StreamReading). r.table) is.has_end) ∙ none)
 
 pub main_round_stays : (given : Settings) (text more : List ℕ) (k : ℕ) (round : List PageRecord) → IsPageSize given.page_size → HasRound given text k round

@@ -16,6 +16,7 @@ use Rattle.mig_stream.specs.Text.{total_bytes}
 use Rattle.mig_stream.specs.Written.{single}
 use Rattle.mig_send.specs.DealtRounds.{DealtRound, IsDealtRound}
 use Rattle.mig_send.specs.ReadBack.{SendingsAreReadBack}
+use Rattle.mig_single_load.specs.Settings.{ram_settings}
 use Rattle.mig_single_load.specs.declared.loaded.Loaded.{Loaded}
 use Rattle.mig_answer.specs.declared.verdict.Verdict.{Verdict}
 use Rattle.mig_answer.specs.declared.verdict.Verdict.TheVariants.{Done}
@@ -83,7 +84,7 @@ stops table limit channels rounds readings is =
 -- ---- the law
 
 of_sending : SendingsAreReadBack → (table : RamTable) (uuid : List ℕ) (limit : ℕ) (rounds : List DealtRound) (main : List ℕ) (channels : List (List ℕ)) (readings : Readings)
-    → (sent : IsSentInAnyOrder table uuid rounds main channels) → total_bytes table ≤ limit → AreReadings table.page_size uuid limit (ended_texts main channels) readings
+    → (sent : IsSentInAnyOrder table uuid rounds main channels) → total_bytes table ≤ limit → AreReadings (ram_settings table.page_size limit) uuid (ended_texts main channels) readings
     → AreOfSending table sent.batch_limit (length channels) rounds readings
 of_sending back table uuid limit rounds main channels readings sent room are = record {
   told = told_of back table uuid limit rounds main channels readings sent room are;
@@ -104,7 +105,7 @@ sendings_law back = λ table uuid limit rounds main channels answer sent room an
     let memory : memory_at n readings ≡ Some (after table (sent_rounds rounds)) =
     ap (λ (r : StreamReading). option_map (λ t. after t (map (λ i. pages_at t i readings) (range_with_len 0 n))) r.table) is.told.has_main
     ∙ ap (λ (m : Image). Some m) (memory_is table sent.batch_limit (length channels) rounds readings is) in
-    is_answer_at table.page_size uuid limit (ended_texts main channels) readings n answer size answers.are_readings (stops table sent.batch_limit (length channels) rounds readings is) answers
+    is_answer_at (ram_settings table.page_size limit) uuid (ended_texts main channels) readings n answer size answers.are_readings (stops table sent.batch_limit (length channels) rounds readings is) answers
     ∙ ap (λ (m : Option Image). record { memory = m; rounds = n; verdict = verdict_at n readings }) memory
     ∙ ap (λ (v : Verdict). record { memory = Some (after table (sent_rounds rounds)); rounds = n; verdict = v }) (done_is table sent.batch_limit (length channels) rounds readings is)
 

@@ -15,6 +15,7 @@ use Rattle.mig_packet.specs.declared.state.ChannelState.{ChannelState}
 use Rattle.mig_packet.specs.declared.state.ChannelState.TheVariants as channel
 use Rattle.mig_packet.specs.Reading.{Settings, settings, ChannelReading, IsReading}
 use Rattle.mig_packet.proofs.Limits.{limits_law}
+use Rattle.mig_single_load.specs.declared.settings.LoadSettings.{LoadSettings}
 use Rattle.mig_single_load.specs.declared.fault.Origin.TheVariants as origin
 use Rattle.mig_single_load.specs.declared.fault.Fault.{Fault}
 use Rattle.mig_single_load.specs.declared.fault.LoadFault.{LoadFault}
@@ -93,16 +94,16 @@ channels_settled given k n (text ∷ texts) (c ∷ channels) size zip over all =
     (channels_settled given k (n + 1) texts channels size zip.1 (All-tail (λ (t : Text). t.ended ≡ true) text texts over)
     (λ j below. All-tail IsWhole (standing_at j (n, c)) (map (standing_at j) (enumerate_from (n + 1) channels)) (all j below)))
 
-none_pending : (p : ℕ) (uuid : List ℕ) (limit : ℕ) (texts : Texts) (readings : Readings) (k : ℕ) → IsPageSize p → texts.main.ended ≡ true
-    → All (λ (text : Text). text.ended ≡ true) texts.channels → AreReadings p uuid limit texts readings → IsFirstStop readings k → All IsSettled (sources_at k readings)
-none_pending p uuid limit texts readings k size main_over over are stop =
+none_pending : (given : LoadSettings) (uuid : List ℕ) (texts : Texts) (readings : Readings) (k : ℕ) → IsPageSize given.page_size → texts.main.ended ≡ true
+    → All (λ (text : Text). text.ended ≡ true) texts.channels → AreReadings given uuid texts readings → IsFirstStop readings k → All IsSettled (sources_at k readings)
+none_pending given uuid texts readings k size main_over over are stop =
     let end = stream_end readings.main.state in
     let settled : is_pending end ≡ false =
     ap (λ (r : StreamReading). is_pending (stream_end r.state)) are.has_main.has_end ∙ over_settles are.has_main.found.state texts.main.ended main_over in
     let few : k ≤ length readings.main.rounds = has_round k (length readings.main.rounds) end (stream_ends readings.main.state)
     (λ j below. All-head IsWhole (main_at j readings) (channels_at j readings) (whole_at readings j (stop.before j below))) in
     All-cons IsSettled (main_at k readings) (channels_at k readings) (reached k (length readings.main.rounds) end few settled)
-    (channels_settled (settings p uuid (length texts.channels)) k 0 texts.channels readings.channels size are.has_channels over
+    (channels_settled (settings given.page_size uuid (length texts.channels)) k 0 texts.channels readings.channels size are.has_channels over
     (λ j below. All-tail IsWhole (main_at j readings) (channels_at j readings) (whole_at readings j (stop.before j below))))
 
 -- ---- and there is an answer
@@ -270,6 +271,6 @@ settled_is_told k readings stop settled =
     (λ v e. first_is (λ (x : Verdict). x ≢ Running) (verdicts_at k readings) v (all_told k readings none) e)
 
 pub ended_law : EndedTextsAreJudged
-ended_law = λ p uuid limit texts answer size over is running.
-    settled_is_told answer.rounds is.readings is.has_rounds (none_pending p uuid limit texts is.readings answer.rounds size over.0 over.1 is.are_readings is.has_rounds)
+ended_law = λ given uuid texts answer size over is running.
+    settled_is_told answer.rounds is.readings is.has_rounds (none_pending given uuid texts is.readings answer.rounds size over.0 over.1 is.are_readings is.has_rounds)
     (sym is.has_verdict ∙ running)

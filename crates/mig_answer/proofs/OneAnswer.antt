@@ -5,11 +5,12 @@ use Rattle.std.specs.List.{AllZip}
 use Rattle.std.proofs.lemmas.Bool.{cases_order, cases_Bool}
 use Rattle.mig_mem.specs.PageSize.{IsPageSize}
 use Rattle.mig_mem.specs.Image.{Image}
-use Rattle.mig_stream.specs.declared.item.Mode.TheVariants.{Main}
-use Rattle.mig_stream.specs.Reading.{settings as stream_settings, StreamReading, state_at}
+use Rattle.mig_stream.specs.Reading.{StreamReading, state_at}
 use Rattle.mig_stream.proofs.Exists.{one_reading_law as stream_law}
 use Rattle.mig_packet.specs.Reading.{Settings, settings, ChannelReading, IsReading}
 use Rattle.mig_packet.proofs.Exists.{one_reading_law as channel_law}
+use Rattle.mig_single_load.specs.Settings.{main_of}
+use Rattle.mig_single_load.specs.declared.settings.LoadSettings.{LoadSettings}
 use Rattle.mig_answer.specs.declared.verdict.Verdict.{Verdict}
 use Rattle.mig_answer.specs.Texts.{Text, Texts, Readings, IsMainReading, AreReadings}
 use Rattle.mig_answer.specs.Rounds.{memory_at}
@@ -20,16 +21,16 @@ use Rattle.mig_answer.proofs.Statuses.{status_end, stream_ends}
 
 -- ---- one reading of each text
 
-pub main_reading : (p limit : ℕ) (text : Text) → IsPageSize p → (reading : StreamReading) × IsMainReading p limit text reading
-main_reading p limit text size =
-    let one = stream_law (stream_settings Main p limit) text.bytes size in (
+pub main_reading : (given : LoadSettings) (text : Text) → IsPageSize given.page_size → (reading : StreamReading) × IsMainReading given text reading
+main_reading given text size =
+    let one = stream_law (main_of given) text.bytes size in (
       record one.0 { state = state_at text.ended one.0.state },
       record { found = one.0; is_reading = one.1; has_end = refl },
     )
 
-pub same_main : (p limit : ℕ) (text : Text) (a b : StreamReading) → IsPageSize p → IsMainReading p limit text a → IsMainReading p limit text b → a ≡ b
-same_main p limit text a b size is_a is_b =
-    let one = stream_law (stream_settings Main p limit) text.bytes size in
+pub same_main : (given : LoadSettings) (text : Text) (a b : StreamReading) → IsPageSize given.page_size → IsMainReading given text a → IsMainReading given text b → a ≡ b
+same_main given text a b size is_a is_b =
+    let one = stream_law (main_of given) text.bytes size in
     let same : is_a.found ≡ is_b.found = one.2 is_a.found is_a.is_reading ∙ sym (one.2 is_b.found is_b.is_reading) in
     is_a.has_end ∙ ap (λ (found : StreamReading). record found { state = state_at text.ended found.state }) same ∙ sym is_b.has_end
 
@@ -54,21 +55,21 @@ channels_are given size (text ∷ texts) (reading ∷ readings) zip =
     ap (λ (r : ChannelReading). r ∷ readings) here
     ∙ ap (λ (rs : List ChannelReading). channel_reading given size text ∷ rs) (channels_are given size texts readings zip.1)
 
-pub some_readings : (p : ℕ) (uuid : List ℕ) (limit : ℕ) (texts : Texts) → IsPageSize p → (readings : Readings) × AreReadings p uuid limit texts readings
-some_readings p uuid limit texts size =
-    let given = settings p uuid (length texts.channels) in
-    let main = main_reading p limit texts.main size in (
-      record { main = main.0; channels = map (channel_reading given size) texts.channels },
-      record { has_main = main.1; has_channels = channels_read given size texts.channels },
+pub some_readings : (given : LoadSettings) (uuid : List ℕ) (texts : Texts) → IsPageSize given.page_size → (readings : Readings) × AreReadings given uuid texts readings
+some_readings given uuid texts size =
+    let channel_given = settings given.page_size uuid (length texts.channels) in
+    let main = main_reading given texts.main size in (
+      record { main = main.0; channels = map (channel_reading channel_given size) texts.channels },
+      record { has_main = main.1; has_channels = channels_read channel_given size texts.channels },
     )
 
-pub same_readings : (p : ℕ) (uuid : List ℕ) (limit : ℕ) (texts : Texts) (a b : Readings) → IsPageSize p
-    → AreReadings p uuid limit texts a → AreReadings p uuid limit texts b → a ≡ b
-same_readings p uuid limit texts a b size are_a are_b =
-    let given = settings p uuid (length texts.channels) in
-    let main : a.main ≡ b.main = same_main p limit texts.main a.main b.main size are_a.has_main are_b.has_main in
+pub same_readings : (given : LoadSettings) (uuid : List ℕ) (texts : Texts) (a b : Readings) → IsPageSize given.page_size
+    → AreReadings given uuid texts a → AreReadings given uuid texts b → a ≡ b
+same_readings given uuid texts a b size are_a are_b =
+    let channel_given = settings given.page_size uuid (length texts.channels) in
+    let main : a.main ≡ b.main = same_main given texts.main a.main b.main size are_a.has_main are_b.has_main in
     let channels : a.channels ≡ b.channels =
-    channels_are given size texts.channels a.channels are_a.has_channels ∙ sym (channels_are given size texts.channels b.channels are_b.has_channels) in
+    channels_are channel_given size texts.channels a.channels are_a.has_channels ∙ sym (channels_are channel_given size texts.channels b.channels are_b.has_channels) in
     ap (λ (m : StreamReading). record { main = m; channels = a.channels }) main
     ∙ ap (λ (cs : List ChannelReading). record { main = b.main; channels = cs }) channels
 
@@ -125,21 +126,21 @@ answer_is readings k answer rounds memory verdict =
     ∙ ap (λ (n : ℕ). answer_at n readings) rounds
 
 -- an answer is that of any readings of the texts and of any least round that doesn't pass
-pub is_answer_at : (p : ℕ) (uuid : List ℕ) (limit : ℕ) (texts : Texts) (readings : Readings) (k : ℕ) (answer : Answer) → IsPageSize p
-    → AreReadings p uuid limit texts readings → IsFirstStop readings k → IsAnswer p uuid limit texts answer → answer ≡ answer_at k readings
-is_answer_at p uuid limit texts readings k answer size are stop is =
-    let same : is.readings ≡ readings = same_readings p uuid limit texts is.readings readings size is.are_readings are in
+pub is_answer_at : (given : LoadSettings) (uuid : List ℕ) (texts : Texts) (readings : Readings) (k : ℕ) (answer : Answer) → IsPageSize given.page_size
+    → AreReadings given uuid texts readings → IsFirstStop readings k → IsAnswer given uuid texts answer → answer ≡ answer_at k readings
+is_answer_at given uuid texts readings k answer size are stop is =
+    let same : is.readings ≡ readings = same_readings given uuid texts is.readings readings size is.are_readings are in
     answer_is readings k answer
     (same_stop readings answer.rounds k (subst (λ (r : Readings). IsFirstStop r answer.rounds) same is.has_rounds) stop)
     (is.has_memory ∙ ap (λ (r : Readings). memory_at answer.rounds r) same)
     (is.has_verdict ∙ ap (λ (r : Readings). verdict_at answer.rounds r) same)
 
 pub one_answer_law : HasOneAnswer
-one_answer_law = λ p uuid limit texts size.
-    let found = some_readings p uuid limit texts size in
+one_answer_law = λ given uuid texts size.
+    let found = some_readings given uuid texts size in
     let k = least (λ i. passes i found.0) (length found.0.main.rounds) (main_ends found.0) in
     let stop : IsFirstStop found.0 k.0 = record { before = k.1.before; here = k.1.here } in (
       answer_at k.0 found.0,
       record { readings = found.0; are_readings = found.1; has_rounds = stop; has_memory = refl; has_verdict = refl },
-      λ other is. is_answer_at p uuid limit texts found.0 k.0 other size found.1 stop is,
+      λ other is. is_answer_at given uuid texts found.0 k.0 other size found.1 stop is,
     )

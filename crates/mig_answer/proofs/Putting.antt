@@ -12,14 +12,14 @@ use Rattle.mig_mem.specs.Image.{Page, Image, zero_image}
 use Rattle.mig_mem.specs.Round.{after, with_round}
 use Rattle.mig_mem.proofs.Rounds.{onto-push, onto-zeros, after-nil}
 use Rattle.mig_stream.specs.PageRecord.{page_of}
-use Rattle.mig_stream.specs.Reading.{settings as main_settings}
 use Rattle.mig_stream.specs.Round.{RoundOfRecords}
-use Rattle.mig_stream.specs.declared.item.Mode.TheVariants.{Main}
 use Rattle.mig_stream.proofs.Limits.{limits_law}
 use Rattle.mig_packet.specs.Packet.{Fields, fields_of}
 use Rattle.mig_packet.specs.Reading.{ChannelReading}
 use Rattle.mig_assemble.specs.Judging.{refusal, all_round_pages}
 use Rattle.mig_assemble.specs.Target.{LoadTarget, FitsTable, pages_of_round, after_round}
+use Rattle.mig_single_load.specs.Settings.{main_of}
+use Rattle.mig_single_load.specs.declared.settings.LoadSettings.{LoadSettings}
 use Rattle.mig_answer.specs.Texts.{Text, Readings, IsMainReading}
 use Rattle.mig_answer.specs.Rounds.{record_pages_at, channel_packets_at, packets_at, packet_count_at, base_at, refusal_of, refusal_at, pages_at, memory_at}
 use Rattle.mig_answer.specs.Putting.{HasLoaded}
@@ -37,11 +37,11 @@ table_is k readings target has = go readings.main.table has.has_memory
         let same : after t (map (λ i. pages_at t i readings) (range_with_len 0 k)) ≡ target.memory = cc in ap (λ (m : Image). Some m.table) same
 
 -- the page size of the table
-pub size_of_table : (p limit k : ℕ) (text : Text) (readings : Readings) (target : LoadTarget) → IsPageSize p → IsMainReading p limit text readings.main → HasLoaded k readings target
-    → target.memory.table.page_size ≡ p
-size_of_table p limit k text readings target size is has =
+pub size_of_table : (given : LoadSettings) (k : ℕ) (text : Text) (readings : Readings) (target : LoadTarget) → IsPageSize given.page_size → IsMainReading given text readings.main → HasLoaded k readings target
+    → target.memory.table.page_size ≡ given.page_size
+size_of_table given k text readings target size is has =
     let table : is.found.table ≡ Some target.memory.table = sym (ap (λ r. r.table) is.has_end) ∙ table_is k readings target has in
-    (limits_law (main_settings Main p limit) text.bytes is.found size is.is_reading).has_page_size target.memory.table table
+    (limits_law (main_of given) text.bytes is.found size is.is_reading).has_page_size target.memory.table table
 
 -- ---- the round
 

@@ -93,16 +93,16 @@ same_sums f g from (suc count) same =
 -- ---- the law
 
 pub together_law : FrontsTellAllChannels
-together_law = λ page_size uuid limit k main channels received readings size are have.
-    let given : Settings = settings page_size uuid (length channels) in
+together_law = λ given uuid k main channels received readings size are have.
+    let channel_given : Settings = settings given.page_size uuid (length channels) in
     let as_many : length (map ended_text channels) ≡ length channels = length-map channels ended_text in
-    let read = subst (λ (n : ℕ). AllZip (λ (text : Text) (reading : ChannelReading). IsReading (settings page_size uuid n) text.bytes text.ended reading)
+    let read = subst (λ (n : ℕ). AllZip (λ (text : Text) (reading : ChannelReading). IsReading (settings given.page_size uuid n) text.bytes text.ended reading)
     (map ended_text channels) readings.channels) as_many are.has_channels in
-    let tell : TellChannels page_size k received readings.channels = all_tell given k channels received readings.channels size read have in
+    let tell : TellChannels given.page_size k received readings.channels = all_tell channel_given k channels received readings.channels size read have in
     record {
-      has_channels = same_standings page_size k 0 received readings.channels tell;
-      has_hellos = same_each hello_in (λ (reading : ChannelReading). reading.hello) page_size k (λ items reading tells. tells.has_hello) received readings.channels tell;
-      has_packets = λ i few. same_packets page_size k i received readings.channels few tell;
+      has_channels = same_standings given.page_size k 0 received readings.channels tell;
+      has_hellos = same_each hello_in (λ (reading : ChannelReading). reading.hello) given.page_size k (λ items reading tells. tells.has_hello) received readings.channels tell;
+      has_packets = λ i few. same_packets given.page_size k i received readings.channels few tell;
       has_base = same_sums (λ i. length (packets_in i received)) (λ i. packet_count_at i readings) 0 k
-          (λ i below. same_count page_size k i received readings.channels (omega (arith, below)) tell);
+          (λ i below. same_count given.page_size k i received readings.channels (omega (arith, below)) tell);
     }

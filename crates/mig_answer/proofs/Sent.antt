@@ -16,6 +16,7 @@ use Rattle.mig_stream.specs.Law.{closed}
 use Rattle.mig_packet.specs.Reading.{Settings, settings, ChannelReading, IsReading}
 use Rattle.mig_send.specs.DealtRounds.{DealtRound, channel_text}
 use Rattle.mig_send.specs.ReadBack.{channel_told, round_packets, AreReadBack, SendingsAreReadBack}
+use Rattle.mig_single_load.specs.Settings.{ram_settings}
 use Rattle.mig_single_load.specs.declared.fault.Origin.TheVariants as origin
 use Rattle.mig_answer.specs.declared.status.Status.{Status}
 use Rattle.mig_answer.specs.declared.status.Status.TheVariants.{Whole, Clean}
@@ -42,7 +43,7 @@ read_each given told n (text ∷ texts) each =
     (each 0 n (omega arith) (omega arith), read_each given told (n + 1) texts (λ i j below is. each (suc i) j (omega (arith, below)) (omega (arith, is))))
 
 pub told_of : SendingsAreReadBack → (table : RamTable) (uuid : List ℕ) (limit : ℕ) (rounds : List DealtRound) (main : List ℕ) (channels : List (List ℕ)) (readings : Readings)
-    → IsSentInAnyOrder table uuid rounds main channels → total_bytes table ≤ limit → AreReadings table.page_size uuid limit (ended_texts main channels) readings
+    → IsSentInAnyOrder table uuid rounds main channels → total_bytes table ≤ limit → AreReadings (ram_settings table.page_size limit) uuid (ended_texts main channels) readings
     → AreToldOf table (length channels) rounds readings
 told_of back table uuid limit rounds main channels readings sent room are =
     let size : IsPageSize table.page_size = sent.is_sending.is_set.has_table.has_page_size in
@@ -62,7 +63,7 @@ told_of back table uuid limit rounds main channels readings sent room are =
     let perm : IsPermutation (map (channel_reading given size) (map ended_text sent.in_order)) (map (channel_reading given size) (map ended_text channels)) =
     IsPermutation-map (channel_reading given size) (map ended_text sent.in_order) (map ended_text channels) (IsPermutation-map ended_text sent.in_order channels sent.is_permutation) in
     record {
-      has_main = same_main table.page_size limit (ended_text main) readings.main (closed table (replicate (length rounds) [])) size are.has_main
+      has_main = same_main (ram_settings table.page_size limit) (ended_text main) readings.main (closed table (replicate (length rounds) [])) size are.has_main
           (record { found = closed table (replicate (length rounds) []); is_reading = read.main_is_read limit room; has_end = refl });
       has_channels = subst (λ n. IsPermutation (map (channel_told rounds) (range_with_len 0 n)) readings.channels) long
           (subst (λ cs. IsPermutation cs readings.channels) (sym told)

@@ -14,6 +14,7 @@ use Rattle.mig_mem.specs.First.{first_some}
 use Rattle.mig_assemble.specs.declared.fault.RoundFault.{RoundFault}
 use Rattle.mig_stream.specs.Reading.{StreamReading}
 use Rattle.mig_packet.specs.Reading.{settings}
+use Rattle.mig_single_load.specs.declared.settings.LoadSettings.{LoadSettings}
 use Rattle.mig_single_load.specs.declared.fault.Origin.TheVariants as origin
 use Rattle.mig_single_load.specs.declared.fault.Fault.{Fault}
 use Rattle.mig_single_load.specs.declared.fault.Fault.TheVariants as fault
@@ -56,9 +57,9 @@ have_ended (text ∷ texts) = All-cons (λ (t : Text). t.ended ≡ true) (ended_
 abbrev HavePassed : ℕ → Readings → Type 0
 HavePassed k readings = (j : ℕ) → j < k → IsTrue (passes j readings)
 
-settled_at : (p : ℕ) (uuid : List ℕ) (limit : ℕ) (main : List ℕ) (channels : List (List ℕ)) (readings : Readings) (k : ℕ) → IsPageSize p
-    → AreReadings p uuid limit (ended_texts main channels) readings → HavePassed k readings → All IsSettled (sources_at k readings)
-settled_at p uuid limit main channels readings k size are before =
+settled_at : (given : LoadSettings) (uuid : List ℕ) (main : List ℕ) (channels : List (List ℕ)) (readings : Readings) (k : ℕ) → IsPageSize given.page_size
+    → AreReadings given uuid (ended_texts main channels) readings → HavePassed k readings → All IsSettled (sources_at k readings)
+settled_at given uuid main channels readings k size are before =
     let texts : List Text = map ended_text channels in
     let end = stream_end readings.main.state in
     let settled : is_pending end ≡ false =
@@ -66,14 +67,14 @@ settled_at p uuid limit main channels readings k size are before =
     let few : k ≤ length readings.main.rounds = has_round k (length readings.main.rounds) end (stream_ends readings.main.state)
     (λ j below. All-head IsWhole (main_at j readings) (channels_at j readings) (whole_at readings j (before j below))) in
     All-cons IsSettled (main_at k readings) (channels_at k readings) (reached k (length readings.main.rounds) end few settled)
-    (channels_settled (settings p uuid (length texts)) k 0 texts readings.channels size are.has_channels (have_ended channels)
+    (channels_settled (settings given.page_size uuid (length texts)) k 0 texts readings.channels size are.has_channels (have_ended channels)
     (λ j below. All-tail IsWhole (main_at j readings) (channels_at j readings) (whole_at readings j (before j below))))
 
-none_pending_at : (p : ℕ) (uuid : List ℕ) (limit : ℕ) (main : List ℕ) (channels : List (List ℕ)) (readings : Readings) (k : ℕ) → IsPageSize p
-    → AreReadings p uuid limit (ended_texts main channels) readings → HavePassed k readings
+none_pending_at : (given : LoadSettings) (uuid : List ℕ) (main : List ℕ) (channels : List (List ℕ)) (readings : Readings) (k : ℕ) → IsPageSize given.page_size
+    → AreReadings given uuid (ended_texts main channels) readings → HavePassed k readings
     → list_any (λ (s : Standing). is_pending s.status) (sources_at k readings) ≡ false
-none_pending_at p uuid limit main channels readings k size are before =
-    list_any_none (λ (s : Standing). is_pending s.status) (sources_at k readings) (settled_at p uuid limit main channels readings k size are before)
+none_pending_at given uuid main channels readings k size are before =
+    list_any_none (λ (s : Standing). is_pending s.status) (sources_at k readings) (settled_at given uuid main channels readings k size are before)
 
 -- ---- what is told where all sources have the round, and where nothing is told
 
@@ -195,33 +196,33 @@ told_first_some k readings v e =
     (stops, first_more (told_at k readings) (round_told k readings) v e)
 
 -- a verdict that the sources tell is that of the first round that doesn't pass
-pub told_stops : (p : ℕ) (uuid : List ℕ) (limit : ℕ) (main : List ℕ) (channels : List (List ℕ)) (readings : Readings) (k : ℕ) (status : Status) (statuses : List Status)
-    (repeated : Option ℕ) (v : Verdict) → IsPageSize p → AreReadings p uuid limit (ended_texts main channels) readings → ((j : ℕ) → j < k → IsTrue (passes j readings))
+pub told_stops : (given : LoadSettings) (uuid : List ℕ) (main : List ℕ) (channels : List (List ℕ)) (readings : Readings) (k : ℕ) (status : Status) (statuses : List Status)
+    (repeated : Option ℕ) (v : Verdict) → IsPageSize given.page_size → AreReadings given uuid (ended_texts main channels) readings → ((j : ℕ) → j < k → IsTrue (passes j readings))
     → TellsSources k readings status statuses repeated → first_some (verdicts_told k (main_standing status) (standings statuses) repeated) ≡ Some v
     → IsFirstStop readings k × (verdict_at k readings ≡ v) × (v ≢ Running)
-told_stops p uuid limit main channels readings k status statuses repeated v size are before tells e =
+told_stops given uuid main channels readings k status statuses repeated v size are before tells e =
     let told : first_some (told_at k readings) ≡ Some v = sym (ap first_some (same_told k readings status statuses repeated tells)) ∙ e in
     let found = told_first_some k readings v told in (
       record { before = before; here = found.0 },
       ap (λ (o : Option Verdict). unwrap_or o Running) found.1,
       first_is (λ (x : Verdict). x ≢ Running) (verdicts_at k readings) v
-          (all_told k readings (none_pending_at p uuid limit main channels readings k size are before)) found.1,
+          (all_told k readings (none_pending_at given uuid main channels readings k size are before)) found.1,
     )
 
 -- where they tell none, it is that of the round, if it is refused
-pub told_refused : (p : ℕ) (uuid : List ℕ) (limit : ℕ) (main : List ℕ) (channels : List (List ℕ)) (readings : Readings) (k : ℕ) (status : Status) (statuses : List Status)
-    (repeated : Option ℕ) (f : RoundFault) → IsPageSize p → AreReadings p uuid limit (ended_texts main channels) readings → ((j : ℕ) → j < k → IsTrue (passes j readings))
+pub told_refused : (given : LoadSettings) (uuid : List ℕ) (main : List ℕ) (channels : List (List ℕ)) (readings : Readings) (k : ℕ) (status : Status) (statuses : List Status)
+    (repeated : Option ℕ) (f : RoundFault) → IsPageSize given.page_size → AreReadings given uuid (ended_texts main channels) readings → ((j : ℕ) → j < k → IsTrue (passes j readings))
     → TellsSources k readings status statuses repeated → first_some (verdicts_told k (main_standing status) (standings statuses) repeated) ≡ None
     → refusal_at k readings ≡ Some f
     → IsFirstStop readings k × (verdict_at k readings ≡ failed k origin.Round (fault.Round f))
-told_refused p uuid limit main channels readings k status statuses repeated f size are before tells e refused =
+told_refused given uuid main channels readings k status statuses repeated f size are before tells e refused =
     let told : first_some (told_at k readings) ≡ None = sym (ap first_some (same_told k readings status statuses repeated tells)) ∙ e in
     let all : list_all (λ (s : Standing). is_whole s.status) (sources_at k readings) && is_none (repeated_hello (hello_ids readings)) ≡ true =
     rw (
       (none_told k (main_at k readings) (channels_at k readings) (repeated_hello (hello_ids readings))
-          (settled_at p uuid limit main channels readings k size are before) told).0,
+          (settled_at given uuid main channels readings k size are before) told).0,
       (none_told k (main_at k readings) (channels_at k readings) (repeated_hello (hello_ids readings))
-          (settled_at p uuid limit main channels readings k size are before) told).1,
+          (settled_at given uuid main channels readings k size are before) told).1,
     ) refl in
     let stops : passes k readings ≡ false = rw (all, refused) refl in
     let first : first_some (verdicts_at k readings) ≡ Some (failed k origin.Round (fault.Round f)) =
@@ -232,14 +233,14 @@ told_refused p uuid limit main channels readings k status statuses repeated f si
     )
 
 -- and the round passes where it isn't
-pub told_passes : (p : ℕ) (uuid : List ℕ) (limit : ℕ) (main : List ℕ) (channels : List (List ℕ)) (readings : Readings) (k : ℕ) (status : Status) (statuses : List Status)
-    (repeated : Option ℕ) → IsPageSize p → AreReadings p uuid limit (ended_texts main channels) readings → ((j : ℕ) → j < k → IsTrue (passes j readings))
+pub told_passes : (given : LoadSettings) (uuid : List ℕ) (main : List ℕ) (channels : List (List ℕ)) (readings : Readings) (k : ℕ) (status : Status) (statuses : List Status)
+    (repeated : Option ℕ) → IsPageSize given.page_size → AreReadings given uuid (ended_texts main channels) readings → ((j : ℕ) → j < k → IsTrue (passes j readings))
     → TellsSources k readings status statuses repeated → first_some (verdicts_told k (main_standing status) (standings statuses) repeated) ≡ None
     → refusal_at k readings ≡ None → IsTrue (passes k readings)
-told_passes p uuid limit main channels readings k status statuses repeated size are before tells e lawful =
+told_passes given uuid main channels readings k status statuses repeated size are before tells e lawful =
     let told : first_some (told_at k readings) ≡ None = sym (ap first_some (same_told k readings status statuses repeated tells)) ∙ e in
     let parts = none_told k (main_at k readings) (channels_at k readings) (repeated_hello (hello_ids readings))
-    (settled_at p uuid limit main channels readings k size are before) told in
+    (settled_at given uuid main channels readings k size are before) told in
     rw (parts.0, parts.1, lawful) refl
 
 -- the statuses that stand for channels, of which each is whole
@@ -253,14 +254,14 @@ whole_statuses n (s ∷ statuses) all =
     (whole_statuses (n + 1) statuses (All-tail IsWhole (record { source = origin.Channel n; status = s }) rest all))
 
 -- all sources have a round of which they tell none
-pub told_whole : (p : ℕ) (uuid : List ℕ) (limit : ℕ) (main : List ℕ) (channels : List (List ℕ)) (readings : Readings) (k : ℕ) (status : Status) (statuses : List Status)
-    (repeated : Option ℕ) → IsPageSize p → AreReadings p uuid limit (ended_texts main channels) readings → ((j : ℕ) → j < k → IsTrue (passes j readings))
+pub told_whole : (given : LoadSettings) (uuid : List ℕ) (main : List ℕ) (channels : List (List ℕ)) (readings : Readings) (k : ℕ) (status : Status) (statuses : List Status)
+    (repeated : Option ℕ) → IsPageSize given.page_size → AreReadings given uuid (ended_texts main channels) readings → ((j : ℕ) → j < k → IsTrue (passes j readings))
     → TellsSources k readings status statuses repeated → first_some (verdicts_told k (main_standing status) (standings statuses) repeated) ≡ None
     → (status ≡ Whole) × All (λ s. s ≡ Whole) statuses
-told_whole p uuid limit main channels readings k status statuses repeated size are before tells e =
+told_whole given uuid main channels readings k status statuses repeated size are before tells e =
     let told : first_some (told_at k readings) ≡ None = sym (ap first_some (same_told k readings status statuses repeated tells)) ∙ e in
     let parts = none_told k (main_at k readings) (channels_at k readings) (repeated_hello (hello_ids readings))
-    (settled_at p uuid limit main channels readings k size are before) told in
+    (settled_at given uuid main channels readings k size are before) told in
     let all : AreWhole (sources_at k readings) = passes_all (λ (s : Standing). is_whole s.status) (sources_at k readings) parts.0 in
     let main_whole : is_whole status ≡ true = ap is_whole tells.has_main ∙ All-head IsWhole (main_at k readings) (channels_at k readings) all in
     let channels_whole : AreWhole (channels_at k readings) = All-tail IsWhole (main_at k readings) (channels_at k readings) all in (
@@ -269,12 +270,12 @@ told_whole p uuid limit main channels readings k status statuses repeated size a
     )
 
 -- a fault of the main stream behind rounds that pass is the verdict, whatever the channels bring
-pub told_bad_main : (p : ℕ) (uuid : List ℕ) (limit : ℕ) (main : List ℕ) (channels : List (List ℕ)) (readings : Readings) (k : ℕ) (f : Fault)
-    → IsPageSize p → AreReadings p uuid limit (ended_texts main channels) readings → ((j : ℕ) → j < k → IsTrue (passes j readings))
+pub told_bad_main : (given : LoadSettings) (uuid : List ℕ) (main : List ℕ) (channels : List (List ℕ)) (readings : Readings) (k : ℕ) (f : Fault)
+    → IsPageSize given.page_size → AreReadings given uuid (ended_texts main channels) readings → ((j : ℕ) → j < k → IsTrue (passes j readings))
     → main_status k readings.main ≡ Bad f → IsFirstStop readings k × (verdict_at k readings ≡ failed k origin.Main f)
-told_bad_main p uuid limit main channels readings k f size are before bad =
+told_bad_main given uuid main channels readings k f size are before bad =
     let waits : list_any (λ (s : Standing). is_pending s.status) (sources_at k readings) ≡ false =
-    none_pending_at p uuid limit main channels readings k size are before in
+    none_pending_at given uuid main channels readings k size are before in
     let own : failed_with_own k (main_at k readings) ≡ Some (failed k origin.Main f) =
     ap (λ (s : Status). failed_with_own k (main_standing s)) bad in
     let first : first_some (told_at k readings) ≡ Some (failed k origin.Main f) = rw (waits, own) refl in

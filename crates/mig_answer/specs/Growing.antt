@@ -2,6 +2,7 @@
 use Rattle.std.specs.Prelude.{ℕ, ◌≡◌, ◌≢◌, ◌≤◌, true, List, ◌++◌}
 use Rattle.std.specs.List.{AllZip}
 use Rattle.mig_mem.specs.PageSize.{IsPageSize}
+use Rattle.mig_single_load.specs.declared.settings.LoadSettings.{LoadSettings}
 use Rattle.mig_answer.specs.declared.verdict.Verdict.TheVariants.{Running}
 use Rattle.mig_answer.specs.Texts.{Text, Texts}
 use Rattle.mig_answer.specs.MultiLoad.{Answer, IsAnswer, IsWithoutMemory}
@@ -19,15 +20,15 @@ pub record GoOn (old new : Texts) : Type 0 where
 
 -- An answer other than `Running` stays the answer, whatever comes.
 abbrev pub AnswersStay : Type 0
-AnswersStay = (page_size : ℕ) (uuid : List ℕ) (limit : ℕ) (old new : Texts) (answer : Answer) → IsPageSize page_size → GoOn old new
-    → IsAnswer page_size uuid limit old answer → answer.verdict ≢ Running → IsAnswer page_size uuid limit new answer
+AnswersStay = (given : LoadSettings) (uuid : List ℕ) (old new : Texts) (answer : Answer) → IsPageSize given.page_size → GoOn old new
+    → IsAnswer given uuid old answer → answer.verdict ≢ Running → IsAnswer given uuid new answer
 
 -- So does one without memory.
 abbrev pub WithoutMemoryStays : Type 0
-WithoutMemoryStays = (page_size : ℕ) (uuid : List ℕ) (limit : ℕ) (old new : Texts) (answer : Answer) → IsPageSize page_size → GoOn old new
-    → IsWithoutMemory page_size uuid limit old answer → IsWithoutMemory page_size uuid limit new answer
+WithoutMemoryStays = (given : LoadSettings) (uuid : List ℕ) (old new : Texts) (answer : Answer) → IsPageSize given.page_size → GoOn old new
+    → IsWithoutMemory given uuid old answer → IsWithoutMemory given uuid new answer
 
 -- And rounds that were counted stay counted.
 abbrev pub RoundsStay : Type 0
-RoundsStay = (page_size : ℕ) (uuid : List ℕ) (limit : ℕ) (old new : Texts) (before after : Answer) → IsPageSize page_size → GoOn old new
-    → IsAnswer page_size uuid limit old before → IsAnswer page_size uuid limit new after → before.rounds ≤ after.rounds
+RoundsStay = (given : LoadSettings) (uuid : List ℕ) (old new : Texts) (before after : Answer) → IsPageSize given.page_size → GoOn old new
+    → IsAnswer given uuid old before → IsAnswer given uuid new after → before.rounds ≤ after.rounds

@@ -1,15 +1,16 @@
 -- What holds of the answers of loads on several channels, whatever code gives them.
 use Rattle.std.specs.Prelude.{ℕ, ◌≡◌, ◌≢◌, true, List, All}
 use Rattle.mig_mem.specs.PageSize.{IsPageSize}
+use Rattle.mig_single_load.specs.declared.settings.LoadSettings.{LoadSettings}
 use Rattle.mig_answer.specs.declared.verdict.Verdict.TheVariants.{Running}
 use Rattle.mig_answer.specs.Texts.{Texts}
 use Rattle.mig_answer.specs.MultiLoad.{Answer, IsAnswer}
 
 -- Any texts, as far as they have come, have exactly one answer.
 abbrev pub HasOneAnswer : Type 0
-HasOneAnswer = (page_size : ℕ) (uuid : List ℕ) (limit : ℕ) (texts : Texts) → IsPageSize page_size
-    → (answer : Answer) × IsAnswer page_size uuid limit texts answer
-    × ((other : Answer) → IsAnswer page_size uuid limit texts other → other ≡ answer)
+HasOneAnswer = (given : LoadSettings) (uuid : List ℕ) (texts : Texts) → IsPageSize given.page_size
+    → (answer : Answer) × IsAnswer given uuid texts answer
+    × ((other : Answer) → IsAnswer given uuid texts other → other ≡ answer)
 
 -- all texts have ended
 abbrev pub HaveEnded : Texts → Type 0
@@ -17,5 +18,5 @@ HaveEnded texts = (texts.main.ended ≡ true) × All (λ text. text.ended ≡ tr
 
 -- Texts that have ended are done or have a fault.
 abbrev pub EndedTextsAreJudged : Type 0
-EndedTextsAreJudged = (page_size : ℕ) (uuid : List ℕ) (limit : ℕ) (texts : Texts) (answer : Answer) → IsPageSize page_size → HaveEnded texts
-    → IsAnswer page_size uuid limit texts answer → answer.verdict ≢ Running
+EndedTextsAreJudged = (given : LoadSettings) (uuid : List ℕ) (texts : Texts) (answer : Answer) → IsPageSize given.page_size → HaveEnded texts
+    → IsAnswer given uuid texts answer → answer.verdict ≢ Running

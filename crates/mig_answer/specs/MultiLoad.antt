@@ -5,6 +5,7 @@ use Rattle.std.specs.List.{list_any, list_all, range_with_len, enumerate_from}
 use Rattle.std.specs.Option.{option_map, unwrap_or}
 use Rattle.mig_mem.specs.First.{first_some}
 use Rattle.mig_mem.specs.Image.{Image}
+use Rattle.mig_single_load.specs.declared.settings.LoadSettings.{LoadSettings}
 use Rattle.mig_single_load.specs.declared.fault.Origin.{Origin}
 use Rattle.mig_single_load.specs.declared.fault.Origin.TheVariants as origin
 use Rattle.mig_single_load.specs.declared.fault.Fault.{Fault}
@@ -117,27 +118,27 @@ pub record Answer : Type 0 where
   pub rounds : ℕ
   pub verdict : Verdict
 
--- The answer on some texts, at pages of this size, under this UUID, and with blocks of at most `limit` bytes together. `rounds` is the
+-- The answer on some texts, with these settings and under this UUID. `rounds` is the
 -- least round that doesn't pass, the memory is that after the rounds before it, and the verdict is that at this round.
-pub record IsAnswer (page_size : ℕ) (uuid : List ℕ) (limit : ℕ) (texts : Texts) (answer : Answer) : Type 0 where
+pub record IsAnswer (given : LoadSettings) (uuid : List ℕ) (texts : Texts) (answer : Answer) : Type 0 where
   pub readings : Readings
-  pub are_readings : AreReadings page_size uuid limit texts readings
+  pub are_readings : AreReadings given uuid texts readings
   pub has_rounds : IsFirstStop readings answer.rounds
   pub has_memory : answer.memory ≡ memory_at answer.rounds readings
   pub has_verdict : answer.verdict ≡ verdict_at answer.rounds readings
 
 -- The answer where an allocation was refused: the memory is that after the rounds counted, each of which passes, or None where none was counted.
-pub record IsWithoutMemory (page_size : ℕ) (uuid : List ℕ) (limit : ℕ) (texts : Texts) (answer : Answer) : Type 0 where
+pub record IsWithoutMemory (given : LoadSettings) (uuid : List ℕ) (texts : Texts) (answer : Answer) : Type 0 where
   pub readings : Readings
-  pub are_readings : AreReadings page_size uuid limit texts readings
+  pub are_readings : AreReadings given uuid texts readings
   pub have_passed : (j : ℕ) → j < answer.rounds → IsTrue (passes j readings)
   pub has_memory : (answer.memory ≡ memory_at answer.rounds readings) ⊎ ((answer.memory ≡ None) × (answer.rounds ≡ 0))
   pub has_verdict : answer.verdict ≡ failed answer.rounds origin.Round fault.NoMemory
 
 -- What a load may answer: the answer on its texts, or, where an allocation was refused, one without memory.
-abbrev pub IsAnswerOrWithoutMemory : ℕ → List ℕ → ℕ → Texts → Answer → Type 0
-IsAnswerOrWithoutMemory page_size uuid limit texts answer =
-    IsAnswer page_size uuid limit texts answer ⊎ IsWithoutMemory page_size uuid limit texts answer
+abbrev pub IsAnswerOrWithoutMemory : LoadSettings → List ℕ → Texts → Answer → Type 0
+IsAnswerOrWithoutMemory given uuid texts answer =
+    IsAnswer given uuid texts answer ⊎ IsWithoutMemory given uuid texts answer
 
 -- the answer that a load gave
 abbrev pub as_verdict : Result ⊤ LoadFault → Verdict

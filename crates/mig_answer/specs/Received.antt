@@ -5,6 +5,7 @@ use Rattle.mig_mem.specs.PageSize.{IsPageSize}
 use Rattle.mig_packet.specs.Packet.{Fields}
 use Rattle.mig_packet.specs.ChannelItems.{ChannelItem, Hello, Page, Stop, AreItems}
 use Rattle.mig_packet.specs.Reading.{ChannelReading, Settings, settings, IsReading}
+use Rattle.mig_single_load.specs.declared.settings.LoadSettings.{LoadSettings}
 use Rattle.mig_single_load.specs.declared.fault.Fault.TheVariants as fault
 use Rattle.mig_single_load.specs.declared.fault.Origin.TheVariants as origin
 use Rattle.mig_answer.specs.declared.status.Status.{Status}
@@ -124,6 +125,6 @@ pub record TellsAllChannels (page_size k : ℕ) (received : List (List ChannelIt
 
 -- Where enough was received of each channel to tell a round, that is so of the readings of the whole texts.
 abbrev pub FrontsTellAllChannels : Type 0
-FrontsTellAllChannels = (page_size : ℕ) (uuid : List ℕ) (limit k : ℕ) (main : List ℕ) (channels : List (List ℕ)) (received : List (List ChannelItem)) (readings : Readings)
-    → IsPageSize page_size → AreReadings page_size uuid limit (ended_texts main channels) readings
-    → AllZip (IsEnough (settings page_size uuid (length channels)) k) channels received → TellsAllChannels page_size k received readings
+FrontsTellAllChannels = (given : LoadSettings) (uuid : List ℕ) (k : ℕ) (main : List ℕ) (channels : List (List ℕ)) (received : List (List ChannelItem)) (readings : Readings)
+    → IsPageSize given.page_size → AreReadings given uuid (ended_texts main channels) readings
+    → AllZip (IsEnough (settings given.page_size uuid (length channels)) k) channels received → TellsAllChannels given.page_size k received readings

@@ -7,6 +7,7 @@ use Rattle.mig_mem.specs.Tracking.{rounds_of}
 use Rattle.mig_stream.specs.Text.{total_bytes}
 use Rattle.mig_stream.specs.Written.{single}
 use Rattle.mig_send.specs.DealtRounds.{DealtRound, IsSending}
+use Rattle.mig_single_load.specs.Settings.{ram_settings}
 use Rattle.mig_single_load.specs.declared.loaded.Loaded.{Loaded}
 use Rattle.mig_answer.specs.declared.verdict.Verdict.TheVariants.{Done}
 use Rattle.mig_single_load.specs.SingleLoad.{IsSingleAnswer}
@@ -34,7 +35,7 @@ sent_answer table rounds = record { memory = Some (after table (sent_rounds roun
 abbrev pub SendingsAreLoaded : Type 0
 SendingsAreLoaded = (table : RamTable) (uuid : List ℕ) (limit : ℕ) (rounds : List DealtRound) (main : List ℕ) (channels : List (List ℕ)) (answer : Answer)
     → IsSentInAnyOrder table uuid rounds main channels → total_bytes table ≤ limit
-    → IsAnswer table.page_size uuid limit (ended_texts main channels) answer → answer ≡ sent_answer table rounds
+    → IsAnswer (ram_settings table.page_size limit) uuid (ended_texts main channels) answer → answer ≡ sent_answer table rounds
 
 -- a load of several channels and one of a single stream gave the same memory, and both are Ok; a single stream has two sections more,
 -- START and END
@@ -45,5 +46,5 @@ AgreesWith answer alone = (answer.memory ≡ alone.memory) × (answer.rounds + 2
 abbrev pub ChannelsLoadAsOneStream : Type 0 → Type 0
 ChannelsLoadAsOneStream A = (table : RamTable) (uuid : List ℕ) (limit limit_alone : ℕ) (rounds : List DealtRound) (main : List ℕ) (channels : List (List ℕ)) (answer : Answer) (alone : Loaded A)
     → IsSentInAnyOrder table uuid rounds main channels → total_bytes table ≤ limit → total_bytes table ≤ limit_alone
-    → IsAnswer table.page_size uuid limit (ended_texts main channels) answer
-    → IsSingleAnswer table.page_size limit_alone (single table (sent_rounds rounds)) alone → AgreesWith answer alone
+    → IsAnswer (ram_settings table.page_size limit) uuid (ended_texts main channels) answer
+    → IsSingleAnswer (ram_settings table.page_size limit_alone) (single table (sent_rounds rounds)) alone → AgreesWith answer alone

@@ -1,9 +1,10 @@
 -- The texts of a load on several channels as far as they have come, and what they tell: the main stream's and the channels'.
 use Rattle.std.specs.Prelude.{ℕ, ◌≡◌, Bool, true, false, List, [], ◌++◌, length, map, replicate}
 use Rattle.std.specs.List.{AllZip}
-use Rattle.mig_stream.specs.declared.item.Mode.TheVariants.{Main}
 use Rattle.mig_stream.specs.Reading as stream
 use Rattle.mig_packet.specs.Reading as channel
+use Rattle.mig_single_load.specs.Settings.{main_of}
+use Rattle.mig_single_load.specs.declared.settings.LoadSettings.{LoadSettings}
 
 -- ---- texts
 
@@ -44,15 +45,15 @@ pub record Readings : Type 0 where
   pub main : stream.StreamReading
   pub channels : List channel.ChannelReading
 
--- the reading of a main stream, ended or not, whose blocks may have `limit` bytes together
-pub record IsMainReading (page_size limit : ℕ) (text : Text) (reading : stream.StreamReading) : Type 0 where
+-- the reading of a main stream, ended or not
+pub record IsMainReading (given : LoadSettings) (text : Text) (reading : stream.StreamReading) : Type 0 where
   pub found : stream.StreamReading
-  pub is_reading : stream.IsReading (stream.settings Main page_size limit) text.bytes found
+  pub is_reading : stream.IsReading (main_of given) text.bytes found
   pub has_end : reading ≡ record found { state = stream.state_at text.ended found.state }
 
--- These are the readings of the texts, at pages of this size, with blocks of at most `limit` bytes together, and under this UUID. As
--- many channels are expected as there are texts of channels.
-pub record AreReadings (page_size : ℕ) (uuid : List ℕ) (limit : ℕ) (texts : Texts) (readings : Readings) : Type 0 where
-  pub has_main : IsMainReading page_size limit texts.main readings.main
-  pub has_channels : AllZip (λ (text : Text) (reading : channel.ChannelReading). channel.IsReading (channel.settings page_size uuid (length texts.channels)) text.bytes text.ended reading)
+-- These are the readings of the texts, with these settings and under this UUID. As many channels are
+-- expected as there are texts of channels.
+pub record AreReadings (given : LoadSettings) (uuid : List ℕ) (texts : Texts) (readings : Readings) : Type 0 where
+  pub has_main : IsMainReading given texts.main readings.main
+  pub has_channels : AllZip (λ (text : Text) (reading : channel.ChannelReading). channel.IsReading (channel.settings given.page_size uuid (length texts.channels)) text.bytes text.ended reading)
       texts.channels readings.channels
