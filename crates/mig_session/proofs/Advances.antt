@@ -12,8 +12,7 @@ use Rattle.mig_mem.specs.Round.{after}
 use Rattle.mig_mem.specs.First.{first_some}
 use Rattle.mig_stream.specs.PageRecord.{PageRecord}
 use Rattle.mig_stream.specs.Round.{RoundOfRecords}
-use Rattle.mig_stream.specs.declared.item.Mode.TheVariants.{Main}
-use Rattle.mig_stream.specs.Reading.{settings as main_settings, StreamReading}
+use Rattle.mig_stream.specs.Reading.{StreamReading}
 use Rattle.mig_stream.specs.Reader.{HasTable}
 use Rattle.mig_stream.proofs.Limits.{limits_law}
 use Rattle.mig_packet.specs.Packet.{Fields}
@@ -21,6 +20,7 @@ use Rattle.mig_packet.specs.declared.packet.Packet.{Packet}
 use Rattle.mig_assemble.specs.declared.fault.RoundFault.{RoundFault}
 use Rattle.mig_assemble.specs.Judging.{refusal}
 use Rattle.mig_assemble.specs.Target.{LoadTarget, FitsTable, new_target, pages_of_round, after_round}
+use Rattle.mig_single_load.specs.Settings.{main_of}
 use Rattle.mig_single_load.specs.declared.fault.Origin.TheVariants as origin
 use Rattle.mig_single_load.specs.declared.fault.Fault.TheVariants as fault
 use Rattle.mig_single_load.specs.declared.fault.LoadFault.{LoadFault}
@@ -48,7 +48,7 @@ use Rattle.mig_session.proofs.Telling.{due_sources, due_passes, due_refused, tol
 pub comes_of : (f : Feeding) (s : FedSources) (t : LoadTarget) → Advances f s (Some t) → TellsAll t.rounds s None → RoundIsDue f s t
 comes_of f s t advances told = record {
   advances = advances;
-  is_due = sym (told f.page_size f.uuid f.limit f.texts f.readings advances.is_page_size advances.holds advances.are_readings);
+  is_due = sym (told f.given f.uuid f.texts f.readings advances.is_page_size advances.holds advances.are_readings);
 }
 
 memory_of : (readings : Readings) (t : LoadTarget) → HasPutRounds readings t → Some t.memory ≡ memory_at t.rounds readings
@@ -57,7 +57,7 @@ memory_of readings t has = sym has.has_loaded.has_memory
 -- a verdict: it is that of the texts
 pub told_of : (f : Feeding) (s : FedSources) (t : LoadTarget) (v : Verdict) → Advances f s (Some t) → TellsAll t.rounds s (Some v) → TellsVerdict f.readings (Some t) v
 told_of f s t v advances told =
-    let here = told_here t.rounds f.readings v (told f.page_size f.uuid f.limit f.texts f.readings advances.is_page_size advances.holds advances.are_readings) in
+    let here = told_here t.rounds f.readings v (told f.given f.uuid f.texts f.readings advances.is_page_size advances.holds advances.are_readings) in
     record {
       is_first_stop = record { before = advances.has_rounds.have_passed; here = here.0 };
       has_memory = memory_of f.readings t advances.has_rounds.has_put;
@@ -68,18 +68,17 @@ told_of f s t v advances told =
 
 pub round_comes : (f : Feeding) (s : FedSources) (t : LoadTarget) → RoundIsDue f s t → HaveRound s
 round_comes f s t comes =
-    have_round f.page_size f.uuid f.limit t.rounds f.texts f.readings s comes.advances.is_page_size comes.advances.holds comes.advances.are_readings comes.is_due
+    have_round f.given f.uuid t.rounds f.texts f.readings s comes.advances.is_page_size comes.advances.holds comes.advances.are_readings comes.is_due
 
-table_size : (f : Feeding) (s : FedSources) (t : LoadTarget) → RoundIsDue f s t → t.memory.table.page_size ≡ f.page_size
+table_size : (f : Feeding) (s : FedSources) (t : LoadTarget) → RoundIsDue f s t → t.memory.table.page_size ≡ f.given.page_size
 table_size f s t comes =
-    size_of_table f.page_size f.limit t.rounds f.texts.main f.readings t comes.advances.is_page_size comes.advances.are_readings.has_main comes.advances.has_rounds.has_put.has_loaded
+    size_of_table f.given t.rounds f.texts.main f.readings t comes.advances.is_page_size comes.advances.are_readings.has_main comes.advances.has_rounds.has_put.has_loaded
 
 -- the records that wait are of pages of the table, and the reading's
 pub fits_here : (f : Feeding) (s : FedSources) (t : LoadTarget) (round : RoundOfRecords) → RoundIsDue f s t → Some round ≡ s.main.round
     → FitsTable t.memory.table round × IsNext f.readings t round
 fits_here f s t round comes is =
-    let p : ℕ = f.page_size in
-    let given = main_settings Main p f.limit in
+    let given = main_of f.given in
     let k : ℕ = t.rounds in
     let size = comes.advances.is_page_size in
     let are = comes.advances.are_readings.has_main in
@@ -90,7 +89,7 @@ fits_here f s t round comes is =
         has_page_size = waits.has_page_size ∙ sym (table_size f s t comes);
         has_places = waits.has_places t.memory.table (are.found, are.is_reading, table);
       },
-      (waits_here p f.limit k f.texts.main round f.readings.main size waits are).1,
+      (waits_here f.given k f.texts.main round f.readings.main size waits are).1,
     )
 
 -- the packets that were gathered are of its page size
@@ -99,18 +98,18 @@ pub sizes_fit : (f : Feeding) (s : FedSources) (t : LoadTarget) (packets : List 
     → All (λ packet. packet.page_size ≡ t.memory.table.page_size) packets
 sizes_fit f s t packets comes sizes =
     subst (λ (n : ℕ). All (λ (packet : Packet). packet.page_size ≡ n) packets) (sym (table_size f s t comes))
-    (sizes f.page_size (sizes_here f.page_size f.uuid f.limit t.rounds f.texts s comes.advances.holds))
+    (sizes f.given.page_size (sizes_here f.given f.uuid t.rounds f.texts s comes.advances.holds))
 
-gathered_are : (f : Feeding) (s : FedSources) (t : LoadTarget) (packets : List Fields) → RoundIsDue f s t → packets ≡ packets_of_all s.channels → packets ≡ packets_at f.page_size t.rounds f.readings
+gathered_are : (f : Feeding) (s : FedSources) (t : LoadTarget) (packets : List Fields) → RoundIsDue f s t → packets ≡ packets_of_all s.channels → packets ≡ packets_at f.given.page_size t.rounds f.readings
 gathered_are f s t packets comes are =
-    are ∙ packets_here f.page_size f.uuid f.limit t.rounds f.texts f.readings s comes.advances.is_page_size comes.advances.holds comes.advances.are_readings
+    are ∙ packets_here f.given f.uuid t.rounds f.texts f.readings s comes.advances.is_page_size comes.advances.holds comes.advances.are_readings
 
 -- a lawful round passes, and is in the memory
 pub goes_in : (f : Feeding) (s : FedSources) (t new : LoadTarget) (round : RoundOfRecords) (packets : List Fields) (x : ⊤) → RoundIsDue f s t → Some round ≡ s.main.round
     → packets ≡ packets_of_all s.channels → refusal t.memory.table t.base (pages_of_round round) packets ≡ None → new ≡ after_round t round packets → new.base ≤ 2 ^ 63
     → PutsOrRefuses f t (Ok x) new
 goes_in f s t new round packets x comes is are lawful after few =
-    let p : ℕ = f.page_size in
+    let p : ℕ = f.given.page_size in
     let fits = fits_here f s t round comes is in
     let gathered = gathered_are f s t packets comes are in
     let loaded = comes.advances.has_rounds.has_put.has_loaded in
@@ -141,7 +140,7 @@ stays_out f s t new round packets found comes is are refused same = elim refused
       let fits = fits_here f s t round comes is in
       let gathered = gathered_are f s t packets comes are in
       let why : refusal_at t.rounds f.readings ≡ Some w.0 =
-      refusal_of_round f.page_size f.readings t round packets (table_size f s t comes) comes.advances.has_rounds.has_put.has_loaded fits.0 fits.1 gathered ∙ w.1 in
+      refusal_of_round f.given.page_size f.readings t round packets (table_size f s t comes) comes.advances.has_rounds.has_put.has_loaded fits.0 fits.1 gathered ∙ w.1 in
       let stops = due_refused t.rounds f.readings w.0 comes.is_due why in
       let other : found.fault ≢ fault.NoMemory = λ e. let bad : fault.Round w.0 ≡ fault.NoMemory = sym (ap (λ (x : LoadFault). x.fault) w.2) ∙ e in absurd cc in (
         same,
@@ -162,11 +161,11 @@ stays_without f t new n result is same = subst (λ (r : Result ⊤ LoadFault). P
 
 -- behind it the next one is due
 pub next_advances : (f : Feeding) (s next : FedSources) (t new : LoadTarget) → Advances f s (Some t) → HasRounds f.readings (Some new) → new.rounds ≡ t.rounds + 1
-    → Holds f.page_size f.uuid f.limit (t.rounds + 1) f.texts next → Advances f next (Some new)
+    → Holds f.given f.uuid (t.rounds + 1) f.texts next → Advances f next (Some new)
 next_advances f s next t new advances has count holds = record {
   is_page_size = advances.is_page_size;
   are_readings = advances.are_readings;
-  holds = subst (λ n. Holds f.page_size f.uuid f.limit n f.texts next) (sym count) holds;
+  holds = subst (λ n. Holds f.given f.uuid n f.texts next) (sym count) holds;
   has_rounds = has;
 }
 
@@ -175,7 +174,7 @@ next_advances f s next t new advances has count holds = record {
 -- there is no round, and something is told
 pub told_without : (f : Feeding) (s : FedSources) (v : Verdict) → Advances f s None → f.readings.main.table ≡ None → TellsAll 0 s (Some v) → TellsVerdict f.readings None v
 told_without f s v advances none told =
-    let here = told_here 0 f.readings v (told f.page_size f.uuid f.limit f.texts f.readings advances.is_page_size advances.holds advances.are_readings) in
+    let here = told_here 0 f.readings v (told f.given f.uuid f.texts f.readings advances.is_page_size advances.holds advances.are_readings) in
     record {
       is_first_stop = record { before = advances.has_rounds.have_passed; here = here.0 };
       has_memory = sym (ap (option_map (λ t. after t (map (λ i. pages_at t i f.readings) (range_with_len 0 0)))) none);
@@ -184,21 +183,20 @@ told_without f s v advances none told =
 
 pub some_told : (f : Feeding) (s : FedSources) → Advances f s None → f.readings.main.table ≡ None → TellsAll 0 s None → ⊥
 some_told f s advances none told =
-    let p : ℕ = f.page_size in
     let are = advances.are_readings.has_main in
-    let due : IsDue 0 f.readings = sym (told p f.uuid f.limit f.texts f.readings advances.is_page_size advances.holds advances.are_readings) in
+    let due : IsDue 0 f.readings = sym (told f.given f.uuid f.texts f.readings advances.is_page_size advances.holds advances.are_readings) in
     let whole : is_whole (main_status 0 f.readings.main) ≡ true = All-head IsWhole (main_at 0 f.readings) (channels_at 0 f.readings) (due_sources 0 f.readings due).0 in
     let table : are.found.table ≡ None = sym (ap (λ (r : StreamReading). r.table) are.has_end) ∙ none in
-    let empty : are.found.rounds ≡ [] = (limits_law (main_settings Main p f.limit) f.texts.main.bytes are.found advances.is_page_size are.is_reading).has_table_first table in
+    let empty : are.found.rounds ≡ [] = (limits_law (main_of f.given) f.texts.main.bytes are.found advances.is_page_size are.is_reading).has_table_first table in
     let zero : 0 ≡ length f.readings.main.rounds = sym (ap (λ (r : StreamReading). length r.rounds) are.has_end ∙ ap (λ (l : List (List PageRecord)). length l) empty) in
     let other : is_whole (main_status 0 f.readings.main) ≡ false =
     ap is_whole (status_end 0 (length f.readings.main.rounds) (stream_end f.readings.main.state) zero) ∙ stream_ends f.readings.main.state in absurd cc
 
 -- the table that was found is the reading's
-pub table_found : (f : Feeding) (s : FedSources) (table : Option RamTable) → Advances f s None → HasTable (main_settings Main f.page_size f.limit) f.texts.main.bytes table
+pub table_found : (f : Feeding) (s : FedSources) (table : Option RamTable) → Advances f s None → HasTable (main_of f.given) f.texts.main.bytes table
     → f.readings.main.table ≡ table
 table_found f s table advances has =
-    let same = same_found f.page_size f.limit f.texts.main has.0 f.readings.main advances.is_page_size has.1 advances.are_readings.has_main in
+    let same = same_found f.given f.texts.main has.0 f.readings.main advances.is_page_size has.1 advances.are_readings.has_main in
     ap (λ (r : StreamReading). r.table) same ∙ sym has.2
 
 -- a memory of zeros has no round

@@ -8,15 +8,16 @@ use Rattle.mig_mem.specs.PageSize.{IsPageSize}
 use Rattle.mig_mem.specs.RamTable.{RamTable}
 use Rattle.mig_mem.specs.Place.{IsPlace}
 use Rattle.mig_stream.specs.declared.item.StreamState.{StreamState}
-use Rattle.mig_stream.specs.declared.item.Mode.TheVariants.{Main}
 use Rattle.mig_stream.specs.PageRecord.{PageRecord}
 use Rattle.mig_stream.specs.Round.{RoundOfRecords}
 use Rattle.mig_stream.specs.Progress.{StreamProgress, whole_table}
-use Rattle.mig_stream.specs.Reading.{Settings, settings, StreamReading, IsReading, state_at}
+use Rattle.mig_stream.specs.Reading.{Settings, StreamReading, IsReading, state_at}
 use Rattle.mig_stream.specs.Reader.{Reader, Stands, StepsOn, Tells, waiting, with_taken, with_piece as read_piece, over as read_over, one_taken, HasRound, HasState, HasTable}
 use Rattle.mig_stream.proofs.Exists.{one_reading_law}
 use Rattle.mig_stream.proofs.Limits.{limits_law}
 use Rattle.mig_stream.proofs.Longer.{longer_law}
+use Rattle.mig_single_load.specs.Settings.{main_of}
+use Rattle.mig_single_load.specs.declared.settings.LoadSettings.{LoadSettings}
 use Rattle.mig_answer.specs.declared.status.Status.{Status}
 use Rattle.mig_answer.specs.declared.status.Status.TheVariants.{Whole}
 use Rattle.mig_answer.specs.Status.{main_status, stream_end, is_whole}
@@ -100,36 +101,36 @@ holds_over given k text old now (Some r) step holds = record { stands = step giv
 -- ---- what it tells
 
 -- what is read of the text has the rounds of its reading
-pub same_found : (p limit : ℕ) (text : Text) (found : StreamReading) (reading : StreamReading) → IsPageSize p → IsReading (settings Main p limit) text.bytes found → IsMainReading p limit text reading
+pub same_found : (given : LoadSettings) (text : Text) (found : StreamReading) (reading : StreamReading) → IsPageSize given.page_size → IsReading (main_of given) text.bytes found → IsMainReading given text reading
     → reading ≡ record found { state = state_at text.ended found.state }
-same_found p limit text found reading size is_found is =
-    let one = one_reading_law (settings Main p limit) text.bytes size in
+same_found given text found reading size is_found is =
+    let one = one_reading_law (main_of given) text.bytes size in
     let same : is.found ≡ found = one.2 is.found is.is_reading ∙ sym (one.2 found is_found) in
     is.has_end ∙ ap (λ (r : StreamReading). record r { state = state_at text.ended r.state }) same
 
-taken_are_there : (p limit : ℕ) (text : Text) (taken : ℕ) (r : Reader) (reading : StreamReading) → IsPageSize p → Stands (settings Main p limit) (main_so_far text taken) r
-    → IsMainReading p limit text reading → taken ≤ length reading.rounds
-taken_are_there p limit text taken r reading size stands is =
+taken_are_there : (given : LoadSettings) (text : Text) (taken : ℕ) (r : Reader) (reading : StreamReading) → IsPageSize given.page_size → Stands (main_of given) (main_so_far text taken) r
+    → IsMainReading given text reading → taken ≤ length reading.rounds
+taken_are_there given text taken r reading size stands is =
     let to : StreamProgress = with_taken stands.rounds r.progress in
     let other : StreamReading = record { table = whole_table to; rounds = to.rounds; state = r.found } in
-    let is_other : IsReading (settings Main p limit) text.bytes other = record { to = to; rest = stands.rest; reads = stands.reads; has_table = refl; has_rounds = refl } in
-    let same = same_found p limit text other reading size is_other is in
+    let is_other : IsReading (main_of given) text.bytes other = record { to = to; rest = stands.rest; reads = stands.reads; has_table = refl; has_rounds = refl } in
+    let same = same_found given text other reading size is_other is in
     omega (arith, ap (λ (x : StreamReading). length x.rounds) same, length-append stands.rounds r.progress.rounds, stands.has_taken)
 
 -- the round that waits is the reading's
-pub waits_here : (p limit k : ℕ) (text : Text) (r : RoundOfRecords) (reading : StreamReading) → IsPageSize p → IsMainRound (settings Main p limit) k text.bytes r → IsMainReading p limit text reading
+pub waits_here : (given : LoadSettings) (k : ℕ) (text : Text) (r : RoundOfRecords) (reading : StreamReading) → IsPageSize given.page_size → IsMainRound (main_of given) k text.bytes r → IsMainReading given text reading
     → (k < length reading.rounds) × (r.records ≡ get_or reading.rounds k [])
-waits_here p limit k text r reading size round is =
+waits_here given k text r reading size round is =
     let has = round.has_records in
-    let same = same_found p limit text has.0 reading size has.1 is in (
+    let same = same_found given text has.0 reading size has.1 is in (
       subst (λ (x : StreamReading). k < length x.rounds) (sym same) has.2,
       sym has.3 ∙ ap (λ (x : StreamReading). get_or x.rounds k []) (sym same),
     )
 
-pub none_waits : (p limit k : ℕ) (text : Text) (reader : Reader) (reading : StreamReading) → IsPageSize p → HoldsMain (settings Main p limit) k text (kept reader None)
-    → IsMainReading p limit text reading → k ≡ length reading.rounds
-none_waits p limit k text reader reading size holds is =
-    let least = taken_are_there p limit text k reader reading size holds.stands is in
+pub none_waits : (given : LoadSettings) (k : ℕ) (text : Text) (reader : Reader) (reading : StreamReading) → IsPageSize given.page_size → HoldsMain (main_of given) k text (kept reader None)
+    → IsMainReading given text reading → k ≡ length reading.rounds
+none_waits given k text reader reading size holds is =
+    let least = taken_are_there given text k reader reading size holds.stands is in
     let most : length reading.rounds ≤ k = elim (cases_lt k (length reading.rounds)) [
       | inr le ↦ le
       | inl lt ↦
@@ -140,23 +141,23 @@ none_waits p limit k text reader reading size holds is =
     omega (arith, least, most)
 
 pub tells_whole : (reader : Reader) (r : RoundOfRecords) → TellsMainStatus (kept reader (Some r)) Whole
-tells_whole reader r = λ p limit k text reading size holds is.
-    sym (status_whole k (length reading.rounds) (stream_end reading.state) (waits_here p limit k text r reading size holds.has_round is).0)
+tells_whole reader r = λ given k text reading size holds is.
+    sym (status_whole k (length reading.rounds) (stream_end reading.state) (waits_here given k text r reading size holds.has_round is).0)
 
-pub tells_end : (reader : Reader) (state : StreamState) (status : Status) → Tells reader (λ given so_far. HasState given so_far.text so_far.ended state) → status ≡ stream_end state
+pub tells_end : (reader : Reader) (state : StreamState) (status : Status) → Tells reader (λ channel_given so_far. HasState channel_given so_far.text so_far.ended state) → status ≡ stream_end state
     → TellsMainStatus (kept reader None) status
-tells_end reader state status tells e = λ p limit k text reading size holds is.
-    let has = tells (settings Main p limit) (main_so_far text k) holds.stands in
-    let same = same_found p limit text has.0 reading size has.1 is in
+tells_end reader state status tells e = λ given k text reading size holds is.
+    let has = tells (main_of given) (main_so_far text k) holds.stands in
+    let same = same_found given text has.0 reading size has.1 is in
     e ∙ ap stream_end (has.2 ∙ sym (ap (λ (x : StreamReading). x.state) same))
-    ∙ sym (status_end k (length reading.rounds) (stream_end reading.state) (none_waits p limit k text reader reading size holds is))
+    ∙ sym (status_end k (length reading.rounds) (stream_end reading.state) (none_waits given k text reader reading size holds is))
 
 -- a main stream that has the round has one that waits
-pub whole_waits : (p limit k : ℕ) (text : Text) (m : FedMain) (reading : StreamReading) → IsPageSize p → HoldsMain (settings Main p limit) k text m → IsMainReading p limit text reading
+pub whole_waits : (given : LoadSettings) (k : ℕ) (text : Text) (m : FedMain) (reading : StreamReading) → IsPageSize given.page_size → HoldsMain (main_of given) k text m → IsMainReading given text reading
     → is_whole (main_status k reading) ≡ true → m.round ≢ None
-whole_waits p limit k text m reading size holds is whole none =
-    let here : HoldsMain (settings Main p limit) k text (kept m.reader None) = subst (λ (o : Option RoundOfRecords). HoldsMain (settings Main p limit) k text (kept m.reader o)) none holds in
-    let e = none_waits p limit k text m.reader reading size here is in
+whole_waits given k text m reading size holds is whole none =
+    let here : HoldsMain (main_of given) k text (kept m.reader None) = subst (λ (o : Option RoundOfRecords). HoldsMain (main_of given) k text (kept m.reader o)) none holds in
+    let e = none_waits given k text m.reader reading size here is in
     let f : is_whole (main_status k reading) ≡ false = ap is_whole (status_end k (length reading.rounds) (stream_end reading.state) e) ∙ stream_ends reading.state in absurd cc
 
 -- the table that the reader tells

@@ -8,14 +8,14 @@ use Rattle.std.proofs.lemmas.Option.{slice_get_read}
 use Rattle.std.proofs.lemmas.List.Elements.{All-nil, All-cons, All-head, All-tail, All-push}
 use Rattle.mig_mem.specs.PageSize.{IsPageSize}
 use Rattle.mig_mem.specs.First.{first_some}
-use Rattle.mig_stream.specs.declared.item.Mode.TheVariants.{Main}
 use Rattle.mig_stream.specs.Round.{RoundOfRecords}
 use Rattle.mig_stream.specs.Reader.{waiting as stream_waiting}
-use Rattle.mig_stream.specs.Reading.{settings as main_settings}
 use Rattle.mig_packet.specs.Packet.{Fields, fields_of}
 use Rattle.mig_packet.specs.Lent.{fields}
 use Rattle.mig_packet.specs.declared.packet.Packet.{Packet}
 use Rattle.mig_packet.specs.Reading.{Settings, settings, ChannelReading, IsReading}
+use Rattle.mig_single_load.specs.Settings.{main_of}
+use Rattle.mig_single_load.specs.declared.settings.LoadSettings.{LoadSettings}
 use Rattle.mig_single_load.specs.declared.fault.Origin.TheVariants as origin
 use Rattle.mig_session.specs.declared.counts.Count.{Count}
 use Rattle.mig_answer.specs.declared.status.Status.{Status}
@@ -93,34 +93,34 @@ standings_are k from (r ∷ readings) =
 pub tells_all : (k : ℕ) (s : FedSources) (main_told : Status) (statuses : List Status) (hellos : List (Option ℕ)) (repeated : Option ℕ) (told : Option Verdict)
     → TellsMainStatus s.main main_told → AllZip TellsChannelStatus s.channels statuses → AllZip TellsHello s.channels hellos → repeated ≡ repeated_hello hellos
     → told ≡ first_some (verdicts_told k (main_standing main_told) (standings statuses) repeated) → TellsAll k s told
-tells_all k s main_told statuses hellos repeated told tells_main tells_channels tells_hellos again e = λ p uuid limit texts readings size holds are.
-    let given = settings p uuid (length texts.channels) in
-    let m : main_told ≡ main_status k readings.main = tells_main p limit k texts.main readings.main size holds.main are.has_main in
+tells_all k s main_told statuses hellos repeated told tells_main tells_channels tells_hellos again e = λ given uuid texts readings size holds are.
+    let channel_given = settings given.page_size uuid (length texts.channels) in
+    let m : main_told ≡ main_status k readings.main = tells_main given k texts.main readings.main size holds.main are.has_main in
     let c : standings statuses ≡ channels_at k readings =
-    ap standings (statuses_are given k texts.channels readings.channels s.channels statuses size holds.channels are.has_channels tells_channels)
+    ap standings (statuses_are channel_given k texts.channels readings.channels s.channels statuses size holds.channels are.has_channels tells_channels)
     ∙ standings_are k 0 readings.channels in
     let h : repeated ≡ repeated_hello (hello_ids readings) =
-    again ∙ ap repeated_hello (hellos_are given k texts.channels readings.channels s.channels hellos size holds.channels are.has_channels tells_hellos) in
+    again ∙ ap repeated_hello (hellos_are channel_given k texts.channels readings.channels s.channels hellos size holds.channels are.has_channels tells_hellos) in
     e ∙ ap (λ (x : Status). first_some (verdicts_told k (main_standing x) (standings statuses) repeated)) m
     ∙ ap (λ (l : List Standing). first_some (verdicts_told k (main_at k readings) l repeated)) c
     ∙ ap (λ (o : Option ℕ). first_some (verdicts_told k (main_at k readings) (channels_at k readings) o)) h
 
 -- ---- a source takes a step
 
-pub main_steps : (p : ℕ) (uuid : List ℕ) (limit k : ℕ) (step : Text → Text) (texts : Texts) (s : FedSources) (m : FedMain) → Holds p uuid limit k texts s
-    → HoldsMain (main_settings Main p limit) k (step texts.main) m → Holds p uuid limit k (at_source source.Main step texts) (record s { main = m })
-main_steps p uuid limit k step texts s m holds here = record { main = here; channels = holds.channels }
+pub main_steps : (given : LoadSettings) (uuid : List ℕ) (k : ℕ) (step : Text → Text) (texts : Texts) (s : FedSources) (m : FedMain) → Holds given uuid k texts s
+    → HoldsMain (main_of given) k (step texts.main) m → Holds given uuid k (at_source source.Main step texts) (record s { main = m })
+main_steps given uuid k step texts s m holds here = record { main = here; channels = holds.channels }
 
-pub channel_steps : (p : ℕ) (uuid : List ℕ) (limit k j : ℕ) (step : Text → Text) (texts : Texts) (s : FedSources) (c : FedChannel) → Holds p uuid limit k texts s
-    → HoldsChannel (settings p uuid (length texts.channels)) k (step (get_or texts.channels j no_text)) c
-    → Holds p uuid limit k (at_source (source.Channel j) step texts) (record s { channels = set s.channels j c })
-channel_steps p uuid limit k j step texts s c holds here =
+pub channel_steps : (given : LoadSettings) (uuid : List ℕ) (k j : ℕ) (step : Text → Text) (texts : Texts) (s : FedSources) (c : FedChannel) → Holds given uuid k texts s
+    → HoldsChannel (settings given.page_size uuid (length texts.channels)) k (step (get_or texts.channels j no_text)) c
+    → Holds given uuid k (at_source (source.Channel j) step texts) (record s { channels = set s.channels j c })
+channel_steps given uuid k j step texts s c holds here =
     let text : Text = step (get_or texts.channels j no_text) in
-    let given = settings p uuid (length texts.channels) in
+    let channel_given = settings given.page_size uuid (length texts.channels) in
     record {
       main = holds.main;
-      channels = subst (λ (n : ℕ). AllZip (HoldsChannel (settings p uuid n) k) (set texts.channels j text) (set s.channels j c)) (sym (length-set texts.channels j text))
-          (zip_set (HoldsChannel given k) texts.channels s.channels j text c holds.channels here);
+      channels = subst (λ (n : ℕ). AllZip (HoldsChannel (settings given.page_size uuid n) k) (set texts.channels j text) (set s.channels j c)) (sym (length-set texts.channels j text))
+          (zip_set (HoldsChannel channel_given k) texts.channels s.channels j text c holds.channels here);
     }
 
 -- ---- all go on to the next round
@@ -137,11 +137,11 @@ channels_next given k (text ∷ texts) (c ∷ old) (d ∷ new) holds takes have 
   channels_next given k texts old new holds.1 takes.1 (All-tail (λ (c : FedChannel). c.round ≢ None) c old have),
 )
 
-pub holds_next : (p : ℕ) (uuid : List ℕ) (limit k : ℕ) (texts : Texts) (old new : FedSources) → HaveRound old → TakesMain old.main new.main → AllZip TakesChannel old.channels new.channels
-    → Holds p uuid limit k texts old → Holds p uuid limit (k + 1) texts new
-holds_next p uuid limit k texts old new have takes_main takes holds = record {
-  main = takes_main (main_settings Main p limit) (k + 1) texts.main (main.stands_next (main_settings Main p limit) k texts.main old.main holds.main have.main);
-  channels = channels_next (settings p uuid (length texts.channels)) k texts.channels old.channels new.channels holds.channels takes have.channels;
+pub holds_next : (given : LoadSettings) (uuid : List ℕ) (k : ℕ) (texts : Texts) (old new : FedSources) → HaveRound old → TakesMain old.main new.main → AllZip TakesChannel old.channels new.channels
+    → Holds given uuid k texts old → Holds given uuid (k + 1) texts new
+holds_next given uuid k texts old new have takes_main takes holds = record {
+  main = takes_main (main_of given) (k + 1) texts.main (main.stands_next (main_of given) k texts.main old.main holds.main have.main);
+  channels = channels_next (settings given.page_size uuid (length texts.channels)) k texts.channels old.channels new.channels holds.channels takes have.channels;
 }
 
 -- ---- the round that is judged
@@ -161,13 +161,13 @@ channels_have given k from (text ∷ texts) (r ∷ readings) (c ∷ channels) si
     (channels_have given k (from + 1) texts readings channels size holds.1 are.1 (All-tail IsWhole here rest whole))
 
 -- where no verdict is told the round is here of each
-pub have_round : (p : ℕ) (uuid : List ℕ) (limit k : ℕ) (texts : Texts) (readings : Readings) (s : FedSources) → IsPageSize p → Holds p uuid limit k texts s
-    → AreReadings p uuid limit texts readings → IsDue k readings → HaveRound s
-have_round p uuid limit k texts readings s size holds are due =
+pub have_round : (given : LoadSettings) (uuid : List ℕ) (k : ℕ) (texts : Texts) (readings : Readings) (s : FedSources) → IsPageSize given.page_size → Holds given uuid k texts s
+    → AreReadings given uuid texts readings → IsDue k readings → HaveRound s
+have_round given uuid k texts readings s size holds are due =
     let whole = (due_sources k readings due).0 in
     record {
-      main = main.whole_waits p limit k texts.main s.main readings.main size holds.main are.has_main (All-head IsWhole (main_at k readings) (channels_at k readings) whole);
-      channels = channels_have (settings p uuid (length texts.channels)) k 0 texts.channels readings.channels s.channels size holds.channels are.has_channels
+      main = main.whole_waits given k texts.main s.main readings.main size holds.main are.has_main (All-head IsWhole (main_at k readings) (channels_at k readings) whole);
+      channels = channels_have (settings given.page_size uuid (length texts.channels)) k 0 texts.channels readings.channels s.channels size holds.channels are.has_channels
           (All-tail IsWhole (main_at k readings) (channels_at k readings) whole);
     }
 
@@ -184,10 +184,10 @@ packets_are given k (text ∷ texts) (r ∷ readings) (c ∷ channels) size hold
     ∙ ap (λ (l : List Fields). channel_packets_at given.page_size k r ++ l) (packets_are given k texts readings channels size holds.1 are.1)
 
 -- the packets that are gathered are those of the round
-pub packets_here : (p : ℕ) (uuid : List ℕ) (limit k : ℕ) (texts : Texts) (readings : Readings) (s : FedSources) → IsPageSize p → Holds p uuid limit k texts s
-    → AreReadings p uuid limit texts readings → packets_of_all s.channels ≡ packets_at p k readings
-packets_here p uuid limit k texts readings s size holds are =
-    packets_are (settings p uuid (length texts.channels)) k texts.channels readings.channels s.channels size holds.channels are.has_channels
+pub packets_here : (given : LoadSettings) (uuid : List ℕ) (k : ℕ) (texts : Texts) (readings : Readings) (s : FedSources) → IsPageSize given.page_size → Holds given uuid k texts s
+    → AreReadings given uuid texts readings → packets_of_all s.channels ≡ packets_at given.page_size k readings
+packets_here given uuid k texts readings s size holds are =
+    packets_are (settings given.page_size uuid (length texts.channels)) k texts.channels readings.channels s.channels size holds.channels are.has_channels
 
 sizes_are : (given : Settings) (k : ℕ) (texts : List Text) (channels : List FedChannel) → AllZip (HoldsChannel given k) texts channels → All (IsOfSize given.page_size) channels
 sizes_are given k [] [] holds = All-nil (IsOfSize given.page_size)
@@ -196,8 +196,8 @@ sizes_are given k (text ∷ texts) [] holds = absurd holds
 sizes_are given k (text ∷ texts) (c ∷ channels) holds =
     All-cons (IsOfSize given.page_size) c channels (channel.of_size given k text c holds.0) (sizes_are given k texts channels holds.1)
 
-pub sizes_here : (p : ℕ) (uuid : List ℕ) (limit k : ℕ) (texts : Texts) (s : FedSources) → Holds p uuid limit k texts s → All (IsOfSize p) s.channels
-sizes_here p uuid limit k texts s holds = sizes_are (settings p uuid (length texts.channels)) k texts.channels s.channels holds.channels
+pub sizes_here : (given : LoadSettings) (uuid : List ℕ) (k : ℕ) (texts : Texts) (s : FedSources) → Holds given uuid k texts s → All (IsOfSize given.page_size) s.channels
+sizes_here given uuid k texts s holds = sizes_are (settings given.page_size uuid (length texts.channels)) k texts.channels s.channels holds.channels
 
 -- ---- one element more, in a loop
 

@@ -128,7 +128,7 @@ nothing from reads before s = record {
   are_pieces = All-nil IsPiece;
   has_reads = ap (λ (n : ℕ). let new : ReadsSoFar = record reads { reads = n } in new) (sym (add-zero reads.reads));
   are_given = Consumes-nil before;
-  lacking = λ page_size uuid limit texts lacks. lacks;
+  lacking = λ given uuid texts lacks. lacks;
   has_counts = sym (fed_nothing s.counts from);
   settled = λ over. refl;
   keeps = stays s;
@@ -140,7 +140,7 @@ begins from reads before s = record {
   has_turns = refl;
   has_total = refl;
   has_pumped = nothing from reads before s;
-  steps = λ page_size uuid limit texts stands. stands;
+  steps = λ given uuid texts stands. stands;
 }
 
 -- a read gave a piece of so many bytes
@@ -188,9 +188,9 @@ one_more from pieces n piece r s t x y z a b c has p q f = record {
       ∙ ap (λ (n : ℕ). let new : ReadsSoFar = record r { reads = n } in new) (add_assoc r.reads (length pieces) 1)
       ∙ ap (after_pieces r) (sym (length-push pieces piece));
   are_given = subst (Consumes x z) (sym (concat-push pieces piece)) (Consumes-trans x y z (concat pieces) piece p.are_given q.is_given);
-  lacking = λ page_size uuid limit texts lacks.
-      subst (λ (u : Texts). LacksMemory page_size uuid limit u c) (sym (fed_all-push from pieces piece texts))
-      (f.lacking page_size uuid limit (piece_steps from pieces texts) (p.lacking page_size uuid limit texts lacks));
+  lacking = λ given uuid texts lacks.
+      subst (λ (u : Texts). LacksMemory given uuid u c) (sym (fed_all-push from pieces piece texts))
+      (f.lacking given uuid (piece_steps from pieces texts) (p.lacking given uuid texts lacks));
   has_counts =
       f.has_counts ∙ ap (λ (u : Counts). with_fed u from (length piece)) p.has_counts ∙ fed_twice a.counts from (length (concat pieces)) (length piece) has
       ∙ ap (with_fed a.counts from) (sym (ap (λ (l : List ℕ). length l) (concat-push pieces piece) ∙ length-append (concat pieces) piece));
@@ -200,15 +200,15 @@ one_more from pieces n piece r s t x y z a b c has p q f = record {
 
 pub steps_more : (from : Source) (pieces : List (List ℕ)) (piece : List ℕ) (a b c : LoadSession) → StepsOn (piece_steps from pieces) a b → StepsOn (feed_step from piece) b c
     → StepsOn (piece_steps from (pieces ++ piece ∷ [])) a c
-steps_more from pieces piece a b c p q = λ page_size uuid limit texts stands.
-    subst (λ (u : Texts). StandsFor page_size uuid limit u c) (sym (fed_all-push from pieces piece texts))
-    (q page_size uuid limit (piece_steps from pieces texts) (p page_size uuid limit texts stands))
+steps_more from pieces piece a b c p q = λ given uuid texts stands.
+    subst (λ (u : Texts). StandsFor given uuid u c) (sym (fed_all-push from pieces piece texts))
+    (q given uuid (piece_steps from pieces texts) (p given uuid texts stands))
 
 pub runs_out_then : (from : Source) (pieces : List (List ℕ)) (piece : List ℕ) (a b c : LoadSession) → StepsOn (piece_steps from pieces) a b → RunsOut (feed_step from piece) b c
     → RunsOut (piece_steps from (pieces ++ piece ∷ [])) a c
-runs_out_then from pieces piece a b c p q = λ page_size uuid limit texts stands.
-    subst (λ (u : Texts). LacksMemory page_size uuid limit u c) (sym (fed_all-push from pieces piece texts))
-    (q page_size uuid limit (piece_steps from pieces texts) (p page_size uuid limit texts stands))
+runs_out_then from pieces piece a b c p q = λ given uuid texts stands.
+    subst (λ (u : Texts). LacksMemory given uuid u c) (sym (fed_all-push from pieces piece texts))
+    (q given uuid (piece_steps from pieces texts) (p given uuid texts stands))
 
 pub goes_on : (from : Source) (turn total : ℕ) (n : ℕ) (piece : List ℕ) (r s t : ReadsSoFar) (x y z : Option (List ℕ)) (a b c : LoadSession) → HasSource a.counts from
     → SoFar from turn total r s x y a b → ReadsPiece n piece s t y z → Feeds from piece b c → StepsOn (feed_step from piece) b c
@@ -342,8 +342,8 @@ finds_end from turns turn total r s t x y z a b c within p is given done e =
           is_at_end = done;
         },
         record {
-          stands = λ page_size uuid limit texts stands. e.steps page_size uuid limit (piece_steps from p.pieces texts) (p.steps page_size uuid limit texts stands);
-          lacking = λ page_size uuid limit texts lacks. e.lacking page_size uuid limit (piece_steps from p.pieces texts) (p.has_pumped.lacking page_size uuid limit texts lacks);
+          stands = λ given uuid texts stands. e.steps given uuid (piece_steps from p.pieces texts) (p.steps given uuid texts stands);
+          lacking = λ given uuid texts lacks. e.lacking given uuid (piece_steps from p.pieces texts) (p.has_pumped.lacking given uuid texts lacks);
           has_counts = e.has_counts ∙ ap (λ (u : Counts). with_end u from) p.has_pumped.has_counts;
         },
       );

@@ -10,18 +10,19 @@ use Rattle.mig_mem.specs.PageSize.{IsPageSize}
 use Rattle.mig_mem.specs.RamTable.{RamTable}
 use Rattle.mig_mem.specs.Image.{Image}
 use Rattle.mig_mem.specs.Round.{after}
-use Rattle.mig_stream.specs.declared.item.Frame.TheVariants.{Ram}
 use Rattle.mig_stream.specs.declared.item.Mode.TheVariants.{Main}
 use Rattle.mig_stream.specs.declared.item.StreamState.TheVariants.{Reading}
 use Rattle.mig_stream.specs.Progress.{StreamProgress, start}
 use Rattle.mig_stream.specs.PageRecord.{PageRecord}
-use Rattle.mig_stream.specs.Reading.{settings as main_settings, StreamReading, IsReading as IsStreamReading}
+use Rattle.mig_stream.specs.Reading.{StreamReading, IsReading as IsStreamReading}
 use Rattle.mig_stream.proofs.Feeding.{reads_short}
 use Rattle.mig_packet.specs.Reading.{Settings, settings, ChannelReading, IsReading}
 use Rattle.mig_assemble.specs.Target.{LoadTarget}
 use Rattle.mig_session.specs.declared.counts.Count.{Count}
 use Rattle.mig_session.specs.declared.source.Source.{Source}
 use Rattle.mig_session.specs.declared.source.Source.TheVariants as source
+use Rattle.mig_single_load.specs.Settings.{main_of}
+use Rattle.mig_single_load.specs.declared.settings.LoadSettings.{LoadSettings}
 use Rattle.mig_single_load.specs.declared.fault.Origin.TheVariants as origin
 use Rattle.mig_answer.specs.declared.status.Status.{Status}
 use Rattle.mig_answer.specs.declared.status.Status.TheVariants.{Whole, Pending}
@@ -55,13 +56,13 @@ channels_counted given k (text ∷ texts) (c ∷ channels) holds =
     ap (λ (n : ℕ). record { fed = n; ended = c.reader.ended }) holds.0.stands.has_fed ∙ ap (λ (b : Bool). record { fed = length text.bytes; ended = b }) holds.0.stands.has_ended in
     ap (λ (x : Count). x ∷ map channel_count channels) here ∙ ap (λ (l : List Count). count_in text ∷ l) (channels_counted given k texts channels holds.1)
 
-pub held_counts : (p : ℕ) (uuid : List ℕ) (limit k : ℕ) (texts : Texts) (s : FedSources) → Holds p uuid limit k texts s → counts_of s ≡ counts_in texts
-held_counts p uuid limit k texts s holds =
+pub held_counts : (given : LoadSettings) (uuid : List ℕ) (k : ℕ) (texts : Texts) (s : FedSources) → Holds given uuid k texts s → counts_of s ≡ counts_in texts
+held_counts given uuid k texts s holds =
     let m : main_count s.main ≡ count_in texts.main =
     ap (λ (n : ℕ). record { fed = n; ended = s.main.reader.ended }) holds.main.stands.has_fed
     ∙ ap (λ (b : Bool). record { fed = length texts.main.bytes; ended = b }) holds.main.stands.has_ended in
     ap (λ (x : Count). record { main = x; channels = map channel_count s.channels }) m
-    ∙ ap (λ (l : List Count). record { main = count_in texts.main; channels = l }) (channels_counted (settings p uuid (length texts.channels)) k texts.channels s.channels holds.channels)
+    ∙ ap (λ (l : List Count). record { main = count_in texts.main; channels = l }) (channels_counted (settings given.page_size uuid (length texts.channels)) k texts.channels s.channels holds.channels)
 
 -- a text that takes a step has the count that does
 channel_stepped : (j : ℕ) (step : Text → Text) (by : Count → Count) (texts : List Text) → ((text : Text) → count_in (step text) ≡ by (count_in text))
@@ -144,15 +145,15 @@ put_still before now (Some t) stays has =
 
 -- the texts of a feeding, further on
 abbrev pub further : Feeding → Texts → Readings → Feeding
-further f texts readings = record { page_size = f.page_size; uuid = f.uuid; limit = f.limit; texts = texts; readings = readings }
+further f texts readings = record { given = f.given; uuid = f.uuid; texts = texts; readings = readings }
 
 pub rounds_further : (f : Feeding) (s : FedSources) (target : Option LoadTarget) (texts : Texts) (readings : Readings) → Advances f s target → GoOn f.texts texts
-    → AreReadings f.page_size f.uuid f.limit texts readings → HasRounds readings target
+    → AreReadings f.given f.uuid texts readings → HasRounds readings target
 rounds_further f s target texts readings advances goes are =
-    put_still f.readings readings target (readings_stay f.page_size f.uuid f.limit f.texts texts f.readings readings advances.is_page_size goes advances.are_readings are) advances.has_rounds
+    put_still f.readings readings target (readings_stay f.given f.uuid f.texts texts f.readings readings advances.is_page_size goes advances.are_readings are) advances.has_rounds
 
 pub advances_further : (f : Feeding) (s new : FedSources) (target : Option LoadTarget) (texts : Texts) (readings : Readings) → Advances f s target → GoOn f.texts texts
-    → AreReadings f.page_size f.uuid f.limit texts readings → Holds f.page_size f.uuid f.limit (rounds_loaded target) texts new → Advances (further f texts readings) new target
+    → AreReadings f.given f.uuid texts readings → Holds f.given f.uuid (rounds_loaded target) texts new → Advances (further f texts readings) new target
 advances_further f s new target texts readings advances goes are holds = record {
   is_page_size = advances.is_page_size;
   are_readings = are;
@@ -163,10 +164,10 @@ advances_further f s new target texts readings advances goes are holds = record 
 -- ---- a session that runs
 
 -- what it stands for, as far as it has advanced
-pub feeding_of : (p : ℕ) (uuid : List ℕ) (limit : ℕ) (texts : Texts) (s : LoadSession) (sources : FedSources) → s.sources ≡ Some sources → (stands : StandsFor p uuid limit texts s)
-    → Advances (record { page_size = p; uuid = uuid; limit = limit; texts = texts; readings = stands.is_answer.readings }) sources s.target
-feeding_of p uuid limit texts s sources some stands =
-    let runs : IsRunning p uuid limit texts s.target sources = subst (λ (o : Option FedSources). IfSome o (IsRunning p uuid limit texts s.target)) some stands.runs in
+pub feeding_of : (given : LoadSettings) (uuid : List ℕ) (texts : Texts) (s : LoadSession) (sources : FedSources) → s.sources ≡ Some sources → (stands : StandsFor given uuid texts s)
+    → Advances (record { given = given; uuid = uuid; texts = texts; readings = stands.is_answer.readings }) sources s.target
+feeding_of given uuid texts s sources some stands =
+    let runs : IsRunning given uuid texts s.target sources = subst (λ (o : Option FedSources). IfSome o (IsRunning given uuid texts s.target)) some stands.runs in
     let readings : Readings = stands.is_answer.readings in
     record {
       is_page_size = stands.is_page_size;
@@ -175,7 +176,7 @@ feeding_of p uuid limit texts s sources some stands =
       has_rounds = record { have_passed = stands.is_answer.has_rounds.before; has_put = put s.target stands.is_answer.has_memory runs.has_base };
     }
   where
-    put : (target : Option LoadTarget) → option_map (λ t. t.memory) target ≡ memory_at (rounds_loaded target) stands.is_answer.readings → IfSome target (HasBase p uuid limit texts)
+    put : (target : Option LoadTarget) → option_map (λ t. t.memory) target ≡ memory_at (rounds_loaded target) stands.is_answer.readings → IfSome target (HasBase given uuid texts)
         → IfSome target (HasPutRounds stands.is_answer.readings)
     put None memory base = tt
     put (Some t) memory base = record {
@@ -183,40 +184,40 @@ feeding_of p uuid limit texts s sources some stands =
       is_few = base.is_few;
     }
 
-bases : (p : ℕ) (uuid : List ℕ) (limit : ℕ) (texts : Texts) (readings : Readings) (target : Option LoadTarget) → IsPageSize p → AreReadings p uuid limit texts readings
-    → HasRounds readings target → IfSome target (HasBase p uuid limit texts)
-bases p uuid limit texts readings None size are has = tt
-bases p uuid limit texts readings (Some t) size are has = record {
+bases : (given : LoadSettings) (uuid : List ℕ) (texts : Texts) (readings : Readings) (target : Option LoadTarget) → IsPageSize given.page_size → AreReadings given uuid texts readings
+    → HasRounds readings target → IfSome target (HasBase given uuid texts)
+bases given uuid texts readings None size are has = tt
+bases given uuid texts readings (Some t) size are has = record {
   has_base = λ other are_other.
-      subst (λ (r : Readings). t.base ≡ base_at t.rounds r) (same_readings p uuid limit texts readings other size are are_other) has.has_put.has_loaded.has_base;
+      subst (λ (r : Readings). t.base ≡ base_at t.rounds r) (same_readings given uuid texts readings other size are are_other) has.has_put.has_loaded.has_base;
   is_few = has.has_put.is_few;
 }
 
 -- the verdict is told: the session stands for the texts
-pub stands_told : (p : ℕ) (uuid : List ℕ) (limit : ℕ) (texts : Texts) (readings : Readings) (counts : Counts) (kept : Option FedSources) (sources : FedSources) (target : Option LoadTarget) (verdict : Verdict)
-    → IsPageSize p → AreReadings p uuid limit texts readings → counts ≡ counts_in texts → Holds p uuid limit (rounds_loaded target) texts sources → HasRounds readings target
+pub stands_told : (given : LoadSettings) (uuid : List ℕ) (texts : Texts) (readings : Readings) (counts : Counts) (kept : Option FedSources) (sources : FedSources) (target : Option LoadTarget) (verdict : Verdict)
+    → IsPageSize given.page_size → AreReadings given uuid texts readings → counts ≡ counts_in texts → Holds given uuid (rounds_loaded target) texts sources → HasRounds readings target
     → TellsVerdict readings target verdict → (kept ≡ Some sources) ⊎ (kept ≡ None)
-    → StandsFor p uuid limit texts (record { counts = counts; sources = kept; target = target; verdict = verdict })
-stands_told p uuid limit texts readings counts kept sources target verdict size are counted holds has told which = record {
+    → StandsFor given uuid texts (record { counts = counts; sources = kept; target = target; verdict = verdict })
+stands_told given uuid texts readings counts kept sources target verdict size are counted holds has told which = record {
   is_page_size = size;
   has_counts = counted;
   is_answer = record { readings = readings; are_readings = are; has_rounds = told.is_first_stop; has_memory = told.has_memory; has_verdict = told.has_verdict };
   runs = elim which [
-    | inl some ↦ rw some (record { holds = holds; has_base = bases p uuid limit texts readings target size are has })
+    | inl some ↦ rw some (record { holds = holds; has_base = bases given uuid texts readings target size are has })
     | inr none ↦ rw none tt
   ];
 }
 
 -- an allocation was refused
-pub lacks_of : (p : ℕ) (uuid : List ℕ) (limit : ℕ) (texts : Texts) (readings : Readings) (counts : Counts) (kept : Option FedSources) (target : Option LoadTarget)
-    → IsPageSize p → AreReadings p uuid limit texts readings → counts ≡ counts_in texts → HasRounds readings target
-    → LacksMemory p uuid limit texts (record { counts = counts; sources = kept; target = target; verdict = failed_without_memory (rounds_loaded target) })
-lacks_of p uuid limit texts readings counts kept None size are counted has = record {
+pub lacks_of : (given : LoadSettings) (uuid : List ℕ) (texts : Texts) (readings : Readings) (counts : Counts) (kept : Option FedSources) (target : Option LoadTarget)
+    → IsPageSize given.page_size → AreReadings given uuid texts readings → counts ≡ counts_in texts → HasRounds readings target
+    → LacksMemory given uuid texts (record { counts = counts; sources = kept; target = target; verdict = failed_without_memory (rounds_loaded target) })
+lacks_of given uuid texts readings counts kept None size are counted has = record {
   is_page_size = size;
   has_counts = counted;
   is_without = record { readings = readings; are_readings = are; have_passed = has.have_passed; has_memory = inr (refl, refl); has_verdict = refl };
 }
-lacks_of p uuid limit texts readings counts kept (Some t) size are counted has = record {
+lacks_of given uuid texts readings counts kept (Some t) size are counted has = record {
   is_page_size = size;
   has_counts = counted;
   is_without = record { readings = readings; are_readings = are; have_passed = has.have_passed; has_memory = inl (sym has.has_put.has_loaded.has_memory); has_verdict = refl };
@@ -228,10 +229,10 @@ lacks_of p uuid limit texts readings counts kept (Some t) size are counted has =
 abbrev nothing_read : StreamReading
 nothing_read = record { table = None; rounds = []; state = Reading }
 
-main_nothing : (p limit : ℕ) (reading : StreamReading) → IsPageSize p → IsMainReading p limit no_text reading → reading ≡ nothing_read
-main_nothing p limit reading size is =
-    let begin : StreamProgress = start Ram Main p limit in
-    same_main p limit no_text reading nothing_read size is (record {
+main_nothing : (given : LoadSettings) (reading : StreamReading) → IsPageSize given.page_size → IsMainReading given no_text reading → reading ≡ nothing_read
+main_nothing given reading size is =
+    let begin : StreamProgress = start given.frame Main given.page_size given.limit in
+    same_main given no_text reading nothing_read size is (record {
       found = nothing_read;
       is_reading = record { to = begin; rest = []; reads = reads_short begin [] (omega arith); has_table = refl; has_rounds = refl };
       has_end = refl;
@@ -241,13 +242,13 @@ none_counted : (n : ℕ) → replicate n no_count ≡ map count_in (replicate n 
 none_counted zero = refl
 none_counted (suc n) = ap (λ (l : List Count). no_count ∷ l) (none_counted n)
 
-pub stands_at_first : (p : ℕ) (uuid : List ℕ) (limit n : ℕ) (sources : FedSources) (counts : Counts) → IsPageSize p
-    → counts ≡ record { main = no_count; channels = replicate n no_count } → Holds p uuid limit 0 (no_texts n) sources
-    → StandsFor p uuid limit (no_texts n) (record { counts = counts; sources = Some sources; target = None; verdict = Running })
-stands_at_first p uuid limit n sources counts size counted holds =
-    let some = some_readings p uuid limit (no_texts n) size in
+pub stands_at_first : (given : LoadSettings) (uuid : List ℕ) (n : ℕ) (sources : FedSources) (counts : Counts) → IsPageSize given.page_size
+    → counts ≡ record { main = no_count; channels = replicate n no_count } → Holds given uuid 0 (no_texts n) sources
+    → StandsFor given uuid (no_texts n) (record { counts = counts; sources = Some sources; target = None; verdict = Running })
+stands_at_first given uuid n sources counts size counted holds =
+    let some = some_readings given uuid (no_texts n) size in
     let readings : Readings = some.0 in
-    let is : readings.main ≡ nothing_read = main_nothing p limit readings.main size some.1.has_main in
+    let is : readings.main ≡ nothing_read = main_nothing given readings.main size some.1.has_main in
     let channels : List ChannelReading = readings.channels in
     record {
       is_page_size = size;
@@ -267,26 +268,26 @@ stands_at_first p uuid limit n sources counts size counted holds =
 
 -- ---- a session that is settled
 
-pub settled_steps : (p : ℕ) (uuid : List ℕ) (limit : ℕ) (texts now : Texts) (s : LoadSession) (counts : Counts) → StandsFor p uuid limit texts s → s.sources ≡ None → s.verdict ≢ Running
-    → GoOn texts now → counts ≡ counts_in now → StandsFor p uuid limit now (record s { counts = counts })
-settled_steps p uuid limit texts now s counts stands none settled goes counted = record {
+pub settled_steps : (given : LoadSettings) (uuid : List ℕ) (texts now : Texts) (s : LoadSession) (counts : Counts) → StandsFor given uuid texts s → s.sources ≡ None → s.verdict ≢ Running
+    → GoOn texts now → counts ≡ counts_in now → StandsFor given uuid now (record s { counts = counts })
+settled_steps given uuid texts now s counts stands none settled goes counted = record {
   is_page_size = stands.is_page_size;
   has_counts = counted;
-  is_answer = answers_law p uuid limit texts now (answer_in s) stands.is_page_size goes stands.is_answer settled;
+  is_answer = answers_law given uuid texts now (answer_in s) stands.is_page_size goes stands.is_answer settled;
   runs = rw none tt;
 }
 
-pub lacking_steps : (p : ℕ) (uuid : List ℕ) (limit : ℕ) (texts now : Texts) (s : LoadSession) (counts : Counts) → LacksMemory p uuid limit texts s → GoOn texts now → counts ≡ counts_in now
-    → LacksMemory p uuid limit now (record s { counts = counts })
-lacking_steps p uuid limit texts now s counts lacks goes counted = record {
+pub lacking_steps : (given : LoadSettings) (uuid : List ℕ) (texts now : Texts) (s : LoadSession) (counts : Counts) → LacksMemory given uuid texts s → GoOn texts now → counts ≡ counts_in now
+    → LacksMemory given uuid now (record s { counts = counts })
+lacking_steps given uuid texts now s counts lacks goes counted = record {
   is_page_size = lacks.is_page_size;
   has_counts = counted;
-  is_without = wants_law p uuid limit texts now (answer_in s) lacks.is_page_size goes lacks.is_without;
+  is_without = wants_law given uuid texts now (answer_in s) lacks.is_page_size goes lacks.is_without;
 }
 
 -- one that lacks memory is settled
-pub lacks_is_settled : (p : ℕ) (uuid : List ℕ) (limit : ℕ) (texts : Texts) (s : LoadSession) → LacksMemory p uuid limit texts s → s.verdict ≢ Running
-lacks_is_settled p uuid limit texts s lacks running = let bad : failed_without_memory (rounds_loaded s.target) ≡ Running = sym lacks.is_without.has_verdict ∙ running in absurd cc
+pub lacks_is_settled : (given : LoadSettings) (uuid : List ℕ) (texts : Texts) (s : LoadSession) → LacksMemory given uuid texts s → s.verdict ≢ Running
+lacks_is_settled given uuid texts s lacks running = let bad : failed_without_memory (rounds_loaded s.target) ≡ Running = sym lacks.is_without.has_verdict ∙ running in absurd cc
 
 -- ---- a text is over
 
@@ -311,16 +312,16 @@ settled_before k n m old new same other whole =
 abbrev pub SameBytes : Text → Text → Type 0
 SameBytes a b = b.bytes ≡ a.bytes
 
-main_tables : (p limit : ℕ) (a b : Text) (x y : StreamReading) → IsPageSize p → SameBytes a b → IsMainReading p limit a x → IsMainReading p limit b y → x.table ≡ y.table
-main_tables p limit a b x y size same is_x is_y =
-    let found : IsStreamReading (main_settings Main p limit) a.bytes is_y.found = subst (λ (l : List ℕ). IsStreamReading (main_settings Main p limit) l is_y.found) same is_y.is_reading in
-    let e = same_found p limit a is_y.found x size found is_x in
+main_tables : (given : LoadSettings) (a b : Text) (x y : StreamReading) → IsPageSize given.page_size → SameBytes a b → IsMainReading given a x → IsMainReading given b y → x.table ≡ y.table
+main_tables given a b x y size same is_x is_y =
+    let found : IsStreamReading (main_of given) a.bytes is_y.found = subst (λ (l : List ℕ). IsStreamReading (main_of given) l is_y.found) same is_y.is_reading in
+    let e = same_found given a is_y.found x size found is_x in
     ap (λ (r : StreamReading). r.table) e ∙ sym (ap (λ (r : StreamReading). r.table) is_y.has_end)
 
-main_rounds : (p limit : ℕ) (a b : Text) (x y : StreamReading) → IsPageSize p → SameBytes a b → IsMainReading p limit a x → IsMainReading p limit b y → x.rounds ≡ y.rounds
-main_rounds p limit a b x y size same is_x is_y =
-    let found : IsStreamReading (main_settings Main p limit) a.bytes is_y.found = subst (λ (l : List ℕ). IsStreamReading (main_settings Main p limit) l is_y.found) same is_y.is_reading in
-    let e = same_found p limit a is_y.found x size found is_x in
+main_rounds : (given : LoadSettings) (a b : Text) (x y : StreamReading) → IsPageSize given.page_size → SameBytes a b → IsMainReading given a x → IsMainReading given b y → x.rounds ≡ y.rounds
+main_rounds given a b x y size same is_x is_y =
+    let found : IsStreamReading (main_of given) a.bytes is_y.found = subst (λ (l : List ℕ). IsStreamReading (main_of given) l is_y.found) same is_y.is_reading in
+    let e = same_found given a is_y.found x size found is_x in
     ap (λ (r : StreamReading). r.rounds) e ∙ sym (ap (λ (r : StreamReading). r.rounds) is_y.has_end)
 
 abbrev standing_at : ℕ → (ℕ × ChannelReading) → Standing
@@ -367,18 +368,18 @@ as_many source.Main texts = refl
 as_many (source.Channel j) texts = length-set texts.channels j (over (get_or texts.channels j no_text))
 
 -- where a source was pending something is told once a text is over
-pub still_told : (p : ℕ) (uuid : List ℕ) (limit k : ℕ) (from : Source) (texts : Texts) (before now : Readings) → IsPageSize p → AreReadings p uuid limit texts before
-    → AreReadings p uuid limit (end_step from texts) now → IsFirstStop before k → Running ≡ verdict_at k before → IsDue k now → ⊥
-still_told p uuid limit k from texts before now size are_before are_now stop running due =
+pub still_told : (given : LoadSettings) (uuid : List ℕ) (k : ℕ) (from : Source) (texts : Texts) (before now : Readings) → IsPageSize given.page_size → AreReadings given uuid texts before
+    → AreReadings given uuid (end_step from texts) now → IsFirstStop before k → Running ≡ verdict_at k before → IsDue k now → ⊥
+still_told given uuid k from texts before now size are_before are_now stop running due =
     let whole = (due_sources k now due).0 in
-    let given = settings p uuid (length texts.channels) in
+    let channel_given = settings given.page_size uuid (length texts.channels) in
     settled_is_told k before stop
     (All-cons IsSettled (main_at k before) (channels_at k before)
     (settled_before k (length before.main.rounds) (length now.main.rounds) (stream_end before.main.state) (stream_end now.main.state)
-    (ap (λ (l : List (List PageRecord)). length l) (main_rounds p limit texts.main (end_step from texts).main before.main now.main size (main_bytes from texts) are_before.has_main are_now.has_main))
+    (ap (λ (l : List (List PageRecord)). length l) (main_rounds given texts.main (end_step from texts).main before.main now.main size (main_bytes from texts) are_before.has_main are_now.has_main))
     (stream_ends now.main.state) (All-head IsWhole (main_at k now) (channels_at k now) whole))
-    (channels_before given k 0 texts.channels (end_step from texts).channels before.channels now.channels (channel_bytes from texts) are_before.has_channels
-    (subst (λ (n : ℕ). Are (settings p uuid n) (end_step from texts).channels now.channels) (as_many from texts) are_now.has_channels)
+    (channels_before channel_given k 0 texts.channels (end_step from texts).channels before.channels now.channels (channel_bytes from texts) are_before.has_channels
+    (subst (λ (n : ℕ). Are (settings given.page_size uuid n) (end_step from texts).channels now.channels) (as_many from texts) are_now.has_channels)
     (All-tail IsWhole (main_at k now) (channels_at k now) whole)))
     (sym running)
 
@@ -386,7 +387,7 @@ still_told p uuid limit k from texts before now size are_before are_now stop run
 
 -- what advancing leaves, by what the texts tell
 pub taken_of : {E : Type 0} (f : Feeding) (s : FedSources) (target : Option LoadTarget) (result : Result Verdict E) → HasAdvanced f s target result
-    → HasRounds f.readings target × IfOk result (λ verdict. Holds f.page_size f.uuid f.limit (rounds_loaded target) f.texts s × TellsVerdict f.readings target verdict)
+    → HasRounds f.readings target × IfOk result (λ verdict. Holds f.given f.uuid (rounds_loaded target) f.texts s × TellsVerdict f.readings target verdict)
 taken_of f s target (Ok verdict) has = (has.advances.has_rounds, (has.advances.holds, has.is_told))
 taken_of f s target (Err e) has = (has.advances.has_rounds, tt)
 
@@ -394,14 +395,14 @@ taken_of f s target (Err e) has = (has.advances.has_rounds, tt)
 pub goes_fed : (f : Feeding) (s : FedSources) (target : Option LoadTarget) (from : Source) (piece : List ℕ) → Advances f s target → HasSource (counts_of s) from
     → IsFalse (count_of (counts_of s) from).ended → GoOn f.texts (feed_step from piece f.texts)
 goes_fed f s target from piece advances there open_ =
-    let same = held_counts f.page_size f.uuid f.limit (rounds_loaded target) f.texts s advances.holds in
+    let same = held_counts f.given f.uuid (rounds_loaded target) f.texts s advances.holds in
     fed_goes_on from piece f.texts (subst (λ (c : Counts). HasSource c from) same there) (subst (λ (c : Counts). IsFalse (count_of c from).ended) same open_)
 
 -- some readings of texts that went on, and how far a session has come with them
 pub next_feeding : (f : Feeding) (s new : FedSources) (target : Option LoadTarget) (texts : Texts) → Advances f s target → GoOn f.texts texts
-    → Holds f.page_size f.uuid f.limit (rounds_loaded target) texts new → (next : Feeding) × Advances next new target
+    → Holds f.given f.uuid (rounds_loaded target) texts new → (next : Feeding) × Advances next new target
 next_feeding f s new target texts advances goes holds =
-    let some = some_readings f.page_size f.uuid f.limit texts advances.is_page_size in
+    let some = some_readings f.given f.uuid texts advances.is_page_size in
     (further f texts some.0, advances_further f s new target texts some.0 advances goes some.1 holds)
 
 -- ---- the calls
@@ -425,55 +426,55 @@ keeps_runs s sources is some = go s.verdict is.is_settled
     go (Failed f) settled = let bad : Some sources ≡ None = sym some ∙ settled (λ e. absurd cc) in absurd cc
 
 -- a piece was taken
-pub feed_steps : {E : Type 0} (p : ℕ) (uuid : List ℕ) (limit : ℕ) (texts : Texts) (s : LoadSession) (sources new : FedSources) (from : Source) (piece : List ℕ) (target : Option LoadTarget)
-    (taken : Result Verdict E) (verdict : Verdict) (kept : Option FedSources) (counts : Counts) → StandsFor p uuid limit texts s → s.sources ≡ Some sources
+pub feed_steps : {E : Type 0} (given : LoadSettings) (uuid : List ℕ) (texts : Texts) (s : LoadSession) (sources new : FedSources) (from : Source) (piece : List ℕ) (target : Option LoadTarget)
+    (taken : Result Verdict E) (verdict : Verdict) (kept : Option FedSources) (counts : Counts) → StandsFor given uuid texts s → s.sources ≡ Some sources
     → ((f : Feeding) → Advances f sources s.target → HasTaken f from piece new target taken) → taken ≡ Ok verdict → counts ≡ with_fed s.counts from (length piece) → Keeps verdict kept new
-    → StandsFor p uuid limit (feed_step from piece texts) (record { counts = counts; sources = kept; target = target; verdict = verdict })
-feed_steps p uuid limit texts s sources new from piece target taken verdict kept counts stands some takes ok counted keeps =
-    let f : Feeding = record { page_size = p; uuid = uuid; limit = limit; texts = texts; readings = stands.is_answer.readings } in
-    let next = some_readings p uuid limit (feed_step from piece texts) stands.is_page_size in
-    let has = subst (λ (r : Result Verdict _). HasTaken f from piece new target r) ok (takes f (feeding_of p uuid limit texts s sources some stands)) next.0 next.1 in
-    stands_told p uuid limit (feed_step from piece texts) next.0 counts kept new target verdict stands.is_page_size next.1
+    → StandsFor given uuid (feed_step from piece texts) (record { counts = counts; sources = kept; target = target; verdict = verdict })
+feed_steps given uuid texts s sources new from piece target taken verdict kept counts stands some takes ok counted keeps =
+    let f : Feeding = record { given = given; uuid = uuid; texts = texts; readings = stands.is_answer.readings } in
+    let next = some_readings given uuid (feed_step from piece texts) stands.is_page_size in
+    let has = subst (λ (r : Result Verdict _). HasTaken f from piece new target r) ok (takes f (feeding_of given uuid texts s sources some stands)) next.0 next.1 in
+    stands_told given uuid (feed_step from piece texts) next.0 counts kept new target verdict stands.is_page_size next.1
     (counted ∙ ap (λ (c : Counts). with_fed c from (length piece)) stands.has_counts ∙ sym (counts_fed from piece texts)) has.1.0 has.0 has.1.1 (kept_or_not verdict kept new keeps)
 
 -- it wasn't, since an allocation was refused
-pub feed_runs_out : {E : Type 0} (p : ℕ) (uuid : List ℕ) (limit : ℕ) (texts : Texts) (s : LoadSession) (sources new : FedSources) (from : Source) (piece : List ℕ) (target : Option LoadTarget)
-    (taken : Result Verdict E) (kept : Option FedSources) (counts : Counts) → StandsFor p uuid limit texts s → s.sources ≡ Some sources
+pub feed_runs_out : {E : Type 0} (given : LoadSettings) (uuid : List ℕ) (texts : Texts) (s : LoadSession) (sources new : FedSources) (from : Source) (piece : List ℕ) (target : Option LoadTarget)
+    (taken : Result Verdict E) (kept : Option FedSources) (counts : Counts) → StandsFor given uuid texts s → s.sources ≡ Some sources
     → ((f : Feeding) → Advances f sources s.target → HasTaken f from piece new target taken) → counts ≡ with_fed s.counts from (length piece)
-    → LacksMemory p uuid limit (feed_step from piece texts) (record { counts = counts; sources = kept; target = target; verdict = failed_without_memory (rounds_loaded target) })
-feed_runs_out p uuid limit texts s sources new from piece target taken kept counts stands some takes counted =
-    let f : Feeding = record { page_size = p; uuid = uuid; limit = limit; texts = texts; readings = stands.is_answer.readings } in
-    let next = some_readings p uuid limit (feed_step from piece texts) stands.is_page_size in
-    let has = takes f (feeding_of p uuid limit texts s sources some stands) next.0 next.1 in
-    lacks_of p uuid limit (feed_step from piece texts) next.0 counts kept target stands.is_page_size next.1
+    → LacksMemory given uuid (feed_step from piece texts) (record { counts = counts; sources = kept; target = target; verdict = failed_without_memory (rounds_loaded target) })
+feed_runs_out given uuid texts s sources new from piece target taken kept counts stands some takes counted =
+    let f : Feeding = record { given = given; uuid = uuid; texts = texts; readings = stands.is_answer.readings } in
+    let next = some_readings given uuid (feed_step from piece texts) stands.is_page_size in
+    let has = takes f (feeding_of given uuid texts s sources some stands) next.0 next.1 in
+    lacks_of given uuid (feed_step from piece texts) next.0 counts kept target stands.is_page_size next.1
     (counted ∙ ap (λ (c : Counts). with_fed c from (length piece)) stands.has_counts ∙ sym (counts_fed from piece texts)) has.0
 
 -- a settled session counts a piece
-pub feed_counts : (p : ℕ) (uuid : List ℕ) (limit : ℕ) (texts : Texts) (s : LoadSession) (from : Source) (piece : List ℕ) (counts : Counts) → IsSession s → StandsFor p uuid limit texts s → s.sources ≡ None
-    → HasSource s.counts from → IsFalse (count_of s.counts from).ended → counts ≡ with_fed s.counts from (length piece) → StandsFor p uuid limit (feed_step from piece texts) (record s { counts = counts })
-feed_counts p uuid limit texts s from piece counts is stands none there open_ counted =
-    settled_steps p uuid limit texts (feed_step from piece texts) s counts stands none (λ running. is.is_open running none)
+pub feed_counts : (given : LoadSettings) (uuid : List ℕ) (texts : Texts) (s : LoadSession) (from : Source) (piece : List ℕ) (counts : Counts) → IsSession s → StandsFor given uuid texts s → s.sources ≡ None
+    → HasSource s.counts from → IsFalse (count_of s.counts from).ended → counts ≡ with_fed s.counts from (length piece) → StandsFor given uuid (feed_step from piece texts) (record s { counts = counts })
+feed_counts given uuid texts s from piece counts is stands none there open_ counted =
+    settled_steps given uuid texts (feed_step from piece texts) s counts stands none (λ running. is.is_open running none)
     (fed_goes_on from piece texts (subst (λ (c : Counts). HasSource c from) stands.has_counts there) (subst (λ (c : Counts). IsFalse (count_of c from).ended) stands.has_counts open_))
     (counted ∙ ap (λ (c : Counts). with_fed c from (length piece)) stands.has_counts ∙ sym (counts_fed from piece texts))
 
-pub feed_lacks : (p : ℕ) (uuid : List ℕ) (limit : ℕ) (texts : Texts) (s : LoadSession) (from : Source) (piece : List ℕ) (counts : Counts) → LacksMemory p uuid limit texts s
-    → HasSource s.counts from → IsFalse (count_of s.counts from).ended → counts ≡ with_fed s.counts from (length piece) → LacksMemory p uuid limit (feed_step from piece texts) (record s { counts = counts })
-feed_lacks p uuid limit texts s from piece counts lacks there open_ counted =
-    lacking_steps p uuid limit texts (feed_step from piece texts) s counts lacks
+pub feed_lacks : (given : LoadSettings) (uuid : List ℕ) (texts : Texts) (s : LoadSession) (from : Source) (piece : List ℕ) (counts : Counts) → LacksMemory given uuid texts s
+    → HasSource s.counts from → IsFalse (count_of s.counts from).ended → counts ≡ with_fed s.counts from (length piece) → LacksMemory given uuid (feed_step from piece texts) (record s { counts = counts })
+feed_lacks given uuid texts s from piece counts lacks there open_ counted =
+    lacking_steps given uuid texts (feed_step from piece texts) s counts lacks
     (fed_goes_on from piece texts (subst (λ (c : Counts). HasSource c from) lacks.has_counts there) (subst (λ (c : Counts). IsFalse (count_of c from).ended) lacks.has_counts open_))
     (counted ∙ ap (λ (c : Counts). with_fed c from (length piece)) lacks.has_counts ∙ sym (counts_fed from piece texts))
 
 -- a settled session counts an end
-pub end_counts : (p : ℕ) (uuid : List ℕ) (limit : ℕ) (texts : Texts) (s : LoadSession) (from : Source) (counts : Counts) → IsSession s → StandsFor p uuid limit texts s → s.sources ≡ None
-    → counts ≡ with_end s.counts from → StandsFor p uuid limit (end_step from texts) (record s { counts = counts })
-end_counts p uuid limit texts s from counts is stands none counted =
-    settled_steps p uuid limit texts (end_step from texts) s counts stands none (λ running. is.is_open running none) (ended_goes_on from texts)
+pub end_counts : (given : LoadSettings) (uuid : List ℕ) (texts : Texts) (s : LoadSession) (from : Source) (counts : Counts) → IsSession s → StandsFor given uuid texts s → s.sources ≡ None
+    → counts ≡ with_end s.counts from → StandsFor given uuid (end_step from texts) (record s { counts = counts })
+end_counts given uuid texts s from counts is stands none counted =
+    settled_steps given uuid texts (end_step from texts) s counts stands none (λ running. is.is_open running none) (ended_goes_on from texts)
     (counted ∙ ap (λ (c : Counts). with_end c from) stands.has_counts ∙ sym (counts_ended from texts))
 
-pub end_lacks : (p : ℕ) (uuid : List ℕ) (limit : ℕ) (texts : Texts) (s : LoadSession) (from : Source) (counts : Counts) → LacksMemory p uuid limit texts s
-    → counts ≡ with_end s.counts from → LacksMemory p uuid limit (end_step from texts) (record s { counts = counts })
-end_lacks p uuid limit texts s from counts lacks counted =
-    lacking_steps p uuid limit texts (end_step from texts) s counts lacks (ended_goes_on from texts)
+pub end_lacks : (given : LoadSettings) (uuid : List ℕ) (texts : Texts) (s : LoadSession) (from : Source) (counts : Counts) → LacksMemory given uuid texts s
+    → counts ≡ with_end s.counts from → LacksMemory given uuid (end_step from texts) (record s { counts = counts })
+end_lacks given uuid texts s from counts lacks counted =
+    lacking_steps given uuid texts (end_step from texts) s counts lacks (ended_goes_on from texts)
     (counted ∙ ap (λ (c : Counts). with_end c from) lacks.has_counts ∙ sym (counts_ended from texts))
 
 -- a session that runs is told that a source is over
@@ -489,38 +490,38 @@ told_either : (f : Feeding) (s : FedSources) (target : Option LoadTarget) (v : V
 told_either f s None v advances none told = told_without f s v advances (none refl) told
 told_either f s (Some t) v advances none told = told_of f s t v advances told
 
-pub end_steps : (p : ℕ) (uuid : List ℕ) (limit : ℕ) (texts : Texts) (s : LoadSession) (sources new : FedSources) (from : Source) (n : ℕ) (told : Option Verdict) (verdict : Verdict)
-    (kept : Option FedSources) (counts : Counts) → IsSession s → StandsFor p uuid limit texts s → s.sources ≡ Some sources
-    → ((p : ℕ) (uuid : List ℕ) (limit k : ℕ) (texts : Texts) → Holds p uuid limit k texts sources → Holds p uuid limit k (end_step from texts) new)
+pub end_steps : (given : LoadSettings) (uuid : List ℕ) (texts : Texts) (s : LoadSession) (sources new : FedSources) (from : Source) (n : ℕ) (told : Option Verdict) (verdict : Verdict)
+    (kept : Option FedSources) (counts : Counts) → IsSession s → StandsFor given uuid texts s → s.sources ≡ Some sources
+    → ((given : LoadSettings) (uuid : List ℕ) (k : ℕ) (texts : Texts) → Holds given uuid k texts sources → Holds given uuid k (end_step from texts) new)
     → n ≡ rounds_loaded s.target → TellsAll n new told → verdict ≡ unwrap_or told Running → counts ≡ with_end s.counts from → Keeps verdict kept new
-    → StandsFor p uuid limit (end_step from texts) (record { counts = counts; sources = kept; target = s.target; verdict = verdict })
-end_steps p uuid limit texts s sources new from n told verdict kept counts is stands some holds same tells is_verdict counted keeps =
+    → StandsFor given uuid (end_step from texts) (record { counts = counts; sources = kept; target = s.target; verdict = verdict })
+end_steps given uuid texts s sources new from n told verdict kept counts is stands some holds same tells is_verdict counted keeps =
     let before : Readings = stands.is_answer.readings in
-    let f : Feeding = record { page_size = p; uuid = uuid; limit = limit; texts = texts; readings = before } in
-    let advances = feeding_of p uuid limit texts s sources some stands in
-    let next = some_readings p uuid limit (end_step from texts) stands.is_page_size in
+    let f : Feeding = record { given = given; uuid = uuid; texts = texts; readings = before } in
+    let advances = feeding_of given uuid texts s sources some stands in
+    let next = some_readings given uuid (end_step from texts) stands.is_page_size in
     let further_on : Advances (further f (end_step from texts) next.0) new s.target =
-    advances_further f sources new s.target (end_step from texts) next.0 advances (ended_goes_on from texts) next.1 (holds p uuid limit (rounds_loaded s.target) texts advances.holds) in
+    advances_further f sources new s.target (end_step from texts) next.0 advances (ended_goes_on from texts) next.1 (holds given uuid (rounds_loaded s.target) texts advances.holds) in
     let tells_here : TellsAll (rounds_loaded s.target) new told = subst (λ (m : ℕ). TellsAll m new told) same tells in
     let running : Running ≡ verdict_at (rounds_loaded s.target) before = sym (keeps_runs s sources is some) ∙ stands.is_answer.has_verdict in
     let no_table : s.target ≡ None → next.0.main.table ≡ None = λ none.
-    sym (main_tables p limit texts.main (end_step from texts).main before.main next.0.main stands.is_page_size (main_bytes from texts) stands.is_answer.are_readings.has_main next.1.has_main)
+    sym (main_tables given texts.main (end_step from texts).main before.main next.0.main stands.is_page_size (main_bytes from texts) stands.is_answer.are_readings.has_main next.1.has_main)
     ∙ none_there before (sym (ap (λ (o : Option LoadTarget). option_map (λ t. t.memory) o) none) ∙ stands.is_answer.has_memory ∙ ap (λ (o : Option LoadTarget). memory_at (rounds_loaded o) before) none) in
     let is_told : (o : Option Verdict) → told ≡ o → TellsVerdict next.0 s.target (unwrap_or o Running) = λ o e. go o (subst (λ (x : Option Verdict). TellsAll (rounds_loaded s.target) new x) e tells_here) further_on no_table running in
     let here : TellsVerdict next.0 s.target verdict = subst (λ (v : Verdict). TellsVerdict next.0 s.target v) (sym is_verdict) (is_told told refl) in
-    stands_told p uuid limit (end_step from texts) next.0 counts kept new s.target verdict stands.is_page_size next.1
+    stands_told given uuid (end_step from texts) next.0 counts kept new s.target verdict stands.is_page_size next.1
     (counted ∙ ap (λ (c : Counts). with_end c from) stands.has_counts ∙ sym (counts_ended from texts)) further_on.holds further_on.has_rounds here (kept_or_not verdict kept new keeps)
   where
     go : (o : Option Verdict) → TellsAll (rounds_loaded s.target) new o
-        → Advances (record { page_size = p; uuid = uuid; limit = limit; texts = end_step from texts; readings = (some_readings p uuid limit (end_step from texts) stands.is_page_size).0 }) new s.target
-        → (s.target ≡ None → (some_readings p uuid limit (end_step from texts) stands.is_page_size).0.main.table ≡ None) → Running ≡ verdict_at (rounds_loaded s.target) stands.is_answer.readings
-        → TellsVerdict (some_readings p uuid limit (end_step from texts) stands.is_page_size).0 s.target (unwrap_or o Running)
+        → Advances (record { given = given; uuid = uuid; texts = end_step from texts; readings = (some_readings given uuid (end_step from texts) stands.is_page_size).0 }) new s.target
+        → (s.target ≡ None → (some_readings given uuid (end_step from texts) stands.is_page_size).0.main.table ≡ None) → Running ≡ verdict_at (rounds_loaded s.target) stands.is_answer.readings
+        → TellsVerdict (some_readings given uuid (end_step from texts) stands.is_page_size).0 s.target (unwrap_or o Running)
     go None tells advances none running =
-        let now = some_readings p uuid limit (end_step from texts) stands.is_page_size in
-        let due : IsDue (rounds_loaded s.target) now.0 = sym (tells p uuid limit (end_step from texts) now.0 stands.is_page_size advances.holds now.1) in
-        absurd (still_told p uuid limit (rounds_loaded s.target) from texts stands.is_answer.readings now.0 stands.is_page_size stands.is_answer.are_readings now.1 stands.is_answer.has_rounds running due)
+        let now = some_readings given uuid (end_step from texts) stands.is_page_size in
+        let due : IsDue (rounds_loaded s.target) now.0 = sym (tells given uuid (end_step from texts) now.0 stands.is_page_size advances.holds now.1) in
+        absurd (still_told given uuid (rounds_loaded s.target) from texts stands.is_answer.readings now.0 stands.is_page_size stands.is_answer.are_readings now.1 stands.is_answer.has_rounds running due)
     go (Some v) tells advances none running =
-        told_either (record { page_size = p; uuid = uuid; limit = limit; texts = end_step from texts; readings = (some_readings p uuid limit (end_step from texts) stands.is_page_size).0 }) new s.target v advances none tells
+        told_either (record { given = given; uuid = uuid; texts = end_step from texts; readings = (some_readings given uuid (end_step from texts) stands.is_page_size).0 }) new s.target v advances none tells
 
 -- it is still a session
 pub is_session_still : (counts : Counts) (kept : Option FedSources) (sources : FedSources) (target : Option LoadTarget) (verdict : Verdict) → Keeps verdict kept sources

@@ -4,6 +4,7 @@ use Rattle.std.specs.Option.{option_map}
 use Rattle.mig_mem.specs.PageSize.{IsPageSize}
 use Rattle.mig_mem.specs.First.{first_some}
 use Rattle.mig_assemble.specs.Target.{LoadTarget}
+use Rattle.mig_single_load.specs.declared.settings.LoadSettings.{LoadSettings}
 use Rattle.mig_single_load.specs.declared.fault.LoadFault.{LoadFault}
 use Rattle.mig_single_load.specs.declared.fault.Origin.TheVariants as origin
 use Rattle.mig_single_load.specs.declared.fault.Fault.TheVariants as fault
@@ -19,9 +20,8 @@ use Rattle.mig_session.specs.Session.{rounds_loaded, feed_step}
 
 -- what a session is of, how much of the texts has come, and what they tell
 pub record Feeding : Type 0 where
-  pub page_size : ℕ
+  pub given : LoadSettings
   pub uuid : List ℕ
-  pub limit : ℕ
   pub texts : Texts
   pub readings : Readings
 
@@ -37,9 +37,9 @@ pub record HasRounds (readings : Readings) (target : Option LoadTarget) : Type 0
 
 -- so many of the texts' rounds are counted, and what is kept of the sources is behind them
 pub record Advances (f : Feeding) (s : FedSources) (target : Option LoadTarget) : Type 0 where
-  pub is_page_size : IsPageSize f.page_size
-  pub are_readings : AreReadings f.page_size f.uuid f.limit f.texts f.readings
-  pub holds : Holds f.page_size f.uuid f.limit (rounds_loaded target) f.texts s
+  pub is_page_size : IsPageSize f.given.page_size
+  pub are_readings : AreReadings f.given f.uuid f.texts f.readings
+  pub holds : Holds f.given f.uuid (rounds_loaded target) f.texts s
   pub has_rounds : HasRounds f.readings target
 
 -- the rounds up to the first that doesn't pass are counted, and this is the verdict there
@@ -59,9 +59,9 @@ pub record HasAdvanced {E : Type 0} (f : Feeding) (s : FedSources) (target : Opt
 
 -- What the taking of a piece leaves, by what the texts with it tell.
 abbrev pub HasTaken : {E : Type 0} → Feeding → Source → List ℕ → FedSources → Option LoadTarget → Result Verdict E → Type 0
-HasTaken f from piece s target result = (readings : Readings) → AreReadings f.page_size f.uuid f.limit (feed_step from piece f.texts) readings
+HasTaken f from piece s target result = (readings : Readings) → AreReadings f.given f.uuid (feed_step from piece f.texts) readings
     → HasRounds readings target
-    × IfOk result (λ verdict. Holds f.page_size f.uuid f.limit (rounds_loaded target) (feed_step from piece f.texts) s × TellsVerdict readings target verdict)
+    × IfOk result (λ verdict. Holds f.given f.uuid (rounds_loaded target) (feed_step from piece f.texts) s × TellsVerdict readings target verdict)
 
 -- the sources tell no verdict at a round: all have it, and no hello's id comes again
 abbrev pub IsDue : ℕ → Readings → Type 0

@@ -6,6 +6,8 @@ use Rattle.mig_mem.specs.RamTable.{RamTable}
 use Rattle.mig_assemble.specs.Target.{LoadTarget}
 use Rattle.mig_stream.specs.Text.{total_bytes}
 use Rattle.mig_send.specs.DealtRounds.{DealtRound}
+use Rattle.mig_single_load.specs.Settings.{ram_settings}
+use Rattle.mig_single_load.specs.declared.settings.LoadSettings.{LoadSettings}
 use Rattle.mig_session.specs.declared.counts.Count.{Count}
 use Rattle.mig_session.specs.declared.source.Source.{Source}
 use Rattle.mig_session.specs.declared.source.Source.TheVariants as source
@@ -84,39 +86,39 @@ abbrev pub end_step : Source → Texts → Texts
 end_step from texts = at_source from over texts
 
 -- the number that the next round's first packet is to have
-pub record HasBase (page_size : ℕ) (uuid : List ℕ) (limit : ℕ) (texts : Texts) (t : LoadTarget) : Type 0 where
-  pub has_base : (readings : Readings) → AreReadings page_size uuid limit texts readings → t.base ≡ base_at t.rounds readings
+pub record HasBase (given : LoadSettings) (uuid : List ℕ) (texts : Texts) (t : LoadTarget) : Type 0 where
+  pub has_base : (readings : Readings) → AreReadings given uuid texts readings → t.base ≡ base_at t.rounds readings
   pub is_few : t.base ≤ 2 ^ 63
 
 -- As long as a load runs, all of the texts was read, and the rounds that it counts were judged.
-pub record IsRunning (page_size : ℕ) (uuid : List ℕ) (limit : ℕ) (texts : Texts) (target : Option LoadTarget) (sources : FedSources) : Type 0 where
-  pub holds : Holds page_size uuid limit (rounds_loaded target) texts sources
-  pub has_base : IfSome target (HasBase page_size uuid limit texts)
+pub record IsRunning (given : LoadSettings) (uuid : List ℕ) (texts : Texts) (target : Option LoadTarget) (sources : FedSources) : Type 0 where
+  pub holds : Holds given uuid (rounds_loaded target) texts sources
+  pub has_base : IfSome target (HasBase given uuid texts)
 
--- The session was made with this page size, UUID and limit, and so much of the texts has come. It tells their answer.
-pub record StandsFor (page_size : ℕ) (uuid : List ℕ) (limit : ℕ) (texts : Texts) (s : LoadSession) : Type 0 where
-  pub is_page_size : IsPageSize page_size
+-- The session was made with these settings and UUID, and so much of the texts has come. It tells their answer.
+pub record StandsFor (given : LoadSettings) (uuid : List ℕ) (texts : Texts) (s : LoadSession) : Type 0 where
+  pub is_page_size : IsPageSize given.page_size
   pub has_counts : s.counts ≡ counts_in texts
-  pub is_answer : IsAnswer page_size uuid limit texts (answer_in s)
-  pub runs : IfSome s.sources (IsRunning page_size uuid limit texts s.target)
+  pub is_answer : IsAnswer given uuid texts (answer_in s)
+  pub runs : IfSome s.sources (IsRunning given uuid texts s.target)
 
 -- The same, where an allocation was refused: the answer is the one for that, and stays.
-pub record LacksMemory (page_size : ℕ) (uuid : List ℕ) (limit : ℕ) (texts : Texts) (s : LoadSession) : Type 0 where
-  pub is_page_size : IsPageSize page_size
+pub record LacksMemory (given : LoadSettings) (uuid : List ℕ) (texts : Texts) (s : LoadSession) : Type 0 where
+  pub is_page_size : IsPageSize given.page_size
   pub has_counts : s.counts ≡ counts_in texts
-  pub is_without : IsWithoutMemory page_size uuid limit texts (answer_in s)
+  pub is_without : IsWithoutMemory given uuid texts (answer_in s)
 
 -- A call takes this step: whatever texts the session stood for before it, it stands for those with the step done.
 abbrev pub StepsOn : (Texts → Texts) → LoadSession → LoadSession → Type 0
-StepsOn step old new = (page_size : ℕ) (uuid : List ℕ) (limit : ℕ) (texts : Texts) → StandsFor page_size uuid limit texts old → StandsFor page_size uuid limit (step texts) new
+StepsOn step old new = (given : LoadSettings) (uuid : List ℕ) (texts : Texts) → StandsFor given uuid texts old → StandsFor given uuid (step texts) new
 
 -- an allocation was refused in the step
 abbrev pub RunsOut : (Texts → Texts) → LoadSession → LoadSession → Type 0
-RunsOut step old new = (page_size : ℕ) (uuid : List ℕ) (limit : ℕ) (texts : Texts) → StandsFor page_size uuid limit texts old → LacksMemory page_size uuid limit (step texts) new
+RunsOut step old new = (given : LoadSettings) (uuid : List ℕ) (texts : Texts) → StandsFor given uuid texts old → LacksMemory given uuid (step texts) new
 
 -- an allocation had been refused before
 abbrev pub StillLacks : (Texts → Texts) → LoadSession → LoadSession → Type 0
-StillLacks step old new = (page_size : ℕ) (uuid : List ℕ) (limit : ℕ) (texts : Texts) → LacksMemory page_size uuid limit texts old → LacksMemory page_size uuid limit (step texts) new
+StillLacks step old new = (given : LoadSettings) (uuid : List ℕ) (texts : Texts) → LacksMemory given uuid texts old → LacksMemory given uuid (step texts) new
 
 -- the rounds that were counted stay counted, and a memory that was found stays
 pub record KeepsRounds (old new : LoadSession) : Type 0 where
@@ -126,11 +128,10 @@ pub record KeepsRounds (old new : LoadSession) : Type 0 where
 -- ---- the inside
 
 pub record StandsForSome (s : LoadSession) : Type 0 where
-  pub page_size : ℕ
+  pub given : LoadSettings
   pub uuid : List ℕ
-  pub limit : ℕ
   pub texts : Texts
-  pub stands : StandsFor page_size uuid limit texts s
+  pub stands : StandsFor given uuid texts s
 
 -- It keeps its sources as long as it runs. Their readers were given what it counts, and it stands for some texts.
 pub record IsSession (s : LoadSession) : Type 0 where
@@ -145,4 +146,4 @@ pub record IsSession (s : LoadSession) : Type 0 where
 abbrev pub LoadsSent : LoadSession → Type 0
 LoadsSent s = (table : RamTable) (uuid : List ℕ) (limit : ℕ) (rounds : List DealtRound) (main : List ℕ) (channels : List (List ℕ))
     → IsSentInAnyOrder table uuid rounds main channels → total_bytes table ≤ limit
-    → StandsFor table.page_size uuid limit (ended_texts main channels) s → answer_in s ≡ sent_answer table rounds
+    → StandsFor (ram_settings table.page_size limit) uuid (ended_texts main channels) s → answer_in s ≡ sent_answer table rounds

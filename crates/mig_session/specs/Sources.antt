@@ -6,7 +6,6 @@ use Rattle.mig_mem.specs.PageSize.{IsPageSize}
 use Rattle.mig_mem.specs.RamTable.{RamTable}
 use Rattle.mig_mem.specs.Place.{IsPlace}
 use Rattle.mig_mem.specs.First.{first_some}
-use Rattle.mig_stream.specs.declared.item.Mode.TheVariants.{Main}
 use Rattle.mig_stream.specs.PageRecord.{PageRecord}
 use Rattle.mig_stream.specs.Round.{RoundOfRecords}
 use Rattle.mig_stream.specs.Reading as stream
@@ -14,6 +13,8 @@ use Rattle.mig_stream.specs.Reader as stream_reader
 use Rattle.mig_packet.specs.Packet.{Fields, fields_of}
 use Rattle.mig_packet.specs.Reading as channel
 use Rattle.mig_packet.specs.Reader as channel_reader
+use Rattle.mig_single_load.specs.Settings.{main_of}
+use Rattle.mig_single_load.specs.declared.settings.LoadSettings.{LoadSettings}
 use Rattle.mig_session.specs.declared.counts.Count.{Count}
 use Rattle.mig_answer.specs.declared.status.Status.{Status}
 use Rattle.mig_answer.specs.declared.verdict.Verdict.{Verdict}
@@ -87,16 +88,16 @@ pub record HoldsChannel (given : channel.Settings) (k : ℕ) (text : Text) (c : 
   pub has_none : IfNone c.round ((i : ℕ) (packets : List (List ℕ)) → channel_reader.HasRound given text.bytes i packets → i < k)
 
 -- of each source so much has come, and the first k rounds were judged
-pub record Holds (page_size : ℕ) (uuid : List ℕ) (limit k : ℕ) (texts : Texts) (s : FedSources) : Type 0 where
-  pub main : HoldsMain (stream.settings Main page_size limit) k texts.main s.main
-  pub channels : AllZip (HoldsChannel (channel.settings page_size uuid (length texts.channels)) k) texts.channels s.channels
+pub record Holds (given : LoadSettings) (uuid : List ℕ) (k : ℕ) (texts : Texts) (s : FedSources) : Type 0 where
+  pub main : HoldsMain (main_of given) k texts.main s.main
+  pub channels : AllZip (HoldsChannel (channel.settings given.page_size uuid (length texts.channels)) k) texts.channels s.channels
 
 -- ---- what is told of a source
 
 -- this is how it stands at the round that is judged next
 abbrev pub TellsMainStatus : FedMain → Status → Type 0
-TellsMainStatus m status = (page_size limit k : ℕ) (text : Text) (reading : stream.StreamReading) → IsPageSize page_size
-    → HoldsMain (stream.settings Main page_size limit) k text m → IsMainReading page_size limit text reading → status ≡ main_status k reading
+TellsMainStatus m status = (given : LoadSettings) (k : ℕ) (text : Text) (reading : stream.StreamReading) → IsPageSize given.page_size
+    → HoldsMain (main_of given) k text m → IsMainReading given text reading → status ≡ main_status k reading
 
 abbrev pub TellsChannelStatus : FedChannel → Status → Type 0
 TellsChannelStatus c status = (given : channel.Settings) (k : ℕ) (text : Text) (reading : channel.ChannelReading) → IsPageSize given.page_size
@@ -109,8 +110,8 @@ TellsHello c hello = (given : channel.Settings) (k : ℕ) (text : Text) (reading
 
 -- this is the verdict that the sources tell at round k, None where all have it
 abbrev pub TellsAll : ℕ → FedSources → Option Verdict → Type 0
-TellsAll k s told = (page_size : ℕ) (uuid : List ℕ) (limit : ℕ) (texts : Texts) (readings : Readings) → IsPageSize page_size
-    → Holds page_size uuid limit k texts s → AreReadings page_size uuid limit texts readings
+TellsAll k s told = (given : LoadSettings) (uuid : List ℕ) (texts : Texts) (readings : Readings) → IsPageSize given.page_size
+    → Holds given uuid k texts s → AreReadings given uuid texts readings
     → told ≡ first_some (verdicts_told k (main_at k readings) (channels_at k readings) (repeated_hello (hello_ids readings)))
 
 -- ---- the round that is judged

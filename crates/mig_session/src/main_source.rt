@@ -3,14 +3,15 @@
 ghost use Rattle.std.specs.Prelude.{ℕ, true, false, ◌≡◌, ◌+◌, ◌<◌, ◌≤◌, ◌^◌, List, IsFalse, IfSome, OnOk, OnErr, length, Some};
 ghost use Rattle.std.specs.Option.{option_copied};
 ghost use Rattle.mig_mem.specs.PageSize.{IsPageSize};
-ghost use Rattle.mig_stream.specs.declared.item.Mode.TheVariants.{Main};
-ghost use Rattle.mig_stream.specs.Reading.{Settings, settings};
+ghost use Rattle.mig_stream.specs.Reading.{Settings};
 ghost use Rattle.mig_stream.specs.Reader.{waiting, HasTable};
+ghost use Rattle.mig_single_load.specs.Settings.{main_of};
 ghost use Rattle.mig_answer.specs.Texts.{Text, no_text, with_piece, over};
 ghost use Rattle.mig_session.specs.Sources.{HoldsMain, TakesMain, TellsMainStatus, main_count, main_waiting};
 
 use mig_answer::{Status, stream_end};
 use mig_mem::{NoMemory, Table};
+use mig_single_load::LoadSettings;
 use mig_stream::{Mode, StreamReader, StreamRound};
 use std::alloc::{Allocator, Global};
 use std::marker::Model;
@@ -33,14 +34,20 @@ impl<A: Allocator> Model for MainSource<A> {
 
 impl<A: Allocator + Copy> MainSource<A> {
     /// Nothing of it.
-    pub(crate) fn new(alloc: A, page_size: u64, limit: u64) -> MainSource<A>
-        requires page_size { IsPageSize page_size }
-        requires limit { limit ≤ 2 ^ 40 }
-        ensures holds { HoldsMain (settings Main page_size limit) 0 no_text result }
+    pub(crate) fn new(alloc: A, settings: LoadSettings) -> MainSource<A>
+        requires page_size { IsPageSize settings.page_size }
+        requires limit { settings.limit ≤ 2 ^ 40 }
+        ensures holds { HoldsMain (main_of settings) 0 no_text result }
         ensures count { main_count result ≡ record { fed = 0; ended = false } }
     {
         let mut source = MainSource {
-            reader: StreamReader::new(alloc, Mode::Main, page_size, limit),
+            reader: StreamReader::new_in(
+                alloc,
+                settings.frame,
+                Mode::Main,
+                settings.page_size,
+                settings.limit,
+            ),
             round: None,
         };
         source.next();

@@ -4,6 +4,8 @@ ghost use Rattle.std.specs.Prelude.{ℕ, ◌≡◌, ◌≢◌, ◌+◌, ◌<◌,
 ghost use Rattle.std.specs.Option.{option_copied, unwrap_or};
 ghost use Rattle.mig_mem.specs.PageSize.{IsPageSize};
 ghost use Rattle.mig_single_load.specs.declared.fault.Fault.TheVariants.{NoMemory as fault_no_memory};
+ghost use Rattle.mig_single_load.specs.declared.settings.LoadSettings.{LoadSettings};
+ghost use Rattle.mig_single_load.specs.Settings.{ram_settings};
 ghost use Rattle.mig_answer.specs.declared.verdict.Verdict.TheVariants.{Running as running, Failed as failed_with};
 ghost use Rattle.mig_answer.specs.declared.verdict.Verdict.{Verdict};
 ghost use Rattle.mig_answer.specs.Texts.{Texts, no_texts};
@@ -17,7 +19,7 @@ use crate::sources::Sources;
 use mig_answer::Verdict;
 use mig_assemble::Target;
 use mig_mem::{Memory, NoMemory};
-use mig_single_load::{Fault, LoadFault, Origin};
+use mig_single_load::{Fault, LoadFault, LoadSettings, Origin};
 use std::alloc::{Allocator, Global};
 use std::marker::Model;
 use uuid::Uuid;
@@ -183,8 +185,8 @@ fn take<A: Allocator + Copy>(
 // Ends a source. Gives the verdict behind so many rounds.
 fn end_source<A: Allocator>(sources: &mut Sources<A>, source: Source, rounds: u64) -> Verdict
     requires { HasSource (counts_of sources.old) source }
-    ensures holds { (page_size : ℕ) (uuid : List ℕ) (limit k : ℕ) (texts : Texts) → Holds page_size uuid limit k texts sources.old
-        → Holds page_size uuid limit k (end_step source texts) sources.new }
+    ensures holds { (given : LoadSettings) (uuid : List ℕ) (k : ℕ) (texts : Texts) → Holds given uuid k texts sources.old
+        → Holds given uuid k (end_step source texts) sources.new }
     ensures told { (told : Option Verdict) × TellsAll rounds sources.new told × (result ≡ unwrap_or told running) }
     ensures counts { counts_of sources.new ≡ with_end (counts_of sources.old) source }
 {
@@ -216,10 +218,31 @@ impl<A: Allocator + Copy> Session<A> {
         requires page_size { IsPageSize page_size }
         requires channels { (1 ≤ channels) × (channels ≤ 255) }
         requires limit { limit ≤ 2 ^ 40 }
-        ensures stands { IfOk result (λ s. StandsFor page_size uuid.now limit (no_texts channels) s) }
+        ensures stands { IfOk result (λ s. StandsFor (ram_settings page_size limit) uuid.now (no_texts channels) s) }
         ensures counts { IfOk result (λ s. s.counts ≡ record { main = no_count; channels = replicate channels no_count }) }
     {
-        let sources = Sources::new(alloc, page_size, uuid, channels, limit)?;
+        Session::new_in(alloc, LoadSettings::new(page_size, limit), uuid, channels)
+    }
+
+    /// Creates a session that was fed nothing, of `channels` channels under `uuid`. Its main stream
+    /// is read with `settings`.
+    ///
+    /// # Errors
+    ///
+    /// An allocation was refused.
+    pub fn new_in(
+        alloc: A,
+        settings: LoadSettings,
+        uuid: &Uuid,
+        channels: usize,
+    ) -> Result<Session<A>, NoMemory>
+        requires page_size { IsPageSize settings.page_size }
+        requires channels { (1 ≤ channels) × (channels ≤ 255) }
+        requires limit { settings.limit ≤ 2 ^ 40 }
+        ensures stands { IfOk result (λ s. StandsFor settings uuid.now (no_texts channels) s) }
+        ensures counts { IfOk result (λ s. s.counts ≡ record { main = no_count; channels = replicate channels no_count }) }
+    {
+        let sources = Sources::new(alloc, settings, uuid, channels)?;
         Ok(Session {
             alloc,
             counts: SourceCounts::new(alloc, channels)?,

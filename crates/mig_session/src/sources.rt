@@ -4,11 +4,11 @@ ghost use Rattle.std.specs.Prelude.{ℕ, ◌≡◌, ◌≢◌, ◌+◌, ◌<◌,
 ghost use Rattle.std.specs.List.{AllZip};
 ghost use Rattle.mig_mem.specs.PageSize.{IsPageSize};
 ghost use Rattle.std.specs.Option.{option_copied};
-ghost use Rattle.mig_stream.specs.declared.item.Mode.TheVariants.{Main};
-ghost use Rattle.mig_stream.specs.Reading.{settings as main_settings};
 ghost use Rattle.mig_stream.specs.Reader.{HasTable};
 ghost use Rattle.mig_packet.specs.Lent.{fields};
 ghost use Rattle.mig_packet.specs.Reading.{settings};
+ghost use Rattle.mig_single_load.specs.declared.settings.LoadSettings.{LoadSettings};
+ghost use Rattle.mig_single_load.specs.Settings.{main_of};
 ghost use Rattle.mig_answer.specs.Texts.{Texts, no_text, no_texts};
 ghost use Rattle.mig_answer.specs.MultiLoad.{repeated_hello};
 ghost use Rattle.mig_session.specs.Sources.{FedSources, Holds, HoldsChannel, counts_of, channel_count, TellsChannelStatus, TellsHello, TellsAll, HaveRound, TakesChannel, packets_of_all, IsOfSize, main_waiting};
@@ -21,7 +21,7 @@ use crate::main_source::MainSource;
 use mig_answer::{Status, Verdict, put, repeated_id, verdict_told};
 use mig_assemble::{Gathered, Target};
 use mig_mem::{NoMemory, Table};
-use mig_single_load::{LoadFault, no_memory};
+use mig_single_load::{LoadFault, LoadSettings, no_memory};
 use std::alloc::{Allocator, Global};
 use std::marker::Model;
 use uuid::Uuid;
@@ -122,21 +122,20 @@ impl<A: Allocator + Copy> Sources<A> {
     /// Nothing of any.
     pub(crate) fn new(
         alloc: A,
-        page_size: u64,
+        settings: LoadSettings,
         uuid: &Uuid,
         channels: usize,
-        limit: u64,
     ) -> Result<Sources<A>, NoMemory>
-        requires page_size { IsPageSize page_size }
+        requires page_size { IsPageSize settings.page_size }
         requires channels { (1 ≤ channels) × (channels ≤ 255) }
-        requires limit { limit ≤ 2 ^ 40 }
-        ensures holds { IfOk result (λ s. Holds page_size uuid.now limit 0 (no_texts channels) s) }
+        requires limit { settings.limit ≤ 2 ^ 40 }
+        ensures holds { IfOk result (λ s. Holds settings uuid.now 0 (no_texts channels) s) }
         ensures counts { IfOk result (λ s. counts_of s ≡ record { main = no_count; channels = replicate channels no_count }) }
     {
-        let sources = no_channels(alloc, page_size, uuid, channels)?;
+        let sources = no_channels(alloc, settings.page_size, uuid, channels)?;
         Ok(Sources {
             alloc,
-            main: MainSource::new(alloc, page_size, limit),
+            main: MainSource::new(alloc, settings),
             channels: sources,
             statuses: Vec::with_capacity(alloc, channels)?,
             hellos: Vec::with_capacity(alloc, channels)?,
@@ -148,8 +147,8 @@ impl<A: Allocator + Copy> Sources<A> {
         requires source { HasSource (counts_of self.old) source }
         requires open { IsFalse (count_of (counts_of self.old) source).ended }
         requires room { (count_of (counts_of self.old) source).fed + length piece.now < 2 ^ 64 }
-        ensures ok { OnOk result ((page_size : ℕ) (uuid : List ℕ) (limit k : ℕ) (texts : Texts) → IsPageSize page_size
-            → Holds page_size uuid limit k texts self.old → Holds page_size uuid limit k (feed_step source piece.now texts) self.new) }
+        ensures ok { OnOk result ((given : LoadSettings) (uuid : List ℕ) (k : ℕ) (texts : Texts) → IsPageSize given.page_size
+            → Holds given uuid k texts self.old → Holds given uuid k (feed_step source piece.now texts) self.new) }
         ensures counts { OnOk result (counts_of self.new ≡ with_fed (counts_of self.old) source (length piece.now)) }
         ensures err { OnErr result (self.new ≡ self.old) }
     {
@@ -181,8 +180,8 @@ impl<A: Allocator + Copy> Sources<A> {
 impl<A: Allocator> Sources<A> {
     /// Goes on to the next round of each source, and drops those that were judged.
     pub(crate) fn next(&mut self)
-        ensures holds { (page_size : ℕ) (uuid : List ℕ) (limit k : ℕ) (texts : Texts) → HaveRound self.old
-            → Holds page_size uuid limit k texts self.old → Holds page_size uuid limit (k + 1) texts self.new }
+        ensures holds { (given : LoadSettings) (uuid : List ℕ) (k : ℕ) (texts : Texts) → HaveRound self.old
+            → Holds given uuid k texts self.old → Holds given uuid (k + 1) texts self.new }
         ensures counts { counts_of self.new ≡ counts_of self.old }
         ensures fewer { HaveRound self.old → main_waiting self.old.main ≡ main_waiting self.new.main + 1 }
     {
@@ -193,8 +192,8 @@ impl<A: Allocator> Sources<A> {
     /// The text of a source is over.
     pub(crate) fn end(&mut self, source: Source)
         requires { HasSource (counts_of self.old) source }
-        ensures holds { (page_size : ℕ) (uuid : List ℕ) (limit k : ℕ) (texts : Texts) → Holds page_size uuid limit k texts self.old
-            → Holds page_size uuid limit k (end_step source texts) self.new }
+        ensures holds { (given : LoadSettings) (uuid : List ℕ) (k : ℕ) (texts : Texts) → Holds given uuid k texts self.old
+            → Holds given uuid k (end_step source texts) self.new }
         ensures counts { counts_of self.new ≡ with_end (counts_of self.old) source }
     {
         match source {
@@ -219,8 +218,8 @@ impl<A: Allocator> Sources<A> {
 
     /// The main stream's table, as soon as the size list is whole.
     pub(crate) fn table(&self) -> Option<&Table<A>>
-        ensures { (page_size : ℕ) (uuid : List ℕ) (limit k : ℕ) (texts : Texts) → Holds page_size uuid limit k texts self.now
-            → HasTable (main_settings Main page_size limit) texts.main.bytes (option_copied result) }
+        ensures { (given : LoadSettings) (uuid : List ℕ) (k : ℕ) (texts : Texts) → Holds given uuid k texts self.now
+            → HasTable (main_of given) texts.main.bytes (option_copied result) }
     {
         self.main.table()
     }

@@ -60,7 +60,7 @@ rounds-preserved g c =
           let put = subst (λ (r : Result ⊤ LoadFault). PutsOrRefuses f c.rounds.target r c.judge.new.target) c.in_default.is (c.judge.ensures f comes) in
           subst (λ (s : FedSources). Advances f s (Some c.judge.new.target)) (sym same)
           (next_advances f c.rounds.sources c.next.new.self c.rounds.target c.judge.new.target advances put.0 put.1
-          (c.next.ensures.holds f.page_size f.uuid f.limit c.rounds.target.rounds f.texts (round_comes f c.rounds.sources c.rounds.target comes) advances.holds));
+          (c.next.ensures.holds f.given f.uuid c.rounds.target.rounds f.texts (round_comes f c.rounds.sources c.rounds.target comes) advances.holds));
       told = subst (λ (s : FedSources). TellsAll c.judge.new.target.rounds s c.told-told-in-rounds.result) (sym same)
           (subst (λ n. TellsAll n c.next.new.self c.told-told-in-rounds.result) c.rounds-in-rounds.ensures c.told-told-in-rounds.ensures.told);
       counts = ap counts_of same ∙ c.next.ensures.counts ∙ c.rounds.invariant.counts;

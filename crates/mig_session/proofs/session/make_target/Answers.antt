@@ -1,6 +1,5 @@
-use Rattle.std.proofs.Common.{ℕ, ◌≡◌, ◌≢◌, ◌∙◌, Option, Some, None, ap, refl, subst, sym}
+use Rattle.std.proofs.Common.{◌≡◌, ◌≢◌, ◌∙◌, Option, Some, None, ap, refl, subst, sym}
 use Rattle.std.specs.Option.{option_copied}
-use Rattle.mig_stream.specs.declared.item.Mode.TheVariants.{Main}
 use Rattle.mig_mem.specs.RamTable.{RamTable}
 use Rattle.mig_assemble.specs.Target.{LoadTarget}
 use Rattle.mig_session.specs.Advancing.{Feeding, Advances}
@@ -13,7 +12,7 @@ returns-in_ok-new-in-Some-clause-ok g c = λ f advances.
     let none : c.args.target.now ≡ None = none_where c.args.target.now (c.is_some.ensures) c.if-is_some.false in
     let before = subst (λ (o : Option LoadTarget). Advances f c.args.sources.now o) none advances in
     let found : f.readings.main.table ≡ Some c.in-Some.table.now =
-    table_found f c.args.sources.now (option_copied c.table.result) before (c.table.ensures f.page_size f.uuid f.limit 0 f.texts before.holds) ∙ ap option_copied c.in-Some.is in (
+    table_found f c.args.sources.now (option_copied c.table.result) before (c.table.ensures f.given f.uuid 0 f.texts before.holds) ∙ ap option_copied c.in-Some.is in (
       zeros_advance f c.args.sources.now c.in-Some.table.now c.in_ok-new-in-Some.field-0 before found c.in_ok-new-in-Some.ensures,
       λ bad. absurd cc,
     )
@@ -30,5 +29,5 @@ returns-in-None-clause-ok g c = λ f advances. (
   advances,
   λ none.
       let before = subst (λ (o : Option LoadTarget). Advances f c.args.sources.now o) none advances in
-      table_found f c.args.sources.now (option_copied c.table.result) before (c.table.ensures f.page_size f.uuid f.limit 0 f.texts before.holds) ∙ ap option_copied c.in-None.is,
+      table_found f c.args.sources.now (option_copied c.table.result) before (c.table.ensures f.given f.uuid 0 f.texts before.holds) ∙ ap option_copied c.in-None.is,
 )

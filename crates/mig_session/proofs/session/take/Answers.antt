@@ -17,7 +17,7 @@ advance-requires g c =
     let advances = c.requires.advances.1 in
     next_feeding f c.args.sources.now c.feed.new.self c.args.target.now (feed_step c.args.source c.args.piece.now f.texts) advances
     (goes_fed f c.args.sources.now c.args.target.now c.args.source c.args.piece.now advances c.requires.source c.requires.open)
-    (c.in-Ok.ensures.ok f.page_size f.uuid f.limit (rounds_loaded c.args.target.now) f.texts advances.is_page_size advances.holds)
+    (c.in-Ok.ensures.ok f.given f.uuid (rounds_loaded c.args.target.now) f.texts advances.is_page_size advances.holds)
 
 pub returns-clause-taken : goal.returns-clause-taken
 returns-clause-taken g c = λ f advances readings are.
@@ -26,4 +26,4 @@ returns-clause-taken g c = λ f advances readings are.
     (c.advance.ensures.advanced (further f texts readings)
     (advances_further f c.args.sources.now c.feed.new.self c.args.target.now texts readings advances
     (goes_fed f c.args.sources.now c.args.target.now c.args.source c.args.piece.now advances c.requires.source c.requires.open) are
-    (c.in-Ok.ensures.ok f.page_size f.uuid f.limit (rounds_loaded c.args.target.now) f.texts advances.is_page_size advances.holds)))
+    (c.in-Ok.ensures.ok f.given f.uuid (rounds_loaded c.args.target.now) f.texts advances.is_page_size advances.holds)))

@@ -6,14 +6,14 @@ use Rattle.mig_session.proofs.Sessions.{Keeps, end_counts, end_lacks, end_steps,
 use Rattle.mig_session.proofs.session.Session.end.Goals as goal
 
 pub returns-in-None-clause-steps : goal.returns-in-None-clause-steps
-returns-in-None-clause-steps g c = λ p uuid limit texts stands.
+returns-in-None-clause-steps g c = λ given uuid texts stands.
     let s : LoadSession = record { counts = c.self.inside.counts; sources = c.self.inside.sources; target = c.self.inside.target; verdict = c.self.inside.verdict } in
-    end_counts p uuid limit texts s c.args.source c.end.new.self c.self.invariant (subst (λ (x : LoadSession). StandsFor p uuid limit texts x) (sym c.self.view_is) stands) c.in-None.is c.end.ensures
+    end_counts given uuid texts s c.args.source c.end.new.self c.self.invariant (subst (λ (x : LoadSession). StandsFor given uuid texts x) (sym c.self.view_is) stands) c.in-None.is c.end.ensures
 
 pub returns-in-None-clause-lacking : goal.returns-in-None-clause-lacking
-returns-in-None-clause-lacking g c = λ p uuid limit texts lacks.
+returns-in-None-clause-lacking g c = λ given uuid texts lacks.
     let s : LoadSession = record { counts = c.self.inside.counts; sources = c.self.inside.sources; target = c.self.inside.target; verdict = c.self.inside.verdict } in
-    end_lacks p uuid limit texts s c.args.source c.end.new.self (subst (λ (x : LoadSession). LacksMemory p uuid limit texts x) (sym c.self.view_is) lacks) c.end.ensures
+    end_lacks given uuid texts s c.args.source c.end.new.self (subst (λ (x : LoadSession). LacksMemory given uuid texts x) (sym c.self.view_is) lacks) c.end.ensures
 
 pub invariant_of-self-2 : goal.invariant_of-self-2
 invariant_of-self-2 g c =
@@ -26,19 +26,18 @@ invariant_of-self-2 g c =
     is_session_still c.end.new.self c.keep.new.sources new c.self.inside.target c.end_source-verdict.result keeps
     (λ _. c.end_source-verdict.ensures.counts ∙ ap (λ (n : Counts). with_end n c.args.source) counted ∙ sym c.end.ensures)
     (record {
-      page_size = some.page_size;
       uuid = some.uuid;
-      limit = some.limit;
+      given = some.given;
       texts = end_step c.args.source some.texts;
-      stands = end_steps some.page_size some.uuid some.limit some.texts s c.in-Some.sources new c.args.source c.rounds_of-rounds.result told.0 c.end_source-verdict.result c.keep.new.sources c.end.new.self
+      stands = end_steps some.given some.uuid some.texts s c.in-Some.sources new c.args.source c.rounds_of-rounds.result told.0 c.end_source-verdict.result c.keep.new.sources c.end.new.self
           c.self.invariant some.stands c.in-Some.is c.end_source-verdict.ensures.holds c.rounds_of-rounds.ensures told.1 told.2 c.end.ensures keeps;
     })
 
 pub returns-clause-steps : goal.returns-clause-steps
-returns-clause-steps g c = λ p uuid limit texts stands.
+returns-clause-steps g c = λ given uuid texts stands.
     let s : LoadSession = record { counts = c.self.inside.counts; sources = c.self.inside.sources; target = c.self.inside.target; verdict = c.self.inside.verdict } in
     let new : FedSources = c.end_source-verdict.new.sources in
     let told = c.end_source-verdict.ensures.told in
-    end_steps p uuid limit texts s c.in-Some.sources new c.args.source c.rounds_of-rounds.result told.0 c.end_source-verdict.result c.keep.new.sources c.end.new.self c.self.invariant
-    (subst (λ (x : LoadSession). StandsFor p uuid limit texts x) (sym c.self.view_is) stands) c.in-Some.is c.end_source-verdict.ensures.holds c.rounds_of-rounds.ensures told.1 told.2 c.end.ensures
+    end_steps given uuid texts s c.in-Some.sources new c.args.source c.rounds_of-rounds.result told.0 c.end_source-verdict.result c.keep.new.sources c.end.new.self c.self.invariant
+    (subst (λ (x : LoadSession). StandsFor given uuid texts x) (sym c.self.view_is) stands) c.in-Some.is c.end_source-verdict.ensures.holds c.rounds_of-rounds.ensures told.1 told.2 c.end.ensures
     (c.keep.ensures.running, c.keep.ensures.settled)

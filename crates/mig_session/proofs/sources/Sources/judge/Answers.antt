@@ -1,4 +1,4 @@
-use Rattle.std.proofs.Common.{ℕ, ◌≡◌, ◌∙◌, List, map, ap, subst, sym, Some, None}
+use Rattle.std.proofs.Common.{◌≡◌, ◌∙◌, List, map, ap, subst, sym, Some, None}
 use Rattle.std.specs.List.{All}
 use Rattle.std.specs.Option.{option_copied}
 use Rattle.mig_packet.specs.Lent.{fields}

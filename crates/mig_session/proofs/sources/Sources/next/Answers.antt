@@ -10,11 +10,11 @@ invariant_of-self g c =
     let room = c.self.invariant in (omega (arith, same, room.0), omega (arith, same, room.1))
 
 pub returns-clause-holds : goal.returns-clause-holds
-returns-clause-holds g c = λ p uuid limit k texts have holds.
+returns-clause-holds g c = λ given uuid k texts have holds.
     let old : FedSources = record { main = c.self.inside.main; channels = c.self.inside.channels.items } in
     let new : FedSources = record { main = c.next.new.self; channels = c.next_of_all.new.channels.items } in
-    holds_next p uuid limit k texts old new (subst HaveRound (sym c.self.view_is) have) c.next.ensures.takes c.next_of_all.ensures.take
-    (subst (λ (s : FedSources). Holds p uuid limit k texts s) (sym c.self.view_is) holds)
+    holds_next given uuid k texts old new (subst HaveRound (sym c.self.view_is) have) c.next.ensures.takes c.next_of_all.ensures.take
+    (subst (λ (s : FedSources). Holds given uuid k texts s) (sym c.self.view_is) holds)
 
 pub returns-clause-counts : goal.returns-clause-counts
 returns-clause-counts g c =
