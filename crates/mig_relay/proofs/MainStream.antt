@@ -6,16 +6,16 @@ use Rattle.std.proofs.lemmas.Bool.{cases_lt}
 use Rattle.std.proofs.lemmas.List.{length-append}
 use Rattle.mig_mem.specs.RamTable.{RamTable}
 use Rattle.mig_mem.specs.Place.{IsPlace}
-use Rattle.mig_stream.specs.declared.item.Mode.TheVariants.{Main}
 use Rattle.mig_stream.specs.declared.item.StreamState.{StreamState}
 use Rattle.mig_stream.specs.PageRecord.{PageRecord}
 use Rattle.mig_stream.specs.Progress.{StreamProgress, whole_table}
-use Rattle.mig_stream.specs.Reading.{settings, StreamReading, IsReading, state_at}
+use Rattle.mig_stream.specs.Reading.{StreamReading, IsReading, state_at}
 use Rattle.mig_stream.specs.Reader.{Reader, SoFar, Stands, with_taken, HasTable, HasRound, HasState}
 use Rattle.mig_stream.specs.Round.{RoundOfRecords}
 use Rattle.mig_stream.proofs.Exists.{one_reading_law}
 use Rattle.mig_stream.proofs.Limits.{limits_law}
 use Rattle.mig_assemble.specs.Target.{LoadTarget}
+use Rattle.mig_single_load.specs.Settings.{main_of}
 use Rattle.mig_single_load.specs.declared.fault.LoadFault.{LoadFault}
 use Rattle.mig_answer.specs.MultiLoad.{passes}
 use Rattle.mig_relay.specs.RelayItems.{QueueEnd}
@@ -30,35 +30,35 @@ main_so_far text n = record { text = text; ended = true; taken = n }
 
 -- ---- one reading
 
-pub same_main : (l : Load) (k : ℕ) (places : List ℕ) (ends : List QueueEnd) (reading : StreamReading) → Loading l k places ends → IsReading (settings Main l.page_size l.limit) l.main reading
+pub same_main : (l : Load) (k : ℕ) (places : List ℕ) (ends : List QueueEnd) (reading : StreamReading) → Loading l k places ends → IsReading (main_of l.given) l.main reading
     → l.readings.main ≡ record reading { state = state_at true reading.state }
 same_main l k places ends reading loading is =
     let main = loading.are_readings.has_main in
-    let one = one_reading_law (settings Main l.page_size l.limit) l.main loading.is_page_size in
+    let one = one_reading_law (main_of l.given) l.main loading.is_page_size in
     let same : main.found ≡ reading = one.2 main.found main.is_reading ∙ sym (one.2 reading is) in
     main.has_end ∙ ap (λ (r : StreamReading). record r { state = state_at true r.state }) same
 
 -- those that were given are the text's
-given_are_there : (l : Load) (k n : ℕ) (places : List ℕ) (ends : List QueueEnd) (r : Reader) → Loading l k places ends → Stands (settings Main l.page_size l.limit) (main_so_far l.main n) r
+given_are_there : (l : Load) (k n : ℕ) (places : List ℕ) (ends : List QueueEnd) (r : Reader) → Loading l k places ends → Stands (main_of l.given) (main_so_far l.main n) r
     → n ≤ length l.readings.main.rounds
 given_are_there l k n places ends r loading stands =
     let to : StreamProgress = with_taken stands.rounds r.progress in
     let other : StreamReading = record { table = whole_table to; rounds = to.rounds; state = r.found } in
-    let is_other : IsReading (settings Main l.page_size l.limit) l.main other = record { to = to; rest = stands.rest; reads = stands.reads; has_table = refl; has_rounds = refl } in
+    let is_other : IsReading (main_of l.given) l.main other = record { to = to; rest = stands.rest; reads = stands.reads; has_table = refl; has_rounds = refl } in
     let same = same_main l k places ends other loading is_other in
     omega (arith, ap (λ (x : StreamReading). length x.rounds) same, length-append stands.rounds r.progress.rounds, stands.has_taken)
 
 -- ---- a round comes
 
 pub comes_in : (l : Load) (reader : Reader) (target : LoadTarget) (places : List ℕ) (ends : List QueueEnd) (round : RoundOfRecords) → Goes l reader target places ends
-    → round.page_size ≡ l.page_size → HasRound (settings Main l.page_size l.limit) l.main target.rounds round.records
-    → ((table : RamTable) → HasTable (settings Main l.page_size l.limit) l.main (Some table) → All (λ x. IsPlace table x.place) round.records)
+    → round.page_size ≡ l.given.page_size → HasRound (main_of l.given) l.main target.rounds round.records
+    → ((table : RamTable) → HasTable (main_of l.given) l.main (Some table) → All (λ x. IsPlace table x.place) round.records)
     → ComesToRound l target places ends round
 comes_in l reader target places ends round goes size has places_in =
     let loading = goes.loading in
     let reading : StreamReading = has.0 in
     let same = same_main l target.rounds places ends reading loading has.1 in
-    let few = (limits_law (settings Main l.page_size l.limit) l.main reading loading.is_page_size has.1).has_few in
+    let few = (limits_law (main_of l.given) l.main reading loading.is_page_size has.1).has_few in
     let below : target.rounds < length reading.rounds = has.2 in
     let short = goes.is_short in
     let table : Some target.memory.table ≡ reading.table =
@@ -78,12 +78,12 @@ comes_in l reader target places ends round goes size has places_in =
 
 -- and the next one is due
 pub goes_to_next : (l : Load) (reader next : Reader) (target new : LoadTarget) (places places_now : List ℕ) (ends now : List QueueEnd) → Goes l reader target places ends
-    → Stands (settings Main l.page_size l.limit) (main_so_far l.main (target.rounds + 1)) next
+    → Stands (main_of l.given) (main_so_far l.main (target.rounds + 1)) next
     → Loading l (target.rounds + 1) places_now now × HasLoaded (target.rounds + 1) l.readings new × (new.base ≤ 2 ^ 63) → Goes l next new places_now now
 goes_to_next l reader next target new places places_now ends now goes stands judged =
     let count : new.rounds ≡ target.rounds + 1 = judged.1.has_rounds in
     record {
-      stands = subst (λ n. Stands (settings Main l.page_size l.limit) (main_so_far l.main n) next) (sym count) stands;
+      stands = subst (λ n. Stands (main_of l.given) (main_so_far l.main n) next) (sym count) stands;
       loading = subst (λ n. Loading l n places_now now) (sym count) judged.0;
       has_loaded = subst (λ n. HasLoaded n l.readings new) (sym count) judged.1;
       few_packets = judged.2;
@@ -93,9 +93,9 @@ goes_to_next l reader next target new places places_now ends now goes stands jud
 -- ---- no round is left
 
 pub ends_in : (l : Load) (k : ℕ) (reader : Reader) (state : StreamState) (places : List ℕ) (ends : List QueueEnd) → Loading l k places ends
-    → Stands (settings Main l.page_size l.limit) (main_so_far l.main k) reader
-    → ((i : ℕ) (round : List PageRecord) → HasRound (settings Main l.page_size l.limit) l.main i round → i < k)
-    → HasState (settings Main l.page_size l.limit) l.main true state → EndsAt l k state places ends
+    → Stands (main_of l.given) (main_so_far l.main k) reader
+    → ((i : ℕ) (round : List PageRecord) → HasRound (main_of l.given) l.main i round → i < k)
+    → HasState (main_of l.given) l.main true state → EndsAt l k state places ends
 ends_in l k reader state places ends loading stands last has =
     let reading : StreamReading = has.0 in
     let same = same_main l k places ends reading loading has.1 in
@@ -121,8 +121,8 @@ ended_here l k target new verdict places ends now e loading loaded same ended =
 
 -- behind all rounds
 pub goes_to_end : (l : Load) (k : ℕ) (reader next : Reader) (target : LoadTarget) (state : StreamState) (places : List ℕ) (ends : List QueueEnd) → k ≡ target.rounds → Goes l reader target places ends
-    → next ≡ reader → ((i : ℕ) (round : List PageRecord) → HasRound (settings Main l.page_size l.limit) l.main i round → i < target.rounds)
-    → HasState (settings Main l.page_size l.limit) l.main true state → EndsAt l k state places ends
+    → next ≡ reader → ((i : ℕ) (round : List PageRecord) → HasRound (main_of l.given) l.main i round → i < target.rounds)
+    → HasState (main_of l.given) l.main true state → EndsAt l k state places ends
 goes_to_end l k reader next target state places ends e goes same last has =
     subst (λ n. EndsAt l n state places ends) (sym e)
-    (ends_in l target.rounds next state places ends goes.loading (subst (λ (r : Reader). Stands (settings Main l.page_size l.limit) (main_so_far l.main target.rounds) r) (sym same) goes.stands) last has)
+    (ends_in l target.rounds next state places ends goes.loading (subst (λ (r : Reader). Stands (main_of l.given) (main_so_far l.main target.rounds) r) (sym same) goes.stands) last has)

@@ -10,14 +10,15 @@ use Rattle.mig_mem.specs.RamTable.{RamTable}
 use Rattle.mig_mem.specs.Image.{Image}
 use Rattle.mig_mem.specs.Round.{after}
 use Rattle.mig_mem.proofs.Rounds.{after-nil}
-use Rattle.mig_stream.specs.declared.item.Mode.TheVariants.{Main}
 use Rattle.mig_stream.specs.declared.item.StreamState.{StreamState}
 use Rattle.mig_stream.specs.PageRecord.{PageRecord}
-use Rattle.mig_stream.specs.Reading.{settings, StreamReading}
+use Rattle.mig_stream.specs.Reading.{StreamReading}
 use Rattle.mig_stream.specs.Reader.{Reader, Stands, HasTable, HasRound, HasState}
 use Rattle.mig_stream.proofs.Exists.{one_reading_law}
 use Rattle.mig_stream.proofs.Limits.{limits_law}
 use Rattle.mig_assemble.specs.Target.{LoadTarget, new_target}
+use Rattle.mig_single_load.specs.Settings.{main_of}
+use Rattle.mig_single_load.specs.declared.settings.LoadSettings.{LoadSettings}
 use Rattle.mig_single_load.specs.declared.loaded.Loaded.{Loaded}
 use Rattle.mig_relay.specs.declared.log.ChannelText.{ChannelText}
 use Rattle.mig_single_load.specs.SingleLoad.{no_memory_at, unloaded}
@@ -54,7 +55,7 @@ none_received (p ∷ ends) = (record { continues = goes_on p; has_rounds = omega
 
 -- ---- the answer
 
-pub answers_with : {A : Type 0} (l : Load) (k : ℕ) (a : Loaded A) (now : List QueueEnd) → AreReadings l.page_size l.uuid l.limit (ended_texts l.main l.texts) l.readings
+pub answers_with : {A : Type 0} (l : Load) (k : ℕ) (a : Loaded A) (now : List QueueEnd) → AreReadings l.given l.uuid (ended_texts l.main l.texts) l.readings
     → ((j : ℕ) → j < k → IsTrue (passes j l.readings)) → a.rounds ≡ k → a.memory ≡ memory_at k l.readings → HasEnded l k a.verdict now → IsAnswerOf l a
 answers_with l k a now are passed rounds memory ended = elim ended.is_answered [
   | inl stop ↦ inl (record {
@@ -73,7 +74,7 @@ answers_with l k a now are passed rounds memory ended = elim ended.is_answered [
   })
 ]
 
-pub answers_without : (A : Type 0) (l : Load) → AreReadings l.page_size l.uuid l.limit (ended_texts l.main l.texts) l.readings
+pub answers_without : (A : Type 0) (l : Load) → AreReadings l.given l.uuid (ended_texts l.main l.texts) l.readings
     → IsAnswerOf {A = A} l unloaded
 answers_without A l are = inr (record {
   readings = l.readings;
@@ -87,21 +88,21 @@ answers_without A l are = inr (record {
 
 -- without a table there is no round
 pub ends_without_table : (l : Load) (reader : Reader) (state : StreamState) (places : List ℕ) (ends : List QueueEnd) → Begins l reader places ends
-    → HasTable (settings Main l.page_size l.limit) l.main None → HasState (settings Main l.page_size l.limit) l.main true state → EndsAt l 0 state places ends
+    → HasTable (main_of l.given) l.main None → HasState (main_of l.given) l.main true state → EndsAt l 0 state places ends
 ends_without_table l reader state places ends begins has state_is =
     ends_in l 0 reader state places ends begins.loading begins.stands last state_is
   where
-    last : (i : ℕ) (round : List PageRecord) → HasRound (settings Main l.page_size l.limit) l.main i round → i < 0
+    last : (i : ℕ) (round : List PageRecord) → HasRound (main_of l.given) l.main i round → i < 0
     last i round there =
         let size = begins.loading.is_page_size in
-        let one = one_reading_law (settings Main l.page_size l.limit) l.main size in
+        let one = one_reading_law (main_of l.given) l.main size in
         let same : has.0 ≡ there.0 = one.2 has.0 has.1 ∙ sym (one.2 there.0 there.1) in
         let none : there.0.rounds ≡ [] =
-        (limits_law (settings Main l.page_size l.limit) l.main there.0 size there.1).has_table_first (sym (has.2 ∙ ap (λ (r : StreamReading). r.table) same)) in
+        (limits_law (main_of l.given) l.main there.0 size there.1).has_table_first (sym (has.2 ∙ ap (λ (r : StreamReading). r.table) same)) in
         let below = there.2 in
         absurd (omega (arith, below, ap (λ (rs : List (List PageRecord)). length rs) none))
 
-pub no_memory_there : (l : Load) (reader : Reader) (places : List ℕ) (ends : List QueueEnd) → Begins l reader places ends → HasTable (settings Main l.page_size l.limit) l.main None
+pub no_memory_there : (l : Load) (reader : Reader) (places : List ℕ) (ends : List QueueEnd) → Begins l reader places ends → HasTable (main_of l.given) l.main None
     → memory_at 0 l.readings ≡ None
 no_memory_there l reader places ends begins has =
     let same = same_main l 0 places ends has.0 begins.loading has.1 in
@@ -110,7 +111,7 @@ no_memory_there l reader places ends begins has =
 
 -- with one there is a memory of zeros
 pub goes_from_zeros : (l : Load) (reader : Reader) (table : RamTable) (target : LoadTarget) (places : List ℕ) (ends : List QueueEnd) → Begins l reader places ends
-    → HasTable (settings Main l.page_size l.limit) l.main (Some table) → target ≡ new_target table → Goes l reader target places ends
+    → HasTable (main_of l.given) l.main (Some table) → target ≡ new_target table → Goes l reader target places ends
 goes_from_zeros l reader table target places ends begins has is = rw is (record {
   stands = begins.stands;
   loading = begins.loading;
@@ -146,25 +147,24 @@ relay_size page_size n uuid texts (p ∷ ends) is all =
     ∙ All-head (λ (p : QueueEnd). p.source.page_size ≡ page_size) p ends (sizes_are page_size uuid (length texts) texts (p ∷ ends) is.has_sources)
 
 -- a load of them, with what they tell
-abbrev pub load_of : (page_size : ℕ) (uuid : List ℕ) (limit : ℕ) (main : List ℕ) (texts : List (List ℕ)) → IsPageSize page_size → Load
-load_of page_size uuid limit main texts size = record {
-  page_size = page_size;
+abbrev pub load_of : (given : LoadSettings) (uuid : List ℕ) (main : List ℕ) (texts : List (List ℕ)) → IsPageSize given.page_size → Load
+load_of given uuid main texts size = record {
+  given = given;
   uuid = uuid;
-  limit = limit;
   main = main;
   texts = texts;
-  readings = (some_readings page_size uuid limit (ended_texts main texts) size).0;
+  readings = (some_readings given uuid (ended_texts main texts) size).0;
 }
 
-pub load_begins : (page_size : ℕ) (uuid : List ℕ) (limit : ℕ) (main : List ℕ) (texts : List (List ℕ)) (ends : List QueueEnd) (reader : Reader) (size : IsPageSize page_size)
-    → IsRelayOf page_size uuid texts ends → Stands (settings Main page_size limit) (main_so_far main 0) reader → length main < 2 ^ 63
-    → Begins (load_of page_size uuid limit main texts size) reader (replicate (length ends) 0) ends
-load_begins page_size uuid limit main texts ends reader size is stands short = record {
+pub load_begins : (given : LoadSettings) (uuid : List ℕ) (main : List ℕ) (texts : List (List ℕ)) (ends : List QueueEnd) (reader : Reader) (size : IsPageSize given.page_size)
+    → IsRelayOf given.page_size uuid texts ends → Stands (main_of given) (main_so_far main 0) reader → length main < 2 ^ 63
+    → Begins (load_of given uuid main texts size) reader (replicate (length ends) 0) ends
+load_begins given uuid main texts ends reader size is stands short = record {
   stands = stands;
   loading = record {
     is_page_size = size;
     is_relay = is;
-    are_readings = (some_readings page_size uuid limit (ended_texts main texts) size).1;
+    are_readings = (some_readings given uuid (ended_texts main texts) size).1;
     have_passed = λ j below. absurd (omega (arith, below));
     are_at = are_at_start ends;
   };

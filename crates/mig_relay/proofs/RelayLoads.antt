@@ -65,10 +65,10 @@ all_enough k page_size uuid n (text ∷ texts) (p ∷ ends) e told =
     )
 
 tells_channels : (l : Load) (k : ℕ) (places places_now : List ℕ) (ends ends_now : List QueueEnd) (statuses : List Status) (packets : List Fields) → Loading l k places ends
-    → AllZip Continues ends ends_now → HaveGone k places_now ends_now statuses packets → TellsAllChannels l.page_size k (received_of ends_now) l.readings
+    → AllZip Continues ends ends_now → HaveGone k places_now ends_now statuses packets → TellsAllChannels l.given.page_size k (received_of ends_now) l.readings
 tells_channels l k places places_now ends ends_now statuses packets loading zip gone =
-    together_law l.page_size l.uuid l.limit k l.main l.texts (received_of ends_now) l.readings loading.is_page_size loading.are_readings
-    (all_enough k l.page_size l.uuid (length l.texts) l.texts ends_now (of_relay l.page_size l.uuid l.texts ends ends_now loading.is_relay zip).has_sources gone.are_told)
+    together_law l.given l.uuid k l.main l.texts (received_of ends_now) l.readings loading.is_page_size loading.are_readings
+    (all_enough k l.given.page_size l.uuid (length l.texts) l.texts ends_now (of_relay l.given.page_size l.uuid l.texts ends ends_now loading.is_relay zip).has_sources gone.are_told)
 
 abbrev told_standing : ℕ × Status → Standing
 told_standing s = record { source = origin.Channel s.0; status = s.1 }
@@ -190,9 +190,9 @@ is_told_at l k places places_now ends ends_now main statuses packets told loadin
     let before = loading.have_passed in
     let repeated = repeated_at k ends_now in
     let whole : told ≡ None → (main ≡ Whole) × All (λ s. s ≡ Whole) statuses = λ none.
-    told_whole l.page_size l.uuid l.limit l.main l.texts l.readings k main statuses repeated size are before tells (sym e ∙ none) in
+    told_whole l.given l.uuid l.main l.texts l.readings k main statuses repeated size are before tells (sym e ∙ none) in
     record {
-      stops = λ verdict some. told_stops l.page_size l.uuid l.limit l.main l.texts l.readings k main statuses repeated verdict size are before tells (sym e ∙ some);
+      stops = λ verdict some. told_stops l.given l.uuid l.main l.texts l.readings k main statuses repeated verdict size are before tells (sym e ∙ some);
       through = λ done.
           let clean = done_is_clean k (main_standing main) (standings statuses) repeated (sym e ∙ done) in
           let channels = (and_parts (is_clean main) (list_all (λ (s : Standing). is_clean s.status) (standings statuses)) clean).1 in
@@ -200,6 +200,6 @@ is_told_at l k places places_now ends ends_now main statuses packets told loadin
       has_main = λ none. (whole none).0;
       has_packets = λ none. gone.has_packets (whole none).1 ∙ (tells_channels l k places places_now ends ends_now statuses packets loading zip gone).has_packets k (omega arith);
       goes_on = λ none. gone.goes_on (whole none).1;
-      passes = λ none lawful. told_passes l.page_size l.uuid l.limit l.main l.texts l.readings k main statuses repeated size are before tells (sym e ∙ none) lawful;
-      refused = λ none why refused. told_refused l.page_size l.uuid l.limit l.main l.texts l.readings k main statuses repeated why size are before tells (sym e ∙ none) refused;
+      passes = λ none lawful. told_passes l.given l.uuid l.main l.texts l.readings k main statuses repeated size are before tells (sym e ∙ none) lawful;
+      refused = λ none why refused. told_refused l.given l.uuid l.main l.texts l.readings k main statuses repeated why size are before tells (sym e ∙ none) refused;
     }

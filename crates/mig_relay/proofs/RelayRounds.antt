@@ -14,10 +14,8 @@ use Rattle.mig_mem.specs.Image.{Page, Image, zero_image}
 use Rattle.mig_mem.specs.Round.{after, with_round}
 use Rattle.mig_mem.proofs.Rounds.{onto-push, onto-zeros}
 use Rattle.mig_stream.specs.PageRecord.{page_of}
-use Rattle.mig_stream.specs.Reading.{settings as main_settings}
 use Rattle.mig_stream.specs.Round.{RoundOfRecords}
 use Rattle.mig_stream.specs.declared.item.StreamState.{StreamState}
-use Rattle.mig_stream.specs.declared.item.Mode.TheVariants.{Main}
 use Rattle.mig_stream.proofs.Limits.{limits_law}
 use Rattle.mig_packet.specs.Packet.{Fields, fields_of}
 use Rattle.mig_packet.specs.declared.packet.Packet.{Packet}
@@ -102,28 +100,28 @@ ends_without l k result places ends now loading zip is =
 -- ---- a round goes into the memory
 
 -- the page size of the table
-pub size_is : (l : Load) (k : ℕ) (target : LoadTarget) (places : List ℕ) (ends : List QueueEnd) → Loading l k places ends → HasLoaded k l.readings target → target.memory.table.page_size ≡ l.page_size
+pub size_is : (l : Load) (k : ℕ) (target : LoadTarget) (places : List ℕ) (ends : List QueueEnd) → Loading l k places ends → HasLoaded k l.readings target → target.memory.table.page_size ≡ l.given.page_size
 size_is l k target places ends loading has =
-    size_of_table l.page_size l.limit k (ended_text l.main) l.readings target loading.is_page_size loading.are_readings.has_main has
+    size_of_table l.given k (ended_text l.main) l.readings target loading.is_page_size loading.are_readings.has_main has
 
 pub sizes_of_packets : (l : Load) (k : ℕ) (target : LoadTarget) (places : List ℕ) (ends : List QueueEnd) (packets : List Packet) → Loading l k places ends → HasLoaded k l.readings target
     → ((page_size : ℕ) → All (λ p. p.source.page_size ≡ page_size) ends → All (λ packet. packet.page_size ≡ page_size) packets)
     → All (λ packet. packet.page_size ≡ target.memory.table.page_size) packets
 sizes_of_packets l k target places ends packets loading has sizes =
     subst (λ (n : ℕ). All (λ (packet : Packet). packet.page_size ≡ n) packets) (sym (size_is l k target places ends loading has))
-    (sizes l.page_size (sizes_are l.page_size l.uuid (length l.texts) l.texts ends loading.is_relay.has_sources))
+    (sizes l.given.page_size (sizes_are l.given.page_size l.uuid (length l.texts) l.texts ends loading.is_relay.has_sources))
 
 -- why it is refused
 pub refusal_is : (l : Load) (target : LoadTarget) (places : List ℕ) (ends : List QueueEnd) (round : RoundOfRecords) (packets : List Fields) → ComesToRound l target places ends round
-    → packets ≡ packets_at l.page_size target.rounds l.readings
+    → packets ≡ packets_at l.given.page_size target.rounds l.readings
     → refusal_at target.rounds l.readings ≡ refusal target.memory.table target.base (pages_of_round round) packets
 refusal_is l target places ends round packets comes are =
-    refusal_of_round l.page_size l.readings target round packets (size_is l target.rounds target places ends comes.loading comes.has_loaded) comes.has_loaded comes.fits comes.is_round are
+    refusal_of_round l.given.page_size l.readings target round packets (size_is l target.rounds target places ends comes.loading comes.has_loaded) comes.has_loaded comes.fits comes.is_round are
 
 pub round_goes_in : (l : Load) (target new : LoadTarget) (places : List ℕ) (ends : List QueueEnd) (round : RoundOfRecords) (packets : List Fields) → ComesToRound l target places ends round
-    → packets ≡ packets_at l.page_size target.rounds l.readings → new ≡ after_round target round packets → HasLoaded (target.rounds + 1) l.readings new
+    → packets ≡ packets_at l.given.page_size target.rounds l.readings → new ≡ after_round target round packets → HasLoaded (target.rounds + 1) l.readings new
 round_goes_in l target new places ends round packets comes are is =
-    round_is_put l.page_size l.readings target new round packets (size_is l target.rounds target places ends comes.loading comes.has_loaded) comes.has_loaded comes.fits comes.is_round are is
+    round_is_put l.given.page_size l.readings target new round packets (size_is l target.rounds target places ends comes.loading comes.has_loaded) comes.has_loaded comes.fits comes.is_round are is
 
 -- the main stream has the round
 pub main_whole : (l : Load) (k : ℕ) → k < length l.readings.main.rounds → Whole ≡ main_status k l.readings.main
@@ -151,7 +149,7 @@ goes_in l target new places places_now ends now round packets comes zip told law
     let here : IsTrue (passes k l.readings) = told.passes refl (refusal_is l target places ends round packets comes (told.has_packets refl) ∙ lawful) in (
       record {
         is_page_size = loading.is_page_size;
-        is_relay = of_relay l.page_size l.uuid l.texts ends now loading.is_relay zip;
+        is_relay = of_relay l.given.page_size l.uuid l.texts ends now loading.is_relay zip;
         are_readings = loading.are_readings;
         have_passed = λ j below. elim (cases_order j k) [
           | inl same ↦ subst (λ i. IsTrue (passes i l.readings)) (sym same) here
@@ -184,7 +182,7 @@ pub ends_at_fault : (l : Load) (k : ℕ) (state : StreamState) (main : Status) (
     → main ≡ Bad f → HasEnded l k (Err (record { round = k; source = origin.Main; fault = f })) ends
 ends_at_fault l k state main f places ends at is bad =
     let loading = at.loading in
-    let stops = told_bad_main l.page_size l.uuid l.limit l.main l.texts l.readings k f loading.is_page_size loading.are_readings loading.have_passed
+    let stops = told_bad_main l.given l.uuid l.main l.texts l.readings k f loading.is_page_size loading.are_readings loading.have_passed
     (sym (main_ends l k state main places ends at is) ∙ bad) in
     ends_bad l k (record { round = k; source = origin.Main; fault = f }) places ends ends loading (all_go_on ends) (inl (stops.0, stops.1))
 

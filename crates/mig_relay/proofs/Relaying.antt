@@ -5,6 +5,8 @@ use Rattle.mig_mem.specs.PageSize.{IsPageSize}
 use Rattle.mig_mem.specs.RamTable.{RamTable}
 use Rattle.mig_stream.specs.Text.{total_bytes}
 use Rattle.mig_send.specs.DealtRounds.{DealtRound}
+use Rattle.mig_single_load.specs.Settings.{ram_settings}
+use Rattle.mig_single_load.specs.declared.settings.LoadSettings.{LoadSettings}
 use Rattle.mig_single_load.specs.declared.loaded.Loaded.{Loaded}
 use Rattle.mig_single_load.specs.SingleLoad.{unloaded}
 use Rattle.mig_answer.specs.Texts.{Texts, ended_texts}
@@ -17,11 +19,11 @@ use Rattle.mig_answer.proofs.Headline.{sendings_are_loaded}
 
 -- ---- an allocation was refused before any round
 
-pub is_without_memory : {A : Type 0} (p : ℕ) (uuid : List ℕ) (limit : ℕ) (texts : Texts) (loaded : Loaded A) → IsPageSize p → loaded ≡ unloaded
-    → IsWithoutMemory p uuid limit texts (answer_of loaded)
-is_without_memory p uuid limit texts loaded size is =
-    let found = some_readings p uuid limit texts size in
-    subst (λ (l : Loaded _). IsWithoutMemory p uuid limit texts (answer_of l)) (sym is)
+pub is_without_memory : {A : Type 0} (given : LoadSettings) (uuid : List ℕ) (texts : Texts) (loaded : Loaded A) → IsPageSize given.page_size → loaded ≡ unloaded
+    → IsWithoutMemory given uuid texts (answer_of loaded)
+is_without_memory given uuid texts loaded size is =
+    let found = some_readings given uuid texts size in
+    subst (λ (l : Loaded _). IsWithoutMemory given uuid texts (answer_of l)) (sym is)
     (record {
       readings = found.0;
       are_readings = found.1;
@@ -30,16 +32,16 @@ is_without_memory p uuid limit texts loaded size is =
       has_verdict = refl;
     })
 
-pub refused_answers : {A : Type 0} (limit : ℕ) (main : List ℕ) (ends : List QueueEnd) (loaded : Loaded A) → loaded ≡ unloaded → AnswersRelay limit main ends loaded
-refused_answers limit main ends loaded is = λ p uuid texts size relay. inr (is_without_memory p uuid limit (ended_texts main texts) loaded size is)
+pub refused_answers : {A : Type 0} (given : LoadSettings) (main : List ℕ) (ends : List QueueEnd) (loaded : Loaded A) → loaded ≡ unloaded → AnswersRelay given main ends loaded
+refused_answers given main ends loaded is = λ uuid texts size relay. inr (is_without_memory given uuid (ended_texts main texts) loaded size is)
 
 -- ---- what was sent
 
 pub sending_is_loaded : (p : ℕ) (uuid : List ℕ) (limit : ℕ) (main : List ℕ) (channels : List (List ℕ)) (answer : Answer)
-    → IsAnswerOrWithoutMemory p uuid limit (ended_texts main channels) answer
+    → IsAnswerOrWithoutMemory (ram_settings p limit) uuid (ended_texts main channels) answer
     → (table : RamTable) (rounds : List DealtRound) → IsSentInAnyOrder table uuid rounds main channels → table.page_size ≡ p → total_bytes table ≤ limit
-    → (answer ≡ sent_answer table rounds) ⊎ IsWithoutMemory p uuid limit (ended_texts main channels) answer
+    → (answer ≡ sent_answer table rounds) ⊎ IsWithoutMemory (ram_settings p limit) uuid (ended_texts main channels) answer
 sending_is_loaded p uuid limit main channels answer (inl is) = λ table rounds sent size room.
     inl (sendings_are_loaded table uuid limit rounds main channels answer sent room
-    (subst (λ n. IsAnswer n uuid limit (ended_texts main channels) answer) (sym size) is))
+    (subst (λ n. IsAnswer (ram_settings n limit) uuid (ended_texts main channels) answer) (sym size) is))
 sending_is_loaded p uuid limit main channels answer (inr refused) = λ table rounds sent size room. inr refused

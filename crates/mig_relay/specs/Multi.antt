@@ -2,12 +2,13 @@
 -- was refused.
 use Rattle.std.specs.Prelude.{ℕ, List}
 use Rattle.mig_mem.specs.PageSize.{IsPageSize}
+use Rattle.mig_single_load.specs.declared.settings.LoadSettings.{LoadSettings}
 use Rattle.mig_single_load.specs.declared.loaded.Loaded.{Loaded}
 use Rattle.mig_answer.specs.Texts.{ended_texts}
 use Rattle.mig_answer.specs.MultiLoad.{IsAnswerOrWithoutMemory, answer_of}
 use Rattle.mig_relay.specs.RelayItems.{QueueEnd}
 use Rattle.mig_relay.specs.Relayed.{IsRelayOf}
 
-abbrev pub AnswersRelay : {A : Type 0} → ℕ → List ℕ → List QueueEnd → Loaded A → Type 0
-AnswersRelay limit main ends loaded = (page_size : ℕ) (uuid : List ℕ) (texts : List (List ℕ)) → IsPageSize page_size → IsRelayOf page_size uuid texts ends
-    → IsAnswerOrWithoutMemory page_size uuid limit (ended_texts main texts) (answer_of loaded)
+abbrev pub AnswersRelay : {A : Type 0} → LoadSettings → List ℕ → List QueueEnd → Loaded A → Type 0
+AnswersRelay given main ends loaded = (uuid : List ℕ) (texts : List (List ℕ)) → IsPageSize given.page_size → IsRelayOf given.page_size uuid texts ends
+    → IsAnswerOrWithoutMemory given uuid (ended_texts main texts) (answer_of loaded)

@@ -9,10 +9,10 @@ use Rattle.mig_packet.specs.ChannelItems.{ChannelItem}
 use Rattle.mig_assemble.specs.declared.fault.RoundFault.{RoundFault}
 use Rattle.mig_assemble.specs.Target.{LoadTarget, FitsTable}
 use Rattle.mig_stream.specs.Reader.{Reader, Stands}
-use Rattle.mig_stream.specs.Reading.{settings as main_settings}
 use Rattle.mig_stream.specs.Round.{RoundOfRecords}
 use Rattle.mig_stream.specs.declared.item.StreamState.{StreamState}
-use Rattle.mig_stream.specs.declared.item.Mode.TheVariants.{Main}
+use Rattle.mig_single_load.specs.Settings.{main_of}
+use Rattle.mig_single_load.specs.declared.settings.LoadSettings.{LoadSettings}
 use Rattle.mig_single_load.specs.declared.fault.Origin.TheVariants as origin
 use Rattle.mig_answer.specs.declared.status.Status.{Status}
 use Rattle.mig_answer.specs.declared.status.Status.TheVariants.{Whole, Clean, Bad, Pending}
@@ -140,18 +140,17 @@ repeated_at k ends = if k == 0 then repeated_hello (map hello_in (received_of en
 
 -- what a load on channels is of, and what the texts tell
 pub record Load : Type 0 where
-  pub page_size : ℕ
+  pub given : LoadSettings
   pub uuid : List ℕ
-  pub limit : ℕ
   pub main : List ℕ
   pub texts : List (List ℕ)
   pub readings : Readings
 
 -- A load has come to round k: the rounds before it pass, and these are the channels, gone through up to it.
 pub record Loading (l : Load) (k : ℕ) (places : List ℕ) (ends : List QueueEnd) : Type 0 where
-  pub is_page_size : IsPageSize l.page_size
-  pub is_relay : IsRelayOf l.page_size l.uuid l.texts ends
-  pub are_readings : AreReadings l.page_size l.uuid l.limit (ended_texts l.main l.texts) l.readings
+  pub is_page_size : IsPageSize l.given.page_size
+  pub is_relay : IsRelayOf l.given.page_size l.uuid l.texts ends
+  pub are_readings : AreReadings l.given l.uuid (ended_texts l.main l.texts) l.readings
   pub have_passed : (j : ℕ) → j < k → IsTrue (passes j l.readings)
   pub are_at : AreAtRound k places ends
 
@@ -160,7 +159,7 @@ pub record ToldAt (l : Load) (k : ℕ) (main : Status) (told : Option Verdict) (
   pub stops : (verdict : Verdict) → told ≡ Some verdict → IsFirstStop l.readings k × (verdict_at k l.readings ≡ verdict) × (verdict ≢ Running)
   pub through : told ≡ Some Done → All IsThrough ends
   pub has_main : told ≡ None → main ≡ Whole
-  pub has_packets : told ≡ None → packets ≡ packets_at l.page_size k l.readings
+  pub has_packets : told ≡ None → packets ≡ packets_at l.given.page_size k l.readings
   pub goes_on : told ≡ None → AreAtRound (k + 1) places ends
   pub passes : told ≡ None → refusal_at k l.readings ≡ None → IsTrue (passes k l.readings)
   pub refused : told ≡ None → (why : RoundFault) → refusal_at k l.readings ≡ Some why
@@ -204,7 +203,7 @@ pub record EndsAt (l : Load) (k : ℕ) (state : StreamState) (places : List ℕ)
 
 -- a load has put the first rounds of the main stream, of which the reader gives the others, into the memory
 pub record Goes (l : Load) (reader : Reader) (target : LoadTarget) (places : List ℕ) (ends : List QueueEnd) : Type 0 where
-  pub stands : Stands (main_settings Main l.page_size l.limit) (record { text = l.main; ended = true; taken = target.rounds }) reader
+  pub stands : Stands (main_of l.given) (record { text = l.main; ended = true; taken = target.rounds }) reader
   pub loading : Loading l target.rounds places ends
   pub has_loaded : HasLoaded target.rounds l.readings target
   pub few_packets : target.base ≤ 2 ^ 63
@@ -212,11 +211,11 @@ pub record Goes (l : Load) (reader : Reader) (target : LoadTarget) (places : Lis
 
 -- a load begins: of neither the main stream, which its reader was given, nor the channels anything was gone through
 pub record Begins (l : Load) (reader : Reader) (places : List ℕ) (ends : List QueueEnd) : Type 0 where
-  pub stands : Stands (main_settings Main l.page_size l.limit) (record { text = l.main; ended = true; taken = 0 }) reader
+  pub stands : Stands (main_of l.given) (record { text = l.main; ended = true; taken = 0 }) reader
   pub loading : Loading l 0 places ends
   pub is_short : length l.main < 2 ^ 63
 
 -- the answer of a load: that on its texts, or the one without memory
 abbrev pub IsAnswerOf : {A : Type 0} → Load → Loaded A → Type 0
 IsAnswerOf l loaded =
-    IsAnswerOrWithoutMemory l.page_size l.uuid l.limit (ended_texts l.main l.texts) (answer_of loaded)
+    IsAnswerOrWithoutMemory l.given l.uuid (ended_texts l.main l.texts) (answer_of loaded)

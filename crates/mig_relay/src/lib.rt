@@ -25,6 +25,6 @@ mod taking;
 
 pub use feeder::{Fed, Feeder, FeederStep};
 pub use item::{ChannelEnd, Item};
-pub use multi::load_multi;
+pub use multi::{load_multi, load_multi_in};
 pub use relay::{Collector, Relay};
-pub use relayed::load_relayed;
+pub use relayed::{load_relayed, load_relayed_in};

@@ -5,6 +5,7 @@ ghost use Rattle.mig_mem.specs.PageSize.{IsPageSize};
 ghost use Rattle.mig_mem.specs.RamTable.{RamTable};
 ghost use Rattle.mig_stream.specs.Text.{total_bytes};
 ghost use Rattle.mig_send.specs.DealtRounds.{DealtRound};
+ghost use Rattle.mig_single_load.specs.Settings.{ram_settings};
 ghost use Rattle.mig_answer.specs.Texts.{ended_texts};
 ghost use Rattle.mig_answer.specs.MultiLoad.{IsWithoutMemory, IsAnswerOrWithoutMemory, answer_of, bytes_of};
 ghost use Rattle.mig_answer.specs.Sent.{IsSentInAnyOrder, sent_answer};
@@ -13,10 +14,10 @@ ghost use Rattle.mig_relay.specs.Multi.{AnswersRelay};
 
 use crate::feeder::{Fed, Feeder, FeederStep};
 use crate::relay::{Collector, Relay};
-use crate::relayed::load_relayed;
+use crate::relayed::load_relayed_in;
 use mig_mem::NoMemory;
 use mig_packet::Gate;
-use mig_single_load::{Loaded, without_memory};
+use mig_single_load::{LoadSettings, Loaded, without_memory};
 use std::alloc::Allocator;
 use std::sync::Wait;
 use std::thread;
@@ -48,18 +49,44 @@ pub fn load_multi<
     requires page_size { IsPageSize page_size }
     requires channels { (1 ≤ length channels.now) × (length channels.now ≤ 255) }
     requires limit { limit ≤ 2 ^ 40 }
-    ensures answer { IsAnswerOrWithoutMemory page_size uuid.now limit (ended_texts main.now (bytes_of channels.now))
+    ensures answer { IsAnswerOrWithoutMemory (ram_settings page_size limit) uuid.now (ended_texts main.now (bytes_of channels.now))
         (answer_of result) }
     ensures sent { (table : RamTable) (rounds : List DealtRound) → IsSentInAnyOrder table uuid.now rounds main.now (bytes_of channels.now)
         → table.page_size ≡ page_size → total_bytes table ≤ limit
         → (answer_of result ≡ sent_answer table rounds)
-        ⊎ IsWithoutMemory page_size uuid.now limit (ended_texts main.now (bytes_of channels.now)) (answer_of result) }
+        ⊎ IsWithoutMemory (ram_settings page_size limit) uuid.now (ended_texts main.now (bytes_of channels.now)) (answer_of result) }
 {
+    let settings = LoadSettings::new(page_size, limit);
+    load_multi_in(rt, alloc, settings, uuid, main, channels, gate)
+}
+
+/// Loads a guest from the texts of a migration on several channels that are there whole, as
+/// `load_multi` does, with the main stream read with `settings`.
+pub fn load_multi_in<
+    R: Threads + Wait + Sync,
+    A: Allocator + Copy + Send + Sync,
+    B: Allocator + Sync,
+    G: Gate + Sync,
+>(
+    rt: &R,
+    alloc: A,
+    settings: LoadSettings,
+    uuid: &Uuid,
+    main: &[u8],
+    channels: &[Vec<u8, B>],
+    gate: &G,
+) -> Loaded<A>
+    requires page_size { IsPageSize settings.page_size }
+    requires channels { (1 ≤ length channels.now) × (length channels.now ≤ 255) }
+    requires limit { settings.limit ≤ 2 ^ 40 }
+    ensures { IsAnswerOrWithoutMemory settings uuid.now (ended_texts main.now (bytes_of channels.now)) (answer_of result) }
+{
+    let page_size = settings.page_size;
     let Ok((feeders, collector)) = Relay::start(alloc, page_size, uuid, channels, QUEUE_CAPACITY)
     else {
         return without_memory();
     };
-    load(rt, alloc, feeders, collector, main, limit, gate)
+    load(rt, alloc, feeders, collector, main, settings, gate)
 }
 
 // Starts a worker for each feeder, loads what they bring, and ends them all.
@@ -69,26 +96,26 @@ fn load<'a, R: Threads + Wait + Sync, A: Allocator + Copy + Send + Sync, G: Gate
     feeders: Vec<Feeder<'a, A>, A>,
     mut collector: Collector<'a, A>,
     main: &[u8],
-    limit: u64,
+    settings: LoadSettings,
     gate: &G,
 ) -> Loaded<A>
     requires same { feeders.items ≡ collector }
-    requires limit { limit ≤ 2 ^ 40 }
-    ensures { AnswersRelay limit main.now collector.entry result }
+    requires limit { settings.limit ≤ 2 ^ 40 }
+    ensures { AnswersRelay settings main.now collector.entry result }
 {
     thread::scope(
         thread::scope_env(),
         rt,
         move |scope| -> Loaded<A>
             requires same { feeders.items ≡ collector }
-            requires limit { limit ≤ 2 ^ 40 }
-            ensures { AnswersRelay limit main.entry.now collector.entry result }
+            requires limit { settings.limit ≤ 2 ^ 40 }
+            ensures { AnswersRelay settings main.entry.now collector.entry result }
         {
             let Ok(mut workers) = Vec::with_capacity(alloc, feeders.len()) else {
                 return without_memory();
             };
             let loaded = match start_workers(scope, rt, gate, feeders, &mut workers) {
-                Ok(()) => load_relayed(rt, alloc, &mut collector, main, limit),
+                Ok(()) => load_relayed_in(rt, alloc, &mut collector, main, settings),
                 Err(_) => without_memory(),
             };
             collector.drain(rt, workers.len());

@@ -5,6 +5,7 @@ ghost use Rattle.std.specs.List.{AllZip};
 ghost use Rattle.mig_packet.specs.Lent.{fields};
 ghost use Rattle.mig_answer.specs.declared.verdict.Verdict.TheVariants.{Running as running};
 ghost use Rattle.mig_answer.specs.Status.{main_status};
+ghost use Rattle.mig_single_load.specs.Settings.{ram_settings};
 ghost use Rattle.mig_answer.specs.Texts.{ended_texts};
 ghost use Rattle.mig_answer.specs.MultiLoad.{IsAnswerOrWithoutMemory, passes, as_verdict, answer_of};
 ghost use Rattle.mig_relay.specs.Relayed.{IsRelayOf, HasReceived, Continues, AreAtRound, Load, Loading, ToldAt, repeated_at, ComesToRound, HasJudged, HasEnded, EndsAt, Goes, Begins, IsAnswerOf};
@@ -16,7 +17,7 @@ use crate::taking::take_of_all;
 use mig_answer::{Status, Verdict, put, stream_end, verdict_told};
 use mig_assemble::{Gathered, Target};
 use mig_mem::NoMemory;
-use mig_single_load::{LoadFault, Loaded, Origin, no_memory, without_memory};
+use mig_single_load::{LoadFault, LoadSettings, Loaded, Origin, no_memory, without_memory};
 use mig_stream::{Mode, StreamReader, StreamRound, StreamState};
 use std::alloc::Allocator;
 use std::sync::Wait;
@@ -218,11 +219,42 @@ pub fn load_relayed<'a, R: Wait, A: Allocator + Copy>(
 ) -> Loaded<A>
     requires limit { limit ≤ 2 ^ 40 }
     ensures answer { (page_size : ℕ) (uuid : List ℕ) (texts : List (List ℕ)) → IsRelayOf page_size uuid texts collector.old
-        → IsAnswerOrWithoutMemory page_size uuid limit (ended_texts main.now texts) (answer_of result) }
+        → IsAnswerOrWithoutMemory (ram_settings page_size limit) uuid (ended_texts main.now texts) (answer_of result) }
     ensures received { AllZip (HasReceived result.rounds (is_ok result.verdict)) collector.old collector.new }
 {
     let page_size = collector.page_size();
-    let Ok(mut reader) = StreamReader::of_text(alloc, Mode::Main, page_size, limit, main) else {
+    load_relayed_in(
+        wait,
+        alloc,
+        collector,
+        main,
+        LoadSettings::new(page_size, limit),
+    )
+}
+
+/// Loads a guest from a main stream that is there whole, read with `settings`, and from the
+/// channels of a relay, as `load_relayed` does. The page size must be that of the relay.
+pub fn load_relayed_in<'a, R: Wait, A: Allocator + Copy>(
+    wait: &R,
+    alloc: A,
+    collector: &mut Collector<'a, A>,
+    main: &[u8],
+    settings: LoadSettings,
+) -> Loaded<A>
+    requires limit { settings.limit ≤ 2 ^ 40 }
+    ensures answer { (uuid : List ℕ) (texts : List (List ℕ)) → IsRelayOf settings.page_size uuid texts collector.old
+        → IsAnswerOrWithoutMemory settings uuid (ended_texts main.now texts) (answer_of result) }
+    ensures received { AllZip (HasReceived result.rounds (is_ok result.verdict)) collector.old collector.new }
+{
+    let page_size = collector.page_size();
+    let Ok(mut reader) = StreamReader::of_text_in(
+        alloc,
+        settings.frame,
+        Mode::Main,
+        page_size,
+        settings.limit,
+        main,
+    ) else {
         return without_memory();
     };
     reader.end();

@@ -1,10 +1,9 @@
 use Rattle.std.proofs.Common.{ℕ, ◌∙◌, Some, None, ap, subst, sym, refl}
 use Rattle.std.specs.Prelude.{is_ok}
 use Rattle.std.specs.List.{AllZip}
-use Rattle.mig_stream.specs.declared.item.Mode.TheVariants.{Main}
-use Rattle.mig_stream.specs.Reading.{settings}
 use Rattle.mig_stream.specs.Reader.{HasTable}
 use Rattle.mig_mem.specs.Image.{Image}
+use Rattle.mig_single_load.specs.Settings.{main_of}
 use Rattle.mig_relay.specs.Relayed.{HasReceived}
 use Rattle.mig_relay.proofs.MainStream.{main_so_far}
 use Rattle.mig_relay.proofs.RelayAnswers.{were_received, none_received, answers_with, ends_without_table, no_memory_there, goes_from_zeros}
@@ -14,13 +13,13 @@ pub end-requires : goal.end-requires
 end-requires g c =
     let l = c.requires.0 in
     let begins = c.requires.1 in
-    let given = settings Main l.page_size l.limit in
+    let given = main_of l.given in
     let so_far = main_so_far l.main 0 in
     (l, ends_without_table l c.args.reader.now c.state.result c.args.places.now.items c.args.collector.now begins (c.in_default.ensures given so_far begins.stands) (c.state.ensures given so_far begins.stands))
 
 pub returns-in_default-clause-answer : goal.returns-in_default-clause-answer
 returns-in_default-clause-answer g c = λ l begins.
-    let given = settings Main l.page_size l.limit in
+    let given = main_of l.given in
     let so_far = main_so_far l.main 0 in
     let none : HasTable given l.main None = c.in_default.ensures given so_far begins.stands in
     let at = ends_without_table l c.args.reader.now c.state.result c.args.places.now.items c.args.collector.now begins none (c.state.ensures given so_far begins.stands) in
@@ -31,7 +30,7 @@ pub returns-in_default-clause-received : goal.returns-in_default-clause-received
 returns-in_default-clause-received g c =
     let l = c.requires.0 in
     let begins = c.requires.1 in
-    let given = settings Main l.page_size l.limit in
+    let given = main_of l.given in
     let so_far = main_so_far l.main 0 in
     let none : HasTable given l.main None = c.in_default.ensures given so_far begins.stands in
     let at = ends_without_table l c.args.reader.now c.state.result c.args.places.now.items c.args.collector.now begins none (c.state.ensures given so_far begins.stands) in
@@ -45,12 +44,12 @@ pub load_rounds-verdict-requires : goal.load_rounds-verdict-requires
 load_rounds-verdict-requires g c =
     let l = c.requires.0 in
     let begins = c.requires.1 in
-    let has : HasTable (settings Main l.page_size l.limit) l.main (Some c.in-Some.table.now) = c.in-Some.ensures (settings Main l.page_size l.limit) (main_so_far l.main 0) begins.stands in
+    let has : HasTable (main_of l.given) l.main (Some c.in-Some.table.now) = c.in-Some.ensures (main_of l.given) (main_so_far l.main 0) begins.stands in
     (l, goes_from_zeros l c.args.reader.now c.in-Some.table.now c.in-Ok.target c.args.places.now.items c.args.collector.now begins has c.in-Ok.ensures)
 
 pub returns-clause-answer : goal.returns-clause-answer
 returns-clause-answer g c = λ l begins.
-    let has : HasTable (settings Main l.page_size l.limit) l.main (Some c.in-Some.table.now) = c.in-Some.ensures (settings Main l.page_size l.limit) (main_so_far l.main 0) begins.stands in
+    let has : HasTable (main_of l.given) l.main (Some c.in-Some.table.now) = c.in-Some.ensures (main_of l.given) (main_so_far l.main 0) begins.stands in
     let goes = goes_from_zeros l c.args.reader.now c.in-Some.table.now c.in-Ok.target c.args.places.now.items c.args.collector.now begins has c.in-Ok.ensures in
     let ended = c.load_rounds-verdict.ensures.ended l goes in
     answers_with {A = g.row.A.Denot} l c.load_rounds-verdict.new.target.rounds (record { memory = Some c.into_memory.result; rounds = c.rounds-rounds.result; verdict = c.load_rounds-verdict.result })
@@ -60,7 +59,7 @@ pub returns-clause-received : goal.returns-clause-received
 returns-clause-received g c =
     let l = c.requires.0 in
     let begins = c.requires.1 in
-    let has : HasTable (settings Main l.page_size l.limit) l.main (Some c.in-Some.table.now) = c.in-Some.ensures (settings Main l.page_size l.limit) (main_so_far l.main 0) begins.stands in
+    let has : HasTable (main_of l.given) l.main (Some c.in-Some.table.now) = c.in-Some.ensures (main_of l.given) (main_so_far l.main 0) begins.stands in
     let goes = goes_from_zeros l c.args.reader.now c.in-Some.table.now c.in-Ok.target c.args.places.now.items c.args.collector.now begins has c.in-Ok.ensures in
     let ended = (c.load_rounds-verdict.ensures.ended l goes).1 in
     subst (λ (n : ℕ). AllZip (HasReceived n (is_ok c.load_rounds-verdict.result)) c.args.collector.now c.load_rounds-verdict.new.collector) (sym c.rounds-rounds.ensures)

@@ -1,66 +1,16 @@
-use Rattle.std.proofs.Common.{ℕ, ◌≡◌, ◌<◌, ◌∙◌, List, length, replicate, arith, ap, subst, sym}
-use Rattle.std.specs.Prelude.{◌^◌}
-use Rattle.mig_mem.specs.PageSize.{IsPageSize}
-use Rattle.mig_stream.specs.declared.item.Mode.TheVariants.{Main}
-use Rattle.mig_stream.specs.Reading.{settings}
-use Rattle.mig_stream.specs.Reader.{Stands, nothing_yet, with_piece}
+use Rattle.std.proofs.Common.{◌∙◌, ℕ, ap, subst, sym}
+use Rattle.mig_single_load.specs.declared.settings.LoadSettings.{LoadSettings}
+use Rattle.mig_single_load.specs.Settings.{ram_settings}
 use Rattle.mig_answer.specs.Texts.{ended_texts}
-use Rattle.mig_relay.specs.Relayed.{Load, Begins}
-use Rattle.mig_answer.proofs.OneAnswer.{some_readings}
-use Rattle.mig_relay.proofs.MainStream.{main_so_far}
-use Rattle.mig_relay.proofs.RelayAnswers.{none_received, answers_without, relay_size, load_of, load_begins}
+use Rattle.mig_answer.specs.MultiLoad.{IsAnswerOrWithoutMemory, answer_of}
+use Rattle.mig_relay.specs.Relayed.{IsRelayOf}
+use Rattle.mig_relay.proofs.RelayAnswers.{relay_size}
 use Rattle.mig_relay.proofs.relayed.load_relayed.Goals as goal
-
-pub returns-in_default-clause-answer : goal.returns-in_default-clause-answer
-returns-in_default-clause-answer g c = λ page_size uuid texts is.
-    let same = relay_size page_size c.page_size-page_size.result uuid texts c.args.collector.now is c.page_size-page_size.ensures.value in
-    let size : IsPageSize page_size = subst IsPageSize same c.page_size-page_size.ensures.page_size in
-    rw c.without_memory.ensures (answers_without g.row.A.Denot (load_of page_size uuid c.args.limit c.args.main.now texts size)
-    (some_readings page_size uuid c.args.limit (ended_texts c.args.main.now texts) size).1)
-
-pub returns-in_default-clause-received : goal.returns-in_default-clause-received
-returns-in_default-clause-received g c = rw c.without_memory.ensures (none_received c.args.collector.now)
-
-pub returns-in_default-starts-clause-answer : goal.returns-in_default-starts-clause-answer
-returns-in_default-starts-clause-answer g c = λ page_size uuid texts is.
-    let same = relay_size page_size c.page_size-page_size.result uuid texts c.args.collector.now is c.page_size-page_size.ensures.value in
-    let size : IsPageSize page_size = subst IsPageSize same c.page_size-page_size.ensures.page_size in
-    rw c.without_memory-in_default-starts.ensures (answers_without g.row.A.Denot (load_of page_size uuid c.args.limit c.args.main.now texts size)
-    (some_readings page_size uuid c.args.limit (ended_texts c.args.main.now texts) size).1)
-
-pub returns-in_default-starts-clause-received : goal.returns-in_default-starts-clause-received
-returns-in_default-starts-clause-received g c = rw c.without_memory-in_default-starts.ensures (none_received c.args.collector.now)
-
-pub load_all-requires : goal.load_all-requires
-load_all-requires g c =
-    let relay = c.page_size-page_size.ensures.relay in
-    let n : ℕ = c.page_size-page_size.result in
-    let main : List ℕ = c.args.main.now in
-    let ends = c.args.collector.now in
-    let same = relay_size relay.page_size n relay.uuid relay.texts ends relay.is_relay c.page_size-page_size.ensures.value in
-    let stands : Stands (settings Main n c.args.limit) (main_so_far main 0) c.end.new.self =
-    c.end.ensures.stands (settings Main n c.args.limit) (with_piece main nothing_yet) c.in-Ok.ensures.stands in
-    let places : c.in-Ok-starts.places.items ≡ replicate (length ends) 0 = c.in-Ok-starts.ensures ∙ ap (λ (m : ℕ). replicate m 0) c.len.ensures in
-    let short : length main < 2 ^ 63 = omega arith in
-    let l : Load = load_of relay.page_size relay.uuid c.args.limit main relay.texts relay.is_page_size in (
-      l,
-      subst (λ (ps : List ℕ). Begins l c.end.new.self ps ends) (sym places)
-          (load_begins relay.page_size relay.uuid c.args.limit main relay.texts ends c.end.new.self relay.is_page_size relay.is_relay
-          (subst (λ (m : ℕ). Stands (settings Main m c.args.limit) (main_so_far main 0) c.end.new.self) same stands) short),
-    )
 
 pub returns-clause-answer : goal.returns-clause-answer
 returns-clause-answer g c = λ page_size uuid texts is.
-    let n : ℕ = c.page_size-page_size.result in
-    let main : List ℕ = c.args.main.now in
     let ends = c.args.collector.now in
-    let same = relay_size page_size n uuid texts ends is c.page_size-page_size.ensures.value in
-    let size : IsPageSize page_size = subst IsPageSize same c.page_size-page_size.ensures.page_size in
-    let stands : Stands (settings Main n c.args.limit) (main_so_far main 0) c.end.new.self =
-    c.end.ensures.stands (settings Main n c.args.limit) (with_piece main nothing_yet) c.in-Ok.ensures.stands in
-    let places : c.in-Ok-starts.places.items ≡ replicate (length ends) 0 = c.in-Ok-starts.ensures ∙ ap (λ (m : ℕ). replicate m 0) c.len.ensures in
-    let short : length main < 2 ^ 63 = omega arith in
-    let l : Load = load_of page_size uuid c.args.limit main texts size in
-    c.load_all.ensures.answer l (subst (λ (ps : List ℕ). Begins l c.end.new.self ps ends) (sym places)
-    (load_begins page_size uuid c.args.limit main texts ends c.end.new.self size is
-    (subst (λ (m : ℕ). Stands (settings Main m c.args.limit) (main_so_far main 0) c.end.new.self) same stands) short))
+    let same = relay_size page_size c.page_size-page_size.result uuid texts ends is c.page_size-page_size.ensures.value in
+    let made = c.new.ensures ∙ ap (λ (n : ℕ). ram_settings n c.args.limit) same in
+    subst (λ (given : LoadSettings). IsAnswerOrWithoutMemory given uuid (ended_texts c.args.main.now texts) (answer_of c.load_relayed_in.result)) made
+    (c.load_relayed_in.ensures.answer uuid texts (subst (λ (given : LoadSettings). IsRelayOf given.page_size uuid texts ends) (sym made) is))

@@ -1,10 +1,9 @@
 use Rattle.std.proofs.Common.{◌≡◌, Some, rules, refl, subst, sym}
 use Rattle.std.specs.Prelude.{Ok}
-use Rattle.mig_stream.specs.declared.item.Mode.TheVariants.{Main}
 use Rattle.mig_stream.specs.declared.round.StreamRound.{StreamRound}
 use Rattle.mig_stream.specs.Reader.{Stands}
-use Rattle.mig_stream.specs.Reading.{settings}
 use Rattle.mig_relay.specs.Relayed.{Load}
+use Rattle.mig_single_load.specs.Settings.{main_of}
 use Rattle.mig_single_load.proofs.Sections.{of_some, of_none}
 use Rattle.mig_relay.proofs.GoingThrough.{all_go_on, all_go_further}
 use Rattle.mig_relay.proofs.MainStream.{main_so_far, comes_in, goes_to_next, goes_to_end, ended_here}
@@ -17,7 +16,7 @@ pub load_round-requires : goal.load_round-requires
 load_round-requires g c =
     let l : Load = c.requires.0 in
     let goes = c.rounds.invariant.goes l c.requires.1 in
-    let given = settings Main l.page_size l.limit in
+    let given = main_of l.given in
     let so_far = main_so_far l.main c.rounds.target.rounds in
     let round = of_some _ c.in-Ok-Some.field-0 c.in-Ok-Some.round c.in-Ok-Some.field-0-is c.in-Ok-Some.ensures.round given so_far goes.stands in
     let places = of_some _ c.in-Ok-Some.field-0 c.in-Ok-Some.round c.in-Ok-Some.field-0-is c.in-Ok-Some.ensures.places given so_far goes.stands in
@@ -26,7 +25,7 @@ load_round-requires g c =
 pub returns-in-Some-clause-ended : goal.returns-in-Some-clause-ended
 returns-in-Some-clause-ended g c = λ l before.
     let goes = c.rounds.invariant.goes l before in
-    let given = settings Main l.page_size l.limit in
+    let given = main_of l.given in
     let so_far = main_so_far l.main c.rounds.target.rounds in
     let round = of_some _ c.in-Ok-Some.field-0 c.in-Ok-Some.round c.in-Ok-Some.field-0-is c.in-Ok-Some.ensures.round given so_far goes.stands in
     let places = of_some _ c.in-Ok-Some.field-0 c.in-Ok-Some.round c.in-Ok-Some.field-0-is c.in-Ok-Some.ensures.places given so_far goes.stands in
@@ -42,7 +41,7 @@ pub rounds-preserved : goal.rounds-preserved
 rounds-preserved g c = record {
   goes = λ l before.
       let goes = c.rounds.invariant.goes l before in
-      let given = settings Main l.page_size l.limit in
+      let given = main_of l.given in
       let so_far = main_so_far l.main c.rounds.target.rounds in
       let round = of_some _ c.in-Ok-Some.field-0 c.in-Ok-Some.round c.in-Ok-Some.field-0-is c.in-Ok-Some.ensures.round given so_far goes.stands in
       let places = of_some _ c.in-Ok-Some.field-0 c.in-Ok-Some.round c.in-Ok-Some.field-0-is c.in-Ok-Some.ensures.places given so_far goes.stands in
@@ -57,7 +56,7 @@ pub end-requires : goal.end-requires
 end-requires g c =
     let l : Load = c.requires.0 in
     let goes = c.rounds.invariant.goes l c.requires.1 in
-    let given = settings Main l.page_size l.limit in
+    let given = main_of l.given in
     let so_far = main_so_far l.main c.rounds.target.rounds in
     let none : (r : StreamRound g.row.A.Denot) → c.take_round.result ≡ Ok (Some r) → ⊥ = λ r is. search rules in
     let same = of_none _ c.take_round.result c.take_round.ensures.ok none c.take_round.ensures.none in
@@ -68,7 +67,7 @@ end-requires g c =
 pub returns-clause-ended : goal.returns-clause-ended
 returns-clause-ended g c = λ l before.
     let goes = c.rounds.invariant.goes l before in
-    let given = settings Main l.page_size l.limit in
+    let given = main_of l.given in
     let so_far = main_so_far l.main c.rounds.target.rounds in
     let none : (r : StreamRound g.row.A.Denot) → c.take_round.result ≡ Ok (Some r) → ⊥ = λ r is. search rules in
     let same = of_none _ c.take_round.result c.take_round.ensures.ok none c.take_round.ensures.none in

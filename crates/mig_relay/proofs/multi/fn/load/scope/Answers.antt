@@ -6,13 +6,13 @@ use Rattle.mig_relay.proofs.multi.fn.load.scope.Goals as goal
 use Rattle.mig_relay.proofs.multi.fn.load.scope.Goals.{in-Ok-start_workers, in-Err}
 
 pub returns-in_default : goal.returns-in_default
-returns-in_default g c = refused_answers c.captures.limit c.captures.main.now c.captures.collector c.without_memory.result c.without_memory.ensures
+returns-in_default g c = refused_answers c.captures.settings c.captures.main.now c.captures.collector c.without_memory.result c.without_memory.ensures
 
 pub returns : goal.returns
 returns g c =
-    let Answers = λ (l : Loaded g.row.A.Denot). AnswersRelay c.captures.limit c.captures.main.now c.captures.collector l in
+    let Answers = λ (l : Loaded g.row.A.Denot). AnswersRelay c.captures.settings c.captures.main.now c.captures.collector l in
     elim c.match-start_workers.branch [
-      | in-Ok-start_workers w ↦ subst Answers (sym w.loaded-is) (λ p uuid texts size relay. w.load_relayed-loaded.ensures.answer p uuid texts relay)
+      | in-Ok-start_workers w ↦ subst Answers (sym w.loaded-is) (λ uuid texts size relay. w.load_relayed_in-loaded.ensures.answer uuid texts relay)
       | in-Err w ↦ subst Answers (sym w.loaded-is)
-          (refused_answers c.captures.limit c.captures.main.now c.captures.collector w.without_memory-loaded.result w.without_memory-loaded.ensures)
+          (refused_answers c.captures.settings c.captures.main.now c.captures.collector w.without_memory-loaded.result w.without_memory-loaded.ensures)
     ]
