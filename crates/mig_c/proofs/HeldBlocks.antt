@@ -25,6 +25,8 @@ use Rattle.mig_stream.specs.Reader.{IsSettled, HasRound, waiting}
 use Rattle.mig_stream.specs.Round.{RoundOfRecords, record_at}
 use Rattle.mig_assemble.specs.Target.{FitsTable, pages_of_round}
 use Rattle.mig_assemble.proofs.Putting.{put_none, put_after, put_page_more}
+use Rattle.mig_single_load.specs.Settings.{for_table, ram_settings}
+use Rattle.mig_single_load.specs.declared.settings.LoadSettings.{LoadSettings}
 use Rattle.mig_single_load.specs.InPlace.{settings_of, IsOfOwnTable}
 use Rattle.mig_single_load.specs.InPlaceState.{InPlaceState, first_sections, FedWith, LoadsWith}
 use Rattle.mig_single_load.proofs.Sections.{same_reading}
@@ -180,16 +182,16 @@ pages_put table b (x ∷ xs) blocks fit lt all =
 -- ---- what the blocks lack
 
 -- The pages that are due first were put: those behind them are lacking.
-part_behind : (memory now : Image) (limit : ℕ) (first : Image) (s : InPlaceState) (b : ℕ) (due : List Page) (text : List ℕ) (ended : Bool) → now ≡ with_round memory (front_of b due)
-    → LacksPart memory limit first s due text ended → LacksPart now limit first s (behind b due) text ended
-part_behind memory now limit first s b due text ended is lacks =
+part_behind : (memory now : Image) (given : LoadSettings) (first : Image) (s : InPlaceState) (b : ℕ) (due : List Page) (text : List ℕ) (ended : Bool) → now ≡ with_round memory (front_of b due)
+    → LacksPart memory given first s due text ended → LacksPart now given first s (behind b due) text ended
+part_behind memory now given first s b due text ended is lacks =
     let front : List Page = front_of b due in
     let rest : List Page = behind b due in
     let both : front ++ rest ≡ due = take-append-drop (prefix_len (is_of b) due) due in
     let same : with_round memory due ≡ with_round now rest =
     ap (λ (l : List Page). with_round memory l) (sym both) ∙ sym (put_after memory front rest) ∙ ap (λ (i : Image). with_round i rest) (sym is) in
     record {
-      fed = subst (λ (m : Image). FedWith m limit first s text ended) same lacks.fed;
+      fed = subst (λ (m : Image). FedWith m given first s text ended) same lacks.fed;
       last = λ some.
           let whole = lacks.last (λ none. some (ap (λ (l : List Page). behind b l) none)) in
           record {
@@ -206,10 +208,10 @@ part_behind memory now limit first s b due text ended is lacks =
     }
 
 -- a piece more
-part_longer : (memory : Image) (limit : ℕ) (first : Image) (s read : InPlaceState) (due : List Page) (text piece : List ℕ) → read.rounds ≡ s.rounds
-    → ((m : Image) → FedWith m limit first s text false → FedWith m limit first read (text ++ piece) false) → LacksPart memory limit first s due text false
-    → LacksPart memory limit first read due (text ++ piece) false
-part_longer memory limit first s read due text piece same reads lacks =
+part_longer : (memory : Image) (given : LoadSettings) (first : Image) (s read : InPlaceState) (due : List Page) (text piece : List ℕ) → read.rounds ≡ s.rounds
+    → ((m : Image) → FedWith m given first s text false → FedWith m given first read (text ++ piece) false) → LacksPart memory given first s due text false
+    → LacksPart memory given first read due (text ++ piece) false
+part_longer memory given first s read due text piece same reads lacks =
     let size : IsPageSize first.table.page_size = lacks.fed.fed.is_table.has_page_size in
     record {
       fed = reads (with_round memory due) lacks.fed;
@@ -220,30 +222,30 @@ part_longer memory limit first s read due text piece same reads lacks =
             before = whole.before;
             is_last = same ∙ whole.is_last;
             records = whole.records;
-            is_section = round_longer limit first text piece whole.before whole.records size whole.is_section;
+            is_section = round_longer given first text piece whole.before whole.records size whole.is_section;
             put = whole.put;
             parts = whole.parts;
             memory_is = λ reading is_reading own.
-                let was = sections_longer limit first text piece whole.is_section.0 reading whole.before size whole.is_section.1 is_reading (omega (arith, few)) own in
+                let was = sections_longer given first text piece whole.is_section.0 reading whole.before size whole.is_section.1 is_reading (omega (arith, few)) own in
                 whole.memory_is whole.is_section.0 whole.is_section.1 was.0
                 ∙ ap (λ (l : List (List Page)). with_round (with_rounds first l) whole.put) was.1;
           };
     }
 
 -- the end
-part_over : (memory : Image) (limit : ℕ) (first : Image) (s new : InPlaceState) (due : List Page) (text : List ℕ) (ended : Bool) → new.rounds ≡ s.rounds
-    → ((m : Image) → FedWith m limit first s text ended → FedWith m limit first new text true) → LacksPart memory limit first s due text ended
-    → LacksPart memory limit first new due text true
-part_over memory limit first s new due text ended same over lacks = record {
+part_over : (memory : Image) (given : LoadSettings) (first : Image) (s new : InPlaceState) (due : List Page) (text : List ℕ) (ended : Bool) → new.rounds ≡ s.rounds
+    → ((m : Image) → FedWith m given first s text ended → FedWith m given first new text true) → LacksPart memory given first s due text ended
+    → LacksPart memory given first new due text true
+part_over memory given first s new due text ended same over lacks = record {
   fed = over (with_round memory due) lacks.fed;
-  last = λ some. subst (λ (n : ℕ). EndsSection memory limit first n due text) (sym same) (lacks.last some);
+  last = λ some. subst (λ (n : ℕ). EndsSection memory given first n due text) (sym same) (lacks.last some);
 }
 
 -- a section was taken, and none of its pages is put
-pub part_taken : (memory : Image) (limit : ℕ) (first : Image) (s new : InPlaceState) (section : RoundOfRecords) (text : List ℕ) (ended : Bool) → IsImage memory → FitsTable s.table section
-    → FedWith memory limit first s text ended → FedWith (with_round memory (pages_of_round section)) limit first new text ended → new.rounds ≡ s.rounds + 1
-    → HasRound (settings_of first limit) text s.rounds section.records → LacksPart memory limit first new (pages_of_round section) text ended
-part_taken memory limit first s new section text ended is fits fed taken more has = record {
+pub part_taken : (memory : Image) (given : LoadSettings) (first : Image) (s new : InPlaceState) (section : RoundOfRecords) (text : List ℕ) (ended : Bool) → IsImage memory → FitsTable s.table section
+    → FedWith memory given first s text ended → FedWith (with_round memory (pages_of_round section)) given first new text ended → new.rounds ≡ s.rounds + 1
+    → HasRound (settings_of first given) text s.rounds section.records → LacksPart memory given first new (pages_of_round section) text ended
+part_taken memory given first s new section text ended is fits fed taken more has = record {
   fed = taken;
   last = λ _. record {
     before = s.rounds;
@@ -254,7 +256,7 @@ part_taken memory limit first s new section text ended is fits fed taken more ha
     parts = ap (λ (n : ℕ). map (page_of n) section.records) (ap (λ (t : RamTable). t.page_size) fed.same_table ∙ sym fits.has_page_size);
     memory_is = λ reading is_reading own.
         let p : ℕ = first.table.page_size in
-        let one : reading ≡ fed.fed.reading = same_reading p limit text reading fed.fed.reading fed.fed.is_table.has_page_size is_reading fed.fed.is_reading in
+        let one : reading ≡ fed.fed.reading = same_reading (for_table first.table given) text reading fed.fed.reading fed.fed.is_table.has_page_size is_reading fed.fed.is_reading in
         put_none memory is
         ∙ ap (λ (m : Image). with_round m []) ((fed.fed.own (subst (λ (r : StreamReading). IsOfOwnTable first r) one own)).0
         ∙ ap (λ (r : StreamReading). with_rounds first (first_sections first r s.rounds)) (sym one));
@@ -262,26 +264,26 @@ part_taken memory limit first s new section text ended is fits fed taken more ha
 }
 
 -- no page is due, and no section waits
-pub lacks_none : (memory : Image) (limit : ℕ) (first : Image) (s : InPlaceState) (text : List ℕ) (ended : Bool) → IsImage memory → LoadsWith memory limit first s text ended
-    → LacksDue memory limit first s [] text ended
-lacks_none memory limit first s text ended is loads = record {
+pub lacks_none : (memory : Image) (given : LoadSettings) (first : Image) (s : InPlaceState) (text : List ℕ) (ended : Bool) → IsImage memory → LoadsWith memory given first s text ended
+    → LacksDue memory given first s [] text ended
+lacks_none memory given first s text ended is loads = record {
   part = record {
-    fed = subst (λ (m : Image). FedWith m limit first s text ended) (put_none memory is) (fed_with memory limit first s text ended loads);
+    fed = subst (λ (m : Image). FedWith m given first s text ended) (put_none memory is) (fed_with memory given first s text ended loads);
     last = λ some. absurd (some refl);
   };
   all = λ _. loads;
 }
 
 -- some pages are
-pub lacks_some : (memory : Image) (limit : ℕ) (first : Image) (s : InPlaceState) (due : List Page) (text : List ℕ) (ended : Bool) → due ≢ []
-    → LacksPart memory limit first s due text ended → LacksDue memory limit first s due text ended
-lacks_some memory limit first s due text ended some part = record { part = part; all = λ none. absurd (some none) }
+pub lacks_some : (memory : Image) (given : LoadSettings) (first : Image) (s : InPlaceState) (due : List Page) (text : List ℕ) (ended : Bool) → due ≢ []
+    → LacksPart memory given first s due text ended → LacksDue memory given first s due text ended
+lacks_some memory given first s due text ended some part = record { part = part; all = λ none. absurd (some none) }
 
 -- a section without a page changes nothing
-pub fed_none : (memory : Image) (limit : ℕ) (first : Image) (s : InPlaceState) (pages : List Page) (text : List ℕ) (ended : Bool) → IsImage memory → pages ≡ []
-    → FedWith (with_round memory pages) limit first s text ended → FedWith memory limit first s text ended
-fed_none memory limit first s pages text ended is none fed =
-    subst (λ (m : Image). FedWith m limit first s text ended) (ap (λ (l : List Page). with_round memory l) none ∙ sym (put_none memory is)) fed
+pub fed_none : (memory : Image) (given : LoadSettings) (first : Image) (s : InPlaceState) (pages : List Page) (text : List ℕ) (ended : Bool) → IsImage memory → pages ≡ []
+    → FedWith (with_round memory pages) given first s text ended → FedWith memory given first s text ended
+fed_none memory given first s pages text ended is none fed =
+    subst (λ (m : Image). FedWith m given first s text ended) (ap (λ (l : List Page). with_round memory l) none ∙ sym (put_none memory is)) fed
 
 -- ---- the pages of a section
 
@@ -317,36 +319,36 @@ are_of table b section fits pages =
 
 -- ---- the calls
 
-holds_of : (limit : ℕ) (first : Image) (s : InPlaceState) (table : RamTable) (due : List Page) (text : List ℕ) (ended : Bool) (blocks : List (List ℕ)) → s.table ≡ table
-    → FitTable table blocks → LacksDue (lent_image table blocks) limit first s due text ended → Holds limit first (held_load s due) text ended blocks
-holds_of limit first s table due text ended blocks same fit lacks = record {
+holds_of : (given : LoadSettings) (first : Image) (s : InPlaceState) (table : RamTable) (due : List Page) (text : List ℕ) (ended : Bool) (blocks : List (List ℕ)) → s.table ≡ table
+    → FitTable table blocks → LacksDue (lent_image table blocks) given first s due text ended → Holds given first (held_load s due) text ended blocks
+holds_of given first s table due text ended blocks same fit lacks = record {
   fit = subst (λ (t : RamTable). FitTable t blocks) (sym same) fit;
-  lacks = subst (λ (t : RamTable). LacksDue (lent_image t blocks) limit first s due text ended) (sym same) lacks;
+  lacks = subst (λ (t : RamTable). LacksDue (lent_image t blocks) given first s due text ended) (sym same) lacks;
 }
 
-pub begins : (table : RamTable) (limit : ℕ) (s : InPlaceState) → s.table ≡ table → ((first : Image) → IsImage first → first.table ≡ table → LoadsWith first limit first s [] false)
+pub begins : (table : RamTable) (limit : ℕ) (s : InPlaceState) → s.table ≡ table → ((first : Image) → IsImage first → first.table ≡ table → LoadsWith first (ram_settings table.page_size limit) first s [] false)
     → Begins table limit (held_load s [])
 begins table limit s same loads = record {
   same_table = same;
   holds = λ blocks fit.
       let first : Image = lent_image table blocks in
       let is : IsImage first = lent_is_image table blocks fit in
-      holds_of limit first s table [] [] false blocks same fit (lacks_none first limit first s [] false is (loads first is refl));
+      holds_of (ram_settings table.page_size limit) first s table [] [] false blocks same fit (lacks_none first (ram_settings table.page_size limit) first s [] false is (loads first is refl));
 }
 
 pub feeds : (s read new : InPlaceState) (due now : List Page) (piece : List ℕ) → IsFalse s.reader.ended
-    → ((memory : Image) (limit : ℕ) (first : Image) (text : List ℕ) → FedWith memory limit first s text false → FedWith memory limit first read (text ++ piece) false)
+    → ((memory : Image) (given : LoadSettings) (first : Image) (text : List ℕ) → FedWith memory given first s text false → FedWith memory given first read (text ++ piece) false)
     → read.table ≡ s.table → read.rounds ≡ s.rounds → new.table ≡ read.table
-    → ((memory : Image) (limit : ℕ) (first : Image) (text : List ℕ) (ended : Bool) → IsImage memory → LacksPart memory limit first read due text ended
-    → LacksDue memory limit first new now text ended)
+    → ((memory : Image) (given : LoadSettings) (first : Image) (text : List ℕ) (ended : Bool) → IsImage memory → LacksPart memory given first read due text ended
+    → LacksDue memory given first new now text ended)
     → (due ≢ [] → now ≡ due) → s.reader.fed + length piece < 2 ^ 63 → FeedsInPlace piece 0 (held_load s due) (held_load new now)
 feeds s read new due now piece goes_on reads same count moved lacks stay room = record {
   is_named = refl;
-  takes = λ _ limit first text blocks holds.
+  takes = λ _ given first text blocks holds.
       let memory : Image = lent_image s.table blocks in
-      holds_of limit first new s.table now (text ++ piece) false blocks (moved ∙ same) holds.fit
-      (lacks memory limit first (text ++ piece) false (lent_is_image s.table blocks holds.fit)
-      (part_longer memory limit first s read due text piece count (λ m. reads m limit first text) holds.lacks.part));
+      holds_of given first new s.table now (text ++ piece) false blocks (moved ∙ same) holds.fit
+      (lacks memory given first (text ++ piece) false (lent_is_image s.table blocks holds.fit)
+      (part_longer memory given first s read due text piece count (λ m. reads m given first text) holds.lacks.part));
   same_due = stay;
   same_table = moved ∙ same;
   same = λ other. absurd (other refl);
@@ -359,7 +361,7 @@ feeds s read new due now piece goes_on reads same count moved lacks stay room = 
 
 -- a piece that wasn't taken for a refused allocation
 pub feeds_not : (s read : InPlaceState) (due : List Page) (piece : List ℕ) → IsFalse s.reader.ended → read ≡ s
-    → ((memory : Image) (limit : ℕ) (first : Image) (text : List ℕ) → FedWith memory limit first s text false → IsSettled (settings_of first limit) text → ⊥)
+    → ((memory : Image) (given : LoadSettings) (first : Image) (text : List ℕ) → FedWith memory given first s text false → IsSettled (settings_of first given) text → ⊥)
     → s.reader.fed + length piece < 2 ^ 63 → FeedsInPlace piece 60 (held_load s due) (held_load read due)
 feeds_not s read due piece goes_on same reads room = record {
   is_named = refl;
@@ -367,7 +369,7 @@ feeds_not s read due piece goes_on same reads room = record {
   same_due = λ _. refl;
   same_table = ap (λ (x : InPlaceState). x.table) same;
   same = λ _. ap (λ (x : InPlaceState). held_load x due) same;
-  settled = λ _ limit first text blocks holds is_settled. reads (with_round (lent_image s.table blocks) due) limit first text holds.lacks.part.fed is_settled;
+  settled = λ _ given first text blocks holds is_settled. reads (with_round (lent_image s.table blocks) due) given first text holds.lacks.part.fed is_settled;
   over = grind arith;
   goes_on = λ _. goes_on;
   long = grind arith;
@@ -380,16 +382,16 @@ not_ok (Ok x) never ok = never x refl
 not_ok (Err e) never ok = absurd cc
 
 pub ends : (old new : InPlaceState) (due : List Page) → new ≡ record old { reader = record old.reader { ended = true } }
-    → ((memory : Image) (limit : ℕ) (first : Image) (text : List ℕ) (ended : Bool) → LoadsWith memory limit first old text ended → LoadsWith memory limit first new text true)
-    → ((memory : Image) (limit : ℕ) (first : Image) (text : List ℕ) (ended : Bool) → FedWith memory limit first old text ended → FedWith memory limit first new text true)
+    → ((memory : Image) (given : LoadSettings) (first : Image) (text : List ℕ) (ended : Bool) → LoadsWith memory given first old text ended → LoadsWith memory given first new text true)
+    → ((memory : Image) (given : LoadSettings) (first : Image) (text : List ℕ) (ended : Bool) → FedWith memory given first old text ended → FedWith memory given first new text true)
     → EndsInPlace (held_load old due) (held_load new due)
 ends old new due value loads fed = record {
   value = ap (λ (s : InPlaceState). held_load s due) value;
-  holds = λ limit first text ended blocks holds.
+  holds = λ given first text ended blocks holds.
       let memory : Image = lent_image old.table blocks in
-      holds_of limit first new old.table due text true blocks (ap (λ (s : InPlaceState). s.table) value) holds.fit (record {
-        part = part_over memory limit first old new due text ended (ap (λ (s : InPlaceState). s.rounds) value) (λ m. fed m limit first text ended) holds.lacks.part;
-        all = λ none. loads memory limit first text ended (holds.lacks.all none);
+      holds_of given first new old.table due text true blocks (ap (λ (s : InPlaceState). s.table) value) holds.fit (record {
+        part = part_over memory given first old new due text ended (ap (λ (s : InPlaceState). s.rounds) value) (λ m. fed m given first text ended) holds.lacks.part;
+        all = λ none. loads memory given first text ended (holds.lacks.all none);
       });
 }
 
@@ -399,8 +401,8 @@ puts : (s new : InPlaceState) (section : RoundOfRecords) (b : ℕ) (before after
     → All (λ x. (x.place.block ≡ b) × (length x.content ≡ section.page_size)) (front_of b (pages_of_round section)) → new.table ≡ s.table
     → (behind b (pages_of_round section) ≢ [] → held_load new now ≡ held_load s (behind b (pages_of_round section)))
     → (behind b (pages_of_round section) ≡ [] → now ≢ [] → waiting new.reader < waiting s.reader)
-    → ((memory : Image) (limit : ℕ) (first : Image) (text : List ℕ) (ended : Bool) → IsImage memory → LacksPart memory limit first s (behind b (pages_of_round section)) text ended
-    → LacksDue memory limit first new now text ended)
+    → ((memory : Image) (given : LoadSettings) (first : Image) (text : List ℕ) (ended : Bool) → IsImage memory → LacksPart memory given first s (behind b (pages_of_round section)) text ended
+    → LacksDue memory given first new now text ended)
     → Puts b before after (held_load s (pages_of_round section)) (held_load new now)
 puts s new section b before after now are lt put pages same on over lacks =
     let table : RamTable = s.table in
@@ -411,12 +413,12 @@ puts s new section b before after now are lt put pages same on over lacks =
       goes_on = on;
       goes_over = over;
       same_table = same;
-      holds = λ limit first text ended blocks holds.
+      holds = λ given first text ended blocks holds.
           let put = pages_put table b (front_of b due) blocks holds.fit lt (are_of table b section are.fits pages) in
           let with_them : List (List ℕ) = set blocks b (with_pages table.page_size (bytes_of_block blocks b) (front_of b due)) in
           let memory : Image = lent_image table with_them in
-          holds_of limit first new table now text ended with_them same put.0
-          (lacks memory limit first text ended (lent_is_image table with_them put.0) (part_behind (lent_image table blocks) memory limit first s b due text ended put.1 holds.lacks.part));
+          holds_of given first new table now text ended with_them same put.0
+          (lacks memory given first text ended (lent_is_image table with_them put.0) (part_behind (lent_image table blocks) memory given first s b due text ended put.1 holds.lacks.part));
     }
 
 -- others of the section are due
@@ -428,18 +430,18 @@ puts_on s section rest b before after are lt put pages behind_is some =
     let due : List Page = pages_of_round section in
     let there : behind b due ≢ [] = λ none. some_pages rest some (behind_is ∙ none) in
     puts s s section b before after (pages_of_round rest) are lt put pages refl (λ _. ap (λ (l : List Page). held_load s l) behind_is) (λ none. absurd (there none))
-    (λ memory limit first text ended is part. subst (λ (l : List Page). LacksDue memory limit first s l text ended) (sym behind_is) (lacks_some memory limit first s (behind b due) text ended there part))
+    (λ memory given first text ended is part. subst (λ (l : List Page). LacksDue memory given first s l text ended) (sym behind_is) (lacks_some memory given first s (behind b due) text ended there part))
 
 -- the next section's are, or none
 pub puts_over : (s new : InPlaceState) (section rest : RoundOfRecords) (b : ℕ) (before after : List ℕ) (next : Option RoundOfRecords) → AreDue s.table section → b < length s.table.blocks
     → after ≡ with_pages section.page_size before (front_of b (pages_of_round section))
     → All (λ x. (x.place.block ≡ b) × (length x.content ≡ section.page_size)) (front_of b (pages_of_round section))
     → pages_of_round rest ≡ behind b (pages_of_round section) → rest.records ≡ [] → new.table ≡ s.table → (IsSome next → waiting new.reader < waiting s.reader)
-    → ((memory : Image) (limit : ℕ) (first : Image) (text : List ℕ) (ended : Bool) → IsImage memory → FedWith memory limit first s text ended
-    → LacksDue memory limit first new (due_pages next) text ended)
+    → ((memory : Image) (given : LoadSettings) (first : Image) (text : List ℕ) (ended : Bool) → IsImage memory → FedWith memory given first s text ended
+    → LacksDue memory given first new (due_pages next) text ended)
     → Puts b before after (held_load s (pages_of_round section)) (held_load new (due_pages next))
 puts_over s new section rest b before after next are lt put pages behind_is none same fewer lacks =
     let due : List Page = pages_of_round section in
     let gone : behind b due ≡ [] = sym behind_is ∙ no_pages rest none in
     puts s new section b before after (due_pages next) are lt put pages same (λ some. absurd (some gone)) (λ _ some. fewer (is_some_due next some))
-    (λ memory limit first text ended is part. lacks memory limit first text ended is (fed_none memory limit first s (behind b due) text ended is gone part.fed))
+    (λ memory given first text ended is part. lacks memory given first text ended is (fed_none memory given first s (behind b due) text ended is gone part.fed))

@@ -11,6 +11,8 @@ use Rattle.mig_stream.specs.Reading.{StreamReading, IsReading}
 use Rattle.mig_stream.specs.Reader.{IsSettled, HasRound, waiting}
 use Rattle.mig_stream.specs.Round.{RoundOfRecords}
 use Rattle.mig_assemble.specs.Target.{FitsTable, pages_of_round}
+use Rattle.mig_single_load.specs.Settings.{ram_settings}
+use Rattle.mig_single_load.specs.declared.settings.LoadSettings.{LoadSettings}
 use Rattle.mig_single_load.specs.declared.fault.LoadFault.{LoadFault}
 use Rattle.mig_single_load.specs.InPlace.{settings_of, IsOfOwnTable, HasVerdictOnto}
 use Rattle.mig_single_load.specs.InPlaceState.{InPlaceState, first_sections, FedWith, LoadsWith}
@@ -34,31 +36,31 @@ whole_rounds taken (x ∷ due) = taken - 1
 -- ---- C's blocks
 
 -- The pages that are due are the last ones of the section that was taken last. Those before them are in the memory, on top of the sections before it.
-pub record EndsSection (memory : Image) (limit : ℕ) (first : Image) (taken : ℕ) (due : List Page) (text : List ℕ) : Type 0 where
+pub record EndsSection (memory : Image) (given : LoadSettings) (first : Image) (taken : ℕ) (due : List Page) (text : List ℕ) : Type 0 where
   pub before : ℕ
   pub is_last : taken ≡ before + 1
   pub records : List PageRecord
-  pub is_section : HasRound (settings_of first limit) text before records
+  pub is_section : HasRound (settings_of first given) text before records
   pub put : List Page
   pub parts : map (page_of first.table.page_size) records ≡ put ++ due
-  pub memory_is : (reading : StreamReading) → IsReading (settings_of first limit) text reading → IsOfOwnTable first reading
+  pub memory_is : (reading : StreamReading) → IsReading (settings_of first given) text reading → IsOfOwnTable first reading
       → memory ≡ with_round (with_rounds first (first_sections first reading before)) put
 
 -- With the pages that are due, this memory is the one with all sections that were taken. Others may wait.
-pub record LacksPart (memory : Image) (limit : ℕ) (first : Image) (s : InPlaceState) (due : List Page) (text : List ℕ) (ended : Bool) : Type 0 where
-  pub fed : FedWith (with_round memory due) limit first s text ended
-  pub last : due ≢ [] → EndsSection memory limit first s.rounds due text
+pub record LacksPart (memory : Image) (given : LoadSettings) (first : Image) (s : InPlaceState) (due : List Page) (text : List ℕ) (ended : Bool) : Type 0 where
+  pub fed : FedWith (with_round memory due) given first s text ended
+  pub last : due ≢ [] → EndsSection memory given first s.rounds due text
 
 -- Where no page is due, no section waits either.
-pub record LacksDue (memory : Image) (limit : ℕ) (first : Image) (s : InPlaceState) (due : List Page) (text : List ℕ) (ended : Bool) : Type 0 where
-  pub part : LacksPart memory limit first s due text ended
-  pub all : due ≡ [] → LoadsWith memory limit first s text ended
+pub record LacksDue (memory : Image) (given : LoadSettings) (first : Image) (s : InPlaceState) (due : List Page) (text : List ℕ) (ended : Bool) : Type 0 where
+  pub part : LacksPart memory given first s due text ended
+  pub all : due ≡ [] → LoadsWith memory given first s text ended
 
 -- C's blocks, each by its bytes, hold what the load has put: it was made with this limit, when they were the memory `first`, and fed this text,
 -- which may be over. They lack the pages that are due and no others.
-pub record Holds (limit : ℕ) (first : Image) (l : HeldLoad) (text : List ℕ) (ended : Bool) (blocks : List (List ℕ)) : Type 0 where
+pub record Holds (given : LoadSettings) (first : Image) (l : HeldLoad) (text : List ℕ) (ended : Bool) (blocks : List (List ℕ)) : Type 0 where
   pub fit : FitTable l.state.table blocks
-  pub lacks : LacksDue (lent_image l.state.table blocks) limit first l.state l.due text ended
+  pub lacks : LacksDue (lent_image l.state.table blocks) given first l.state l.due text ended
 
 -- ---- what is put into a block
 
@@ -89,7 +91,7 @@ with_pages size bytes pages = fold (λ bytes x. with_content size bytes x.place.
 -- With any blocks that fit this table it was fed nothing yet.
 pub record Begins (table : RamTable) (limit : ℕ) (l : HeldLoad) : Type 0 where
   pub same_table : l.state.table ≡ table
-  pub holds : (blocks : List (List ℕ)) → FitTable table blocks → Holds limit (lent_image table blocks) l [] false blocks
+  pub holds : (blocks : List (List ℕ)) → FitTable table blocks → Holds (ram_settings table.page_size limit) (lent_image table blocks) l [] false blocks
 
 abbrev pub Opens : Option RamTable → ℕ → Option HeldLoad → Type 0
 Opens None limit made = ⊤
@@ -106,13 +108,13 @@ pub record OpensInPlace (table : Option RamTable) (limit status : ℕ) (made : O
 -- What `feed` does: pages that were due before it stay due. Behind the end byte, or a fault of the stream's form, no memory is wanted.
 pub record FeedsInPlace (piece : List ℕ) (status : ℕ) (old new : HeldLoad) : Type 0 where
   pub is_named : IsOneOf (done ∷ no_memory ∷ is_over ∷ too_long ∷ []) status
-  pub takes : status ≡ done → (limit : ℕ) (first : Image) (text : List ℕ) (blocks : List (List ℕ)) → Holds limit first old text false blocks
-      → Holds limit first new (text ++ piece) false blocks
+  pub takes : status ≡ done → (given : LoadSettings) (first : Image) (text : List ℕ) (blocks : List (List ℕ)) → Holds given first old text false blocks
+      → Holds given first new (text ++ piece) false blocks
   pub same_due : old.due ≢ [] → new.due ≡ old.due
   pub same_table : new.state.table ≡ old.state.table
   pub same : status ≢ done → new ≡ old
-  pub settled : status ≡ no_memory → (limit : ℕ) (first : Image) (text : List ℕ) (blocks : List (List ℕ)) → Holds limit first old text false blocks
-      → IsSettled (settings_of first limit) text → ⊥
+  pub settled : status ≡ no_memory → (given : LoadSettings) (first : Image) (text : List ℕ) (blocks : List (List ℕ)) → Holds given first old text false blocks
+      → IsSettled (settings_of first given) text → ⊥
   pub over : status ≡ is_over → IsTrue old.state.reader.ended
   pub goes_on : status ≢ is_over → IsFalse old.state.reader.ended
   pub long : status ≡ too_long → 2 ^ 63 ≤ old.state.reader.fed + length piece
@@ -142,8 +144,8 @@ pub record Puts (b : ℕ) (before after : List ℕ) (old new : HeldLoad) : Type 
   pub goes_on : behind b old.due ≢ [] → new ≡ held_load old.state (behind b old.due)
   pub goes_over : behind b old.due ≡ [] → new.due ≢ [] → waiting new.state.reader < waiting old.state.reader
   pub same_table : new.state.table ≡ old.state.table
-  pub holds : (limit : ℕ) (first : Image) (text : List ℕ) (ended : Bool) (blocks : List (List ℕ)) → Holds limit first old text ended blocks
-      → Holds limit first new text ended (slice_set blocks b (with_pages old.state.table.page_size (bytes_of_block blocks b) (front_of b old.due)))
+  pub holds : (given : LoadSettings) (first : Image) (text : List ℕ) (ended : Bool) (blocks : List (List ℕ)) → Holds given first old text ended blocks
+      → Holds given first new text ended (slice_set blocks b (with_pages old.state.table.page_size (bytes_of_block blocks b) (front_of b old.due)))
 
 -- What `put` does with a block's bytes.
 pub record PutsBlock (b : ℕ) (before after : List ℕ) (status : ℕ) (old new : HeldLoad) : Type 0 where
@@ -154,13 +156,13 @@ pub record PutsBlock (b : ℕ) (before after : List ℕ) (status : ℕ) (old new
 -- What `end` does.
 pub record EndsInPlace (old new : HeldLoad) : Type 0 where
   pub value : new ≡ record old { state = record old.state { reader = record old.state.reader { ended = true } } }
-  pub holds : (limit : ℕ) (first : Image) (text : List ℕ) (ended : Bool) (blocks : List (List ℕ)) → Holds limit first old text ended blocks
-      → Holds limit first new text true blocks
+  pub holds : (given : LoadSettings) (first : Image) (text : List ℕ) (ended : Bool) (blocks : List (List ℕ)) → Holds given first old text ended blocks
+      → Holds given first new text true blocks
 
 -- C sees the verdict on the text so far, as if it were over; or that pages are due.
 pub record TellsVerdict (found : FoundFault) (l : HeldLoad) : Type 0 where
-  pub told : l.due ≡ [] → (limit : ℕ) (first : Image) (text : List ℕ) (ended : Bool) (blocks : List (List ℕ)) → Holds limit first l text ended blocks
-      → (verdict : Result ⊤ LoadFault) × HasVerdictOnto limit first text verdict × (found ≡ seen_of verdict)
+  pub told : l.due ≡ [] → (given : LoadSettings) (first : Image) (text : List ℕ) (ended : Bool) (blocks : List (List ℕ)) → Holds given first l text ended blocks
+      → (verdict : Result ⊤ LoadFault) × HasVerdictOnto given first text verdict × (found ≡ seen_of verdict)
   pub waits : l.due ≢ [] → found ≡ has_due (whole_rounds l.state.rounds l.due)
 
 -- ---- the inside: a section of which pages are due

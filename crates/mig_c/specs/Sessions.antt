@@ -2,6 +2,7 @@
 use Rattle.std.specs.Prelude.{◌≡◌, ◌≢◌, ◌⊎◌, ◌≤◌, ◌<◌, ◌+◌, ◌-◌, ◌^◌, ℕ, List, [], ◌∷◌, length, IsTrue, IsFalse, if◌then◌else◌, ◌==◌, Option, None, Some}
 use Rattle.mig_session.specs.declared.source.Source.{Source}
 use Rattle.mig_session.specs.declared.source.Source.TheVariants as source
+use Rattle.mig_single_load.specs.Settings.{ram_settings}
 use Rattle.mig_answer.specs.declared.verdict.Verdict.TheVariants.{Running}
 use Rattle.mig_answer.specs.Texts.{no_texts}
 use Rattle.mig_session.specs.Session.{LoadSession, StandsFor, HasSource, count_of, feed_step, end_step, answer_in, StepsOn, RunsOut, StillLacks}
@@ -12,7 +13,7 @@ use Rattle.mig_c.specs.Status.{IsOneOf, done, no_memory, bad_page_size, bad_limi
 -- a session that was fed nothing
 abbrev pub Opens : ℕ → List ℕ → ℕ → ℕ → Option LoadSession → Type 0
 Opens page_size uuid channels limit None = ⊥
-Opens page_size uuid channels limit (Some s) = StandsFor page_size uuid limit (no_texts channels) s
+Opens page_size uuid channels limit (Some s) = StandsFor (ram_settings page_size limit) uuid (no_texts channels) s
 
 -- What `new` does: the first thing that is wrong with what it is given is told.
 pub record OpensSession (page_size : ℕ) (uuid : List ℕ) (channels limit : ℕ) (status : ℕ) (made : Option LoadSession) : Type 0 where

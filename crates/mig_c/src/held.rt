@@ -6,6 +6,7 @@ ghost use Rattle.mig_mem.specs.RamTable.{block as block_of};
 ghost use Rattle.mig_mem.specs.Image.{Image, IsImage};
 ghost use Rattle.mig_stream.specs.Reader.{waiting};
 ghost use Rattle.mig_assemble.specs.Target.{pages_of_round};
+ghost use Rattle.mig_single_load.specs.declared.settings.LoadSettings.{LoadSettings};
 ghost use Rattle.mig_single_load.specs.InPlaceState.{FedWith};
 ghost use Rattle.mig_c.specs.InPlace.{held_load, whole_rounds, due_block, due_pages, AreDue, LacksPart, LacksDue, Begins, FeedsInPlace, TellsNext, Answers, Puts, PutsBlock, EndsInPlace, TellsVerdict};
 
@@ -40,8 +41,8 @@ impl Model for HeldLoad {
 
 // The next section that has pages, of those that wait.
 fn next_section(state: &mut InPlaceState<Global>) -> Option<DueSection>
-    ensures lacks { (memory : Image) (limit : ℕ) (first : Image) (text : List ℕ) (ended : Bool) → IsImage memory → FedWith memory limit first state.old text ended
-        → LacksDue memory limit first state.new (due_pages result) text ended }
+    ensures lacks { (memory : Image) (given : LoadSettings) (first : Image) (text : List ℕ) (ended : Bool) → IsImage memory → FedWith memory given first state.old text ended
+        → LacksDue memory given first state.new (due_pages result) text ended }
     ensures due { IfSome result (λ section. AreDue state.old.table section) }
     ensures fewer { IsSome result → waiting state.new.reader < waiting state.old.reader }
     ensures table { state.new.table ≡ state.old.table }
@@ -58,8 +59,8 @@ fn next_section(state: &mut InPlaceState<Global>) -> Option<DueSection>
 fn due_then(state: &mut InPlaceState<Global>, due: Option<DueSection>) -> Option<DueSection>
     requires due { IfSome due (λ section. AreDue state.old.table section) }
     ensures due { IfSome result (λ section. AreDue state.old.table section) }
-    ensures lacks { (memory : Image) (limit : ℕ) (first : Image) (text : List ℕ) (ended : Bool) → IsImage memory
-        → LacksPart memory limit first state.old (due_pages due) text ended → LacksDue memory limit first state.new (due_pages result) text ended }
+    ensures lacks { (memory : Image) (given : LoadSettings) (first : Image) (text : List ℕ) (ended : Bool) → IsImage memory
+        → LacksPart memory given first state.old (due_pages due) text ended → LacksDue memory given first state.new (due_pages result) text ended }
     ensures same { due_pages due ≢ [] → due_pages result ≡ due_pages due }
     ensures table { state.new.table ≡ state.old.table }
 {

@@ -20,6 +20,7 @@ use Rattle.mig_stream.specs.Written.{single}
 use Rattle.mig_send.specs.DealtRounds.{DealtRound, IsSending, channel_text}
 use Rattle.mig_send.specs.MultiSending.{MultiSending, texts_of}
 use Rattle.mig_send.specs.declared.multi.Sent.{Sent}
+use Rattle.mig_single_load.specs.Settings.{ram_settings}
 use Rattle.mig_single_load.specs.declared.loaded.Loaded.{Loaded}
 use Rattle.mig_single_load.specs.declared.fault.LoadFault.{LoadFault}
 use Rattle.mig_answer.specs.declared.verdict.Verdict.TheVariants.{Done, Failed}
@@ -225,7 +226,7 @@ verdict_failed (Err f) e is = cc
 pub sent_back : {A B : Type 0} (page_size : ℕ) (sent : Sent B) (uuid main : List ℕ) (channels : List (Vec ℕ B)) (a : Loaded A) → uuid ≡ zero_bytes
     → main ≡ sent.main.items → channels ≡ sent.channels.items
     → ((table : RamTable) (rounds : List DealtRound) → IsSentInAnyOrder table uuid rounds main (bytes_of channels) → table.page_size ≡ page_size → total_bytes table ≤ 2 ^ 40
-    → (answer_of a ≡ sent_answer table rounds) ⊎ IsWithoutMemory page_size uuid (2 ^ 40) (ended_texts main (bytes_of channels)) (answer_of a))
+    → (answer_of a ≡ sent_answer table rounds) ⊎ IsWithoutMemory (ram_settings page_size (2 ^ 40)) uuid (ended_texts main (bytes_of channels)) (answer_of a))
     → IsLoadOfSent page_size sent a
 sent_back page_size sent uuid main channels a nil same_main same_channels loads table limit count snapshots is size =
     let rounds : List DealtRound = is.0 in

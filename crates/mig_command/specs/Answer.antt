@@ -13,6 +13,7 @@ use Rattle.mig_stream.specs.Text.{total_bytes}
 use Rattle.mig_stream.specs.Written.{single}
 use Rattle.mig_send.specs.DealtRounds.{DealtRound, IsSending}
 use Rattle.mig_send.specs.declared.multi.Sent.{Sent}
+use Rattle.mig_single_load.specs.Settings.{ram_settings}
 use Rattle.mig_single_load.specs.LoadFaultNumber.{fault_number}
 use Rattle.mig_single_load.specs.declared.fault.Fault.TheVariants as load_fault
 use Rattle.mig_answer.specs.declared.verdict.Verdict.{Verdict}
@@ -182,14 +183,14 @@ Answers layout text answer = (r : Report) × (printed answer ≡ Some r) × (IsR
 -- what loading a text answers, where it is the stream of rounds of a table
 abbrev pub IsLoadOf : {A : Type 0} → ℕ → List ℕ → Loaded A → Type 0
 IsLoadOf page_size sent a = (table : RamTable) (rounds : List (List Page)) → IsTable table → table.page_size ≡ page_size → total_bytes table ≤ 2 ^ 40
-    → All (IsRound table) rounds → sent ≡ single table rounds → (a ≡ loaded table rounds) ⊎ IsSingleWithoutMemory page_size (2 ^ 40) sent a
+    → All (IsRound table) rounds → sent ≡ single table rounds → (a ≡ loaded table rounds) ⊎ IsSingleWithoutMemory (ram_settings page_size (2 ^ 40)) sent a
 
 -- A scenario that was played, and what loading the single stream that was sent answers: the image in the end is that after the rounds.
 pub record IsRoundTrip {A : Type 0} (layout : Layout) (text : List ℕ) (image : Image) (sent : List ℕ) (a : Loaded A) : Type 0 where
   pub is_table : IsTable (table_in layout text)
   pub is_sent : sent ≡ single (table_in layout text) (rounds_of (snapshots_in layout text))
   pub has_image : image ≡ after (table_in layout text) (rounds_of (snapshots_in layout text))
-  pub is_loaded : (a ≡ loaded (table_in layout text) (rounds_of (snapshots_in layout text))) ⊎ IsSingleWithoutMemory (bytes_in layout.page_size) (2 ^ 40) sent a
+  pub is_loaded : (a ≡ loaded (table_in layout text) (rounds_of (snapshots_in layout text))) ⊎ IsSingleWithoutMemory (ram_settings (bytes_in layout.page_size) (2 ^ 40)) sent a
 
 -- so it is with the single stream that was sent
 abbrev pub HasRoundTrip : {A : Type 0} → Layout → List ℕ → Played A → Loaded A → Type 0

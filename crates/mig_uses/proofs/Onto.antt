@@ -6,17 +6,18 @@ use Rattle.mig_mem.specs.Round.{IsRound, with_rounds}
 use Rattle.mig_stream.specs.Text.{total_bytes}
 use Rattle.mig_stream.specs.Written.{single}
 use Rattle.mig_single_load.specs.declared.fault.LoadFault.{LoadFault}
+use Rattle.mig_single_load.specs.Settings.{ram_settings}
 use Rattle.mig_single_load.specs.InPlace.{InPlace, LoadsOnto, HasSectionsOnto, HasVerdictOnto}
 use Rattle.mig_single_load.proofs.Onto.{sent_onto}
 
 -- the text of a sender is in the memory, and the verdict is Ok
-pub loaded_onto : (limit : ℕ) (first : Image) (l : InPlace) (text : List ℕ) (verdict : Result ⊤ LoadFault) → LoadsOnto limit first l text true → HasVerdictOnto limit first text verdict
+pub loaded_onto : (limit : ℕ) (first : Image) (l : InPlace) (text : List ℕ) (verdict : Result ⊤ LoadFault) → LoadsOnto (ram_settings first.table.page_size limit) first l text true → HasVerdictOnto (ram_settings first.table.page_size limit) first text verdict
     → (rounds : List (List Page)) → total_bytes first.table ≤ limit → All (IsRound first.table) rounds → text ≡ single first.table rounds
     → (l.target.memory ≡ with_rounds first rounds) × (verdict ≡ Ok _)
 loaded_onto limit first l text verdict loads told rounds room are is =
     let all = sent_onto limit first rounds l.target verdict loads.is_table room are
-    (subst (λ (t : List ℕ). HasSectionsOnto limit first t l.target) is loads.has_sections)
-    (subst (λ (t : List ℕ). HasVerdictOnto limit first t verdict) is told) in
+    (subst (λ (t : List ℕ). HasSectionsOnto (ram_settings first.table.page_size limit) first t l.target) is loads.has_sections)
+    (subst (λ (t : List ℕ). HasVerdictOnto (ram_settings first.table.page_size limit) first t verdict) is told) in
     (all.0, all.2)
 
 pub never_err : (verdict : Result ⊤ LoadFault) (fault : LoadFault) → verdict ≡ Err fault → verdict ≡ Ok _ → ⊥

@@ -4,6 +4,7 @@ use Rattle.std.specs.List.{concat}
 use Rattle.std.specs.Io.KnownBytes.{Consumes, IsAtEnd}
 use Rattle.mig_session.specs.declared.source.Source.TheVariants as source
 use Rattle.mig_answer.specs.Texts.{Text, Texts, no_text, no_texts, with_piece, ended_texts}
+use Rattle.mig_single_load.specs.Settings.{ram_settings}
 use Rattle.mig_session.specs.Session.{LoadSession, StandsFor, StepsOn, end_step}
 use Rattle.mig_session.specs.Pumping.{piece_steps, pump_step}
 
@@ -32,14 +33,14 @@ all_read text bytes (Some xs) (Some ys) is given done =
 
 -- both texts stand in the session then, and are over
 pub loads_both : (page_size : ℕ) (uuid : List ℕ) (limit : ℕ) (main_text channel_text : List ℕ) (ps qs : List (List ℕ)) (m n : ℕ) (a b c : LoadSession)
-    → StandsFor page_size uuid limit (no_texts 1) a → StepsOn (pump_step source.Main ps (Ok m)) a b → StepsOn (pump_step (source.Channel 0) qs (Ok n)) b c
-    → concat ps ≡ main_text → concat qs ≡ channel_text → StandsFor page_size uuid limit (ended_texts main_text (channel_text ∷ [])) c
+    → StandsFor (ram_settings page_size limit) uuid (no_texts 1) a → StepsOn (pump_step source.Main ps (Ok m)) a b → StepsOn (pump_step (source.Channel 0) qs (Ok n)) b c
+    → concat ps ≡ main_text → concat qs ≡ channel_text → StandsFor (ram_settings page_size limit) uuid (ended_texts main_text (channel_text ∷ [])) c
 loads_both page_size uuid limit main_text channel_text ps qs m n a b c stands first second whole_main whole_channel =
     let over : Text → Text = λ (t : Text). record t { ended = true } in
     let main : Text = over (with_piece (concat ps) no_text) in
-    let after_main : StandsFor page_size uuid limit (both main no_text) b =
-    subst (λ (t : Texts). StandsFor page_size uuid limit (end_step source.Main t) b) (main_fed ps no_text no_text) (first page_size uuid limit (no_texts 1) stands) in
-    let after_both : StandsFor page_size uuid limit (both main (over (with_piece (concat qs) no_text))) c =
-    subst (λ (t : Texts). StandsFor page_size uuid limit (end_step (source.Channel 0) t) c) (channel_fed qs main no_text) (second page_size uuid limit (both main no_text) after_main) in
-    subst (λ (l : List ℕ). StandsFor page_size uuid limit (ended_texts main_text (l ∷ [])) c) whole_channel
-    (subst (λ (l : List ℕ). StandsFor page_size uuid limit (ended_texts l (concat qs ∷ [])) c) whole_main after_both)
+    let after_main : StandsFor (ram_settings page_size limit) uuid (both main no_text) b =
+    subst (λ (t : Texts). StandsFor (ram_settings page_size limit) uuid (end_step source.Main t) b) (main_fed ps no_text no_text) (first (ram_settings page_size limit) uuid (no_texts 1) stands) in
+    let after_both : StandsFor (ram_settings page_size limit) uuid (both main (over (with_piece (concat qs) no_text))) c =
+    subst (λ (t : Texts). StandsFor (ram_settings page_size limit) uuid (end_step (source.Channel 0) t) c) (channel_fed qs main no_text) (second (ram_settings page_size limit) uuid (both main no_text) after_main) in
+    subst (λ (l : List ℕ). StandsFor (ram_settings page_size limit) uuid (ended_texts main_text (l ∷ [])) c) whole_channel
+    (subst (λ (l : List ℕ). StandsFor (ram_settings page_size limit) uuid (ended_texts l (concat qs ∷ [])) c) whole_main after_both)

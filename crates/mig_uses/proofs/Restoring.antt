@@ -9,6 +9,7 @@ use Rattle.mig_stream.specs.Written.{single}
 use Rattle.mig_single_load.specs.declared.loaded.Loaded.{Loaded}
 use Rattle.mig_single_load.specs.declared.fault.LoadFault.{LoadFault}
 use Rattle.mig_single_load.specs.declared.fault.Fault.TheVariants as fault
+use Rattle.mig_single_load.specs.Settings.{ram_settings}
 use Rattle.mig_single_load.specs.SingleLoad.{IsSingleWithoutMemory, loaded}
 use Rattle.mig_answer.specs.declared.verdict.Verdict.TheVariants.{Done, Failed}
 use Rattle.mig_answer.specs.Texts.{Texts}
@@ -28,7 +29,7 @@ HasWanted a = (e : LoadFault) × (a.verdict ≡ Err e) × (e.fault ≡ fault.NoM
 -- what `load_single` says of a text, where that is the single stream of rounds
 abbrev pub LoadsSingle : {A : Type 0} → ℕ → ℕ → List ℕ → Loaded A → Type 0
 LoadsSingle page_size limit text a = (table : RamTable) (rounds : List (List Page)) → IsTable table → table.page_size ≡ page_size → total_bytes table ≤ limit
-    → All (IsRound table) rounds → text ≡ single table rounds → (a ≡ loaded table rounds) ⊎ IsSingleWithoutMemory page_size limit text a
+    → All (IsRound table) rounds → text ≡ single table rounds → (a ≡ loaded table rounds) ⊎ IsSingleWithoutMemory (ram_settings page_size limit) text a
 
 pub brought : {A : Type 0} (page_size limit : ℕ) (text : List ℕ) (a : Loaded A) (m : Image) → LoadsSingle page_size limit text a → IsTable m.table
     → m.table.page_size ≡ page_size → total_bytes m.table ≤ limit → BringsMemory m text → HasLoaded m a ⊎ HasWanted a
@@ -70,7 +71,7 @@ verdict_failed (Ok x) f is = absurd cc
 verdict_failed (Err g) f is = let same : g ≡ f = cc in ap (λ (e : LoadFault). let failed : Result ⊤ LoadFault = Err e in failed) same
 
 pub arrived : {A : Type 0} (page_size : ℕ) (uuid : List ℕ) (limit : ℕ) (texts : Texts) (a : Loaded A) (table : RamTable) (rounds : List DealtRound)
-    → (answer_of a ≡ sent_answer table rounds) ⊎ LacksMemory page_size uuid limit texts (answer_of a) → HasLoaded (after table (sent_rounds rounds)) a ⊎ HasWanted a
+    → (answer_of a ≡ sent_answer table rounds) ⊎ LacksMemory (ram_settings page_size limit) uuid texts (answer_of a) → HasLoaded (after table (sent_rounds rounds)) a ⊎ HasWanted a
 arrived page_size uuid limit texts a table rounds (inl all) =
     inl (ap (λ (x : Answer). x.memory) all, verdict_done a.verdict (ap (λ (x : Answer). x.verdict) all))
 arrived page_size uuid limit texts a table rounds (inr want) = inr (_, verdict_failed a.verdict _ want.has_verdict, refl)

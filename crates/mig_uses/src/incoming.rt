@@ -1,6 +1,7 @@
 //! A stream that is loaded as it comes, and refused as soon as that is known: a host that receives guests closes the connection then.
 
 ghost use Rattle.std.specs.Prelude.{◌≡◌, ◌↔◌, ◌+◌, ◌<◌, ◌^◌, ◌++◌, ℕ, List, false, IsFalse, IsTrue, IfOk, OnOk, length};
+ghost use Rattle.mig_single_load.specs.declared.settings.LoadSettings.{LoadSettings};
 ghost use Rattle.mig_single_load.specs.Loader.{Loads};
 ghost use Rattle.mig_uses.specs.Incoming.{IsTold};
 
@@ -33,10 +34,10 @@ pub fn take_piece<A: Allocator + Copy>(
 ) -> Result<Incoming, FeedFault>
     requires open { IsFalse loader.old.reader.ended }
     requires room { loader.old.reader.fed + length piece.now < 2 ^ 63 }
-    ensures told { IfOk result (λ told. (page_size limit : ℕ) (text : List ℕ) → Loads page_size limit loader.old text false
-        → IsTold page_size limit (text ++ piece.now) told) }
-    ensures loads { OnOk result ((page_size limit : ℕ) (text : List ℕ) → Loads page_size limit loader.old text false
-        → Loads page_size limit loader.new (text ++ piece.now) false) }
+    ensures told { IfOk result (λ told. (given : LoadSettings) (text : List ℕ) → Loads given loader.old text false
+        → IsTold given (text ++ piece.now) told) }
+    ensures loads { OnOk result ((given : LoadSettings) (text : List ℕ) → Loads given loader.old text false
+        → Loads given loader.new (text ++ piece.now) false) }
     ensures open { IsFalse loader.new.reader.ended }
     ensures fed { OnOk result (loader.new.reader.fed ≡ loader.old.reader.fed + length piece.now) }
 {

@@ -3,6 +3,7 @@
 ghost use Rattle.std.specs.Prelude.{◌≡◌, ◌≤◌, ◌^◌, ℕ, List, [], ◌∷◌, Some, IfOk};
 ghost use Rattle.mig_mem.specs.PageSize.{IsPageSize};
 ghost use Rattle.mig_answer.specs.Texts.{ended_texts};
+ghost use Rattle.mig_single_load.specs.Settings.{ram_settings};
 ghost use Rattle.mig_session.specs.Session.{StandsFor};
 
 use std::alloc::Allocator;
@@ -26,7 +27,7 @@ pub fn load_from<A: Allocator + Copy, M: Read + Drop, C: Read + Drop>(
     requires page_size { IsPageSize page_size }
     requires limit { limit ≤ 2 ^ 40 }
     ensures { (main_text channel_text : List ℕ) → M.remaining main ≡ Some main_text → C.remaining channel ≡ Some channel_text
-        → IfOk result (StandsFor page_size uuid.now limit (ended_texts main_text (channel_text ∷ []))) }
+        → IfOk result (StandsFor (ram_settings page_size limit) uuid.now (ended_texts main_text (channel_text ∷ []))) }
 {
     let mut session = Session::new(alloc, page_size, uuid, 1, limit)?;
     pump(

@@ -12,7 +12,7 @@ returns-in_default c =
     let never : (x : ⊤) → c.read_piece.result ≡ Ok x → ⊥ = λ x is. search rules in
     subst (λ (l : HeldLoad). FeedsInPlace c.args.piece.now 60 l (held_load c.read_piece.new.self due)) c.self.view_is
     (feeds_not c.self.inside.state c.read_piece.new.self due c.args.piece.now (sym c.ended.ensures ∙ c.if-ended.false) (search rules)
-    (λ memory limit first text fed settled. not_ok c.read_piece.result never (c.read_piece.ensures.settled memory limit first text fed settled)) (search rules))
+    (λ memory given first text fed settled. not_ok c.read_piece.result never (c.read_piece.ensures.settled memory given first text fed settled)) (search rules))
 
 pub returns : goal.returns
 returns c =
