@@ -2,7 +2,7 @@
 
 ghost use Rattle.std.specs.Prelude.{◌≡◌, ◌+◌, ◌<◌, ◌≤◌, ◌^◌, ◌++◌, ℕ, Bool, List, [], length, true, false, IsFalse, IsOk, OnOk, OnErr, IfOk, IfErr};
 ghost use Rattle.mig_mem.specs.Image.{Image};
-ghost use Rattle.mig_stream.specs.Reader.{IsSettled};
+ghost use Rattle.mig_stream.specs.Reader.{IsSettled, HasClosedAt};
 ghost use Rattle.mig_assemble.specs.Target.{target_over};
 ghost use Rattle.mig_single_load.specs.declared.settings.LoadSettings.{LoadSettings};
 ghost use Rattle.mig_single_load.specs.Settings.{ram_settings};
@@ -115,6 +115,16 @@ impl<A: Allocator, M: GuestTarget> InPlaceLoader<A, M> {
         ensures { result ≡ self.now.reader.fed }
     {
         self.state.fed()
+    }
+
+    /// Returns how many of the bytes fed the stream has, once it is closed: those up to its end
+    /// byte, or in a machine's stream up to the footer of RAM's END. The bytes fed after them are
+    /// left to the caller.
+    pub fn closed_at(&self) -> Option<u64>
+        ensures { (given : LoadSettings) (first : Image) (text : List ℕ) (ended : Bool) → LoadsOnto given first self.now text ended
+            → HasClosedAt (settings_of first given) text result }
+    {
+        self.state.closed_at()
     }
 
     /// The memory after the sections so far.

@@ -4,7 +4,7 @@ ghost use Rattle.std.specs.Prelude.{◌≡◌, ◌≢◌, ◌+◌, ◌<◌, ◌�
 ghost use Rattle.mig_mem.specs.PageSize.{IsPageSize};
 ghost use Rattle.mig_mem.specs.Image.{Image, IsImage};
 ghost use Rattle.mig_mem.specs.Round.{with_round};
-ghost use Rattle.mig_stream.specs.Reader.{IsSettled, HasRound, waiting};
+ghost use Rattle.mig_stream.specs.Reader.{IsSettled, HasClosedAt, HasRound, waiting};
 ghost use Rattle.mig_assemble.specs.Target.{FitsTable, pages_of_round};
 ghost use Rattle.mig_single_load.specs.declared.fault.Fault.TheVariants.{OtherTable};
 ghost use Rattle.mig_single_load.specs.declared.fault.InPlaceFault.TheVariants as in_place_fault;
@@ -234,6 +234,15 @@ impl<A: Allocator> InPlaceState<A> {
         ensures { result ≡ self.now.reader.fed }
     {
         self.reader.fed()
+    }
+
+    /// Returns how many of the bytes fed the stream has, once it is closed: those up to its end
+    /// byte, or in a machine's stream up to the footer of RAM's END. The bytes fed after them are
+    /// left to the caller.
+    pub fn closed_at(&self) -> Option<u64>
+        ensures { WhereFed self.now (λ memory given first text ended. HasClosedAt (settings_of first given) text result) }
+    {
+        self.reader.closed_at()
     }
 
     /// The table of the memory.

@@ -37,4 +37,4 @@ pub use loaded::Loaded;
 pub use loader::SingleLoader;
 pub use settings::LoadSettings;
 pub use settle::{no_memory, without_memory};
-pub use single::{load_single, load_single_in};
+pub use single::{load_single, load_single_in, single_closed_at};

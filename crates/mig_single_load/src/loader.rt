@@ -3,7 +3,7 @@
 ghost use Rattle.std.specs.Prelude.{◌≡◌, ◌+◌, ◌<◌, ◌≤◌, ◌^◌, ◌++◌, ℕ, Bool, List, [], length, true, false, IsFalse, IsOk, OnOk, OnErr, IfErr};
 ghost use Rattle.std.specs.Option.{option_copied};
 ghost use Rattle.mig_mem.specs.PageSize.{IsPageSize};
-ghost use Rattle.mig_stream.specs.Reader.{IsSettled};
+ghost use Rattle.mig_stream.specs.Reader.{IsSettled, HasClosedAt};
 ghost use Rattle.mig_single_load.specs.declared.fault.FeedFault.TheVariants.{NoMemory as fault_no_memory, NoGuestMemory as fault_no_guest_memory};
 ghost use Rattle.mig_single_load.specs.declared.settings.LoadSettings.{LoadSettings};
 ghost use Rattle.mig_single_load.specs.Settings.{ram_settings, single_of};
@@ -131,6 +131,15 @@ impl<A: Allocator> SingleLoader<A> {
         ensures { result ≡ self.now.reader.fed }
     {
         self.reader.fed()
+    }
+
+    /// Returns how many of the bytes fed the stream has, once it is closed: those up to its end
+    /// byte, or in a machine's stream up to the footer of RAM's END. The bytes fed after them are
+    /// left to the caller.
+    pub fn closed_at(&self) -> Option<u64>
+        ensures { (given : LoadSettings) (text : List ℕ) (ended : Bool) → Loads given self.now text ended → HasClosedAt (single_of given) text result }
+    {
+        self.reader.closed_at()
     }
 
     /// The memory after the sections so far. None as long as the size list isn't whole, or where its sections wait.

@@ -1,18 +1,20 @@
 //! The loader of a single stream that is there whole: for the tool, and for callers that have such a text.
 
-ghost use Rattle.std.specs.Prelude.{◌≡◌, ◌≤◌, ◌^◌, ◌⊎◌, List, All};
+ghost use Rattle.std.specs.Prelude.{◌≡◌, ◌≤◌, ◌^◌, ◌⊎◌, List, All, IfOk};
 ghost use Rattle.mig_mem.specs.PageSize.{IsPageSize};
 ghost use Rattle.mig_mem.specs.RamTable.{RamTable, IsTable};
 ghost use Rattle.mig_mem.specs.Image.{Page};
 ghost use Rattle.mig_mem.specs.Round.{IsRound};
 ghost use Rattle.mig_stream.specs.Text.{total_bytes};
 ghost use Rattle.mig_stream.specs.Written.{single};
-ghost use Rattle.mig_single_load.specs.Settings.{ram_settings};
+ghost use Rattle.mig_stream.specs.Reader.{HasClosedAt};
+ghost use Rattle.mig_single_load.specs.Settings.{ram_settings, single_of};
 ghost use Rattle.mig_single_load.specs.SingleLoad.{IsSingleAnswer, IsSingleWithoutMemory, loaded};
 
 use crate::at_once::load_at_once;
 use crate::settle::{answer, settle, without_memory};
 use crate::{LoadSettings, Loaded};
+use mig_mem::NoMemory;
 use mig_stream::{Mode, StreamReader};
 use std::alloc::Allocator;
 
@@ -52,6 +54,33 @@ pub fn load_single_in<A: Allocator + Copy>(
         Ok(None) => load(alloc, settings, text),
         Err(_) => without_memory(),
     }
+}
+
+/// Returns how many bytes of `text` its stream has, read with `settings`: those up to its end byte,
+/// or in a machine's stream up to the footer of RAM's END. None where the stream isn't closed. The
+/// bytes after them are left to the caller. It reads the stream once, and copies no page.
+///
+/// # Errors
+///
+/// An allocation was refused.
+pub fn single_closed_at<A: Allocator + Copy>(
+    alloc: A,
+    settings: LoadSettings,
+    text: &[u8],
+) -> Result<Option<u64>, NoMemory>
+    requires page_size { IsPageSize settings.page_size }
+    requires limit { settings.limit ≤ 2 ^ 40 }
+    ensures { IfOk result (HasClosedAt (single_of settings) text.now) }
+{
+    let reader = StreamReader::of_text_in(
+        alloc,
+        settings.frame,
+        Mode::Single,
+        settings.page_size,
+        settings.limit,
+        text,
+    )?;
+    Ok(reader.closed_at())
 }
 
 // Reads the text, and puts its sections into memory, each when it is whole.
