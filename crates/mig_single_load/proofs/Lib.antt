@@ -4,3 +4,4 @@ pub mod Onto
 pub mod InPlaceStates
 mod LoadedAtOnce
 mod Eager
+mod MachineSent

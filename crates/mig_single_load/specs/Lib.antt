@@ -3,6 +3,8 @@
 pub mod Settings
 pub mod SingleLoad
 pub mod LoadFaultNumber
+-- What is loaded of a sender's machine's stream
+pub mod MachineSent
 -- Loads that are fed in pieces: into a memory of their own, into one that exists already, and the
 -- state of such a load without its memory
 pub mod Loader

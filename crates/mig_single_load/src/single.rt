@@ -5,11 +5,13 @@ ghost use Rattle.mig_mem.specs.PageSize.{IsPageSize};
 ghost use Rattle.mig_mem.specs.RamTable.{RamTable, IsTable};
 ghost use Rattle.mig_mem.specs.Image.{Page};
 ghost use Rattle.mig_mem.specs.Round.{IsRound};
+ghost use Rattle.mig_stream.specs.declared.item.Frame.TheVariants.{Machine};
 ghost use Rattle.mig_stream.specs.Text.{total_bytes};
 ghost use Rattle.mig_stream.specs.Written.{single};
 ghost use Rattle.mig_stream.specs.Reader.{HasClosedAt};
 ghost use Rattle.mig_single_load.specs.Settings.{ram_settings, single_of};
 ghost use Rattle.mig_single_load.specs.SingleLoad.{IsSingleAnswer, IsSingleWithoutMemory, loaded};
+ghost use Rattle.mig_single_load.specs.MachineSent.{IsMachineSent};
 
 use crate::at_once::load_at_once;
 use crate::settle::{answer, settle, without_memory};
@@ -48,6 +50,8 @@ pub fn load_single_in<A: Allocator + Copy>(
     requires page_size { IsPageSize settings.page_size }
     requires limit { settings.limit ≤ 2 ^ 40 }
     ensures answer { IsSingleAnswer settings text.now result ⊎ IsSingleWithoutMemory settings text.now result }
+    ensures machine { (table : RamTable) (rounds : List (List Page)) → settings.frame ≡ Machine → table.page_size ≡ settings.page_size
+        → IsMachineSent settings.limit table rounds text.now → (result ≡ loaded table rounds) ⊎ IsSingleWithoutMemory settings text.now result }
 {
     match load_at_once(alloc, settings, text) {
         Ok(Some(loaded)) => loaded,
