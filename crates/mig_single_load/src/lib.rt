@@ -21,6 +21,7 @@
 mod at_once;
 mod eager_state;
 mod fault;
+mod filling;
 mod in_place;
 mod in_place_state;
 mod loaded;

@@ -9,9 +9,9 @@ ghost use Rattle.mig_single_load.specs.declared.settings.LoadSettings.{LoadSetti
 ghost use Rattle.mig_single_load.specs.Settings.{ram_settings, single_of};
 ghost use Rattle.mig_single_load.specs.Loader.{memory_of, sections_loaded, HasAllSections, Waits, Loads, Judges, Answers};
 
+use crate::filling::Filling;
 use crate::settle::{answer, settle, verdict};
 use crate::{FeedFault, LoadFault, LoadSettings, Loaded};
-use mig_assemble::Target;
 use mig_mem::{Memory, NoMemory};
 use mig_stream::{Mode, StreamReader};
 use std::alloc::{Allocator, Global};
@@ -25,7 +25,7 @@ pub struct SingleLoader<A: Allocator = Global> {
     alloc: A,
     reader: StreamReader<'static, A>,
     // made as soon as the table is there
-    target: Option<Target<A>>,
+    target: Option<Filling<A>>,
 }
 
 impl<A: Allocator> Model for SingleLoader<A> {

@@ -8,17 +8,14 @@ ghost use Rattle.mig_single_load.specs.SingleLoad.{no_memory_at, verdict_of, unl
 ghost use Rattle.mig_mem.specs.Image.{Image};
 ghost use Rattle.mig_single_load.specs.Loader.{loader, HasAllSections, Waits, Loads, Judges, Answers, HasPutSections, HasPutSectionsSome, HasPutAllSections, WasFed, WasFedSome};
 
+use crate::filling::Filling;
 use crate::{Fault, LoadFault, Loaded, Origin};
-use mig_assemble::Target;
-use mig_mem::{GuestTarget, NoMemory};
+use mig_mem::NoMemory;
 use mig_stream::{StreamFault, StreamReader, StreamState};
 use std::alloc::Allocator;
 
 /// Puts each whole section that waits into the memory.
-pub(crate) fn put_sections<A: Allocator, M: GuestTarget>(
-    reader: &mut StreamReader<'_, A>,
-    target: &mut Target<A, M>,
-)
+pub(crate) fn put_sections<A: Allocator>(reader: &mut StreamReader<'_, A>, target: &mut Filling<A>)
     requires { HasPutSectionsSome reader.old target.old }
     ensures all { (given : LoadSettings) (first : Image) (text : List ℕ) (ended : Bool) → HasPutSections given first text ended reader.old target.old
         → HasPutSections given first text ended reader.new target.new × HasPutAllSections given first text target.new }
@@ -34,7 +31,7 @@ pub(crate) fn put_sections<A: Allocator, M: GuestTarget>(
 pub(crate) fn settle<A: Allocator + Copy>(
     alloc: A,
     reader: &mut StreamReader<'_, A>,
-    target: &mut Option<Target<A>>,
+    target: &mut Option<Filling<A>>,
 ) -> Result<(), NoMemory>
     requires { WasFedSome (loader reader.old target.old) }
     ensures ok { OnOk result ((given : LoadSettings) (text : List ℕ) (ended : Bool) → WasFed given (loader reader.old target.old) text ended
@@ -52,7 +49,7 @@ pub(crate) fn settle<A: Allocator + Copy>(
     let Some(table) = reader.table() else {
         return Ok(());
     };
-    let mut made = Target::new(alloc, table)?;
+    let mut made = Filling::new(alloc, table)?;
     put_sections(reader, &mut made);
     *target = Some(made);
     Ok(())
@@ -88,7 +85,7 @@ pub fn no_memory(round: u64) -> Result<(), LoadFault>
 /// The verdict on the text so far, as if it were over; `NoMemory` where its sections wait.
 pub(crate) fn verdict<A: Allocator>(
     reader: &StreamReader<'_, A>,
-    target: &Option<Target<A>>,
+    target: &Option<Filling<A>>,
 ) -> Result<(), LoadFault>
     ensures { (given : LoadSettings) (text : List ℕ) (ended : Bool) → Loads given (loader reader.now target.now) text ended
         → Judges given (loader reader.now target.now) text result }
@@ -103,7 +100,7 @@ pub(crate) fn verdict<A: Allocator>(
 /// The answer on the text so far, as if it were over; `NoMemory` where its sections wait.
 pub(crate) fn answer<A: Allocator>(
     reader: &StreamReader<'_, A>,
-    target: Option<Target<A>>,
+    target: Option<Filling<A>>,
 ) -> Loaded<A>
     ensures { (given : LoadSettings) (text : List ℕ) (ended : Bool) → Loads given (loader reader.now target) text ended
         → Answers given (loader reader.now target) text result }

@@ -1,0 +1,74 @@
+//! The memory that a single stream is loaded into, with the number of sections in it, for `settle`.
+
+ghost use Rattle.std.specs.Prelude.{◌≡◌, ◌+◌, ◌<◌, ◌^◌, IfOk};
+ghost use Rattle.mig_mem.specs.Round.{with_round};
+ghost use Rattle.mig_assemble.specs.Target.{new_target, pages_of_round, FitsTable};
+
+use mig_assemble::put_records;
+use mig_mem::{Memory, NoMemory, Table};
+use mig_stream::StreamRound;
+use std::alloc::{Allocator, Global};
+use std::marker::Model;
+
+/// The memory that a single stream is loaded into, and the number of sections in it. A `Target` has
+/// marks beside, which only packets need: eight times what a memory takes that holds zeros alone.
+#[derive(Drop)]
+pub(crate) struct Filling<A: Allocator = Global> {
+    memory: Memory<A>,
+    sections: u64,
+}
+
+impl<A: Allocator> Model for Filling<A> {
+    ghost use Rattle.mig_assemble.specs.Target.{LoadTarget};
+    ghost use Rattle.mig_single_load.specs.InPlaceState.{memory_with};
+
+    ghost Value = { LoadTarget };
+
+    ghost view = { λ f. memory_with f.memory f.sections };
+}
+
+impl<A: Allocator + Copy> Filling<A> {
+    /// Creates a memory of zeros, without a section.
+    pub(crate) fn new<B: Allocator>(alloc: A, table: &Table<B>) -> Result<Filling<A>, NoMemory>
+        ensures { IfOk result (λ f. f ≡ new_target table.now) }
+    {
+        Ok(Filling {
+            memory: Memory::zeroed(alloc, table)?,
+            sections: 0,
+        })
+    }
+}
+
+impl<A: Allocator> Filling<A> {
+    /// Writes the next section's records into the memory, in their order.
+    pub(crate) fn section<B: Allocator>(&mut self, section: &StreamRound<B>)
+        requires fits { FitsTable self.old.memory.table section.now }
+        requires room { self.old.rounds < 2 ^ 63 }
+        ensures memory { self.new.memory ≡ with_round self.old.memory (pages_of_round section.now) }
+        ensures rounds { self.new.rounds ≡ self.old.rounds + 1 }
+    {
+        put_records(&mut self.memory, section);
+        self.sections += 1;
+    }
+
+    /// Returns the memory.
+    pub(crate) fn memory(&self) -> &Memory<A>
+        ensures { result.now ≡ self.now.memory }
+    {
+        &self.memory
+    }
+
+    /// Returns the number of sections in the memory.
+    pub(crate) fn rounds(&self) -> u64
+        ensures { result ≡ self.now.rounds }
+    {
+        self.sections
+    }
+
+    /// Gives the memory.
+    pub(crate) fn into_memory(self) -> Memory<A>
+        ensures { result ≡ self.memory }
+    {
+        self.memory
+    }
+}
