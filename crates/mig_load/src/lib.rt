@@ -20,5 +20,5 @@ pub use mig_session::{Counted, PieceReader, PumpFault, ReadFailed, Session, Sour
 pub use mig_single_load::{
     EagerState, Fault, FeedFault, InPlaceFault, InPlaceLoader, InPlaceState, LoadFault,
     LoadSettings, Loaded, Origin, SingleLoader, eager_keeps_other_places, eager_ok_is_by_sections,
-    load_single, load_single_in, sent_is_loaded_in_place,
+    load_single, load_single_in, sent_is_loaded_in_place, single_closed_at,
 };
