@@ -8,7 +8,7 @@ use mig_single_load::Fault;
 use mig_stream::StreamState;
 
 /// How a source stands at a round, behind the rounds before.
-#[derive(Clone, Copy)]
+#[derive(Clone, Copy, Debug)]
 pub enum Status {
     /// It has the round whole.
     Whole,

@@ -1,6 +1,6 @@
 //! The load of texts on several channels that come in pieces, in any order: for callers that read from connections, and for `pump`.
 
-ghost use Rattle.std.specs.Prelude.{ℕ, ◌≡◌, ◌≢◌, ◌+◌, ◌<◌, ◌≤◌, ◌^◌, IsTrue, List, Option, None, Some, IsOk, IsFalse, IfOk, IfSome, OnOk, OnErr, length, map, replicate};
+ghost use Rattle.std.specs.Prelude.{ℕ, ◌≡◌, ◌≢◌, ◌+◌, ◌<◌, ◌≤◌, ◌^◌, ◌↔◌, IsTrue, List, Option, None, Some, IsOk, IsFalse, IfOk, IfSome, OnOk, OnErr, length, map, replicate};
 ghost use Rattle.std.specs.Option.{option_copied, unwrap_or};
 ghost use Rattle.mig_mem.specs.PageSize.{IsPageSize};
 ghost use Rattle.mig_single_load.specs.declared.fault.Fault.TheVariants.{NoMemory as fault_no_memory};
@@ -21,6 +21,7 @@ use mig_assemble::Target;
 use mig_mem::{Memory, NoMemory};
 use mig_single_load::{Fault, LoadFault, LoadSettings, Origin};
 use std::alloc::{Allocator, Global};
+use std::fmt::{self, Debug, Formatter};
 use std::marker::Model;
 use uuid::Uuid;
 
@@ -205,6 +206,13 @@ fn keep<A: Allocator>(sources: &mut Option<Sources<A>>, verdict: Verdict)
     }
 }
 
+/// Opaque: a session holds a guest's bytes.
+impl<A: Allocator> Debug for Session<A> {
+    fn fmt<W: fmt::Write>(&self, f: &mut Formatter<W>) -> fmt::Result {
+        f.write_str("Session { .. }")
+    }
+}
+
 impl<A: Allocator + Copy> Session<A> {
     /// A session that was fed nothing, of so many channels under this UUID, with pages of this size in bytes. The guest's blocks may have
     /// `limit` bytes together.
@@ -312,6 +320,25 @@ impl<A: Allocator> Session<A> {
         ensures { result ≡ length self.now.counts.channels }
     {
         self.counts.channels()
+    }
+
+    /// Returns whether the session has `source`: the main stream, or a channel that there is.
+    pub fn has(&self, source: Source) -> bool
+        ensures { IsTrue result ↔ HasSource self.now.counts source }
+    {
+        match source {
+            Source::Main => true,
+            Source::Channel(j) => j < self.counts.channels(),
+        }
+    }
+
+    /// Returns whether a piece of `len` bytes of `source` has room: fewer than 2^64 bytes of it have
+    /// come with that piece.
+    pub fn has_room(&self, source: Source, len: usize) -> bool
+        requires { HasSource self.now.counts source }
+        ensures { IsTrue result ↔ (count_of self.now.counts source).fed + len < 2 ^ 64 }
+    {
+        len as u64 <= u64::MAX - self.counts.of(source).fed
     }
 
     /// Whether the text of a source is over.
