@@ -22,6 +22,7 @@ use mig_assemble::put_records;
 use mig_mem::{GuestTarget, NoMemory, Table};
 use mig_stream::{Given, Pause, RecordReader, StreamState};
 use std::alloc::{Allocator, Global};
+use std::fmt::{self, Debug, Formatter};
 use std::marker::Model;
 
 /// The state of an eager load.
@@ -67,6 +68,13 @@ impl<A: Allocator> Model for EagerState<A> {
     ghost view = { λ s. eager_load s.pause s.state s.table s.rounds s.fed s.ended };
 
     ghost invariant = { λ s. IsEager (eager_load s.pause s.state s.table s.rounds s.fed s.ended) };
+}
+
+/// Opaque: it holds a guest's bytes.
+impl<A: Allocator> Debug for EagerState<A> {
+    fn fmt<W: fmt::Write>(&self, f: &mut Formatter<W>) -> fmt::Result {
+        f.write_str("EagerState { .. }")
+    }
 }
 
 // Reads until the table is known, or to the end of what is there. Returns what the reader gave

@@ -11,6 +11,7 @@ ghost use Rattle.mig_single_load.specs.InPlace.{settings_of, LoadsOnto, HasVerdi
 use crate::{InPlaceFault, InPlaceState, LoadFault, LoadSettings};
 use mig_mem::{GuestTarget, Memory, NoMemory};
 use std::alloc::{Allocator, Global};
+use std::fmt::{self, Debug, Formatter};
 use std::marker::Model;
 
 /// Loads a guest from the pieces of a single stream into memory that is there already, as the blocks of a machine that is to run it
@@ -34,6 +35,13 @@ impl<A: Allocator, M: GuestTarget> Model for InPlaceLoader<A, M> {
     ghost view = { λ l. loader_with l.state (M.image l.memory) };
 
     ghost invariant = { λ l. LoadsWithMemory l.state (M.image l.memory) };
+}
+
+/// Opaque: it holds a guest's bytes.
+impl<A: Allocator, M: GuestTarget> Debug for InPlaceLoader<A, M> {
+    fn fmt<W: fmt::Write>(&self, f: &mut Formatter<W>) -> fmt::Result {
+        f.write_str("InPlaceLoader { .. }")
+    }
 }
 
 impl<A: Allocator + Copy, M: GuestTarget> InPlaceLoader<A, M> {

@@ -20,6 +20,7 @@ use mig_assemble::put_records;
 use mig_mem::{GuestTarget, NoMemory, Table};
 use mig_stream::{Mode, StreamReader, StreamRound};
 use std::alloc::{Allocator, Global};
+use std::fmt::{self, Debug, Formatter};
 use std::marker::Model;
 
 /// Loads a guest from the pieces of a single stream into memory that is handed in with each piece, and owns all but that memory. It is for
@@ -49,6 +50,13 @@ impl<A: Allocator> Model for InPlaceState<A> {
     ghost view = { λ s. in_place_state s.reader s.table s.rounds };
 
     ghost invariant = { λ s. FedWithSome (in_place_state s.reader s.table s.rounds) };
+}
+
+/// Opaque: it holds a guest's bytes.
+impl<A: Allocator> Debug for InPlaceState<A> {
+    fn fmt<W: fmt::Write>(&self, f: &mut Formatter<W>) -> fmt::Result {
+        f.write_str("InPlaceState { .. }")
+    }
 }
 
 // Takes each whole section that waits, and drops it.

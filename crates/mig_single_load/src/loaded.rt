@@ -3,6 +3,7 @@
 use crate::LoadFault;
 use mig_mem::Memory;
 use std::alloc::{Allocator, Global};
+use std::fmt::{self, Debug, Formatter};
 
 /// The answer of a load. Whatever the verdict, the memory is that after the rounds counted.
 #[derive(Drop)]
@@ -13,4 +14,11 @@ pub struct Loaded<A: Allocator = Global> {
     pub rounds: u64,
     /// Ok where all texts were read to their end, else the first fault.
     pub verdict: Result<(), LoadFault>,
+}
+
+/// Opaque: it holds a guest's bytes.
+impl<A: Allocator> Debug for Loaded<A> {
+    fn fmt<W: fmt::Write>(&self, f: &mut Formatter<W>) -> fmt::Result {
+        f.write_str("Loaded { .. }")
+    }
 }

@@ -15,6 +15,7 @@ use crate::{FeedFault, LoadFault, LoadSettings, Loaded};
 use mig_mem::{Memory, NoMemory};
 use mig_stream::{Mode, StreamReader};
 use std::alloc::{Allocator, Global};
+use std::fmt::{self, Debug, Formatter};
 use std::marker::Model;
 
 /// Loads a guest from the pieces of a single stream. Each section is put into the memory by the call that brings its footer, and its
@@ -36,6 +37,13 @@ impl<A: Allocator> Model for SingleLoader<A> {
     ghost view = { λ l. loader l.reader l.target };
 
     ghost invariant = { λ l. LoadsSome (loader l.reader l.target) };
+}
+
+/// Opaque: it holds a guest's bytes.
+impl<A: Allocator> Debug for SingleLoader<A> {
+    fn fmt<W: fmt::Write>(&self, f: &mut Formatter<W>) -> fmt::Result {
+        f.write_str("SingleLoader { .. }")
+    }
 }
 
 impl<A: Allocator + Copy> SingleLoader<A> {
