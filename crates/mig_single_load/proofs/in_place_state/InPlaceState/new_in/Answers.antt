@@ -21,12 +21,12 @@ with_any given n r table kept is size stands copied first image same = record {
 
 pub returns-clause-loads : goal.returns-clause-loads
 returns-clause-loads g c =
-    with_any c.args.settings c.page_size-page_size.result c.new_in-reader.result c.args.table.now c.in_ok-table.table c.len-len.ensures.table c.page_size-page_size.ensures c.new_in-reader.ensures.stands c.in_ok-table.ensures
+    with_any c.args.settings c.page_size-page_size.result c.new_in-reader.result c.args.table.now c.in_ok-table.table c.keeps_limits.ensures c.page_size-page_size.ensures c.new_in-reader.ensures.stands c.in_ok-table.ensures
 
 pub invariant_of-result : goal.invariant_of-result
 invariant_of-result g c =
     let table : RamTable = c.args.table.now in
     let first : Image = zero_image table in
     some_text first c.args.settings first _ [] false (omega arith) (fed_with first c.args.settings first _ [] false
-    (with_any c.args.settings c.page_size-page_size.result c.new_in-reader.result table c.in_ok-table.table c.len-len.ensures.table c.page_size-page_size.ensures c.new_in-reader.ensures.stands c.in_ok-table.ensures
+    (with_any c.args.settings c.page_size-page_size.result c.new_in-reader.result table c.in_ok-table.table c.keeps_limits.ensures c.page_size-page_size.ensures c.new_in-reader.ensures.stands c.in_ok-table.ensures
     first (zeros_there table) refl))
