@@ -510,7 +510,20 @@ def send_and_load(before):
             if (OUT / "placed").read_bytes() != (OUT / "loaded").read_bytes():
                 sys.exit("the blocks aren't the memory that was sent")
             cases += 1
-    return cases
+    shown = page_of_block(before)
+    return cases + shown
+
+
+def page_of_block(before):
+    """The program of README: the second page of a stream's first block, and a fault where there is none or the stream is cut."""
+    content = memory_file("memory", 4096, 3)
+    stream = run(*before, OUT / "send", "-p", 4096, "-n", 256, OUT / "memory")
+    for name, text, wanted, status in (("whole", stream, content[4096:8192], 0), ("cut", stream[:-1], b"", 1)):
+        (OUT / name).write_bytes(text)
+        with (OUT / name).open("rb") as file:
+            if run(*before, OUT / "page", stdin=file, status=status) != wanted:
+                sys.exit("page.c doesn't write the page that was sent")
+    return 1
 
 
 def stored_scenario(before, rows):
@@ -544,6 +557,7 @@ def main():
     build("load", "examples/c/load.c")
     build("in_place", "examples/c/in_place.c")
     build("send", "examples/c/send.c")
+    build("page", "examples/c/page.c")
     build("refused", "examples/c/tests/refused.c", "-Wl,--wrap=malloc,--wrap=realloc,--wrap=free")
     rows = Rows(Library())
     for name in ("load.txt", "several.txt"):

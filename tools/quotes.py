@@ -10,7 +10,7 @@ import sys
 from pathlib import Path
 
 TOP = Path(__file__).resolve().parent.parent
-QUOTE = re.compile(r"^<!-- quoted from (\S+) -->\n+```rust\n(.*?)^```$", re.MULTILINE | re.DOTALL)
+QUOTE = re.compile(r"^<!-- quoted from (\S+) -->\n+```(?:rust|c)\n(.*?)^```$", re.MULTILINE | re.DOTALL)
 FACADE, SHOWN = "crates/zimgasol/src/lib.rt", "crates/mig_uses/src/first.rt"
 
 

@@ -52,6 +52,7 @@ RUNS = (
     ("mig_tool send s /dev/fd/9 9>&-", "fault 91\n", 3),
     ("mig_tool < s > /dev/full", None, 3),
     ("mig_tool < s >&-", None, 3),
+    ("mkdir g.1; echo 1 > g; mig_tool send s g --channels 2; cat g", "fault 91\n1\n", 0),
     ("mkfifo f; head -c 1 f > one & mig_tool send large f", "fault 91\n", 3),
     ("mig_tool send s /dev/fd/3 3>&1 >sent | mig_tool load /dev/stdin i", "loaded sections 3\n", 0),
     ("cat sent", "sent 4199 0\n", 0),

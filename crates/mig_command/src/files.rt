@@ -36,6 +36,14 @@ pub(crate) fn read_file<H: Files, A: Allocator + Copy>(
     read_whole(alloc, &mut file, room)
 }
 
+/// Returns whether there is a folder of this name.
+pub(crate) fn is_folder<H: Files>(rt: &H, name: &str) -> bool {
+    match rt.metadata(name) {
+        Ok(metadata) => metadata.is_dir(),
+        Err(_) => false,
+    }
+}
+
 /// Writes bytes into a file, which is made where there is none, and has nothing else afterwards.
 pub(crate) fn write_file<H: Files>(rt: &H, name: &str, bytes: &[u8]) -> Result<(), ToolFault> {
     write_to(rt, name, bytes).map_err(|_| ToolFault::Unwritten)

@@ -9,9 +9,10 @@ use crate::answer::Answer;
 use crate::fault::ToolFault;
 use mig_scenario::ScenarioFault;
 use std::alloc::Allocator;
-use std::io::Read;
+use std::io::{ErrorKind, Read};
 
-/// The most reads that an input may take, the one that finds its end among them.
+/// The most reads that an input may take, the one that finds its end and those that a signal
+/// interrupted among them.
 const MAX_READS: usize = 65_536;
 
 /// The most bytes of one read.
@@ -31,23 +32,25 @@ fn buffer_of<A: Allocator>(alloc: A, len: usize) -> Result<Vec<u8, A>, Answer>
     }
 }
 
-// Reads once, and appends what came. Gives the number of bytes, which is 0 at the end of the input.
+// Reads once, and appends what came. Returns whether the input has ended. A read that a signal
+// interrupted brings nothing.
 fn read_more<A: Allocator, R: Read>(
     input: &mut R,
     buffer: &mut [u8],
     text: &mut Vec<u8, A>,
-) -> Result<usize, Answer>
+) -> Result<bool, Answer>
     requires { 0 < length buffer.old }
     ensures len { length buffer.new ≡ length buffer.old }
     ensures err { IfErr result IsUnread }
-    ensures more { IfOk result (λ n. HasRead (R.remaining input.old) (R.remaining input.new) text.old.items text.new.items n) }
+    ensures more { IfOk result (λ ended. HasRead (R.remaining input.old) (R.remaining input.new) text.old.items text.new.items ended) }
 {
     let len = match input.read(buffer) {
         Ok(len) => len,
+        Err(error) if error.kind() == ErrorKind::Interrupted => return Ok(false),
         Err(_) => return Err(Answer::Failed(ToolFault::Unread)),
     };
     match text.extend_from_slice(&buffer[..len]) {
-        Ok(()) => Ok(len),
+        Ok(()) => Ok(len == 0),
         Err(_) => Err(Answer::Refused(ScenarioFault::NoMemory)),
     }
 }
@@ -67,7 +70,7 @@ pub(crate) fn read_whole<A: Allocator + Copy, R: Read>(
         return Err(Answer::Refused(ScenarioFault::NoMemory));
     };
     for _ in 0..MAX_READS {
-        if read_more(input, &mut buffer, &mut text)? == 0 {
+        if read_more(input, &mut buffer, &mut text)? {
             return Ok(text);
         }
     }

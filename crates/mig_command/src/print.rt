@@ -7,10 +7,15 @@ ghost use Rattle.mig_command.specs.Answer.{unloaded, in_origin, comparison_line,
 
 use crate::answer::{Answer, ChannelsChecked, Checked, Comparison};
 use crate::fault::ToolFault;
+use arrayvec::ArrayVec;
 use itoa::Buffer;
 use mig_scenario::ScenarioFault;
 use mig_single_load::{LoadFault, Origin};
 use std::io::{self, Write};
+
+/// The most bytes that an answer's lines have: those of a check on channels whose memories differ,
+/// with eight numbers of 20 digits, take 211.
+const MAX_ANSWER_LEN: usize = 256;
 
 // Writes a word and a number.
 fn put_number<W: Write>(output: &mut W, word: &[u8], number: u64) -> io::Result<()>
@@ -121,20 +126,30 @@ fn put_loaded<W: Write>(output: &mut W, kind: &[u8], count: u64) -> io::Result<(
     output.write_all(b"\n")
 }
 
-/// Writes an answer, and lets nothing of it stay behind.
-pub(crate) fn print<W: Write>(output: &mut W, answer: Answer) -> io::Result<()>
+// Writes the lines of an answer.
+fn put_answer<W: Write>(output: &mut W, answer: Answer) -> io::Result<()>
     ensures { OnOk result (IfSome (printed answer) (λ r. Appends (W.contents output.old) (W.contents output.new) r.text)) }
 {
     match answer {
-        Answer::Checked(checked) => put_checked(output, checked)?,
-        Answer::Sent(main, channels) => put_sent(output, main, channels)?,
-        Answer::LoadedSections(sections) => put_loaded(output, b"sections ", sections)?,
-        Answer::LoadedRounds(rounds) => put_loaded(output, b"rounds ", rounds)?,
-        Answer::Compared(comparison) => put_comparison(output, comparison)?,
-        Answer::Refused(fault) => put_refused(output, fault)?,
-        Answer::Unloaded(fault) => put_unloaded(output, fault)?,
-        Answer::Failed(fault) => writeln!(output, "{fault}")?,
+        Answer::Checked(checked) => put_checked(output, checked),
+        Answer::Sent(main, channels) => put_sent(output, main, channels),
+        Answer::LoadedSections(sections) => put_loaded(output, b"sections ", sections),
+        Answer::LoadedRounds(rounds) => put_loaded(output, b"rounds ", rounds),
+        Answer::Compared(comparison) => put_comparison(output, comparison),
+        Answer::Refused(fault) => put_refused(output, fault),
+        Answer::Unloaded(fault) => put_unloaded(output, fault),
+        Answer::Failed(fault) => writeln!(output, "{fault}"),
     }
+}
+
+/// Writes an answer, all of its lines in one write where the output takes them so, and flushes the
+/// output. Lines of two tools at one terminal then don't mix.
+pub(crate) fn print<W: Write>(output: &mut W, answer: Answer) -> io::Result<()>
+    ensures { OnOk result (IfSome (printed answer) (λ r. Appends (W.contents output.old) (W.contents output.new) r.text)) }
+{
+    let mut lines = ArrayVec::<u8, MAX_ANSWER_LEN>::new();
+    put_answer(&mut lines, answer)?;
+    output.write_all(&lines)?;
     output.flush()
 }
 

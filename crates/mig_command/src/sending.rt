@@ -5,7 +5,8 @@ ghost use Rattle.mig_send.specs.MultiSending.{texts_of};
 ghost use Rattle.mig_scenario.specs.Layout.{HasRoom};
 
 use crate::answer::Answer;
-use crate::files::{channel_name, read_file, write_file};
+use crate::fault::ToolFault;
+use crate::files::{channel_name, is_folder, read_file, write_file};
 use crate::request::SendRequest;
 use mig_scenario::{Played, Senders, Texts, judge, play};
 use mig_send::Sent;
@@ -24,13 +25,32 @@ pub(crate) fn total_len<A: Allocator>(channels: &[Vec<u8, A>]) -> u64
     total
 }
 
-// Writes the main stream, and each channel's text beside it.
+// Refuses a folder in the place of a channel's file.
+fn check_channel_files<H: Files, A: Allocator + Copy>(
+    rt: &H,
+    alloc: A,
+    name: &str,
+    channels: usize,
+) -> Result<(), Answer> {
+    for channel in 0..channels {
+        let name = channel_name(alloc, name, channel)?;
+        if is_folder(rt, &name) {
+            return Err(Answer::Failed(ToolFault::Unwritten));
+        }
+    }
+    Ok(())
+}
+
+// Writes the main stream, and each channel's text beside it. Each file is opened when its turn
+// comes, since a pipe's other end may be opened no earlier. A folder in a file's place is found
+// before the first one is emptied.
 fn write_several<H: Files, A: Allocator + Copy>(
     rt: &H,
     alloc: A,
     name: &str,
     sent: &Sent<A>,
 ) -> Result<Answer, Answer> {
+    check_channel_files(rt, alloc, name, sent.channels.len())?;
     write_file(rt, name, &sent.main)?;
     for (channel, text) in sent.channels.iter().enumerate() {
         let name = channel_name(alloc, name, channel)?;
