@@ -146,7 +146,7 @@ impl HeldLoad {
     }
 
     /// Tells whether pages are due, and of which block the first ones are.
-    pub(crate) fn next(&self, block: &mut usize) -> u32
+    pub(crate) fn next_block(&self, block: &mut usize) -> u32
         ensures { TellsNext result block.old block.new self.now }
     {
         match &self.due {

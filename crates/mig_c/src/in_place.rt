@@ -88,12 +88,12 @@ pub extern "C" fn zimgasol_in_place_feed(
     status
 }
 
-fn next(object: &Object, block: &mut usize) -> u32
+fn next_block(object: &Object, block: &mut usize) -> u32
     requires { IsSome (in_place_in (Some object.now)) }
     ensures { Tells (TellsNext result block.old block.new) (in_place_in (Some object.now)) }
 {
     match object {
-        Object::InPlace(load) => load.next(block),
+        Object::InPlace(load) => load.next_block(block),
         _ => unreachable!(),
     }
 }
@@ -110,7 +110,7 @@ pub extern "C" fn zimgasol_in_place_next(
     ensures tells { Tells (TellsNext result block.old block.new) (in_place_in in_place.old.handle.value) }
 {
     let object = in_place.handle.take().into_box(alloc);
-    let status = next(&object, block);
+    let status = next_block(&object, block);
     in_place.handle = Handle::of(object);
     status
 }

@@ -43,7 +43,7 @@ impl<A: Allocator + Copy> ChannelSource<A> {
             reader: ChannelReader::new(alloc, page_size, uuid, channels),
             round: None,
         };
-        source.next();
+        source.advance();
         source
     }
 
@@ -62,7 +62,7 @@ impl<A: Allocator + Copy> ChannelSource<A> {
         if self.round.is_some() {
             return Ok(());
         }
-        self.next();
+        self.advance();
         Ok(())
     }
 
@@ -87,7 +87,7 @@ impl<A: Allocator + Copy> ChannelSource<A> {
 
 impl<A: Allocator> ChannelSource<A> {
     /// Goes on to the next round, and drops the one that was judged.
-    pub(crate) fn next(&mut self)
+    pub(crate) fn advance(&mut self)
         ensures takes { TakesChannel self.old self.new }
         ensures count { channel_count self.new ≡ channel_count self.old }
     {

@@ -50,7 +50,7 @@ impl<A: Allocator + Copy> MainSource<A> {
             ),
             round: None,
         };
-        source.next();
+        source.advance();
         source
     }
 
@@ -67,14 +67,14 @@ impl<A: Allocator + Copy> MainSource<A> {
         if self.round.is_some() {
             return Ok(());
         }
-        self.next();
+        self.advance();
         Ok(())
     }
 }
 
 impl<A: Allocator> MainSource<A> {
     /// Goes on to the next round, and drops the one that was judged.
-    pub(crate) fn next(&mut self)
+    pub(crate) fn advance(&mut self)
         ensures takes { TakesMain self.old self.new }
         ensures count { main_count self.new ≡ main_count self.old }
         ensures fewer { main_waiting self.new ≡ waiting self.old.reader }

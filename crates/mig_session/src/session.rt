@@ -95,7 +95,7 @@ fn judge_rounds<A: Allocator + Copy>(
         if let Err(fault) = sources.judge(target) {
             return verdict_of(fault);
         }
-        sources.next();
+        sources.advance();
         told = sources.told(target.rounds());
     }
     match told {

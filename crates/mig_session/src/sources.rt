@@ -114,7 +114,7 @@ fn next_of_all<A: Allocator>(channels: &mut Vec<ChannelSource<A>, A>)
 {
     for j in 0..channels.len() {
         let channel = &mut channels[j];
-        channel.next();
+        channel.advance();
     }
 }
 
@@ -179,13 +179,13 @@ impl<A: Allocator + Copy> Sources<A> {
 
 impl<A: Allocator> Sources<A> {
     /// Goes on to the next round of each source, and drops those that were judged.
-    pub(crate) fn next(&mut self)
+    pub(crate) fn advance(&mut self)
         ensures holds { (given : LoadSettings) (uuid : List ℕ) (k : ℕ) (texts : Texts) → HaveRound self.old
             → Holds given uuid k texts self.old → Holds given uuid (k + 1) texts self.new }
         ensures counts { counts_of self.new ≡ counts_of self.old }
         ensures fewer { HaveRound self.old → main_waiting self.old.main ≡ main_waiting self.new.main + 1 }
     {
-        self.main.next();
+        self.main.advance();
         next_of_all(&mut self.channels);
     }
 

@@ -45,7 +45,7 @@ rounds-smaller g c =
     let f : Feeding = c.requires.0 in
     let told = subst (λ (o : Option Verdict). TellsAll c.rounds.target.rounds c.rounds.sources o) (none_told_of c.rounds.told c.is_none.ensures c.rounds-test.true) c.rounds.invariant.told in
     let comes = comes_of f c.rounds.sources c.rounds.target (c.rounds.invariant.advances f c.requires.1) told in
-    let fewer = c.next.ensures.fewer (round_comes f c.rounds.sources c.rounds.target comes) in
+    let fewer = c.advance.ensures.fewer (round_comes f c.rounds.sources c.rounds.target comes) in
     let same = ap (λ (s : FedSources). main_waiting s.main) c.told-told-in-rounds.ensures.same in
     omega (arith, fewer, same)
 
@@ -59,11 +59,11 @@ rounds-preserved g c =
           let comes = comes_of f c.rounds.sources c.rounds.target advances told in
           let put = subst (λ (r : Result ⊤ LoadFault). PutsOrRefuses f c.rounds.target r c.judge.new.target) c.in_default.is (c.judge.ensures f comes) in
           subst (λ (s : FedSources). Advances f s (Some c.judge.new.target)) (sym same)
-          (next_advances f c.rounds.sources c.next.new.self c.rounds.target c.judge.new.target advances put.0 put.1
-          (c.next.ensures.holds f.given f.uuid c.rounds.target.rounds f.texts (round_comes f c.rounds.sources c.rounds.target comes) advances.holds));
+          (next_advances f c.rounds.sources c.advance.new.self c.rounds.target c.judge.new.target advances put.0 put.1
+          (c.advance.ensures.holds f.given f.uuid c.rounds.target.rounds f.texts (round_comes f c.rounds.sources c.rounds.target comes) advances.holds));
       told = subst (λ (s : FedSources). TellsAll c.judge.new.target.rounds s c.told-told-in-rounds.result) (sym same)
-          (subst (λ n. TellsAll n c.next.new.self c.told-told-in-rounds.result) c.rounds-in-rounds.ensures c.told-told-in-rounds.ensures.told);
-      counts = ap counts_of same ∙ c.next.ensures.counts ∙ c.rounds.invariant.counts;
+          (subst (λ n. TellsAll n c.advance.new.self c.told-told-in-rounds.result) c.rounds-in-rounds.ensures c.told-told-in-rounds.ensures.told);
+      counts = ap counts_of same ∙ c.advance.ensures.counts ∙ c.rounds.invariant.counts;
       more =
           let f : Feeding = c.requires.0 in
           let comes = comes_of f c.rounds.sources c.rounds.target (c.rounds.invariant.advances f c.requires.1) told in

@@ -14,8 +14,8 @@ loop-j-preserved g c =
     let below : j < length old = omega (arith, c.loop-j-test.true, c.loop-j.auto.j-end) in
     let is : get_or now j q ≡ q = sym c.index_mut-channel.ensures.value in
     record {
-      takes = next_zip old now j q c.next.new.self below here.len is here.rest here.takes c.next.ensures.takes;
-      counts = next_counts old now j q c.next.new.self below here.len is here.rest here.counts c.next.ensures.count;
-      rest = next_rest old now j c.next.new.self below here.len here.rest;
-      len = length-set now j c.next.new.self ∙ here.len;
+      takes = next_zip old now j q c.advance.new.self below here.len is here.rest here.takes c.advance.ensures.takes;
+      counts = next_counts old now j q c.advance.new.self below here.len is here.rest here.counts c.advance.ensures.count;
+      rest = next_rest old now j c.advance.new.self below here.len here.rest;
+      len = length-set now j c.advance.new.self ∙ here.len;
     }

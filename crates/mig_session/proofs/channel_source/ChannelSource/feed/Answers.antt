@@ -7,7 +7,7 @@ use Rattle.mig_session.proofs.channel_source.ChannelSource.feed.Goals as goal
 pub returns-clause-ok : goal.returns-clause-ok
 returns-clause-ok g c = λ given k text size holds.
     let before = subst (λ (m : FedChannel). HoldsChannel given k text m) (sym c.self.view_is) holds in
-    c.next.ensures.takes given k (with_piece c.args.piece.now text)
+    c.advance.ensures.takes given k (with_piece c.args.piece.now text)
     (fed_where_none given k text c.args.piece.now c.self.inside.reader c.feed.new.self c.self.inside.round c.in-Ok.ensures.stands before (sym c.is_some.ensures ∙ c.if-is_some.false))
 
 pub returns-then-is_some-clause-ok : goal.returns-then-is_some-clause-ok

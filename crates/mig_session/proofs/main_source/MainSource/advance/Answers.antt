@@ -1,8 +1,8 @@
 use Rattle.std.proofs.Common.{subst}
 use Rattle.mig_session.specs.Sources.{FedMain, TakesMain}
 use Rattle.mig_session.proofs.KeptMain.{kept, takes_next}
-use Rattle.mig_session.proofs.main_source.MainSource.next.Goals as goal
-use Rattle.mig_session.proofs.main_source.MainSource.next.Goals.{in-Some-1, in-None-1}
+use Rattle.mig_session.proofs.main_source.MainSource.advance.Goals as goal
+use Rattle.mig_session.proofs.main_source.MainSource.advance.Goals.{in-Some-1, in-None-1}
 
 pub returns-in-Ok-clause-takes : goal.returns-in-Ok-clause-takes
 returns-in-Ok-clause-takes g c =

@@ -1,8 +1,8 @@
 use Rattle.std.proofs.Common.{sym, subst}
 use Rattle.mig_session.specs.Sources.{FedChannel, TakesChannel}
 use Rattle.mig_session.proofs.KeptChannel.{kept, takes_next}
-use Rattle.mig_session.proofs.channel_source.ChannelSource.next.Goals as goal
-use Rattle.mig_session.proofs.channel_source.ChannelSource.next.Goals.{in-Some-1, in-None-1}
+use Rattle.mig_session.proofs.channel_source.ChannelSource.advance.Goals as goal
+use Rattle.mig_session.proofs.channel_source.ChannelSource.advance.Goals.{in-Some-1, in-None-1}
 
 pub returns-in-Ok-clause-takes : goal.returns-in-Ok-clause-takes
 returns-in-Ok-clause-takes g c =
