@@ -4,6 +4,7 @@ pub mod Fields
 pub mod Faults
 pub mod Hello
 pub mod Packet
+pub mod PacketHead
 pub mod Written
 pub mod Lent
 pub mod FaultNumber

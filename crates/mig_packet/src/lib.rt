@@ -16,6 +16,7 @@ mod fields;
 mod format;
 mod front;
 mod gate;
+mod head;
 mod laws;
 mod packet;
 mod progress;
@@ -28,6 +29,7 @@ mod written;
 pub use fault::{ChannelFault, NoMemory};
 pub use front::{HelloRead, PacketRead, read_hello, read_packet};
 pub use gate::{Gate, OpenGate, Step};
+pub use head::PacketHead;
 pub use laws::{
     no_packet_begins_another, readings_keep_limits, text_has_one_list_of_items,
     text_has_one_reading, text_is_valid_up_to_one_place, written_hellos_are_hellos,

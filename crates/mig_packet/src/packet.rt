@@ -1,12 +1,12 @@
 //! A packet, as it lies in bytes that somebody else holds: what readers and relays give, and `Target` puts into memory.
 
-ghost use Rattle.std.specs.Prelude.{◌≡◌, ◌+◌, ◌<◌, ◌==◌, length};
+ghost use Rattle.std.specs.Prelude.{◌≡◌, ◌+◌, ◌*◌, ◌<◌, ◌≤◌, ◌==◌, length};
 ghost use Rattle.std.specs.List.{before_first, position};
 ghost use Rattle.mig_packet.specs.PageSize.{IsPageSize, IsPageSize-prop, page_limit, head_len};
 ghost use Rattle.mig_packet.specs.Packet.{IsPacketText, number_in, is_sync, id_in, normal_count, zero_count, offset_at, content_at};
 
 use crate::fields::{be32, be64};
-use crate::format::{FIELDS_LEN, MULTIFD_PACKET_SIZE};
+use crate::format::{FIELDS_LEN, MULTIFD_FLAG_SYNC, MULTIFD_PACKET_SIZE};
 use std::fmt;
 
 /// One packet: QEMU's `MultiFDPacket_t` with its pages behind it. It borrows its bytes, and copies none of them.
@@ -38,35 +38,35 @@ impl<'a> Packet<'a> {
     pub fn number(&self) -> u64
         ensures { result ≡ number_in self.now.bytes.now }
     {
-        be64(self.bytes, 24)
+        number_of(self.bytes)
     }
 
     /// Whether the packet ends its channel's round: `MULTIFD_FLAG_SYNC`.
     pub fn sync(&self) -> bool
         ensures { result ≡ is_sync self.now.bytes.now }
     {
-        be32(self.bytes, 8) == 1
+        sync_of(self.bytes)
     }
 
     /// The id of the block that its pages are of. It may be any bytes but 0, and of a packet without pages it says nothing.
     pub fn id(&self) -> &'a [u8]
         ensures { result.now ≡ id_in self.now.bytes.now }
     {
-        up_to_zero(&self.bytes[64..319])
+        id_of(self.bytes)
     }
 
     /// How many of its pages come with their contents.
     pub fn normal_len(&self) -> usize
         ensures { result ≡ normal_count self.now.bytes.now }
     {
-        be32(self.bytes, 16) as usize
+        normal_count_of(self.bytes)
     }
 
     /// How many of its pages are zeros.
     pub fn zero_len(&self) -> usize
         ensures { result ≡ zero_count self.now.bytes.now }
     {
-        be32(self.bytes, 32) as usize
+        zero_count_of(self.bytes)
     }
 
     /// Where in its block, in bytes, page `i` is: the normal pages come first, then the zero pages. It may be any number.
@@ -74,7 +74,7 @@ impl<'a> Packet<'a> {
         requires { i < normal_count self.now.bytes.now + zero_count self.now.bytes.now }
         ensures { result ≡ offset_at self.now.bytes.now i }
     {
-        be64(self.bytes, FIELDS_LEN + 8 * i)
+        offset_of(self.bytes, i)
     }
 
     /// The content of normal page `i`.
@@ -87,6 +87,56 @@ impl<'a> Packet<'a> {
         let from = head_len(self.page_size) + i * size;
         &self.bytes[from..from + size]
     }
+}
+
+// ---- the fields of a head, for `Packet`, `PacketHead` and the readers
+
+/// Returns the number of a packet.
+pub(crate) fn number_of(head: &[u8]) -> u64
+    requires { 320 ≤ length head.now }
+    ensures { result ≡ number_in head.now }
+{
+    be64(head, 24)
+}
+
+/// Returns whether a packet ends its channel's round.
+pub(crate) fn sync_of(head: &[u8]) -> bool
+    requires { 320 ≤ length head.now }
+    ensures { result ≡ is_sync head.now }
+{
+    be32(head, 8) == MULTIFD_FLAG_SYNC
+}
+
+/// Returns the id of the block that a packet's pages are of.
+pub(crate) fn id_of(head: &[u8]) -> &[u8]
+    requires { 320 ≤ length head.now }
+    ensures { result.now ≡ id_in head.now }
+{
+    up_to_zero(&head[64..319])
+}
+
+/// Returns the number of a packet's pages with contents.
+pub(crate) fn normal_count_of(head: &[u8]) -> usize
+    requires { 320 ≤ length head.now }
+    ensures { result ≡ normal_count head.now }
+{
+    be32(head, 16) as usize
+}
+
+/// Returns the number of a packet's pages of zeros.
+pub(crate) fn zero_count_of(head: &[u8]) -> usize
+    requires { 320 ≤ length head.now }
+    ensures { result ≡ zero_count head.now }
+{
+    be32(head, 32) as usize
+}
+
+/// Returns the offset of a packet's page `i`.
+pub(crate) fn offset_of(head: &[u8], i: usize) -> u64
+    requires { 328 + 8 * i ≤ length head.now }
+    ensures { result ≡ offset_at head.now i }
+{
+    be64(head, FIELDS_LEN + 8 * i)
 }
 
 // The bytes before the first byte 0, or all.
