@@ -15,3 +15,7 @@ pub mod Standing
 pub mod Exists
 pub mod Valid
 pub mod Limits
+pub mod Paging
+pub mod PagingSteps
+pub mod PagingHello
+pub mod PagingState

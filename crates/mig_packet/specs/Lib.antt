@@ -13,9 +13,11 @@ pub mod FrontRead
 pub mod Progress
 pub mod Reading
 pub mod Reader
+pub mod Paging
 pub mod ChannelItems
 pub mod Law
 -- Of the inside: only contracts of private functions name these.
 pub mod Taking
 pub mod Later
 pub mod Filling
+pub mod PagingStep

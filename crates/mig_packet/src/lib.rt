@@ -3,11 +3,13 @@
 //! The definitions stand in `specs/`, apart from the code of both directions. To read first, in this order: the layout of a
 //! hello and of a packet (`Hello`, `Packet`), the one text that is written for some fields (`Written`), how any bytes of a
 //! channel are read, with every fault by name (`Progress`, `Reading`), what a reader stands for (`Reader`), the items of a
-//! text that is over (`ChannelItems`), and the laws between them (`Law`). `Taking`, `Later` and `Filling` are of the inside: only
-//! contracts of private functions name them.
+//! text that is over (`ChannelItems`), and the laws between them (`Law`). `PacketHead` and `Paging` are of a reader that gives
+//! pages before their packet is complete. `Taking`, `Later`, `Filling` and `PagingStep` are of the inside: only contracts of
+//! private functions name them.
 //!
 //! `hello`, `put_packet` and `PacketFields` write; `read_hello` and `read_packet` read what lies at the beginning of bytes; a
-//! `ChannelReader` reads a channel that comes in pieces. Whether the packets of a round fit together, and what becomes of
+//! `ChannelReader` reads a channel that comes in pieces and keeps its rounds, and a `PageReader` gives each page as soon as its
+//! bytes have come, and keeps none. Whether the packets of a round fit together, and what becomes of
 //! their pages, is for other crates, and so are the threads that send and load.
 #![tactic(auto)]
 
@@ -19,6 +21,7 @@ mod gate;
 mod head;
 mod laws;
 mod packet;
+mod page_reader;
 mod progress;
 mod put;
 mod reader;
@@ -36,6 +39,7 @@ pub use laws::{
     written_packets_are_packets,
 };
 pub use packet::{Packet, head_len, page_limit};
+pub use page_reader::{Came, PageContent, PageReader};
 pub use put::{hello, put_packet, put_packet_head};
 pub use reader::ChannelReader;
 pub use round::PacketRound;

@@ -1,0 +1,246 @@
+-- A reader of a channel that gives each page as soon as its bytes have come, before its packet and
+-- its round are complete, and what it stands for.
+use Rattle.std.specs.Prelude.{◌≡◌, ◌≢◌, ℕ, ◌+◌, ◌-◌, ◌*◌, ◌<◌, ◌≤◌, Bool, true, false, ◌==◌, if◌then◌else◌, List, [], ◌∷◌, ◌++◌}
+use Rattle.std.specs.Prelude.{length, map, Option, Some, None, IfSome, IsTrue, IsFalse, ⊤, ◌⊎◌}
+use Rattle.std.specs.List.{All, flat_map, range_with_len}
+use Rattle.std.specs.Option.{IsSomeAnd}
+use Rattle.mig_packet.specs.declared.state.ChannelState.{ChannelState}
+use Rattle.mig_packet.specs.declared.state.ChannelState.TheVariants.{Reading}
+use Rattle.mig_packet.specs.declared.page_reader.Came.{Came}
+use Rattle.mig_packet.specs.declared.page_reader.Came.TheVariants as came
+use Rattle.mig_packet.specs.declared.page_reader.PageContent.{PageContent}
+use Rattle.mig_packet.specs.declared.page_reader.PageContent.TheVariants as content
+use Rattle.mig_packet.specs.PageSize.{IsPageSize, head_len}
+use Rattle.mig_packet.specs.Packet.{NormalPage, Fields, IsPacket, normal_count, offset_at}
+use Rattle.mig_packet.specs.PacketHead.{IsPacketHead}
+use Rattle.mig_packet.specs.Progress.{ChannelProgress, start, judged_len, after_packet}
+use Rattle.mig_packet.specs.Reading.{Reads, Settings, ChannelReading, IsReading}
+
+-- ---- what was given
+
+-- the packet that was begun: its head, and its normal pages that were given
+pub record OpenPacket : Type 0 where
+  pub head : List ℕ
+  pub pages : List NormalPage
+
+-- The head is whole and without a fault, and the pages are the packet's first ones.
+pub record IsOpenPacket (page_size : ℕ) (packet : OpenPacket) : Type 0 where
+  pub is_head : IsPacketHead page_size packet.head
+  pub has_few : length packet.pages ≤ normal_count packet.head
+  pub has_offsets : map (λ page. page.offset) packet.pages ≡ map (offset_at packet.head) (range_with_len 0 (length packet.pages))
+  pub are_whole : All (λ page. length page.content ≡ page_size) packet.pages
+
+-- the bytes of the head and of the pages that were given
+abbrev pub bytes_of : OpenPacket → List ℕ
+bytes_of packet = packet.head ++ flat_map (λ page. page.content) packet.pages
+
+-- all its pages were given
+abbrev pub is_complete : OpenPacket → Bool
+is_complete packet = length packet.pages == normal_count packet.head
+
+-- what was given so far
+pub record GivenSoFar : Type 0 where
+  -- the hello, the packets of the complete rounds, and those of the open round
+  pub read : ChannelProgress
+  -- the packet after these, from its head on
+  pub packet : Option OpenPacket
+
+-- before the first byte
+abbrev pub none_given : Settings → GivenSoFar
+none_given given = record { read = start given.page_size given.uuid given.channels; packet = None }
+
+abbrev pub with_page : ℕ → List ℕ → Option OpenPacket → Option OpenPacket
+with_page offset content None = None
+with_page offset content (Some packet) = Some (record packet { pages = packet.pages ++ record { offset = offset; content = content } ∷ [] })
+
+abbrev pub with_packet : ChannelProgress → Option OpenPacket → ChannelProgress
+with_packet read None = read
+with_packet read (Some packet) = after_packet read (bytes_of packet)
+
+-- ---- what a reader stands for
+
+-- what such a reader holds
+pub record PageHolder : Type 0 where
+  pub given : Settings
+  -- the id that the hello named
+  pub hello : Option ℕ
+  -- whether the open round has packets
+  pub has_packets : Bool
+  -- the head of the packet that was begun, and how many of its pages were given
+  pub packet : Option (List ℕ × ℕ)
+  -- the bytes of the hello, the head or the page that isn't whole yet
+  pub kept : List ℕ
+  -- the page that was given last, where the reader has its bytes
+  pub page : List ℕ
+  -- how the bytes taken stand, whether or not the channel was ended
+  pub found : ChannelState
+  pub fed : ℕ
+  pub ended : Bool
+
+-- the content of a page that was given
+abbrev pub content_of : PageContent → PageHolder → List ℕ
+content_of (content.Lent bytes) r = bytes.now
+content_of content.Kept r = r.page
+
+-- the head of the packet that was begun
+abbrev pub head_kept : Option (List ℕ × ℕ) → List ℕ
+head_kept None = []
+head_kept (Some packet) = packet.0
+
+-- what was given once a reader gave this answer
+abbrev pub with_came : Came → PageHolder → GivenSoFar → GivenSoFar
+with_came (came.Hello id) r so_far = record so_far { read = record so_far.read { hello = Some id } }
+with_came came.Head r so_far = record so_far { packet = Some (record { head = head_kept r.packet; pages = [] }) }
+with_came (came.Page offset page) r so_far = record so_far { packet = with_page offset (content_of page r) so_far.packet }
+with_came (came.Packet sync) r so_far = record { read = with_packet so_far.read so_far.packet; packet = None }
+with_came came.More r so_far = so_far
+with_came came.Over r so_far = so_far
+
+-- how far the bytes are read: a packet is complete with its last page
+abbrev pub read_to : ChannelProgress → Option OpenPacket → ChannelProgress
+read_to read None = read
+read_to read (Some packet) = if is_complete packet then after_packet read (bytes_of packet) else read
+
+-- the bytes that were given of a packet that isn't complete
+abbrev pub open_bytes : Option OpenPacket → List ℕ
+open_bytes None = []
+open_bytes (Some packet) = if is_complete packet then [] else bytes_of packet
+
+-- how a reader keeps the packet that was begun
+abbrev pub kept_of : Option OpenPacket → Option (List ℕ × ℕ)
+kept_of None = None
+kept_of (Some packet) = Some (packet.head, length packet.pages)
+
+abbrev pub has_any : List (List ℕ) → Bool
+has_any [] = false
+has_any (packet ∷ packets) = true
+
+-- A reader was made with these settings, took these bytes, and gave this of them.
+pub record Gives (given : Settings) (text : List ℕ) (so_far : GivenSoFar) (r : PageHolder) : Type 0 where
+  pub is_page_size : IsPageSize given.page_size
+  pub has_settings : r.given ≡ given
+  pub has_fed : r.fed ≡ length text
+  -- the bytes are read to what was given, and left are pages that were given and bytes that are kept
+  pub reads : Reads (start given.page_size given.uuid given.channels) text (read_to so_far.read so_far.packet) (open_bytes so_far.packet ++ r.kept) r.found
+  pub is_open : IfSome so_far.packet (IsOpenPacket given.page_size)
+  pub has_packet : r.packet ≡ kept_of so_far.packet
+  pub has_hello : r.hello ≡ so_far.read.hello
+  pub has_packets : r.has_packets ≡ has_any so_far.read.packets
+
+-- what is said of a reader by what it stands for alone
+abbrev pub HolderTells : PageHolder → (Settings → List ℕ → GivenSoFar → Type 0) → Type 0
+HolderTells r says = (given : Settings) (text : List ℕ) (so_far : GivenSoFar) → Gives given text so_far r → says given text so_far
+
+-- A call takes these bytes and gives this answer: whatever the reader gave before, it has given that
+-- with the answer.
+abbrev pub GivesOn : List ℕ → Came → PageHolder → PageHolder → Type 0
+GivesOn taken answer old new = (given : Settings) (text : List ℕ) (so_far : GivenSoFar)
+    → Gives given text so_far old → Gives given (text ++ taken) (with_came answer new so_far) new
+
+-- ---- what an answer means
+
+-- The packet says this: its normal pages are those that were given.
+pub record Completes (page_size : ℕ) (packet : OpenPacket) (sync : Bool) : Type 0 where
+  pub said : Fields
+  pub is_packet : IsPacket page_size (bytes_of packet) said
+  pub has_sync : said.sync ≡ sync
+  pub has_pages : said.normal ≡ packet.pages
+
+-- what comes after what was given so far
+abbrev pub Comes : ℕ → Came → GivenSoFar → Type 0
+Comes page_size (came.Hello id) so_far = so_far.read.hello ≡ None
+Comes page_size came.Head so_far = so_far.packet ≡ None
+Comes page_size (came.Page offset page) so_far = IsSomeAnd so_far.packet (λ packet. length packet.pages < normal_count packet.head)
+Comes page_size (came.Packet sync) so_far = IsSomeAnd so_far.packet (λ packet. Completes page_size packet sync)
+Comes page_size other so_far = ⊤
+
+-- More: all bytes of the piece were taken, and the next is needed. Over: the bytes taken have a
+-- fault, or the channel was ended.
+abbrev pub Stops : Came → ℕ → List ℕ → PageHolder → Type 0
+Stops came.More taken piece r = (taken ≡ length piece) × (r.found ≡ Reading) × IsFalse r.ended
+Stops came.Over taken piece r = (r.found ≢ Reading) ⊎ IsTrue r.ended
+Stops other taken piece r = ⊤
+
+-- Fewer bytes are kept than the hello or the head has, or than the next page of the packet.
+abbrev pub IsShort : PageHolder → Option (List ℕ × ℕ) → Type 0
+IsShort r None = length r.kept < judged_len r.given.page_size r.hello
+IsShort r (Some packet) = (packet.1 < normal_count packet.0) × (length r.kept < r.given.page_size) × (r.hello ≢ None)
+
+-- So nothing is held back that could be given.
+abbrev pub NeedsMore : Came → PageHolder → Type 0
+NeedsMore came.More r = IsShort r r.packet
+NeedsMore other r = ⊤
+
+-- a page is whole
+abbrev pub IsWhole : Came → PageHolder → Type 0
+IsWhole (came.Page offset page) r = length (content_of page r) ≡ r.given.page_size
+IsWhole other r = ⊤
+
+-- ---- how much is left
+
+abbrev pub one_if_begun : Option (List ℕ × ℕ) → ℕ
+one_if_begun None = 0
+one_if_begun (Some packet) = 1
+
+-- no more calls than so many give something, of so many bytes of a piece
+abbrev pub left : ℕ → PageHolder → ℕ
+left bytes r = 2 * bytes + one_if_begun r.packet
+
+-- a call that neither needs more nor is over leaves less
+abbrev pub LeavesLess : Came → ℕ → List ℕ → PageHolder → PageHolder → Type 0
+LeavesLess came.More taken piece old new = ⊤
+LeavesLess came.Over taken piece old new = ⊤
+LeavesLess other taken piece old new = left (length piece - taken) new < left (length piece) old
+
+-- ---- what it tells
+
+-- the head of the packet that was begun
+abbrev pub head_of : Option OpenPacket → Option (List ℕ)
+head_of None = None
+head_of (Some packet) = Some packet.head
+
+-- This is the reading of the bytes taken: its hello and its rounds are those that were given, and so
+-- are the packets of the open round.
+pub record HasReading (given : Settings) (text : List ℕ) (ended : Bool) (so_far : GivenSoFar) (state : ChannelState) : Type 0 where
+  pub reading : ChannelReading
+  pub is_reading : IsReading given text ended reading
+  pub has_read : is_reading.to ≡ read_to so_far.read so_far.packet
+  pub has_hello : reading.hello ≡ so_far.read.hello
+  pub has_rounds : reading.rounds ≡ (read_to so_far.read so_far.packet).rounds
+  pub has_state : reading.state ≡ state
+
+-- ---- the inside
+
+-- the first bytes of a page, where the bytes may be the page that was given before it
+abbrev pub begun_in : Bool → List ℕ → List ℕ
+begun_in true page = []
+begun_in false page = page
+
+-- what is kept of a hello or a head, or after a head of a page
+abbrev pub kept_in : Option ℕ → Bool → List ℕ → List ℕ → List ℕ
+kept_in None has_page head page = head
+kept_in (Some i) has_page head page = begun_in has_page page
+
+-- the page that was given last, where it was gathered
+abbrev pub page_in : Bool → List ℕ → List ℕ
+page_in true page = page
+page_in false page = []
+
+abbrev pub packet_in : Option ℕ → List ℕ → Option (List ℕ × ℕ)
+packet_in None head = None
+packet_in (Some i) head = Some (head, i)
+
+-- What is kept is a part of what comes next. A packet that was begun has its head, and so many of
+-- its pages were given.
+abbrev pub IsPart : ℕ → Option ℕ → Option ℕ → List ℕ → List ℕ → ChannelState → Type 0
+IsPart page_size hello None head kept found = found ≡ Reading → length kept < judged_len page_size hello
+IsPart page_size hello (Some i) head kept found =
+    (hello ≢ None) × (found ≡ Reading) × IsPacketHead page_size head × (i ≤ normal_count head) × (length kept < page_size) × (i ≡ normal_count head → kept ≡ [])
+
+-- what a reader keeps, with room for a head and a page
+pub record IsHeld (page_size : ℕ) (hello pages : Option ℕ) (has_page : Bool) (head page : List ℕ) (head_room page_room : ℕ) (found : ChannelState) : Type 0 where
+  pub is_page_size : IsPageSize page_size
+  pub has_head_room : head_len page_size ≤ head_room
+  pub has_page_room : page_size ≤ page_room
+  pub is_page : has_page ≡ true → length page ≡ page_size
+  pub is_part : IsPart page_size hello pages head (kept_in pages has_page head page) found

@@ -1,0 +1,103 @@
+-- What one call makes of what a reader of pages holds.
+use Rattle.std.specs.Prelude.{◌≡◌, ◌≢◌, ℕ, ◌+◌, ◌<◌, ◌≤◌, Bool, true, false, not, ◌==◌, if◌then◌else◌, List, [], ◌∷◌, ◌++◌, length, get_or, take, Option, Some, None, ⊤, ◌⊎◌}
+use Rattle.mig_packet.specs.declared.state.ChannelState.{ChannelState}
+use Rattle.mig_packet.specs.declared.state.ChannelState.TheVariants.{Reading, Closed, Bad}
+use Rattle.mig_packet.specs.declared.fault.ChannelFault.TheVariants.{Truncated, Unsynced}
+use Rattle.mig_packet.specs.declared.fault.ChannelFault.{ChannelFault}
+use Rattle.mig_packet.specs.declared.page_reader.Came.{Came}
+use Rattle.mig_packet.specs.declared.page_reader.Came.TheVariants as came
+use Rattle.mig_packet.specs.declared.page_reader.PageContent.{PageContent}
+use Rattle.mig_packet.specs.declared.page_reader.PageContent.TheVariants as content
+use Rattle.mig_packet.specs.Faults.{first_of}
+use Rattle.mig_packet.specs.Packet.{normal_count, is_sync, offset_at}
+use Rattle.mig_packet.specs.Progress.{start, judged_len, faults}
+use Rattle.mig_packet.specs.Reading.{Settings}
+use Rattle.mig_packet.specs.Paging.{PageHolder, content_of, Stops, IsShort}
+
+-- the first fault of the hello or head that comes next
+abbrev pub fault_of : Settings → Option ℕ → List ℕ → Option ChannelFault
+fault_of given hello bytes = first_of (faults (start given.page_size given.uuid given.channels) hello bytes)
+
+-- a whole hello or head, without a fault
+pub record IsJudged (r : PageHolder) (bytes : List ℕ) : Type 0 where
+  pub has_none_begun : r.packet ≡ None
+  pub is_reading : r.found ≡ Reading
+  pub has_length : length bytes ≡ judged_len r.given.page_size r.hello
+  pub has_no_fault : fault_of r.given r.hello bytes ≡ None
+
+-- the bytes have a fault
+pub record IsFaulty (bytes : List ℕ) (fault : ChannelFault) (old new : PageHolder) : Type 0 where
+  pub has_none_begun : old.packet ≡ None
+  pub is_reading : old.found ≡ Reading
+  pub has_length : length bytes ≡ judged_len old.given.page_size old.hello
+  pub has_fault : fault_of old.given old.hello bytes ≡ Some fault
+  pub leaves : new ≡ record old { found = Bad fault; kept = bytes; fed = new.fed }
+
+-- a page more is given
+pub record IsPageOf (offset : ℕ) (content : List ℕ) (packet : List ℕ × ℕ) (old new : PageHolder) : Type 0 where
+  pub is_begun : old.packet ≡ Some packet
+  pub is_reading : old.found ≡ Reading
+  pub has_hello : old.hello ≢ None
+  pub is_left : packet.1 < normal_count packet.0
+  pub has_offset : offset ≡ offset_at packet.0 packet.1
+  pub is_whole : length content ≡ old.given.page_size
+  pub leaves : new ≡ record old { packet = Some (packet.0, packet.1 + 1); kept = []; page = new.page; fed = new.fed }
+
+-- all pages of a packet were given
+pub record IsLast (sync : Bool) (head : List ℕ) (old new : PageHolder) : Type 0 where
+  pub is_begun : old.packet ≡ Some (head, normal_count head)
+  pub has_kept : old.kept ≡ []
+  pub has_sync : sync ≡ is_sync head
+  pub leaves : new ≡ record old { packet = None; kept = []; page = new.page; has_packets = not sync }
+
+-- These bytes of a piece are taken, and this is answered.
+abbrev pub Moves : Came → List ℕ → PageHolder → PageHolder → Type 0
+Moves (came.Hello id) taken old new = (old.hello ≡ None) × IsJudged old (old.kept ++ taken) × (id ≡ get_or (old.kept ++ taken) 24 0)
+    × (new ≡ record old { hello = Some id; kept = []; fed = new.fed })
+Moves came.Head taken old new = (old.hello ≢ None) × IsJudged old (old.kept ++ taken)
+    × (new ≡ record old { packet = Some (old.kept ++ taken, 0); kept = []; page = new.page; fed = new.fed })
+Moves (came.Page offset page) taken old new = (packet : List ℕ × ℕ) × IsPageOf offset (content_of page new) packet old new × (content_of page new ≡ old.kept ++ taken)
+Moves (came.Packet sync) taken old new = (head : List ℕ) × IsLast sync head old new × (taken ≡ [])
+Moves came.More taken old new = (old.found ≡ Reading) × IsShort new new.packet × (new ≡ record old { kept = old.kept ++ taken; page = new.page; fed = new.fed })
+Moves came.Over taken old new = ((new ≡ old) × (taken ≡ [])) ⊎ ((fault : ChannelFault) × IsFaulty (old.kept ++ taken) fault old new)
+
+-- a hello, a head or a page takes bytes
+abbrev pub Gains : Came → ℕ → Type 0
+Gains (came.Hello id) count = 0 < count
+Gains came.Head count = 0 < count
+Gains (came.Page offset page) count = 0 < count
+Gains other count = ⊤
+
+-- What one call does, which takes so many bytes of a piece.
+pub record Steps (answer : Came) (count : ℕ) (piece : List ℕ) (old new : PageHolder) : Type 0 where
+  pub takes : count ≤ length piece
+  pub gains : Gains answer count
+  pub stops : Stops answer count piece new
+  pub moves : Moves answer (take count piece) old new
+  pub has_fed : new.fed ≡ old.fed + count
+
+-- ---- a page from a piece
+
+-- a page is whole with these bytes, gathered or lent; or all bytes are gathered, and it isn't
+abbrev pub IsTaken : Option PageContent → List ℕ → List ℕ → ℕ → Type 0
+IsTaken None bytes page size = (page ≡ bytes) × (length bytes < size)
+IsTaken (Some content.Kept) bytes page size = (page ≡ bytes) × (length bytes ≡ size)
+IsTaken (Some (content.Lent lent)) bytes page size = (lent.now ≡ bytes) × (page ≡ []) × (length bytes ≡ size)
+
+-- ---- once the channel is ended
+
+-- the hello was read, and nothing of an item that isn't complete
+abbrev pub is_between : Option ℕ → Option (List ℕ × ℕ) → List ℕ → Bool
+is_between None packet kept = false
+is_between (Some id) packet (byte ∷ kept) = false
+is_between (Some id) None [] = true
+is_between (Some id) (Some packet) [] = packet.1 == normal_count packet.0
+
+-- the round is open: its last packet had no SYNC
+abbrev pub is_unsynced : Bool → Option (List ℕ × ℕ) → Bool
+is_unsynced has_packets None = has_packets
+is_unsynced has_packets (Some packet) = not (is_sync packet.0)
+
+abbrev pub closing_state : PageHolder → ChannelState
+closing_state r =
+    if is_between r.hello r.packet r.kept then (if is_unsynced r.has_packets r.packet then Bad Unsynced else Closed) else Bad Truncated
