@@ -1,6 +1,6 @@
 //! Tests of guest memory, packets and channels: each call that allocates with its allocations
-//! refused, calls that allocate nothing, the gate that does nothing, and rounds that are judged as
-//! they arrive. And tests of the allocator that refuses.
+//! refused, calls that allocate nothing, the gate that does nothing, channels that are read by
+//! pages, and rounds that are judged as they arrive. And tests of the allocator that refuses.
 //!
 //! The worked examples are cases of `mig_rows`.
 #![tactic(auto)]
@@ -17,6 +17,8 @@ mod lent_mut;
 mod memory_refused;
 #[cfg(test)]
 mod packets_refused;
+#[cfg(test)]
+mod pages_read;
 #[cfg(test)]
 mod rounds;
 #[cfg(test)]

@@ -1,0 +1,183 @@
+//! A channel read by pages beside the same channel read by packets, in pieces of several lengths.
+
+use mig_fixtures::{TestHeap, put_page_and_zeros};
+use mig_packet::{
+    Came, ChannelReader, ChannelState, PacketRead, PageReader, hello, put_packet, read_packet,
+};
+use std::alloc::{AllocGlobal, Allocator};
+use std::process::Abort;
+use uuid::Uuid;
+
+// What was read of a channel's packets: their numbers, and which of them had SYNC, and the offsets
+// and contents of their normal pages.
+#[derive(Drop)]
+struct Read {
+    numbers: Vec<u64>,
+    syncs: Vec<bool>,
+    offsets: Vec<u64>,
+    contents: Vec<u8>,
+}
+
+impl Read {
+    fn nothing(rt: &impl AllocGlobal) -> Read {
+        Read {
+            numbers: Vec::new(rt.alloc()),
+            syncs: Vec::new(rt.alloc()),
+            offsets: Vec::new(rt.alloc()),
+            contents: Vec::new(rt.alloc()),
+        }
+    }
+
+    fn push_page(&mut self, rt: &(impl AllocGlobal + Abort), offset: u64, content: &[u8]) {
+        assert!(rt; content.len() == 4096);
+        assert!(rt; self.offsets.push(offset).is_ok());
+        assert!(rt; self.contents.extend_from_slice(content).is_ok());
+    }
+
+    fn is_same(&self, other: &Read) -> bool {
+        self.numbers.as_slice() == other.numbers.as_slice()
+            && self.syncs.as_slice() == other.syncs.as_slice()
+            && self.offsets.as_slice() == other.offsets.as_slice()
+            && self.contents.as_slice() == other.contents.as_slice()
+    }
+}
+
+// A channel of one packet with a page and zeros, one of two pages, one with SYNC, and one without.
+fn channel(rt: &(impl AllocGlobal + Abort)) -> Vec<u8> {
+    let mut text = Vec::from_slice(rt.alloc(), &hello(&Uuid::nil(), 0)).expect(rt, "a hello");
+    assert!(rt; put_page_and_zeros(&mut text) == Ok(()));
+    let mut pages = [1u8; 8192];
+    pages[4096] = 2;
+    assert!(rt; put_packet(4096, &mut text, 1, false, b"a", &[8192, 4096], &pages, &[]) == Ok(()));
+    assert!(rt; put_packet(4096, &mut text, 2, true, b"a", &[], &[], &[0]) == Ok(()));
+    assert!(rt; put_packet(4096, &mut text, 3, false, &[], &[], &[], &[]) == Ok(()));
+    text
+}
+
+// Reads the packets of that channel whole.
+fn read_whole(rt: &(impl AllocGlobal + Abort), text: &[u8]) -> Read {
+    let mut read = Read::nothing(rt);
+    let mut rest = text.get(64..).expect(rt, "packets");
+    for _ in 0..4u8 {
+        let PacketRead::Whole(packet, len) = read_packet(4096, rest) else {
+            panic!(rt; "no packet")
+        };
+        assert!(rt; read.numbers.push(packet.number()).is_ok());
+        assert!(rt; read.syncs.push(packet.sync()).is_ok());
+        for i in 0..packet.normal_len() {
+            read.push_page(rt, packet.offset(i), packet.page(i));
+        }
+        rest = rest.get(len..).expect(rt, "a rest");
+    }
+    read
+}
+
+// Reads a piece by pages, up to its end or a fault.
+fn read_piece<A: Allocator>(
+    rt: &(impl AllocGlobal + Abort),
+    reader: &mut PageReader<A>,
+    piece: &[u8],
+    read: &mut Read,
+) {
+    let mut rest = piece;
+    for _ in 0..1000u64 {
+        assert!(rt; reader.fed().checked_add(rest.len() as u64).is_some());
+        let (came, taken) = reader.read_on(rest);
+        rest = rest.get(taken..).expect(rt, "a rest");
+        match came {
+            Came::Hello(id) => {
+                assert!(rt; reader.hello_id() == Some(id));
+            }
+            Came::Head => {
+                let head = reader.head().expect(rt, "a head");
+                assert!(rt; head.page_size() == 4096 && head.id().len() <= 1);
+                assert!(rt; read.numbers.push(head.number()).is_ok());
+            }
+            Came::Page(offset, content) => {
+                read.push_page(rt, offset, reader.content(content));
+            }
+            Came::Packet(sync) => {
+                assert!(rt; read.syncs.push(sync).is_ok());
+            }
+            Came::More | Came::Over => return,
+        }
+    }
+}
+
+// Whether two readers of one channel tell the same of it.
+fn tell_the_same<A: Allocator + Copy, B: Allocator>(
+    packets: &ChannelReader<A>,
+    pages: &PageReader<B>,
+) -> bool {
+    packets.state() == pages.state() && packets.hello_id() == pages.hello_id()
+}
+
+// Reads a text in pieces of `len` bytes by packets and by pages, and returns what came by pages.
+fn read_both(rt: &(impl AllocGlobal + Abort), text: &[u8], len: usize) -> Read {
+    let mut packets = ChannelReader::new(rt.alloc(), 4096, Uuid::nil(), 1);
+    let made = PageReader::new(rt.alloc(), 4096, Uuid::nil(), 1);
+    let mut pages = made.ok().expect(rt, "a reader");
+    let mut read = Read::nothing(rt);
+    for piece in text.chunks(len.max(1)) {
+        assert!(rt; !packets.ended() && !pages.ended());
+        assert!(rt; packets.fed().checked_add(piece.len() as u64).is_some());
+        assert!(rt; packets.feed(piece).is_ok());
+        read_piece(rt, &mut pages, piece, &mut read);
+        assert!(rt; tell_the_same(&packets, &pages));
+    }
+    packets.end();
+    pages.end();
+    assert!(rt; tell_the_same(&packets, &pages) && pages.ended());
+    read
+}
+
+// The same pages come in their order, however the bytes are cut.
+#[test]
+fn in_pieces(rt: HostRuntime) {
+    let text = channel(&rt);
+    let whole = read_whole(&rt, &text);
+    assert!(rt; whole.offsets.as_slice() == [4096u64, 8192, 4096].as_slice());
+    assert!(rt; whole.syncs.as_slice() == [false, false, true, false].as_slice());
+    for len in [1usize, 7, 1000, 5000, 100_000] {
+        assert!(rt; read_both(&rt, &text, len).is_same(&whole));
+    }
+}
+
+// Bytes that are cut, or have a fault, stand as they do for a reader of packets.
+#[test]
+fn cut_and_spoiled(rt: HostRuntime) {
+    let text = channel(&rt);
+    for len in [0usize, 63, 64, 65, 1408, 5503, 5504, 15_040, 16_384, 17_728] {
+        let front = text.get(..len).expect(&rt, "a front");
+        let _read = read_both(&rt, front, 1000);
+    }
+    for at in [3usize, 24, 64, 72, 80, 5504, 15_048] {
+        let mut spoiled = Vec::from_slice(rt.alloc(), &text).expect(&rt, "a text");
+        *spoiled.get_mut(at).expect(&rt, "a byte") ^= 0x81;
+        let _read = read_both(&rt, &spoiled, 700);
+    }
+}
+
+// A reader takes two allocations when it is made, and none after that.
+#[test]
+fn allocations(rt: HostRuntime) {
+    let heap = TestHeap::new(rt.alloc());
+    for nth in 1..3u64 {
+        heap.refuse(nth);
+        assert!(rt; PageReader::new(&heap, 4096, Uuid::nil(), 1).is_err());
+        assert!(rt; !heap.is_waiting());
+    }
+    heap.refuse(3);
+    let mut reader = PageReader::new(&heap, 4096, Uuid::nil(), 1)
+        .ok()
+        .expect(&rt, "a reader");
+    assert!(rt; heap.is_waiting());
+    heap.refuse(1);
+    let text = channel(&rt);
+    let mut read = Read::nothing(&rt);
+    for piece in text.chunks(1000) {
+        read_piece(&rt, &mut reader, piece, &mut read);
+    }
+    assert!(rt; heap.is_waiting() && reader.state() == ChannelState::Reading);
+    assert!(rt; reader.fed() == text.len() as u64);
+}
