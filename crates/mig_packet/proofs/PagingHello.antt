@@ -48,6 +48,7 @@ hello_over given hello has_packets None has_page head page head2 piece found fed
       takes = le;
       gains = tt;
       stops = inl (λ h. absurd cc);
+      copies = tt;
       moves = inr (
         fault,
         record {
@@ -76,6 +77,7 @@ hello_read given hello has_packets None has_page head page head2 head3 piece fou
       takes = le;
       gains = gained head head2 piece n le e few len;
       stops = tt;
+      copies = tt;
       moves = (
         none,
         record {

@@ -176,6 +176,11 @@ abbrev pub IsWhole : Came → PageHolder → Type 0
 IsWhole (came.Page offset page) r = length (content_of page r) ≡ r.given.page_size
 IsWhole other r = ⊤
 
+-- Only a page that a piece cut is copied: a page that lies whole in the piece is lent from it.
+abbrev pub CopiesCutPages : Came → List ℕ → PageHolder → Type 0
+CopiesCutPages (came.Page offset content.Kept) piece old = (old.kept ≢ []) ⊎ (length piece < old.given.page_size)
+CopiesCutPages other piece old = ⊤
+
 -- ---- how much is left
 
 abbrev pub one_if_begun : Option (List ℕ × ℕ) → ℕ

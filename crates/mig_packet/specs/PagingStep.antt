@@ -12,7 +12,7 @@ use Rattle.mig_packet.specs.Faults.{first_of}
 use Rattle.mig_packet.specs.Packet.{normal_count, is_sync, offset_at}
 use Rattle.mig_packet.specs.Progress.{start, judged_len, faults}
 use Rattle.mig_packet.specs.Reading.{Settings}
-use Rattle.mig_packet.specs.Paging.{PageHolder, content_of, Stops, IsShort}
+use Rattle.mig_packet.specs.Paging.{PageHolder, content_of, Stops, IsShort, CopiesCutPages}
 
 -- the first fault of the hello or head that comes next
 abbrev pub fault_of : Settings → Option ℕ → List ℕ → Option ChannelFault
@@ -73,6 +73,7 @@ pub record Steps (answer : Came) (count : ℕ) (piece : List ℕ) (old new : Pag
   pub takes : count ≤ length piece
   pub gains : Gains answer count
   pub stops : Stops answer count piece new
+  pub copies : CopiesCutPages answer piece old
   pub moves : Moves answer (take count piece) old new
   pub has_fed : new.fed ≡ old.fed + count
 
@@ -83,6 +84,11 @@ abbrev pub IsTaken : Option PageContent → List ℕ → List ℕ → ℕ → Ty
 IsTaken None bytes page size = (page ≡ bytes) × (length bytes < size)
 IsTaken (Some content.Kept) bytes page size = (page ≡ bytes) × (length bytes ≡ size)
 IsTaken (Some (content.Lent lent)) bytes page size = (lent.now ≡ bytes) × (page ≡ []) × (length bytes ≡ size)
+
+-- a page is gathered only where bytes of it were there, or the piece is shorter
+abbrev pub IsCut : Option PageContent → List ℕ → List ℕ → ℕ → Type 0
+IsCut (Some content.Kept) kept piece size = (kept ≢ []) ⊎ (length piece < size)
+IsCut other kept piece size = ⊤
 
 -- ---- once the channel is ended
 

@@ -11,8 +11,8 @@ ghost use Rattle.mig_packet.specs.PageSize.{IsPageSize, head_len};
 ghost use Rattle.mig_packet.specs.declared.state.ChannelState.TheVariants as state;
 ghost use Rattle.mig_packet.specs.Reading.{settings, Settings};
 ghost use Rattle.mig_packet.specs.Reader.{HasState, HasHello};
-ghost use Rattle.mig_packet.specs.Paging.{GivenSoFar, none_given, Gives, GivesOn, HolderTells, Comes, Stops, NeedsMore, LeavesLess, HasReading, IsWhole, head_of, content_of, begun_in};
-ghost use Rattle.mig_packet.specs.PagingStep.{Moves, Steps, IsTaken, is_between, is_unsynced, closing_state};
+ghost use Rattle.mig_packet.specs.Paging.{GivenSoFar, none_given, Gives, GivesOn, HolderTells, Comes, Stops, NeedsMore, LeavesLess, CopiesCutPages, HasReading, IsWhole, head_of, content_of, begun_in};
+ghost use Rattle.mig_packet.specs.PagingStep.{Moves, Steps, IsTaken, IsCut, is_between, is_unsynced, closing_state};
 ghost use Rattle.mig_packet.specs.Packet.{normal_count};
 ghost use Rattle.mig_packet.specs.declared.page_reader.Came.TheVariants as came;
 ghost use Rattle.std.specs.Option.{IsSomeAnd, option_map};
@@ -126,6 +126,7 @@ fn take_page<'b, A: Allocator>(
     requires short { length (begun_in was_given page.old.items) < size }
     ensures taken { result.1 ≤ length piece.now }
     ensures page { IsTaken result.0 (begun_in was_given page.old.items ++ take result.1 piece.now) page.new.items size }
+    ensures cut { IsCut result.0 (begun_in was_given page.old.items) piece.now size }
     ensures all { IfNone result.0 (result.1 ≡ length piece.now) }
     ensures some { IfSome result.0 (λ content. 0 < result.1) }
     ensures capacity { vec_capacity page.old ≤ vec_capacity page.new }
@@ -146,6 +147,7 @@ fn take_begun<'b, A: Allocator>(
     requires short { length page.old.items < size }
     ensures taken { result.1 ≤ length piece.now }
     ensures page { IsTaken result.0 (page.old.items ++ take result.1 piece.now) page.new.items size }
+    ensures cut { IsCut result.0 page.old.items piece.now size }
     ensures all { IfNone result.0 (result.1 ≡ length piece.now) }
     ensures some { IfSome result.0 (λ content. 0 < result.1) }
     ensures capacity { vec_capacity page.old ≤ vec_capacity page.new }
@@ -281,6 +283,7 @@ impl<A: Allocator> PageReader<A> {
         ensures comes { HolderTells self.old (λ given text so_far. Comes given.page_size result.0 so_far) }
         ensures whole { IsWhole result.0 self.new }
         ensures stops { Stops result.0 result.1 piece.now self.new }
+        ensures copies { CopiesCutPages result.0 piece.now self.old }
         ensures needs { NeedsMore result.0 self.new }
         ensures less { LeavesLess result.0 result.1 piece.now self.old self.new }
         ensures fed { self.new.fed ≡ self.old.fed + result.1 }
