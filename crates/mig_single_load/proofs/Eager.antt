@@ -625,7 +625,7 @@ some_longer : (given : LoadSettings) (first : Image) (text piece : List ℕ) (m 
 some_longer given first text piece m n has =
     let g = has.gives in record {
       so_far = has.so_far;
-      reader = record { progress = has.reader.progress; rest = has.reader.rest ++ piece; found = None; given = has.reader.given };
+      reader = record { progress = has.reader.progress; rest = has.reader.rest ++ piece; found = None; given = has.reader.given; fed = length (text ++ piece) };
       gives = record {
         is_single = g.is_single;
         is_page_size = g.is_page_size;
@@ -633,6 +633,7 @@ some_longer given first text piece m n has =
         has_text = ap (λ (x : List ℕ). x ++ piece) g.has_text ∙ append_assoc g.front has.reader.rest piece;
         leads = g.leads;
         ends = tt;
+        has_fed = λ short. refl;
       };
       has_memory = has.has_memory;
       has_sections = has.has_sections;
