@@ -78,7 +78,7 @@ fn assert_given_back(
     drop(copy);
     assert!(rt; done < running);
     assert!(rt;
-        guest <= done && done <= guest.wrapping_add(256),
+        guest <= done && done <= guest.wrapping_add(512),
         "{running} {done} {guest}"
     );
     drop(session);
