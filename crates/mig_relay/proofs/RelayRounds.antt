@@ -1,27 +1,17 @@
 -- The rounds of what a relay brings: how each goes into the memory, and how a load ends.
-use Rattle.std.proofs.Common.{ℕ, ◌≡◌, ◌≢◌, ◌+◌, ◌<◌, ◌≤◌, true, false, List, [], ◌∷◌, ◌++◌, length, map, take, drop, refl, sym, ap, ◌∙◌, inl, inr, Option, Some, None, arith, subst, get_or, sum_by, cond, zero-add}
+use Rattle.std.proofs.Common.{ℕ, ◌≡◌, ◌≢◌, ◌+◌, ◌<◌, ◌≤◌, true, false, List, [], ◌∷◌, ◌++◌, length, take, drop, refl, sym, ap, ◌∙◌, inl, inr, Option, Some, None, arith, subst, cond}
 use Rattle.std.specs.Prelude.{⊤, ◌^◌, IsTrue, Result, Ok, Err, is_ok}
-use Rattle.std.specs.List.{All, AllZip, range_with_len}
-use Rattle.std.specs.Option.{option_map, option_and_then}
+use Rattle.std.specs.List.{All, AllZip}
 use Rattle.std.proofs.lemmas.Bool.{cases_order}
-use Rattle.std.proofs.lemmas.List.{length-append, length-map, take-append-drop}
+use Rattle.std.proofs.lemmas.List.{length-append, take-append-drop}
 use Rattle.std.proofs.lemmas.List.Elements.{All-nil, All-cons}
-use Rattle.std.proofs.lemmas.List.Concat.{length-flat_map}
 use Rattle.std.proofs.lemmas.List.Sums.{sum_by-append}
-use Rattle.std.proofs.lemmas.List.FromFn.{map-range_with_len_more}
-use Rattle.mig_mem.specs.RamTable.{RamTable}
-use Rattle.mig_mem.specs.Image.{Page, Image, zero_image}
-use Rattle.mig_mem.specs.Round.{after, with_round}
-use Rattle.mig_mem.proofs.Rounds.{onto-push, onto-zeros}
-use Rattle.mig_stream.specs.PageRecord.{page_of}
 use Rattle.mig_stream.specs.Round.{RoundOfRecords}
 use Rattle.mig_stream.specs.declared.item.StreamState.{StreamState}
-use Rattle.mig_stream.proofs.Limits.{limits_law}
-use Rattle.mig_packet.specs.Packet.{Fields, fields_of}
+use Rattle.mig_packet.specs.Packet.{Fields}
 use Rattle.mig_packet.specs.declared.packet.Packet.{Packet}
 use Rattle.mig_packet.specs.ChannelItems.{ChannelItem}
-use Rattle.mig_packet.specs.Reading.{ChannelReading}
-use Rattle.mig_assemble.specs.Judging.{refusal, all_round_pages}
+use Rattle.mig_assemble.specs.Judging.{refusal}
 use Rattle.mig_assemble.specs.Target.{LoadTarget, pages_of_round, after_round}
 use Rattle.mig_single_load.specs.declared.fault.Origin.TheVariants as origin
 use Rattle.mig_single_load.specs.declared.fault.Fault.{Fault}
@@ -33,17 +23,16 @@ use Rattle.mig_answer.specs.declared.verdict.Verdict.{Verdict}
 use Rattle.mig_answer.specs.declared.verdict.Verdict.TheVariants.{Done, Failed}
 use Rattle.mig_single_load.specs.SingleLoad.{no_memory_at}
 use Rattle.mig_answer.specs.Status.{main_status, stream_end, is_whole}
-use Rattle.mig_answer.specs.Texts.{Readings, ended_text}
-use Rattle.mig_answer.specs.Rounds.{record_pages_at, channel_packets_at, packets_at, packet_count_at, base_at, refusal_of, refusal_at, pages_at}
+use Rattle.mig_answer.specs.Texts.{ended_text}
+use Rattle.mig_answer.specs.Rounds.{packets_at, refusal_at}
 use Rattle.mig_answer.specs.MultiLoad.{passes, as_verdict}
 use Rattle.mig_answer.specs.Received.{round_count, rounds_in, ends_round}
 use Rattle.mig_relay.specs.RelayItems.{QueueEnd}
 use Rattle.mig_relay.specs.Relayed.{Continues, IsAtRound, AreAtRound, Load, Loading, ToldAt, IsAnswered, HaveRounds, HasEnded, EndsAt, ComesToRound}
 use Rattle.mig_answer.specs.Putting.{HasLoaded, IsRoundError}
 use Rattle.mig_answer.proofs.Statuses.{status_whole, status_end, stream_ends}
-use Rattle.mig_answer.proofs.Putting.{table_is, size_of_table, refusal_of_round, round_is_put}
+use Rattle.mig_answer.proofs.Putting.{size_of_table, refusal_of_round, round_is_put}
 use Rattle.mig_answer.proofs.Received.{counted_law}
-use Rattle.mig_answer.proofs.DealtBags.{range-append}
 use Rattle.mig_relay.proofs.Relays.{of_relay, sizes_are}
 use Rattle.mig_relay.proofs.GoingThrough.{all_go_on}
 use Rattle.mig_answer.proofs.ToldSources.{told_bad_main}

@@ -1,15 +1,12 @@
 -- How a session advances over the rounds that all sources have.
-use Rattle.std.proofs.Common.{ℕ, ◌≡◌, ◌≢◌, ◌⊎◌, ◌+◌, ◌<◌, ◌≤◌, Bool, true, false, List, [], ◌∷◌, length, map, get_or, refl, sym, ap, subst, ◌∙◌, inl, inr, Option, Some, None, arith}
-use Rattle.std.specs.Prelude.{⊤, not, ◌^◌, IsTrue, IsFalse, is_some, Result, Ok, Err, IfOk, IfSome, OnOk, OnErr}
+use Rattle.std.proofs.Common.{ℕ, ◌≡◌, ◌≢◌, ◌+◌, ◌≤◌, Bool, true, false, List, [], length, map, refl, sym, ap, subst, ◌∙◌, inl, inr, Option, Some, None, arith}
+use Rattle.std.specs.Prelude.{⊤, not, ◌^◌, IsTrue, is_some, Result, Ok, Err, IfOk, IfSome, OnOk, OnErr}
 use Rattle.std.specs.List.{All, range_with_len}
 use Rattle.std.specs.Option.{option_map}
 use Rattle.std.proofs.lemmas.Bool.{cases_order}
 use Rattle.std.proofs.lemmas.List.Elements.{All-head}
-use Rattle.mig_mem.specs.PageSize.{IsPageSize}
 use Rattle.mig_mem.specs.RamTable.{RamTable}
-use Rattle.mig_mem.specs.Image.{Image}
 use Rattle.mig_mem.specs.Round.{after}
-use Rattle.mig_mem.specs.First.{first_some}
 use Rattle.mig_stream.specs.PageRecord.{PageRecord}
 use Rattle.mig_stream.specs.Round.{RoundOfRecords}
 use Rattle.mig_stream.specs.Reading.{StreamReading}
@@ -17,7 +14,6 @@ use Rattle.mig_stream.specs.Reader.{HasTable}
 use Rattle.mig_stream.proofs.Limits.{limits_law}
 use Rattle.mig_packet.specs.Packet.{Fields}
 use Rattle.mig_packet.specs.declared.packet.Packet.{Packet}
-use Rattle.mig_assemble.specs.declared.fault.RoundFault.{RoundFault}
 use Rattle.mig_assemble.specs.Judging.{refusal}
 use Rattle.mig_assemble.specs.Target.{LoadTarget, FitsTable, new_target, pages_of_round, after_round}
 use Rattle.mig_single_load.specs.Settings.{main_of}
@@ -25,15 +21,14 @@ use Rattle.mig_single_load.specs.declared.fault.Origin.TheVariants as origin
 use Rattle.mig_single_load.specs.declared.fault.Fault.TheVariants as fault
 use Rattle.mig_single_load.specs.declared.fault.LoadFault.{LoadFault}
 use Rattle.mig_answer.specs.declared.verdict.Verdict.{Verdict}
-use Rattle.mig_answer.specs.declared.verdict.Verdict.TheVariants.{Running, Failed}
+use Rattle.mig_answer.specs.declared.verdict.Verdict.TheVariants.{Failed}
 use Rattle.mig_single_load.specs.SingleLoad.{no_memory_at}
 use Rattle.mig_answer.specs.Status.{main_status, stream_end, is_whole}
 use Rattle.mig_answer.specs.Texts.{Readings}
 use Rattle.mig_answer.specs.Rounds.{packets_at, refusal_at, memory_at, pages_at}
-use Rattle.mig_answer.specs.MultiLoad.{main_at, channels_at, passes, failed, verdict_at}
+use Rattle.mig_answer.specs.MultiLoad.{main_at, channels_at, passes}
 use Rattle.mig_answer.specs.Putting.{HasLoaded, IsRoundError}
 use Rattle.mig_session.specs.Sources.{FedSources, IsMainRound, Holds, HaveRound, TellsAll, packets_of_all, IsOfSize}
-use Rattle.mig_session.specs.Session.{rounds_loaded}
 use Rattle.mig_session.specs.Advancing.{Feeding, HasPutRounds, HasRounds, Advances, TellsVerdict, HasAdvanced, IsDue, RoundIsDue, PutsOrRefuses}
 use Rattle.mig_answer.proofs.Statuses.{status_end, stream_ends}
 use Rattle.mig_answer.proofs.Judged.{IsWhole}

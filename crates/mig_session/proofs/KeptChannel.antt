@@ -1,13 +1,13 @@
 -- What a session keeps of a channel, and what that tells.
-use Rattle.std.proofs.Common.{ℕ, ◌≡◌, ◌≢◌, ◌+◌, ◌<◌, ◌≤◌, true, false, List, [], ◌++◌, length, map, get_or, refl, sym, ap, subst, ◌∙◌, inl, inr, Option, Some, None, arith}
+use Rattle.std.proofs.Common.{ℕ, ◌≡◌, ◌≢◌, ◌+◌, ◌<◌, ◌≤◌, true, false, List, [], length, map, get_or, refl, sym, ap, subst, ◌∙◌, inl, inr, Option, Some, None, arith}
 use Rattle.std.specs.Prelude.{IfSome, IfNone, is_some}
 use Rattle.std.proofs.lemmas.Bool.{cases_lt}
 use Rattle.std.proofs.lemmas.List.{length-append}
 use Rattle.std.proofs.Math.ListN.{get_or-eq_default}
 use Rattle.mig_packet.specs.PageSize.{IsPageSize}
 use Rattle.mig_packet.specs.declared.state.ChannelState.{ChannelState}
-use Rattle.mig_packet.specs.Packet.{Fields, fields_of}
-use Rattle.mig_packet.specs.Progress.{ChannelProgress, start}
+use Rattle.mig_packet.specs.Packet.{fields_of}
+use Rattle.mig_packet.specs.Progress.{ChannelProgress}
 use Rattle.mig_packet.specs.Reading.{Settings, ChannelReading, IsReading, state_at}
 use Rattle.mig_packet.specs.Reader.{Reader, RoundOfPackets, Stands, StepsOn, Tells, with_taken, with_piece as read_piece, over as read_over, one_taken, HasRound, HasState, HasHello}
 use Rattle.mig_packet.proofs.Exists.{one_reading_law}

@@ -1,8 +1,8 @@
 -- What a session keeps of all its sources, and what they tell together.
-use Rattle.std.proofs.Common.{ℕ, zero, suc, ◌≡◌, ◌≢◌, ◌+◌, ◌<◌, true, List, [], ◌∷◌, ◌++◌, append_assoc, length, map, take, drop, set, get_or, replicate, refl, sym, ap, subst, ◌∙◌, Option, Some, None, arith}
+use Rattle.std.proofs.Common.{ℕ, zero, suc, ◌≡◌, ◌≢◌, ◌+◌, ◌<◌, List, [], ◌∷◌, ◌++◌, append_assoc, length, map, take, drop, set, get_or, replicate, refl, sym, ap, subst, ◌∙◌, Option, Some, None, arith}
 use Rattle.std.specs.Prelude.{slice_get, Result, Ok, Err, OnOk}
 use Rattle.std.specs.List.{All, AllZip, flat_map, enumerate_from}
-use Rattle.std.proofs.lemmas.List.{length-set, length-map, replicate_more, take_more, take_more_set, drop_more, map-set, drop-set-lt, map-append, append-nil}
+use Rattle.std.proofs.lemmas.List.{length-set, length-map, replicate_more, take_more, take_more_set, drop_more, drop-set-lt, map-append, append-nil}
 use Rattle.std.proofs.lemmas.Grind.{flat_map-append}
 use Rattle.std.proofs.lemmas.Option.{slice_get_read}
 use Rattle.std.proofs.lemmas.List.Elements.{All-nil, All-cons, All-head, All-tail, All-push}
@@ -21,7 +21,7 @@ use Rattle.mig_session.specs.declared.counts.Count.{Count}
 use Rattle.mig_answer.specs.declared.status.Status.{Status}
 use Rattle.mig_answer.specs.declared.verdict.Verdict.{Verdict}
 use Rattle.mig_session.specs.declared.source.Source.TheVariants as source
-use Rattle.mig_answer.specs.Status.{main_status, channel_status, is_whole}
+use Rattle.mig_answer.specs.Status.{main_status, channel_status}
 use Rattle.mig_answer.specs.Texts.{Text, Texts, Readings, AreReadings, no_text}
 use Rattle.mig_answer.specs.Rounds.{channel_packets_at, packets_at}
 use Rattle.mig_answer.specs.MultiLoad.{Standing, main_standing, main_at, channels_at, hello_ids, repeated_hello, verdicts_told}

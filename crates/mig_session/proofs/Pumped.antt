@@ -1,5 +1,5 @@
 -- What a pump has read and fed so far.
-use Rattle.std.proofs.Common.{ℕ, zero, suc, ◌≡◌, ◌≢◌, ◌+◌, ◌*◌, ◌^◌, ◌<◌, ◌≤◌, List, [], ◌∷◌, ◌++◌, length, take, drop, refl, sym, ap, ◌∙◌, Option, None, Some, arith, subst, inl, inr, get_or, add-zero, add_assoc, Result, Ok, Err}
+use Rattle.std.proofs.Common.{ℕ, zero, suc, ◌≡◌, ◌≢◌, ◌+◌, ◌*◌, ◌^◌, ◌<◌, ◌≤◌, List, [], ◌∷◌, ◌++◌, length, take, drop, refl, sym, ap, ◌∙◌, Option, arith, subst, inl, inr, get_or, add-zero, add_assoc, Result, Ok, Err}
 use Rattle.std.specs.Prelude.{slice_set, IsErr, IsErrAnd, All, Bool, ◌&&◌, nat_lt, if◌then◌else◌}
 use Rattle.std.specs.List.{concat}
 use Rattle.std.specs.Io.KnownBytes.{Consumes, IsAtEnd, Keeps}
@@ -12,7 +12,6 @@ use Rattle.mig_session.specs.declared.counts.Count.{Count}
 use Rattle.mig_session.specs.declared.source.Source.{Source}
 use Rattle.mig_session.specs.declared.source.Source.TheVariants as source
 use Rattle.mig_answer.specs.declared.verdict.Verdict.TheVariants.{Running}
-use Rattle.mig_session.specs.declared.piece_reader.ReadFailed.{ReadFailed}
 use Rattle.mig_session.specs.declared.pumping.PumpFault.{PumpFault}
 use Rattle.mig_session.specs.declared.pumping.PumpFault.TheVariants as pump
 use Rattle.mig_answer.specs.Texts.{Texts}
@@ -22,7 +21,7 @@ use Rattle.mig_assemble.specs.Target.{LoadTarget}
 use Rattle.mig_session.specs.Advancing.{failed_without_memory}
 use Rattle.mig_session.specs.Session.{LoadSession, HasSource, no_count, count_of, with_fed, with_end, feed_step, end_step, answer_in, rounds_loaded, StandsFor, LacksMemory, StepsOn, RunsOut, StillLacks, KeepsRounds}
 use Rattle.mig_session.specs.Reads.{ReadsSoFar, after_pieces, after_end, after_failure, after_read}
-use Rattle.mig_session.specs.Pumping.{piece_limit, IsPiece, Explains, reads_after, HasRead, piece_steps, pump_step, HasRunOut, FeedsPieces}
+use Rattle.mig_session.specs.Pumping.{piece_limit, IsPiece, Explains, reads_after, HasRead, piece_steps, pump_step, FeedsPieces}
 
 -- ---- counts
 

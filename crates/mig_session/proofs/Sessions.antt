@@ -1,6 +1,6 @@
 -- What a session stands for: before the first piece, after each, and once a text is over.
-use Rattle.std.proofs.Common.{ℕ, zero, suc, ◌≡◌, ◌≢◌, ◌⊎◌, ◌+◌, ◌<◌, ◌≤◌, Bool, true, false, List, [], ◌∷◌, ◌++◌, length, map, set, get_or, replicate, refl, sym, ap, subst, ◌∙◌, cond, inl, inr, Option, Some, None, arith}
-use Rattle.std.specs.Prelude.{⊤, ◌^◌, nat_lt, ◌==◌, IsTrue, IsFalse, Result, Ok, Err, IfOk, IfSome}
+use Rattle.std.proofs.Common.{ℕ, zero, suc, ◌≡◌, ◌≢◌, ◌⊎◌, ◌+◌, ◌<◌, Bool, true, false, List, [], ◌∷◌, length, map, set, get_or, replicate, refl, sym, ap, subst, ◌∙◌, cond, inl, inr, Option, Some, None, arith}
+use Rattle.std.specs.Prelude.{nat_lt, ◌==◌, IsFalse, Result, Ok, Err, IfOk, IfSome}
 use Rattle.std.specs.List.{AllZip, All, enumerate_from, range_with_len}
 use Rattle.std.specs.Option.{option_map, unwrap_or}
 use Rattle.std.proofs.lemmas.Bool.{cases_order, le-ltb, ne_eqb, cond-false}
@@ -8,7 +8,6 @@ use Rattle.std.proofs.lemmas.List.{length-append, append-nil, length-map, length
 use Rattle.std.proofs.lemmas.List.Elements.{All-nil, All-cons, All-head, All-tail}
 use Rattle.mig_mem.specs.PageSize.{IsPageSize}
 use Rattle.mig_mem.specs.RamTable.{RamTable}
-use Rattle.mig_mem.specs.Image.{Image}
 use Rattle.mig_mem.specs.Round.{after}
 use Rattle.mig_stream.specs.declared.item.Mode.TheVariants.{Main}
 use Rattle.mig_stream.specs.declared.item.StreamState.TheVariants.{Reading}
@@ -31,9 +30,9 @@ use Rattle.mig_answer.specs.declared.verdict.Verdict.TheVariants.{Running, Done,
 use Rattle.mig_answer.specs.Status.{status_at, stream_end, channel_end, channel_status, is_whole, is_pending}
 use Rattle.mig_answer.specs.Texts.{Text, Texts, Readings, IsMainReading, AreReadings, no_text, no_texts, with_piece, over}
 use Rattle.mig_answer.specs.Rounds.{memory_at, base_at, pages_at}
-use Rattle.mig_answer.specs.MultiLoad.{Standing, main_at, channels_at, passes, IsFirstStop, verdict_at, Answer, IsAnswer, IsWithoutMemory}
+use Rattle.mig_answer.specs.MultiLoad.{Standing, main_at, channels_at, passes, IsFirstStop, verdict_at}
 use Rattle.mig_answer.specs.Growing.{GoesOn, GoOn}
-use Rattle.mig_session.specs.Sources.{Counts, FedMain, FedChannel, FedSources, main_count, channel_count, counts_of, HoldsMain, HoldsChannel, Holds, TellsAll}
+use Rattle.mig_session.specs.Sources.{Counts, FedChannel, FedSources, main_count, channel_count, counts_of, HoldsChannel, Holds, TellsAll}
 use Rattle.mig_session.specs.Session.{LoadSession, rounds_loaded, answer_in, HasSource, count_of, no_count, with_count, with_fed, with_end, count_in, counts_in, at_source, feed_step, end_step, HasBase, IsRunning, StandsFor, LacksMemory, StandsForSome, IsSession}
 use Rattle.mig_session.specs.Advancing.{Feeding, HasPutRounds, HasRounds, Advances, TellsVerdict, HasAdvanced, HasTaken, failed_without_memory, IsDue}
 use Rattle.mig_answer.proofs.Statuses.{status_whole, status_end, stream_ends, channel_ends}

@@ -1,24 +1,24 @@
 -- What the verdict that sources tell at a round says of the answer on texts so far.
-use Rattle.std.proofs.Common.{ℕ, ◌≡◌, Bool, true, false, List, [], ◌∷◌, refl, sym, ap, ◌∙◌, inl, inr, Option, Some, None, find}
-use Rattle.std.specs.Prelude.{IsTrue, IsFalse, ◌||◌}
+use Rattle.std.proofs.Common.{ℕ, ◌≡◌, Bool, true, false, List, [], ◌∷◌, refl, sym, ap, ◌∙◌, inl, inr, Option, Some, None}
+use Rattle.std.specs.Prelude.{IsTrue, IsFalse}
 use Rattle.std.specs.Bool.{then_some}
 use Rattle.std.specs.Option.{option_map, unwrap_or}
-use Rattle.std.specs.List.{All, list_all, list_any}
-use Rattle.std.proofs.lemmas.Bool.{cases_Bool, cond-true}
+use Rattle.std.specs.List.{All, list_any}
+use Rattle.std.proofs.lemmas.Bool.{cases_Bool}
 use Rattle.std.proofs.lemmas.List.Elements.{All-nil, All-cons}
 use Rattle.mig_mem.specs.First.{first_some}
 use Rattle.mig_assemble.specs.declared.fault.RoundFault.{RoundFault}
 use Rattle.mig_single_load.specs.declared.fault.Origin.TheVariants as origin
 use Rattle.mig_single_load.specs.declared.fault.Fault.TheVariants as fault
 use Rattle.mig_answer.specs.declared.verdict.Verdict.{Verdict}
-use Rattle.mig_answer.specs.declared.verdict.Verdict.TheVariants.{Running, Done}
-use Rattle.mig_answer.specs.Status.{is_whole, is_clean, is_pending}
+use Rattle.mig_answer.specs.declared.verdict.Verdict.TheVariants.{Running}
+use Rattle.mig_answer.specs.Status.{is_whole, is_pending}
 use Rattle.mig_answer.specs.Texts.{Readings}
 use Rattle.mig_answer.specs.Rounds.{refusal_at}
-use Rattle.mig_answer.specs.MultiLoad.{Standing, main_at, channels_at, sources_at, hello_ids, repeated_hello, passes, failed, failed_at_first, failed_with_own, verdicts_told, verdict_at}
+use Rattle.mig_answer.specs.MultiLoad.{Standing, main_at, channels_at, sources_at, hello_ids, repeated_hello, passes, failed, verdicts_told, verdict_at}
 use Rattle.mig_session.specs.Advancing.{IsDue}
 use Rattle.mig_answer.proofs.Statuses.{passes_all, first_none}
-use Rattle.mig_answer.proofs.Judged.{IsWhole, IsSettled, then_none}
+use Rattle.mig_answer.proofs.Judged.{IsSettled, then_none}
 use Rattle.mig_answer.proofs.ToldSources.{AreWhole, told_at, round_told, told_first_some, none_told, first_behind}
 
 none_of_any : {X : Type 0} (test : X → Bool) (xs : List X) → list_any test xs ≡ false → All (λ x. test x ≡ false) xs

@@ -1,5 +1,5 @@
 -- What the reads of a reader were.
-use Rattle.std.specs.Prelude.{ℕ, ◌+◌, ◌<◌, ◌&&◌, ◌==◌, nat_lt, if◌then◌else◌, Result, Ok, Err}
+use Rattle.std.specs.Prelude.{ℕ, ◌+◌, ◌&&◌, ◌==◌, nat_lt, if◌then◌else◌, Result, Ok, Err}
 use Rattle.mig_session.specs.declared.piece_reader.ReadFailed.{ReadFailed}
 
 -- how often a reader was read, how many of these reads failed, and how many found the end

@@ -1,5 +1,5 @@
 -- A load in place that writes each page as it comes: its loops, and what it stands for between calls.
-use Rattle.std.proofs.Common.{ℕ, suc, cond, ◌≡◌, ◌≢◌, ◌⊎◌, ◌+◌, ◌*◌, ◌<◌, ◌≤◌, ◌^◌, Bool, true, false, arith, List, [], ◌∷◌, ◌++◌, length, map, Option, Some, None, All, refl, sym, ap, ◌∙◌, subst, inl, inr, append_assoc}
+use Rattle.std.proofs.Common.{ℕ, suc, cond, ◌≡◌, ◌≢◌, ◌⊎◌, ◌+◌, ◌<◌, ◌^◌, false, arith, List, [], ◌∷◌, ◌++◌, length, map, Option, Some, None, All, refl, sym, ap, ◌∙◌, subst, inl, inr, append_assoc}
 use Rattle.std.specs.Prelude.{IfSome, Result, Ok, Err, OnErr, ⊤}
 use Rattle.std.specs.Option.{option_map_or, option_or}
 use Rattle.std.proofs.lemmas.Bool.{cases_Bool, cond-false}
@@ -25,7 +25,7 @@ use Rattle.mig_stream.specs.Progress.{StreamProgress, start, whole_table}
 use Rattle.mig_stream.specs.Reading.{Settings, StreamReading, IsReading, Ends}
 use Rattle.mig_stream.specs.Reader.{HasTable}
 use Rattle.mig_stream.specs.Round.{RoundOfRecords}
-use Rattle.mig_stream.specs.Giving.{Giver, GivenSoFar, none_given, with_more, with_last, with_given, Gives, GivesOn, GiverTells, EndsSo, LeavesNone, HasNoneLeft, HasReading, left, LeavesLess, all_read, Paused, giver_at, PausesAt}
+use Rattle.mig_stream.specs.Giving.{Giver, GivenSoFar, none_given, with_more, with_last, with_given, Gives, GivesOn, GiverTells, EndsSo, LeavesNone, HasNoneLeft, HasReading, LeavesLess, all_read, Paused, giver_at, PausesAt}
 use Rattle.mig_stream.specs.Law.{StaysRead}
 use Rattle.mig_stream.proofs.Between.{closed_is_empty}
 use Rattle.mig_stream.proofs.Exists.{one_reading_law}

@@ -25,7 +25,7 @@ use Rattle.mig_single_load.specs.Loader.{put_so_far, HasPutSections}
 use Rattle.mig_single_load.specs.InPlace.{settings_of, IsOfOwnTable, IsOfOtherTable, LoadsOnto, StandsAtAll}
 use Rattle.mig_single_load.specs.InPlaceState.{InPlaceState, in_place_state, memory_with, loader_with, LoadsWith, FedWith, AreSections, first_sections, PutsAlike, LoadsWithMemory, FedWithSome}
 use Rattle.mig_single_load.proofs.Sections.{pages_in, same_reading, is_few, fits_is, put_more, all_put}
-use Rattle.mig_single_load.proofs.Onto.{own_before, onto_some, fed_of, onto_longer, onto_piece, onto_over, fed_over, fed_over_some, put_none, put_own, fed_own, loads_own, loads_other}
+use Rattle.mig_single_load.proofs.Onto.{own_before, onto_some, fed_of, onto_longer, onto_piece, fed_over_some, put_none, put_own, fed_own, loads_own, loads_other}
 
 -- ---- rounds one after another
 

@@ -6,14 +6,14 @@ use Rattle.mig_mem.specs.PageSize.{IsPageSize}
 use Rattle.mig_mem.specs.RamTable.{RamTable}
 use Rattle.mig_mem.specs.Place.{IsPlace}
 use Rattle.mig_mem.specs.Image.{Page, Image, zero_image}
-use Rattle.mig_mem.specs.Round.{after, with_round, with_rounds, all_pages}
+use Rattle.mig_mem.specs.Round.{with_round, all_pages}
 use Rattle.mig_mem.proofs.Rounds.{after-nil, all_pages-push, onto-push, onto-zeros}
 use Rattle.mig_stream.specs.declared.item.StreamState.{StreamState}
 use Rattle.mig_stream.specs.declared.item.StreamState.TheVariants.{Closed}
 use Rattle.mig_stream.specs.declared.giving.Given.{Given}
 use Rattle.mig_stream.specs.declared.giving.Given.TheVariants.{Records, Section, End}
 use Rattle.mig_stream.specs.PageRecord.{PageRecord, page_of}
-use Rattle.mig_stream.specs.Reading.{StreamReading, IsReading}
+use Rattle.mig_stream.specs.Reading.{StreamReading}
 use Rattle.mig_stream.specs.Reader.{HasTable}
 use Rattle.mig_stream.specs.Round.{RoundOfRecords}
 use Rattle.mig_stream.specs.Giving.{Giver, GivenSoFar, none_given, with_more, with_last, with_given, Gives, GivesOn, GiverTells, EndsSo, HasReading, left, LeavesLess}

@@ -1,4 +1,4 @@
-use Rattle.std.proofs.Common.{◌≡◌, ◌+◌, ◌<◌, ◌∙◌, List, Option, Some, None, arith, sym, length, refl, subst, replicate, get_or, false}
+use Rattle.std.proofs.Common.{◌≡◌, ◌+◌, ◌<◌, None, arith, sym, refl, subst, replicate, get_or, false}
 use Rattle.std.proofs.lemmas.List.{get_or-replicate}
 use Rattle.mig_answer.proofs.Hellos.{HaveSeen, seen_nothing, seen_more_none, seen_more, seen_again, seen_none}
 use Rattle.mig_answer.proofs.told.repeated_id.Goals as goal

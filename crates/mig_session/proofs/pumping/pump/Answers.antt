@@ -1,4 +1,4 @@
-use Rattle.std.proofs.Common.{ℕ, ◌≡◌, ◌≤◌, List, [], length, take, Result, Ok, arith, sym, ap, subst, ◌∙◌}
+use Rattle.std.proofs.Common.{ℕ, ◌≡◌, ◌≤◌, [], length, take, Result, Ok, arith, sym, ap, subst, ◌∙◌}
 use Rattle.std.specs.Io.KnownBytes.{Consumes}
 use Rattle.mig_session.specs.declared.pumping.PumpFault.{PumpFault}
 use Rattle.mig_session.specs.Reads.{after_end, after_read}

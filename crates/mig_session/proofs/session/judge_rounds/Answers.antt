@@ -1,10 +1,10 @@
-use Rattle.std.proofs.Common.{◌≡◌, ◌+◌, ◌<◌, ◌≤◌, ◌∙◌, Option, Some, None, ap, arith, refl, subst, sym, true}
-use Rattle.std.specs.Prelude.{Result, Ok, Err, ⊤}
+use Rattle.std.proofs.Common.{◌∙◌, Option, Some, ap, arith, subst, sym, true}
+use Rattle.std.specs.Prelude.{Result, ⊤}
 use Rattle.mig_assemble.specs.Target.{LoadTarget}
 use Rattle.mig_single_load.specs.declared.fault.LoadFault.{LoadFault}
 use Rattle.mig_answer.specs.declared.verdict.Verdict.{Verdict}
 use Rattle.mig_session.specs.Sources.{FedSources, counts_of, TellsAll, main_waiting}
-use Rattle.mig_session.specs.Advancing.{Feeding, Advances, HasAdvanced, RoundIsDue, PutsOrRefuses}
+use Rattle.mig_session.specs.Advancing.{Feeding, Advances, PutsOrRefuses}
 use Rattle.mig_session.proofs.Advances.{comes_of, told_of, round_comes, next_advances, none_told_of, fails}
 use Rattle.mig_session.proofs.session.judge_rounds.Goals as goal
 

@@ -1,8 +1,7 @@
-use Rattle.std.proofs.Common.{◌≡◌, ◌≢◌, ◌∙◌, Option, Some, None, ap, refl, subst, sym}
+use Rattle.std.proofs.Common.{◌≡◌, ◌∙◌, Option, Some, None, ap, subst, sym}
 use Rattle.std.specs.Option.{option_copied}
-use Rattle.mig_mem.specs.RamTable.{RamTable}
 use Rattle.mig_assemble.specs.Target.{LoadTarget}
-use Rattle.mig_session.specs.Advancing.{Feeding, Advances}
+use Rattle.mig_session.specs.Advancing.{Advances}
 use Rattle.mig_session.specs.Session.{rounds_loaded}
 use Rattle.mig_session.proofs.Advances.{table_found, zeros_advance, none_where}
 use Rattle.mig_session.proofs.session.make_target.Goals as goal

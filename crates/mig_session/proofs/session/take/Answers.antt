@@ -1,4 +1,3 @@
-use Rattle.std.proofs.Common.{length}
 use Rattle.mig_session.specs.Session.{rounds_loaded, feed_step}
 use Rattle.mig_session.specs.Advancing.{Feeding}
 use Rattle.mig_session.proofs.Sessions.{further, goes_fed, next_feeding, rounds_further, advances_further, taken_of}

@@ -1,4 +1,4 @@
-use Rattle.std.proofs.Common.{Option, Some, None, subst}
+use Rattle.std.proofs.Common.{Option, subst}
 use Rattle.mig_answer.specs.declared.verdict.Verdict.{Verdict}
 use Rattle.mig_session.specs.Sources.{TellsAll}
 use Rattle.mig_session.proofs.Advances.{told_without, some_told}

@@ -1,4 +1,4 @@
-use Rattle.std.proofs.Common.{ℕ, ◌≡◌, ◌∙◌, ◌++◌, List, ap, map, get_or, subst, sym}
+use Rattle.std.proofs.Common.{ℕ, ◌∙◌, ◌++◌, List, ap, subst, sym}
 use Rattle.mig_packet.specs.Packet.{Fields}
 use Rattle.mig_session.specs.Sources.{FedChannel, packets_of, IsOfSize}
 use Rattle.mig_session.proofs.KeptSources.{packets_more}

@@ -1,5 +1,4 @@
-use Rattle.std.proofs.Common.{◌≡◌, arith, subst, sym, refl}
-use Rattle.std.specs.List.{AllZip}
+use Rattle.std.proofs.Common.{arith, sym}
 use Rattle.mig_session.specs.Sources.{TellsChannelStatus}
 use Rattle.mig_session.proofs.KeptSources.{zip_more}
 use Rattle.mig_session.proofs.sources.look_at_statuses.Goals as goal

@@ -1,4 +1,4 @@
-use Rattle.std.proofs.Common.{◌≡◌, ◌≤◌, length, take, vec_len, vec_capacity}
+use Rattle.std.proofs.Common.{◌≡◌, ◌≤◌, take, vec_len, vec_capacity}
 use Rattle.std.specs.List.{AllZip}
 use Rattle.mig_session.specs.Sources.{TellsChannelStatus}
 use Rattle.mig_session.proofs.sources.look_at_statuses.Given as goal

@@ -1,4 +1,4 @@
-use Rattle.std.proofs.Common.{ℕ, ◌≡◌, ◌∙◌, ◌<◌, List, length, arith, refl, sym, get_or}
+use Rattle.std.proofs.Common.{ℕ, ◌≡◌, ◌∙◌, ◌<◌, List, length, arith, sym, get_or}
 use Rattle.std.proofs.lemmas.List.{length-set}
 use Rattle.mig_session.specs.Sources.{FedChannel}
 use Rattle.mig_session.proofs.KeptSources.{next_zip, next_rest, next_counts}

@@ -1,9 +1,9 @@
-use Rattle.std.proofs.Common.{ℕ, ◌≡◌, ◌∙◌, ◌+◌, ◌++◌, ◌∷◌, [], List, arith, ap, map, replicate, subst, sym}
+use Rattle.std.proofs.Common.{ℕ, ◌≡◌, ◌∙◌, ◌+◌, ◌++◌, ◌∷◌, [], List, arith, ap, map, replicate, subst}
 use Rattle.std.specs.List.{AllZip}
 use Rattle.std.proofs.lemmas.List.{map-append, replicate_more}
 use Rattle.mig_packet.specs.Reading.{settings}
 use Rattle.mig_session.specs.declared.counts.Count.{Count}
-use Rattle.mig_answer.specs.Texts.{Text, no_text}
+use Rattle.mig_answer.specs.Texts.{no_text}
 use Rattle.mig_session.specs.Sources.{FedChannel, HoldsChannel, channel_count}
 use Rattle.mig_session.specs.Session.{no_count}
 use Rattle.mig_session.proofs.KeptSources.{zip_replicate}

@@ -1,4 +1,4 @@
-use Rattle.std.proofs.Common.{◌≡◌, ℕ, ◌<◌, List, sym, ap, refl, subst, ◌∙◌}
+use Rattle.std.proofs.Common.{◌≡◌, ℕ, sym, ap, subst, ◌∙◌}
 use Rattle.mig_mem.specs.RamTable.{RamTable}
 use Rattle.mig_mem.specs.Image.{Image}
 use Rattle.mig_mem.specs.Round.{with_round}
@@ -6,7 +6,7 @@ use Rattle.mig_stream.specs.Round.{RoundOfRecords}
 use Rattle.mig_stream.specs.Giving.{none_given}
 use Rattle.mig_assemble.specs.Target.{pages_of_round, FitsTable}
 use Rattle.mig_single_load.specs.Settings.{single_of}
-use Rattle.mig_single_load.proofs.LoadedAtOnce.{calls, Gave, HasPut, put_first, put_fits, put_records_more, put_section_more, fewer_records, fewer_section, answers_each}
+use Rattle.mig_single_load.proofs.LoadedAtOnce.{Gave, HasPut, put_first, put_fits, put_records_more, put_section_more, fewer_records, fewer_section, answers_each}
 use Rattle.mig_single_load.proofs.at_once.load_at_once.Goals as goal
 use Rattle.mig_single_load.proofs.at_once.load_at_once.Goals.{in-Records, in-Section}
 

@@ -1,4 +1,4 @@
-use Rattle.std.proofs.Common.{◌≡◌, None, rules, sym, ap, refl, subst, ◌∙◌}
+use Rattle.std.proofs.Common.{◌≡◌, None, rules}
 use Rattle.mig_stream.specs.Progress.{whole_table}
 use Rattle.mig_single_load.proofs.Eager.{Step, gave_on, gave_before}
 use Rattle.mig_single_load.proofs.eager_state.find_table.Goals as goal

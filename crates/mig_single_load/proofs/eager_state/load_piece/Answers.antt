@@ -1,9 +1,8 @@
-use Rattle.std.proofs.Common.{◌≡◌, ◌≢◌, ◌⊎◌, ◌+◌, ◌++◌, List, length, Some, None, sym, ap, refl, subst, ◌∙◌}
+use Rattle.std.proofs.Common.{◌≡◌, ◌≢◌, ◌⊎◌, Some, None, sym, ap, refl, subst, ◌∙◌}
 use Rattle.mig_mem.specs.RamTable.{RamTable}
 use Rattle.mig_mem.specs.Image.{Image}
 use Rattle.mig_stream.specs.Progress.{whole_table}
 use Rattle.mig_stream.specs.declared.item.StreamState.{StreamState}
-use Rattle.mig_stream.specs.declared.item.StreamState.TheVariants.{Reading}
 use Rattle.mig_stream.specs.Giving.{HasNoneLeft}
 use Rattle.mig_single_load.proofs.Eager.{Found, found_some, found_other, found_off, found_on, found_on_some, found_none_left, any_err, some_first, some_put, some_all}
 use Rattle.mig_single_load.proofs.eager_state.load_piece.Goals as goal

@@ -1,5 +1,4 @@
 use Rattle.std.proofs.Common.{◌≡◌}
-use Rattle.mig_mem.specs.Image.{Image}
 use Rattle.mig_single_load.specs.Eager.{PutsNextSome}
 use Rattle.mig_single_load.proofs.Eager.{PutsSoFar, GivesSoFar}
 use Rattle.mig_single_load.proofs.LoadedAtOnce.{calls}

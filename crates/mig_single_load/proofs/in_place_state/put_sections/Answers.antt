@@ -1,7 +1,6 @@
-use Rattle.std.proofs.Common.{ℕ, ◌≡◌, ◌∙◌, ap, subst, sym, refl}
+use Rattle.std.proofs.Common.{ℕ, ◌∙◌, ap, subst, sym, refl}
 use Rattle.mig_mem.specs.RamTable.{RamTable}
 use Rattle.mig_assemble.specs.Target.{FitsTable, pages_of_round}
-use Rattle.mig_single_load.proofs.Sections.{of_some}
 use Rattle.mig_single_load.specs.InPlaceState.{AreSections}
 use Rattle.mig_single_load.proofs.InPlaceStates.{alike_table, alike_more, alike_so, alike_none, sections_none, sections_more}
 use Rattle.mig_single_load.proofs.in_place_state.put_sections.Goals as goal

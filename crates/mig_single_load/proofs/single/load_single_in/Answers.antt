@@ -1,4 +1,4 @@
-use Rattle.std.proofs.Common.{◌≡◌, inl, inr}
+use Rattle.std.proofs.Common.{inl, inr}
 use Rattle.mig_single_load.specs.SingleLoad.{IsSingleWithoutMemory}
 use Rattle.mig_single_load.proofs.Sections.{none_put, of_some}
 use Rattle.mig_single_load.proofs.MachineSent.{machine_is_loaded}

@@ -1,4 +1,4 @@
-use Rattle.std.proofs.Common.{sym, subst}
+use Rattle.std.proofs.Common.{subst}
 use Rattle.mig_session.specs.Sources.{FedChannel, TakesChannel}
 use Rattle.mig_session.proofs.KeptChannel.{kept, takes_next}
 use Rattle.mig_session.proofs.channel_source.ChannelSource.advance.Goals as goal

@@ -1,4 +1,4 @@
-use Rattle.std.proofs.Common.{◌∙◌, Some, None, refl, sym}
+use Rattle.std.proofs.Common.{◌∙◌, refl, sym}
 use Rattle.mig_answer.specs.Texts.{no_texts}
 use Rattle.mig_session.proofs.Sessions.{stands_at_first}
 use Rattle.mig_session.proofs.session.Session.new_in.Goals as goal

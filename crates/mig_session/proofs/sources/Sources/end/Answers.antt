@@ -1,12 +1,11 @@
-use Rattle.std.proofs.Common.{ℕ, ◌≡◌, ◌∙◌, ◌<◌, true, List, length, map, ap, refl, subst, sym, get_or, slice_get, slice_set, Some}
-use Rattle.mig_stream.specs.declared.item.Mode.TheVariants.{Main}
+use Rattle.std.proofs.Common.{ℕ, ◌≡◌, ◌∙◌, true, List, length, ap, subst, sym, get_or, slice_get, slice_set, Some}
 use Rattle.mig_packet.specs.Reading.{settings}
 use Rattle.mig_single_load.specs.Settings.{main_of}
 use Rattle.mig_session.specs.declared.counts.Count.{Count}
 use Rattle.mig_session.specs.declared.source.Source.{Source}
 use Rattle.mig_session.specs.declared.source.Source.TheVariants as source
 use Rattle.mig_answer.specs.Texts.{no_text, over}
-use Rattle.mig_session.specs.Sources.{FedChannel, FedSources, Counts, counts_of, channel_count, main_count, Holds, HoldsChannel}
+use Rattle.mig_session.specs.Sources.{FedChannel, FedSources, counts_of, main_count, Holds, HoldsChannel}
 use Rattle.mig_session.specs.Session.{end_step, with_end, HasSource}
 use Rattle.mig_session.proofs.KeptSources.{main_steps, channel_steps, channel_counts_step, zip_at, there_of}
 use Rattle.mig_session.proofs.sources.Sources.end.Goals as goal

@@ -1,6 +1,4 @@
-use Rattle.std.proofs.Common.{ℕ, ◌≡◌, ◌∙◌, ◌+◌, Bool, List, length, map, ap, subst, sym, get_or, slice_get, slice_set, Some}
-use Rattle.std.specs.Prelude.{OnOk}
-use Rattle.mig_stream.specs.declared.item.Mode.TheVariants.{Main}
+use Rattle.std.proofs.Common.{ℕ, ◌≡◌, ◌∙◌, ◌+◌, Bool, List, length, ap, subst, sym, get_or, slice_get, slice_set, Some}
 use Rattle.mig_packet.specs.Reading.{settings}
 use Rattle.mig_single_load.specs.Settings.{main_of}
 use Rattle.mig_session.specs.declared.counts.Count.{Count}

@@ -1,10 +1,9 @@
-use Rattle.std.proofs.Common.{◌≡◌, ◌∙◌, List, map, ap, subst, sym, Some, None}
+use Rattle.std.proofs.Common.{◌∙◌, List, map, ap, subst, sym}
 use Rattle.std.specs.List.{All}
 use Rattle.std.specs.Option.{option_copied}
 use Rattle.mig_packet.specs.Lent.{fields}
-use Rattle.mig_packet.specs.declared.packet.Packet.{Packet}
 use Rattle.mig_session.specs.Sources.{FedChannel, FedSources, packets_of_all, IsOfSize}
-use Rattle.mig_session.specs.Advancing.{Feeding, RoundIsDue}
+use Rattle.mig_session.specs.Advancing.{RoundIsDue}
 use Rattle.mig_session.proofs.Advances.{fits_here, sizes_fit, round_comes, judged}
 use Rattle.mig_session.proofs.sources.Sources.judge.Goals as goal
 

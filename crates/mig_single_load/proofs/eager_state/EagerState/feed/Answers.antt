@@ -1,12 +1,11 @@
-use Rattle.std.proofs.Common.{◌≡◌, ◌+◌, ◌<◌, ◌^◌, ◌++◌, List, false, length, Some, None, arith, rules, sym, ap, refl, subst, ◌∙◌}
+use Rattle.std.proofs.Common.{◌≡◌, ◌+◌, ◌++◌, false, length, Some, None, arith, rules, sym, ap, refl, subst, ◌∙◌}
 use Rattle.std.specs.Prelude.{Option, IfSome}
 use Rattle.mig_mem.specs.RamTable.{RamTable}
 use Rattle.mig_mem.specs.Image.{Image}
 use Rattle.mig_stream.specs.Giving.{Paused}
 use Rattle.mig_single_load.specs.declared.settings.LoadSettings.{LoadSettings}
-use Rattle.mig_single_load.specs.declared.eager_state.LoadState.{LoadState}
 use Rattle.mig_single_load.specs.declared.eager_state.LoadState.TheVariants as load_state
-use Rattle.mig_single_load.specs.Eager.{EagerLoad, eager_load, EagerlyLoads, PausesOnto, PausesSome, IsEager, LacksMemory, HasSomeOnto}
+use Rattle.mig_single_load.specs.Eager.{EagerLoad, eager_load, EagerlyLoads, PausesOnto, PausesSome, LacksMemory, HasSomeOnto}
 use Rattle.mig_single_load.proofs.Eager.{at_some, some_each, eager_on, eager_past, lacks_now, lacks_more}
 use Rattle.mig_single_load.proofs.eager_state.EagerState.feed.Goals as goal
 

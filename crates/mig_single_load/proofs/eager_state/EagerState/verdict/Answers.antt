@@ -1,7 +1,7 @@
 use Rattle.std.proofs.Common.{◌≡◌, ℕ, ap, subst, sym, ◌∙◌}
 use Rattle.mig_single_load.specs.declared.eager_state.LoadState.{LoadState}
 use Rattle.mig_single_load.specs.SingleLoad.{verdict_of}
-use Rattle.mig_single_load.specs.Eager.{EagerLoad, EagerlyLoads, StandsOnto}
+use Rattle.mig_single_load.specs.Eager.{EagerLoad, StandsOnto}
 use Rattle.mig_single_load.proofs.Eager.{verdict_onto}
 use Rattle.mig_single_load.proofs.eager_state.EagerState.verdict.Goals as goal
 

@@ -1,7 +1,6 @@
-use Rattle.std.proofs.Common.{ap, ◌∙◌, subst, sym}
+use Rattle.std.proofs.Common.{subst, sym}
 use Rattle.mig_mem.specs.Image.{Image}
 use Rattle.mig_single_load.specs.InPlace.{InPlace, LoadsOnto}
-use Rattle.mig_single_load.specs.InPlaceState.{InPlaceState, loader_with}
 use Rattle.mig_single_load.proofs.InPlaceStates.{with_memory, memory_over}
 use Rattle.mig_single_load.proofs.in_place.InPlaceLoader.end.Goals as goal
 

@@ -1,5 +1,5 @@
-use Rattle.std.proofs.Common.{◌∙◌, ◌+◌, ◌<◌, ap, arith, false, subst, sym}
-use Rattle.std.specs.Prelude.{Err, IsFalse}
+use Rattle.std.proofs.Common.{ap, arith, false, subst, sym}
+use Rattle.std.specs.Prelude.{IsFalse}
 use Rattle.mig_mem.specs.Image.{Image}
 use Rattle.mig_single_load.specs.InPlace.{InPlace, LoadsOnto}
 use Rattle.mig_single_load.proofs.Feeding.{not_err}

@@ -1,5 +1,4 @@
-use Rattle.std.proofs.Common.{◌≡◌, ◌∙◌, ◌++◌, ℕ, List, false, subst, sym}
-use Rattle.mig_mem.specs.Image.{Image}
+use Rattle.std.proofs.Common.{◌++◌, ℕ, false, subst}
 use Rattle.mig_single_load.specs.InPlaceState.{LoadsWith, FedWith, AreSections}
 use Rattle.mig_single_load.proofs.Feeding.{not_err}
 use Rattle.mig_single_load.proofs.InPlaceStates.{alike_so, alike_here}

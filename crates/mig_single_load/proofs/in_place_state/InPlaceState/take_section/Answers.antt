@@ -1,4 +1,4 @@
-use Rattle.std.proofs.Common.{◌≡◌, ◌∙◌, Some, subst, sym, true, arith, rules}
+use Rattle.std.proofs.Common.{◌≡◌, Some, subst, sym, true, arith, rules}
 use Rattle.std.specs.Prelude.{Ok}
 use Rattle.mig_stream.specs.declared.round.StreamRound.{StreamRound}
 use Rattle.mig_stream.specs.Reader.{HasRound}
