@@ -7,6 +7,7 @@ use crate::message::Message;
 use crate::queue::{LogPass, Sender, push};
 use mig_packet::{Gate, Step};
 use std::alloc::{Allocator, Global};
+use std::fmt::{self, Debug, Formatter};
 use std::marker::Model;
 use std::sync::Wait;
 
@@ -38,6 +39,13 @@ impl<'a, A: Allocator> Model for Feeder<'a, A> {
     ghost invariant = { λ a. IsSeatAt (sends_on a.sender) a.pass × IsFeeding a.cursor a.text.now a.count (known a.pass) };
 }
 
+/// Opaque: it borrows a guest's bytes.
+impl<'a, A: Allocator> Debug for Feeder<'a, A> {
+    fn fmt<W: fmt::Write>(&self, f: &mut Formatter<W>) -> fmt::Result {
+        f.write_str("Feeder { .. }")
+    }
+}
+
 /// What is left of a feeder that has pushed its text's stop. Contracts see its queue, the text, and the items that it has pushed.
 #[derive(Drop)]
 pub struct Fed<A: Allocator = Global> {
@@ -57,6 +65,13 @@ impl<A: Allocator> Model for Fed<A> {
     ghost view = { λ a. queue_end a.pass.table_id (known a.pass).source (items_in (known a.pass)) };
 }
 
+/// Opaque: it holds the end of a queue.
+impl<A: Allocator> Debug for Fed<A> {
+    fn fmt<W: fmt::Write>(&self, f: &mut Formatter<W>) -> fmt::Result {
+        f.write_str("Fed { .. }")
+    }
+}
+
 /// What a step of a feeder leaves.
 #[derive(Drop)]
 pub enum FeederStep<'a, A: Allocator = Global> {
@@ -64,6 +79,16 @@ pub enum FeederStep<'a, A: Allocator = Global> {
     More(Feeder<'a, A>),
     /// The feeder has pushed its text's stop.
     Ended(Fed<A>),
+}
+
+/// Opaque, but for which of the two it is.
+impl<'a, A: Allocator> Debug for FeederStep<'a, A> {
+    fn fmt<W: fmt::Write>(&self, f: &mut Formatter<W>) -> fmt::Result {
+        match self {
+            FeederStep::More(_) => f.write_str("More(..)"),
+            FeederStep::Ended(_) => f.write_str("Ended(..)"),
+        }
+    }
 }
 
 impl<'a, A: Allocator> Feeder<'a, A> {

@@ -15,6 +15,7 @@ use crate::item::Item;
 use crate::queue::queue_for;
 use mig_mem::NoMemory;
 use std::alloc::{Allocator, Global};
+use std::fmt::{self, Debug, Formatter};
 use std::marker::Model;
 use std::sync::Wait;
 use uuid::Uuid;
@@ -38,7 +39,15 @@ impl<'a, A: Allocator> Model for Collector<'a, A> {
     ghost invariant = { λ a. IsRelay a.channels.items };
 }
 
+/// Opaque: its items borrow a guest's bytes.
+impl<'a, A: Allocator> Debug for Collector<'a, A> {
+    fn fmt<W: fmt::Write>(&self, f: &mut Formatter<W>) -> fmt::Result {
+        f.write_str("Collector { .. }")
+    }
+}
+
 /// Makes feeders and their collector.
+#[derive(Debug)]
 pub struct Relay;
 
 impl Relay {

@@ -4,6 +4,7 @@ ghost use Rattle.std.specs.Prelude.{ℕ, ◌≡◌, ◌+◌, ◌<◌, ◌≤◌,
 ghost use Rattle.std.specs.Io.KnownBytes.{ReadConsumes};
 ghost use Rattle.mig_session.specs.Reads.{ReadsSoFar, no_reads, after_read};
 
+use std::fmt::{self, Debug, Formatter};
 use std::io::Read;
 use std::marker::Model;
 
@@ -74,6 +75,13 @@ impl ReadCounts {
 pub struct Counted<R> {
     reader: R,
     counts: ReadCounts,
+}
+
+/// Opaque: its reader may hold a guest's bytes.
+impl<R> Debug for Counted<R> {
+    fn fmt<W: fmt::Write>(&self, f: &mut Formatter<W>) -> fmt::Result {
+        f.write_str("Counted { .. }")
+    }
 }
 
 impl<R: Read> Counted<R> {
