@@ -22,6 +22,6 @@ pub use first::copy;
 pub use in_place::load_onto;
 pub use incoming::{Incoming, take_piece};
 pub use live_guest::LiveGuest;
-pub use migration::{deliver, finish, load_arrived, send_round};
+pub use migration::{begin, deliver, finish, load_arrived, send_round};
 pub use notice::{Notice, notice_of};
 pub use two_readers::load_from;

@@ -42,6 +42,28 @@ pub fn deliver<A: Allocator + Copy>(
     Ok(())
 }
 
+/// The old host, first of all: sends a round without pages. QEMU's receiver needs it: its threads for
+/// the channels take packets as they come, and in QEMU 10.0 and 11.1 they end with SIGSEGV where a
+/// page comes before the main thread has read START. Behind the SYNC packet of a round they wait until
+/// the main thread has read its FLUSH, which follows START. It costs 26 bytes of the main stream, and
+/// 1,344 of each channel. A load by this library needs no such round, and takes it as any other.
+pub fn begin<R: Threads + Sync, A: Allocator + Copy + Send + Sync>(
+    rt: &R,
+    alloc: A,
+    sender: &mut MultiSender<A>,
+    memory: &Memory<A>,
+    arrived: &mut Sent<A>,
+) -> Result<(), SendFault>
+    requires { length arrived.old.channels.items ≡ length sender.old.channels }
+    ensures sent { OnOk result ((rounds : List DealtRound) → HasArrived arrived.old sender.old rounds → (round : DealtRound)
+        × (round.snapshot ≡ record { image = memory.now; dirty = [] }) × HasArrived arrived.new sender.new (rounds ++ round ∷ [])) }
+    ensures setting { KeepsSetting sender.old sender.new }
+    ensures channels { length arrived.new.channels.items ≡ length arrived.old.channels.items }
+{
+    let none = Dirty::none(alloc, memory.table())?;
+    send_round(rt, alloc, sender, memory, &none, arrived)
+}
+
 /// The old host, while the guest runs: sends the pages that are dirty in a copy of its memory, and hands on what was written. A worker for
 /// each channel runs on a thread of its own.
 pub fn send_round<R: Threads + Sync, A: Allocator + Copy + Send + Sync>(
@@ -162,11 +184,11 @@ mod tests {
         load_arrived(rt, rt.alloc(), &Uuid::nil(), arrived, 1 << 20).expect(rt, "a memory")
     }
 
-    // Three pages in a first round, and one of them again in a second. With at most two pages to a packet the first round has two packets
-    // of pages and the second one. A channel has its hello of 64 bytes, and of each round a SYNC packet of 1,344 bytes; a packet of pages
+    // A round without pages, three pages in the next, and one of them again in the last. With at most two pages to a packet these have two
+    // packets of pages and one. A channel has its hello of 64 bytes, and of each round a SYNC packet of 1,344 bytes; a packet of pages
     // has 1,344 bytes too, and then its pages. Of the main stream the opening has 61 bytes, each FLUSH 26, and the end 19.
     #[test]
-    fn two_rounds_on_two_channels(rt: HostRuntime) {
+    fn three_rounds_on_two_channels(rt: HostRuntime) {
         let mut memory = zeroed(rt.alloc(), &[("pc.ram", 3)]).expect(&rt, "a memory");
         assert!(rt;
             set(&mut memory, 0, 0, 1)
@@ -179,16 +201,20 @@ mod tests {
         let mut sender = made.expect(&rt, "a sender");
         let mut arrived = nothing(&rt, 2);
         assert!(rt; arrived.channels.len() == sender.channels());
+        let begun = begin(&rt, rt.alloc(), &mut sender, &memory, &mut arrived);
+        assert!(rt; begun == Ok(()) && arrived.main.len() == 61 + 26 && sender.base() == 2);
+        assert!(rt; arrived.channels.len() == sender.channels());
+        assert!(rt; arrived.channels.iter().all(|text| text.len() == 64 + 1344));
         let sent = send_round(&rt, rt.alloc(), &mut sender, &memory, &first, &mut arrived);
-        assert!(rt; sent == Ok(()) && arrived.main.len() == 61 + 26);
+        assert!(rt; sent == Ok(()) && arrived.main.len() == 61 + 26 + 26);
         assert!(rt; set(&mut memory, 0, 1, 4));
         let second = places_of(rt.alloc(), memory.table(), &[at(0, 0)]).expect(&rt, "a set");
         assert!(rt; arrived.channels.len() == sender.channels());
         let sent = send_round(&rt, rt.alloc(), &mut sender, &memory, &second, &mut arrived);
-        assert!(rt; sent == Ok(()) && sender.base() == 7 && sender.rounds() == 2);
+        assert!(rt; sent == Ok(()) && sender.base() == 9 && sender.rounds() == 3);
         assert!(rt; arrived.channels.len() == sender.channels());
         assert!(rt; finish(sender, &mut arrived) == Ok(()));
-        assert!(rt; arrived.main.len() == 61 + 26 + 26 + 19);
+        assert!(rt; arrived.main.len() == 61 + 26 + 26 + 26 + 19);
         let there = load_both(&rt, &arrived);
         let page = there.page(at(0, 0)).expect(&rt, "a page");
         assert!(rt; page.starts_with(&[1, 4, 0]));
