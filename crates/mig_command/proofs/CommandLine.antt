@@ -18,7 +18,7 @@ use Rattle.mig_scenario.specs.declared.layout.Layout.{Layout}
 use Rattle.mig_scenario.specs.declared.layout.PageSize.{PageSize}
 use Rattle.mig_scenario.specs.declared.layout.PageSize.TheVariants.{Small, Large}
 use Rattle.mig_scenario.specs.Layout.{bytes_in}
-use Rattle.mig_command.specs.Words.{IsArg, IsCommand, Gives, GiveLayout, AskCheck, AskPlainCheck, plain_layout, tool_app, texts_of}
+use Rattle.mig_command.specs.Words.{IsArg, IsCommand, Gives, GiveLayout, AskCheck, AskPlainCheck, AskCommand, plain_layout, tool_app, texts_of}
 
 -- ---- how a command is declared
 
@@ -60,8 +60,8 @@ nothing_is_met : subcommand_of tool_app [] ≡ None
 unfolding clap_on_literals
 nothing_is_met = refl
 
-not_met : (rows : List Row) → subcommand_of tool_app [] ≡ Some (codes "check", rows) → ⊥
-not_met rows is = let bad : None ≡ Some (codes "check", rows) = sym nothing_is_met ∙ is in absurd cc
+not_met : (command : Text) (rows : List Row) → subcommand_of tool_app [] ≡ Some (command, rows) → ⊥
+not_met command rows is = let bad : None ≡ Some (command, rows) = sym nothing_is_met ∙ is in absurd cc
 
 plain_options : GiveLayout [] plain_layout
 plain_options = record { gives_page = refl; gives_channels = refl; gives_batch = refl; few_channels = omega arith; has_room = (omega arith, omega arith) }
@@ -107,17 +107,22 @@ are_options (w ∷ ws) layout some (inr is) = is
 
 pub no_options : {A : Type 0} (ws : List (String A)) (layout : Layout) → (length ws == 0) ≡ true → AskCheck (texts_of ws) layout → plain_layout ≡ layout
 no_options [] layout none (inl ask) = sym ask.1
-no_options [] layout none (inr ask) = absurd (not_met ask.0 ask.2)
+no_options [] layout none (inr ask) = absurd (not_met (codes "check") ask.0 ask.2)
 no_options (w ∷ ws) layout none ask = absurd (omega (arith, eqb-true (length (w ∷ ws)) 0 none))
+
+-- words that name a command are some
+pub no_command : {A : Type 0} (ws : List (String A)) (command : Text) (rows : List Row) → (length ws == 0) ≡ true → AskCommand (texts_of ws) command rows → ⊥
+no_command [] command rows none ask = not_met command rows ask.is_met
+no_command (w ∷ ws) command rows none ask = absurd (omega (arith, eqb-true (length (w ∷ ws)) 0 none))
 
 -- they are taken
 pub passes_check : (app : App) (ws : List Text) → app ≡ tool_app → takes tool_app ws ≡ true → takes app ws ≡ true
 passes_check app ws same taken = ap (λ (x : App). takes x ws) same ∙ taken
 
 -- and what they ask for is met
-pub meets_check : (app : App) (ws : List Text) (rows : List Row) (m : ArgMatches) → app ≡ tool_app → subcommand_of tool_app ws ≡ Some (codes "check", rows) → HasMatchesOf app ws m
-    → subcommand_rows_of m ≡ Some (codes "check", rows)
-meets_check app ws rows m same is has = (has (ap is_simple same ∙ is_simple_tool)).1 ∙ ap (λ (x : App). subcommand_of x ws) same ∙ is
+pub meets : (app : App) (ws : List Text) (command : Text) (rows : List Row) (m : ArgMatches) → app ≡ tool_app → subcommand_of tool_app ws ≡ Some (command, rows) → HasMatchesOf app ws m
+    → subcommand_rows_of m ≡ Some (command, rows)
+meets app ws command rows m same is has = (has (ap is_simple same ∙ is_simple_tool)).1 ∙ ap (λ (x : App). subcommand_of x ws) same ∙ is
 
 mapped_twice : {X Y Z : Type 0} (f : X → Y) (g : Y → Z) (o : Option X) → option_map g (option_map f o) ≡ option_map (λ x. g (f x)) o
 mapped_twice f g None = refl
@@ -130,18 +135,18 @@ some_same : {X : Type 0} (x y : X) → Some x ≡ Some y → x ≡ y
 some_same x y e = cc
 
 -- the command that was met, by its name, and what of it was used
-pub met : (m : ArgMatches) (r : Option (Bor Text × Bor ArgMatches)) (name : Bor Text) (sub : Bor ArgMatches) (found : List Row) → subcommand_rows_of m ≡ Some (codes "check", found)
+pub met : (m : ArgMatches) (r : Option (Bor Text × Bor ArgMatches)) (name : Bor Text) (sub : Bor ArgMatches) (command : Text) (found : List Row) → subcommand_rows_of m ≡ Some (command, found)
     → option_map (λ p. p.0.now) r ≡ subcommand_name_of m → option_map (λ p. rows_of (found_of p.1.now)) r ≡ option_map (λ p. p.1) (subcommand_rows_of m)
-    → r ≡ Some (name, sub) → (name.now ≡ codes "check") × (rows_of (found_of sub.now) ≡ found)
-met m r name sub found is names rows some = (
-  some_same name.now (codes "check") (sym (ap (λ (o : Option (Bor Text × Bor ArgMatches)). option_map (λ p. p.0.now) o) some) ∙ names ∙ sym (name_of_rows m) ∙ ap (λ (o : Option (Text × List Row)). option_map (λ p. p.0) o) is),
+    → r ≡ Some (name, sub) → (name.now ≡ command) × (rows_of (found_of sub.now) ≡ found)
+met m r name sub command found is names rows some = (
+  some_same name.now command (sym (ap (λ (o : Option (Bor Text × Bor ArgMatches)). option_map (λ p. p.0.now) o) some) ∙ names ∙ sym (name_of_rows m) ∙ ap (λ (o : Option (Text × List Row)). option_map (λ p. p.0) o) is),
   some_same (rows_of (found_of sub.now)) found (sym (ap (λ (o : Option (Bor Text × Bor ArgMatches)). option_map (λ p. rows_of (found_of p.1.now)) o) some) ∙ rows ∙ ap (λ (o : Option (Text × List Row)). option_map (λ p. p.1) o) is),
 )
 
 -- there is one
-pub none_met : (m : ArgMatches) (r : Option (Bor Text × Bor ArgMatches)) (found : List Row) → subcommand_rows_of m ≡ Some (codes "check", found) → option_map (λ p. p.0.now) r ≡ subcommand_name_of m → r ≡ None → ⊥
-none_met m r found is names none =
-    let bad : None ≡ Some (codes "check") = sym (ap (λ (o : Option (Bor Text × Bor ArgMatches)). option_map (λ p. p.0.now) o) none) ∙ names ∙ sym (name_of_rows m) ∙ ap (λ (o : Option (Text × List Row)). option_map (λ p. p.0) o) is in
+pub none_met : (m : ArgMatches) (r : Option (Bor Text × Bor ArgMatches)) (command : Text) (found : List Row) → subcommand_rows_of m ≡ Some (command, found) → option_map (λ p. p.0.now) r ≡ subcommand_name_of m → r ≡ None → ⊥
+none_met m r command found is names none =
+    let bad : None ≡ Some command = sym (ap (λ (o : Option (Bor Text × Bor ArgMatches)). option_map (λ p. p.0.now) o) none) ∙ names ∙ sym (name_of_rows m) ∙ ap (λ (o : Option (Text × List Row)). option_map (λ p. p.0) o) is in
     absurd cc
 
 -- ---- results

@@ -1,15 +1,19 @@
 -- The command line: what it is declared as, and which words ask for a check.
-use Rattle.std.specs.Prelude.{ℕ, ◌≡◌, ◌≤◌, ◌^◌, ◌⊎◌, true, false, List, [], ◌∷◌, map, MatchOption, Some, codes, ⊤, String, string_bytes}
+use Rattle.std.specs.Prelude.{ℕ, ◌≡◌, ◌≤◌, ◌^◌, ◌⊎◌, true, false, List, [], ◌∷◌, map, MatchOption, IfSome, Some, codes, ⊤, String, string_bytes}
 use Rattle.std.specs.Str.Parse.{IsNumeral, digits_value, without_leading_plus}
-use Rattle.clap.specs.Words.{App, Row, Rule, Text, app_of, rule_of, new_app, new_rule, with_rule, with_subcommand, one_of, subcommand_of, takes}
+use Rattle.uuid.specs.Text.{parsed}
+use Rattle.clap.specs.Words.{App, Row, Rule, Text, app_of, rule_of, new_app, new_rule, with_rule, with_subcommand, first_value, one_of, subcommand_of, takes}
+use Rattle.clap.specs.declared.parser.matches.Found.{Found}
 use Rattle.clap.specs.declared.builder.arg.Arg.{Arg}
 use Rattle.clap.specs.declared.builder.command.Command.{Command}
 use Rattle.clap.specs.declared.builder.command.Command.TheViews.{out-Command as fields_of}
 use Rattle.clap.specs.declared.builder.value_parser.ValueParser.TheVariants.{Unsigned}
 use Rattle.clap.specs.declared.builder.action.ArgAction.TheVariants.{SetTrue}
 use Rattle.mig_packet.specs.PageSize.{page_limit}
+use Rattle.mig_scenario.specs.declared.layout.PageSize.{PageSize}
 use Rattle.mig_scenario.specs.declared.layout.PageSize.TheVariants.{Small}
 use Rattle.mig_scenario.specs.declared.layout.Layout.{Layout}
+use Rattle.mig_command.specs.declared.request.LoadRequest.{LoadRequest}
 use Rattle.mig_command.specs.declared.request.Request.{Request}
 use Rattle.mig_command.specs.declared.request.Request.TheVariants as request
 use Rattle.mig_scenario.specs.Layout.{bytes_in, HasRoom}
@@ -102,6 +106,53 @@ pub record GiveLayout (rows : List Row) (layout : Layout) : Type 0 where
 abbrev pub AskCheck : List Text → Layout → Type 0
 AskCheck words layout = ((words ≡ []) × (layout ≡ plain_layout))
     ⊎ ((rows : List Row) × (takes tool_app words ≡ true) × (subcommand_of tool_app words ≡ Some (codes "check", rows)) × GiveLayout rows layout)
+
+-- The command line takes the words, they name this command, and these are its options.
+pub record AskCommand (words : List Text) (command : Text) (rows : List Row) : Type 0 where
+  pub is_taken : takes tool_app words ≡ true
+  pub is_met : subcommand_of tool_app words ≡ Some (command, rows)
+
+-- The words ask for `send` in a layout, which its options give as those of `check` do.
+abbrev pub AskSend : List Text → Layout → Type 0
+AskSend words layout = (rows : List Row) × AskCommand words (codes "send") rows × GiveLayout rows layout
+
+-- The options of `load` give pages of this size, so many channels, and the most bytes of a guest:
+-- pages of 4096 bytes, no channels, and 2^30 bytes, where they don't say.
+pub record GiveLoad (rows : List Row) (page_size : PageSize) (channels limit : ℕ) : Type 0 where
+  pub gives_page : Gives rows (codes "page") 4096 (bytes_in page_size)
+  pub gives_channels : Gives rows (codes "channels") 0 channels
+  pub gives_limit : Gives rows (codes "limit") (2 ^ 30) limit
+  pub few_channels : channels ≤ 255
+  pub keeps_most : limit ≤ 2 ^ 40
+
+-- The words ask for `load`, and its options give these.
+abbrev pub AskLoad : List Text → PageSize → ℕ → ℕ → Type 0
+AskLoad words page_size channels limit = (rows : List Row) × AskCommand words (codes "load") rows
+    × GiveLoad rows page_size channels limit
+
+-- a scenario is to be sent in this layout
+abbrev pub SendsIn : Layout → Request → Type 0
+SendsIn layout (request.Check other) = ⊥
+SendsIn layout (request.Send send) = send.layout ≡ layout
+SendsIn layout (request.Load load) = ⊥
+SendsIn layout (request.Compare compare) = ⊥
+
+-- what a load is to be done with
+pub record LoadsWith (page_size : PageSize) (channels limit : ℕ) (load : LoadRequest) : Type 0 where
+  pub has_page : load.page_size ≡ page_size
+  pub has_channels : load.channels ≡ channels
+  pub has_limit : load.limit ≡ limit
+
+-- files are to be loaded with these
+abbrev pub LoadsIn : PageSize → ℕ → ℕ → Request → Type 0
+LoadsIn page_size channels limit (request.Check layout) = ⊥
+LoadsIn page_size channels limit (request.Send send) = ⊥
+LoadsIn page_size channels limit (request.Load load) = LoadsWith page_size channels limit load
+LoadsIn page_size channels limit (request.Compare compare) = ⊥
+
+-- the UUID that the options name, if they do, has one of a UUID's forms
+abbrev pub HasUuid : Found → Type 0
+HasUuid found = IfSome (first_value found (codes "uuid")) (λ text. (u : List ℕ) × (parsed text ≡ Some u))
 
 -- No words, or `check` alone.
 abbrev pub AskPlainCheck : List Text → Type 0

@@ -1,10 +1,10 @@
 //! The command line: what its words ask for.
 
-ghost use Rattle.std.specs.Prelude.{ℕ, ◌≡◌, ◌<◌, ◌≤◌, ◌^◌, None, Ok, codes, IfOk, IfErr};
-ghost use Rattle.clap.specs.Words.{found_of, kind_of, one_text, rows_of};
+ghost use Rattle.std.specs.Prelude.{ℕ, ◌≡◌, ◌<◌, ◌≤◌, ◌^◌, Ok, codes, IsOk, IfOk, IfErr};
+ghost use Rattle.clap.specs.Words.{found_of, kind_of, rows_of};
 ghost use Rattle.mig_packet.specs.PageSize.{page_limit};
 ghost use Rattle.mig_command.specs.Words.{IsArg, IsCommand, number_rule, file_rule, channels_rule, batch_rule, uuid_rule, limit_rule, feed_rule, page_rule, check_app, send_app, load_app, compare_app, tool_app};
-ghost use Rattle.mig_command.specs.Words.{Gives, GiveLayout, AskCheck, KeepsLimits, texts_of};
+ghost use Rattle.mig_command.specs.Words.{Gives, GiveLayout, GiveLoad, AskCheck, AskSend, AskLoad, KeepsLimits, SendsIn, LoadsWith, LoadsIn, HasUuid, texts_of};
 ghost use Rattle.mig_scenario.specs.Layout.{bytes_in, HasRoom};
 ghost use Rattle.mig_scenario.specs.declared.layout.PageSize.{PageSize as Size};
 ghost use Rattle.mig_scenario.specs.declared.layout.Layout.{Layout as Asked};
@@ -152,7 +152,8 @@ fn unread(error: &Error) -> Answer
 }
 
 fn page_size_in<'a>(matches: &ArgMatches<'a>) -> Result<PageSize, ToolFault>
-    ensures { (size : Size) → Gives (rows_of (found_of matches.now)) (codes "page") 4096 (bytes_in size) → result ≡ Ok size }
+    ensures err { IfErr result (λ fault. fault ≡ ToolFault.Words) }
+    ensures given { (size : Size) → Gives (rows_of (found_of matches.now)) (codes "page") 4096 (bytes_in size) → result ≡ Ok size }
 {
     let bytes = matches.get_one::<u64>("page").unwrap_or(PAGE_SIZE_4K);
     if bytes == PAGE_SIZE_4K {
@@ -170,7 +171,10 @@ fn channels_in<'a>(matches: &ArgMatches<'a>) -> u8
     matches.get_one::<u8>("channels").unwrap_or(0)
 }
 
-fn uuid_in<'a>(matches: &ArgMatches<'a>) -> Result<Uuid, ToolFault> {
+fn uuid_in<'a>(matches: &ArgMatches<'a>) -> Result<Uuid, ToolFault>
+    ensures ok { IsOk result → HasUuid (found_of matches.now) }
+    ensures err { IfErr result (λ fault. fault ≡ ToolFault.Uuid) }
+{
     match matches.get_str("uuid") {
         None => Ok(Uuid::nil()),
         Some(text) => match Uuid::parse_str(text) {
@@ -212,7 +216,9 @@ fn file_in<'a>(matches: &ArgMatches<'a>, name: &str) -> Result<&'a str, ToolFaul
 }
 
 fn send_in<'a>(matches: &ArgMatches<'a>) -> Result<SendRequest<'a>, ToolFault>
-    ensures { IfOk result (λ request. HasRoom request.layout) }
+    ensures room { IfOk result (λ request. HasRoom request.layout) }
+    ensures given { IfOk result (λ request. (layout : Asked) → GiveLayout (rows_of (found_of matches.now)) layout → request.layout ≡ layout) }
+    ensures order { IfErr result (λ fault. fault ≡ ToolFault.Batch → HasUuid (found_of matches.now)) }
 {
     let page_size = page_size_in(matches)?;
     let uuid = uuid_in(matches)?;
@@ -228,9 +234,18 @@ fn send_in<'a>(matches: &ArgMatches<'a>) -> Result<SendRequest<'a>, ToolFault>
     })
 }
 
+// The most bytes of a guest.
+fn limit_in<'a>(matches: &ArgMatches<'a>) -> u64
+    ensures { (limit : ℕ) → limit ≤ 2 ^ 40 → Gives (rows_of (found_of matches.now)) (codes "limit") (2 ^ 30) limit → result ≡ limit }
+{
+    matches.get_one::<u64>("limit").unwrap_or(DEFAULT_LIMIT)
+}
+
 fn load_in<'a>(matches: &ArgMatches<'a>) -> Result<LoadRequest<'a>, ToolFault>
     ensures most { IfOk result (λ request. request.limit ≤ 2 ^ 40) }
-    ensures default { one_text (found_of matches.now) (codes "limit") ≡ None → IfOk result (λ request. request.limit ≡ 2 ^ 30) }
+    ensures given { IfOk result (λ request. (page_size : Size) (channels limit : ℕ) → GiveLoad (rows_of (found_of matches.now)) page_size channels limit
+        → LoadsWith page_size channels limit request) }
+    ensures order { IfErr result (λ fault. fault ≡ ToolFault.Feed → HasUuid (found_of matches.now)) }
 {
     let page_size = page_size_in(matches)?;
     let uuid = uuid_in(matches)?;
@@ -239,7 +254,7 @@ fn load_in<'a>(matches: &ArgMatches<'a>) -> Result<LoadRequest<'a>, ToolFault>
     if is_fed && channels == 0 {
         return Err(ToolFault::Feed);
     }
-    let limit = matches.get_one::<u64>("limit").unwrap_or(DEFAULT_LIMIT);
+    let limit = limit_in(matches);
     if limit > MAX_TOTAL {
         return Err(ToolFault::Words);
     }
@@ -265,6 +280,9 @@ fn compare_in<'a>(matches: &ArgMatches<'a>) -> Result<CompareRequest<'a>, ToolFa
 // What a command that was met asks for.
 fn request_in<'a>(name: &str, matches: &ArgMatches<'a>) -> Result<Request<'a>, ToolFault>
     ensures check { (layout : Asked) → name.now ≡ codes "check" → GiveLayout (rows_of (found_of matches.now)) layout → result ≡ Ok (Request.Check layout) }
+    ensures send { IfOk result (λ request. (layout : Asked) → name.now ≡ codes "send" → GiveLayout (rows_of (found_of matches.now)) layout → SendsIn layout request) }
+    ensures load { IfOk result (λ request. (page_size : Size) (channels limit : ℕ) → name.now ≡ codes "load"
+        → GiveLoad (rows_of (found_of matches.now)) page_size channels limit → LoadsIn page_size channels limit request) }
     ensures limits { IfOk result KeepsLimits }
 {
     match name {
@@ -299,6 +317,9 @@ pub(crate) const PLAIN_CHECK: Layout = Layout {
 pub(crate) fn asked<'a>(alloc: Global, words: &'a [String]) -> Result<Request<'a>, Answer>
     ensures ok { IfOk result (λ request. (layout : Asked) → AskCheck (texts_of words.entry.now) layout → request ≡ Request.Check layout) }
     ensures err { IfErr result (λ answer. (layout : Asked) → AskCheck (texts_of words.entry.now) layout → answer ≡ Answer.Refused ScenarioFault.NoMemory) }
+    ensures send { IfOk result (λ request. (layout : Asked) → AskSend (texts_of words.entry.now) layout → SendsIn layout request) }
+    ensures load { IfOk result (λ request. (page_size : Size) (channels limit : ℕ) → AskLoad (texts_of words.entry.now) page_size channels limit
+        → LoadsIn page_size channels limit request) }
     ensures limits { IfOk result KeepsLimits }
 {
     if words.is_empty() {
