@@ -5,7 +5,7 @@ WORDS ?=
 CRATES ?=
 PREFIX ?= /usr/local
 
-.PHONY: help run check build lib install example header try documents test gate
+.PHONY: help run check build program lib install example header try documents test gate
 
 help: ## at once | lists the targets
 	@echo "Times on 4 processors, from a fresh clone:"
@@ -21,6 +21,10 @@ check: ## up to 10 minutes | runs tests, stored runs and cases, unproved; CRATES
 build: ## half an hour and more | proves and builds the tool: crates/mig_tool/out/mig_tool
 	@tools/prove.py mig_tool "half an hour and more"
 	@echo "built: crates/mig_tool/out/mig_tool"
+
+program: ## half an hour and more | proves and builds zimgasol: crates/zimgasol_cli/out/zimgasol_cli
+	@tools/prove.py zimgasol_cli "half an hour and more"
+	@echo "built: crates/zimgasol_cli/out/zimgasol_cli"
 
 lib: header ## half an hour and more | proves and builds the library for C: out/libzimgasol.a
 	@tools/lib.sh
@@ -40,6 +44,7 @@ try: ## at once, after build | runs the built tool in a shell: docs/TOOL.md, pip
 documents: header ## at once | compares header, case lists, examples and quotations with the code
 	@tools/case_lists.py --check
 	@tools/tool_page.py --check
+	@tools/zimgasol_page.py --check
 	@cmp crates/mig_tool/src/main.rt crates/mig_tool_words/src/main.rt
 	@tools/quotes.py
 

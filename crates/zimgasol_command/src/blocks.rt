@@ -1,0 +1,71 @@
+//! The blocks of a stream, with how many page records each has.
+
+use mig_mem::{Place, Table};
+use std::alloc::{AllocError, Global};
+
+/// The page records of one block.
+#[derive(Clone, Copy, Debug, PartialEq, Eq)]
+pub(crate) struct PageCounts {
+    /// Those that have a page's bytes.
+    pub pages: u64,
+    /// Those that say only that a page is zeros.
+    pub zeros: u64,
+}
+
+impl PageCounts {
+    /// None.
+    pub(crate) const NONE: PageCounts = PageCounts { pages: 0, zeros: 0 };
+
+    // Counts one record more.
+    fn with(self, is_zero: bool) -> PageCounts {
+        if is_zero {
+            return PageCounts {
+                zeros: self.zeros.saturating_add(1),
+                ..self
+            };
+        }
+        PageCounts {
+            pages: self.pages.saturating_add(1),
+            ..self
+        }
+    }
+}
+
+/// The table of a stream, and the page records of its blocks, in its order.
+#[derive(Drop)]
+pub(crate) struct Blocks {
+    pub table: Table,
+    pub counts: Vec<PageCounts>,
+}
+
+impl Blocks {
+    /// Creates them with no records.
+    pub(crate) fn new(alloc: Global, table: Table) -> Result<Blocks, AllocError> {
+        let counts = vec![in alloc; PageCounts::NONE; table.len()]?;
+        Ok(Blocks { table, counts })
+    }
+
+    /// Counts a record.
+    pub(crate) fn count(&mut self, place: Place, is_zero: bool) {
+        if place.block < self.counts.len() {
+            self.counts[place.block] = self.counts[place.block].with(is_zero);
+        }
+    }
+
+    /// Returns how many bytes the blocks have together.
+    pub(crate) fn total(&self) -> u64 {
+        let mut total = 0u64;
+        for block in 0..self.table.len() {
+            total = total.saturating_add(self.len(block));
+        }
+        total
+    }
+
+    /// Returns how many bytes a block has.
+    pub(crate) fn len(&self, block: usize) -> u64 {
+        if block >= self.table.len() {
+            return 0;
+        }
+        self.table.pages(block) * self.table.page_size()
+    }
+}

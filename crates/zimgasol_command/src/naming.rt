@@ -1,0 +1,86 @@
+//! The names of the files that blocks are extracted into.
+
+ghost use Rattle.std.specs.Prelude.{◌≡◌, ◌<◌, ◌++◌, ◌^◌, length, IfOk, string_bytes, codes};
+ghost use Rattle.percent_encoding.specs.Percent.{percent_encode as encoded};
+ghost use Rattle.zimgasol_command.specs.Naming.{escaped_in, name_of, NamesArePlain, NamesAreDistinct};
+
+use percent_encoding::{AsciiSet, NON_ALPHANUMERIC, ascii_set, percent_encode};
+use std::alloc::{AllocError, Global};
+
+/// The most bytes of a name before its suffix, where it is made of the id. A file system takes 255
+/// bytes, and a file that isn't whole yet has a longer name than in the end.
+const MOST_LEN: usize = 200;
+
+/// The characters that are escaped in an id that begins with a dot.
+const ESCAPED_WITH_DOTS: AsciiSet = ascii_set!(
+    NON_ALPHANUMERIC.remove(b'-').remove(b'_').remove(b'@')
+);
+
+/// The characters that are escaped in any other id.
+const ESCAPED: AsciiSet = ascii_set!(
+    NON_ALPHANUMERIC
+        .remove(b'-')
+        .remove(b'_')
+        .remove(b'@')
+        .remove(b'.')
+);
+
+// Returns the characters that are escaped in an id.
+fn escaped_set(id: &[u8]) -> AsciiSet
+    ensures { result ≡ escaped_in id.now }
+{
+    match id.first() {
+        Some(first) if *first == b'.' => ESCAPED_WITH_DOTS,
+        _ => ESCAPED,
+    }
+}
+
+/// Returns the name of the file of a block, which has this id and number. It is the id, with the
+/// bytes that may not stand in a name as `%` and two hexadecimal digits; or, where that is too long,
+/// `%long-` with the number. It ends with `.bin`.
+///
+/// # Errors
+///
+/// `AllocError`: an allocation was refused.
+pub fn file_name(alloc: Global, id: &[u8], block: usize) -> Result<String, AllocError>
+    ensures { IfOk result (λ name. string_bytes name ≡ name_of id.now block) }
+{
+    let mut name = String::new(alloc);
+    percent_encode(id, escaped_set(id)).append_to(&mut name)?;
+    if name.len() > MOST_LEN {
+        let mut digits = itoa::Buffer::new();
+        name.clear();
+        name.push_str("%long-")?;
+        name.push_str(digits.format(block))?;
+    }
+    name.push_str(".bin")?;
+    Ok(name)
+}
+
+/// The name of each block leads to a file in its folder: it has no slash, and doesn't begin with a
+/// dot.
+pub fn names_are_plain()
+    ensures { NamesArePlain }
+{}
+
+/// No block's file hides another's: their names differ where ids and numbers do.
+pub fn names_are_distinct()
+    ensures { NamesAreDistinct }
+{}
+
+/// Returns the path of a name in a folder, with something after the name.
+pub(crate) fn path_in(
+    alloc: Global,
+    folder: &str,
+    name: &str,
+    after: &str,
+) -> Result<String, AllocError>
+    ensures { IfOk result (λ path. string_bytes path ≡ folder.now ++ codes "/" ++ name.now ++ after.now) }
+{
+    let mut path = String::new(alloc);
+    path.push_str(folder)?;
+    path.push_str("/")?;
+    path.push_str(name)?;
+    path.push_str(after)?;
+    Ok(path)
+}

@@ -1,0 +1,51 @@
+//! Where a stream has a fault, and which it is.
+
+use crate::between::SectionKind;
+use crate::survey::Survey;
+use mig_stream::{StreamFault, StreamState};
+
+/// A fault of a stream, with its place in the file.
+#[derive(Clone, Copy)]
+pub(crate) struct FaultPlace {
+    pub fault: StreamFault,
+    /// The byte of the file at which the item with the fault begins; of a stream that was cut, the
+    /// byte at which the file ends.
+    pub byte: u64,
+    /// How many sections are whole before it.
+    pub sections: u64,
+    /// The section that it is in; None between two sections.
+    pub kind: Option<SectionKind>,
+}
+
+/// Returns the fault of a stream that was read to its end; None where the stream is whole.
+pub(crate) fn fault_of(survey: &Survey) -> Option<FaultPlace> {
+    let (fault, byte) = match survey.state {
+        StreamState::Closed => return None,
+        StreamState::Reading => (StreamFault::Truncated, survey.len),
+        StreamState::Bad(fault) => (fault, survey.before().saturating_add(survey.valid)),
+    };
+    Some(FaultPlace {
+        fault,
+        byte,
+        sections: survey.sections,
+        kind: kind_at(survey),
+    })
+}
+
+// Returns the section that the stream was read into; None where it was read to the end of one. What
+// stands after the fault was looked at too.
+fn kind_at(survey: &Survey) -> Option<SectionKind> {
+    match survey.between.open {
+        Some((kind, at)) if at < survey.valid => Some(kind),
+        _ => None,
+    }
+}
+
+/// Returns QEMU's name of a section's kind.
+pub(crate) fn kind_name(kind: SectionKind) -> &'static str {
+    match kind {
+        SectionKind::Start => "START",
+        SectionKind::Part => "PART",
+        SectionKind::End => "END",
+    }
+}

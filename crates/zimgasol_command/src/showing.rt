@@ -1,0 +1,32 @@
+//! Bytes that a stream or a file brings, as text that steers no terminal.
+
+ghost use Rattle.std.specs.Prelude.{◌≡◌, IfOk, All, string_bytes};
+ghost use Rattle.percent_encoding.specs.Percent.{percent_encode as encoded};
+ghost use Rattle.zimgasol_command.specs.Shown.{IsPrintable};
+
+use percent_encoding::{AsciiSet, CONTROLS, ascii_set, percent_encode};
+use std::alloc::{AllocError, Global};
+use std::str;
+
+/// The characters that aren't shown as they are: those that steer a terminal, and the quotation mark
+/// that ends an id.
+const HIDDEN: AsciiSet = ascii_set!(CONTROLS.add(b'"'));
+
+/// Returns bytes as text of printable characters: each byte that is none, and `"`, is `%` with two
+/// hexadecimal digits.
+pub fn shown(alloc: Global, bytes: &[u8]) -> Result<String, AllocError>
+    ensures value { IfOk result (λ text. string_bytes text ≡ encoded HIDDEN bytes.now) }
+    ensures printable { IfOk result (λ text. All IsPrintable (string_bytes text)) }
+{
+    let mut text = String::new(alloc);
+    percent_encode(bytes, HIDDEN).append_to(&mut text)?;
+    Ok(text)
+}
+
+/// Returns a block's id as text. Ids that a stream is read with are printable, so the text is the id.
+pub(crate) fn id_text(alloc: Global, id: &[u8]) -> Result<String, AllocError> {
+    match str::from_utf8(id) {
+        Ok(text) => String::from_str(alloc, text),
+        Err(_) => shown(alloc, id),
+    }
+}

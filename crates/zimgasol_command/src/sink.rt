@@ -1,0 +1,28 @@
+//! Who takes the pages of a stream as they are read.
+
+use crate::trouble::Trouble;
+use mig_mem::{Place, Table};
+use std::fs::Files;
+
+/// Takes the pages of a stream, in the order of its records.
+pub(crate) trait PageSink<H: Files> {
+    /// Is passed the stream's table, once, before the first page.
+    fn begin(&mut self, rt: &H, table: &Table) -> Result<(), Trouble>;
+
+    /// Takes what a record says of a page: its bytes, or None for a page of zeros.
+    fn put(&mut self, place: Place, content: Option<&[u8]>) -> Result<(), Trouble>;
+}
+
+/// Takes pages and does nothing with them.
+#[derive(Drop)]
+pub(crate) struct NoSink;
+
+impl<H: Files> PageSink<H> for NoSink {
+    fn begin(&mut self, _rt: &H, _table: &Table) -> Result<(), Trouble> {
+        Ok(())
+    }
+
+    fn put(&mut self, _place: Place, _content: Option<&[u8]>) -> Result<(), Trouble> {
+        Ok(())
+    }
+}

@@ -1,0 +1,183 @@
+//! The reading of a single stream: piece after piece, each page passed on as it comes, with what the
+//! stream has and where it has a fault.
+
+ghost use Rattle.std.specs.Prelude.{◌≡◌, ◌≤◌, ◌^◌, length, IfOk};
+ghost use Rattle.mig_stream.specs.Giving.{HasNoneLeft};
+
+use crate::between::Between;
+use crate::blocks::Blocks;
+use crate::input::read_piece;
+use crate::libvirt::{LibvirtHeader, header_of};
+use crate::sink::PageSink;
+use crate::trouble::Trouble;
+use crate::words::PageSize;
+use mig_mem::{MAX_TOTAL, Place};
+use mig_stream::{Frame, Given, Pause, RecordReader, StreamState};
+use std::alloc::{AllocGlobal, Global};
+use std::fs::Files;
+use std::io::Read;
+
+/// What a stream was read to have.
+#[derive(Drop)]
+pub(crate) struct Survey {
+    /// What the stream was read as.
+    pub frame: Frame,
+    pub page_size: u64,
+    /// The header of libvirt's before the stream.
+    pub libvirt: Option<LibvirtHeader>,
+    /// The blocks, once the size list was whole.
+    pub blocks: Option<Blocks>,
+    /// How many sections are whole.
+    pub sections: u64,
+    /// Where the last page record is.
+    pub last: Option<Place>,
+    /// What stands between the sections.
+    pub between: Between,
+    /// How the stream stands.
+    pub state: StreamState,
+    /// How many bytes of the stream are whole items without a fault.
+    pub valid: u64,
+    /// How many bytes the input has, with libvirt's header and what follows the stream.
+    pub len: u64,
+    // where the stream is read on; None once it isn't
+    pause: Option<Pause>,
+    // how many bytes of the stream have come
+    fed: u64,
+}
+
+impl Survey {
+    /// Creates one of a stream that wasn't read yet.
+    pub(crate) fn new(alloc: Global, frame: Frame, page_size: PageSize) -> Survey {
+        let page_size = page_size.bytes();
+        Survey {
+            frame,
+            page_size,
+            libvirt: None,
+            blocks: None,
+            sections: 0,
+            last: None,
+            between: Between::new(alloc),
+            state: StreamState::Reading,
+            valid: 0,
+            len: 0,
+            pause: Some(Pause::new_in(alloc, frame, page_size, MAX_TOTAL)),
+            fed: 0,
+        }
+    }
+
+    /// Returns how many bytes stand before the stream.
+    pub(crate) fn before(&self) -> u64 {
+        match self.libvirt {
+            Some(header) => header.len,
+            None => 0,
+        }
+    }
+
+    /// Reads an input to its end, and passes the pages of its stream to `sink`.
+    pub(crate) fn read<H: AllocGlobal + Files, R: Read, S: PageSink<H>>(
+        &mut self,
+        rt: &H,
+        input: &mut R,
+        buffer: &mut [u8],
+        sink: &mut S,
+    ) -> Result<(), Trouble> {
+        let mut len = read_piece(input, buffer)?;
+        self.libvirt = header_of(&buffer[..len])?;
+        let mut skip = self.before();
+        'pieces: for _ in 0..u64::MAX {
+            if len == 0 {
+                break;
+            }
+            self.len = self.len.saturating_add(len as u64);
+            let skipped = skip.min(len as u64);
+            skip -= skipped;
+            self.feed(rt, &buffer[skipped as usize..len], sink)?;
+            len = read_piece(input, buffer)?;
+        }
+        Ok(())
+    }
+
+    // Reads a piece of the stream.
+    fn feed<H: AllocGlobal + Files, S: PageSink<H>>(
+        &mut self,
+        rt: &H,
+        piece: &[u8],
+        sink: &mut S,
+    ) -> Result<(), Trouble> {
+        let Some(pause) = self.pause.take() else {
+            return Ok(());
+        };
+        let start = self.fed;
+        self.fed = start.saturating_add(piece.len() as u64);
+        self.between.look(piece, start)?;
+        let mut reader = pause.resume(piece);
+        let found = self.take_records(rt, &mut reader, piece, start, sink)?;
+        self.valid = reader.valid_up_to();
+        self.state = found;
+        if let StreamState::Reading = found {
+            self.pause = Some(reader.pause()?);
+        }
+        Ok(())
+    }
+
+    // Takes all that a reader gives of a piece.
+    fn take_records<H: AllocGlobal + Files, S: PageSink<H>>(
+        &mut self,
+        rt: &H,
+        reader: &mut RecordReader<'_>,
+        piece: &[u8],
+        start: u64,
+        sink: &mut S,
+    ) -> Result<StreamState, Trouble>
+        ensures { IfOk result (λ found. HasNoneLeft found reader.new) }
+    {
+        'records: loop {
+            let gave = reader.read_on()?;
+            if let Given::End(found) = gave {
+                return Ok(found);
+            }
+            self.begin(rt, reader, sink)?;
+            self.take_given(reader, sink)?;
+            if let Given::Section = gave {
+                self.sections = self.sections.saturating_add(1);
+                self.between.end_section(reader.valid_up_to());
+                self.between.look(piece, start)?;
+            }
+        }
+    }
+
+    // Takes the table, once it is known.
+    fn begin<H: AllocGlobal + Files, S: PageSink<H>>(
+        &mut self,
+        rt: &H,
+        reader: &RecordReader<'_>,
+        sink: &mut S,
+    ) -> Result<(), Trouble> {
+        if self.blocks.is_some() {
+            return Ok(());
+        }
+        if let Some(table) = reader.table() {
+            sink.begin(rt, table)?;
+            self.blocks = Some(Blocks::new(rt.alloc(), table.try_copy()?)?);
+        }
+        Ok(())
+    }
+
+    // Takes the records that a reader gave last.
+    fn take_given<H: Files, S: PageSink<H>>(
+        &mut self,
+        reader: &RecordReader<'_>,
+        sink: &mut S,
+    ) -> Result<(), Trouble> {
+        let given = reader.given();
+        for i in 0..given.len() {
+            let (place, content) = given.record(i);
+            sink.put(place, content)?;
+            self.last = Some(place);
+            if let Some(blocks) = &mut self.blocks {
+                blocks.count(place, content.is_none());
+            }
+        }
+        Ok(())
+    }
+}

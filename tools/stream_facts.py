@@ -1,0 +1,112 @@
+"""What a single stream of QEMU's has, read by itself: nothing of the library's.
+
+Where the bytes are over too early, it raises EOFError with the place and the number of whole sections.
+`facts` reads the bytes as QEMU's migration/savevm.c and migration/ram.c write them, up to the footer
+of RAM's END, and raises where they are anything else. It knows pages of 4,096 bytes.
+"""
+import hashlib
+import struct
+
+PAGE = 4096
+ZERO, SIZES, NORMAL, EOS, CONTINUE = 0x02, 0x04, 0x08, 0x10, 0x20
+LIBVIRT = b"LibvirtQemudSave"
+
+
+class Reader:
+    def __init__(self, data, at):
+        self.data, self.at, self.sections = data, at, 0
+
+    def take(self, length):
+        taken = self.data[self.at:self.at + length]
+        if len(taken) < length:
+            raise EOFError(self.at, self.sections)
+        self.at += length
+        return taken
+
+    def number(self, length):
+        return int.from_bytes(self.take(length), "big")
+
+    def text(self, length=1):
+        return self.take(self.number(length)).decode("ascii")
+
+
+def libvirt_len(data):
+    """How many bytes libvirt's header has; 0 where there is none. Its numbers are little-endian here."""
+    if not data.startswith(LIBVIRT):
+        return 0
+    version, length, _, form = struct.unpack_from("<4I", data, 16)
+    assert (version, form) == (2, 0)
+    return 92 + length
+
+
+def records(reader, found):
+    """Reads the records of a section up to EOS."""
+    block = None
+    while True:
+        head = reader.number(8)
+        flags, offset = head & (PAGE - 1), head & ~(PAGE - 1)
+        if flags == EOS:
+            return
+        if flags & SIZES:
+            total = offset
+            while total:
+                name = reader.text()
+                length = reader.number(8)
+                found["memory"][name] = bytearray(length)
+                found["counts"][name] = [0, 0]
+                total -= length
+            continue
+        if not flags & CONTINUE:
+            block = found["last"] = reader.text()
+        block = block or found["last"]
+        if flags & ~CONTINUE == ZERO:
+            page = bytes([reader.number(1)]) * PAGE
+            found["counts"][block][1] += 1
+        elif flags & ~CONTINUE == NORMAL:
+            page = reader.take(PAGE)
+            found["counts"][block][0] += 1
+        else:
+            raise ValueError(f"flags {flags:#x}")
+        found["memory"][block][offset:offset + PAGE] = page
+
+
+def section(reader, kind, found):
+    number = reader.take(4)
+    if kind == 1:
+        assert reader.text() == "ram" and reader.number(4) == 0 and reader.number(4) == 4
+        found["number"] = number
+    assert number == found["number"]
+    records(reader, found)
+    assert reader.take(1) == b"\x7e" and reader.take(4) == number
+    found["sections"] += 1
+    reader.sections += 1
+
+
+def facts(data):
+    """Returns the memory of each block, the records of each, the sections, the notes, and where RAM ends."""
+    before = libvirt_len(data)
+    reader = Reader(data, before)
+    assert reader.take(8) == b"QEVM\0\0\0\3"
+    found = {"before": before, "memory": {}, "counts": {}, "sections": 0, "notes": []}
+    kind = 0
+    while kind != 3:
+        at = reader.at - before
+        kind = reader.number(1)
+        if kind == 7:
+            found["notes"].append(("machine", reader.text(4), at))
+        elif kind == 5:
+            name, _ = reader.text(), reader.number(4)
+            content = reader.take({"configuration/target-page-bits": 4, "configuration/uuid": 16}[name])
+            found["notes"].append(("subsection", name, content.hex(), at))
+        elif kind == 8:
+            command = reader.number(2)
+            reader.take(reader.number(2))
+            found["notes"].append(("command", command, found["sections"], at))
+        else:
+            section(reader, kind, found)
+    found["end"] = reader.at
+    return found
+
+
+def digest(memory):
+    return hashlib.sha256(bytes(memory)).hexdigest()
