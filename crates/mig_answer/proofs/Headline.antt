@@ -83,7 +83,7 @@ stops table limit channels rounds readings is =
 
 -- ---- the law
 
-of_sending : SendingsAreReadBack → (table : RamTable) (uuid : List ℕ) (limit : ℕ) (rounds : List DealtRound) (main : List ℕ) (channels : List (List ℕ)) (readings : Readings)
+pub of_sending : SendingsAreReadBack → (table : RamTable) (uuid : List ℕ) (limit : ℕ) (rounds : List DealtRound) (main : List ℕ) (channels : List (List ℕ)) (readings : Readings)
     → (sent : IsSentInAnyOrder table uuid rounds main channels) → total_bytes table ≤ limit → AreReadings (ram_settings table.page_size limit) uuid (ended_texts main channels) readings
     → AreOfSending table sent.batch_limit (length channels) rounds readings
 of_sending back table uuid limit rounds main channels readings sent room are = record {

@@ -9,8 +9,8 @@ pub mod DealtBags
 mod DealtPackets
 mod DealtPages
 mod Dealt
-mod Sent
-mod SentRounds
+pub mod Sent
+pub mod SentRounds
 pub mod Headline
 pub mod ToldSources
 pub mod Putting

@@ -69,12 +69,12 @@ refusal_of_round p readings target round packets size has fits next are =
     ∙ ap (refusal table target.base (pages_of_round round)) (sym same)
 
 -- as many packets as are counted
-packets_counted : (page_size k : ℕ) (readings : Readings) → length (packets_at page_size k readings) ≡ packet_count_at k readings
+pub packets_counted : (page_size k : ℕ) (readings : Readings) → length (packets_at page_size k readings) ≡ packet_count_at k readings
 packets_counted page_size k readings =
     length-flat_map (channel_packets_at page_size k) readings.channels
     ∙ ap (λ (f : ChannelReading → ℕ). sum_by f readings.channels) (λ i reading. length-map (get_or reading.rounds k []) (fields_of page_size) i)
 
-base_more : (k : ℕ) (readings : Readings) → base_at k readings + packet_count_at k readings ≡ base_at (k + 1) readings
+pub base_more : (k : ℕ) (readings : Readings) → base_at k readings + packet_count_at k readings ≡ base_at (k + 1) readings
 base_more k readings =
     let count : ℕ → ℕ = λ i. packet_count_at i readings in
     let last : sum_by count (range_with_len (0 + k) 1) ≡ packet_count_at k readings =

@@ -165,7 +165,7 @@ lawful_round table limit channels rounds readings is k below =
 
 -- ---- and it brings what was sent
 
-brings : (table : RamTable) (limit channels : ℕ) (rounds : List DealtRound) (readings : Readings) → AreOfSending table limit channels rounds readings
+pub brings : (table : RamTable) (limit channels : ℕ) (rounds : List DealtRound) (readings : Readings) → AreOfSending table limit channels rounds readings
     → (k : ℕ) → k < length rounds → (m : Image)
     → with_round m (pages_at table k readings) ≡ with_round m (round_of (round_at table rounds k).snapshot.image (round_at table rounds k).snapshot.dirty)
 brings table limit channels rounds readings is k below m =

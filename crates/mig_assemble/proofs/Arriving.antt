@@ -248,7 +248,7 @@ arrivals_make table base came m lawful =
     (λ p _. ap (λ (o : Option Page). option_map_or (λ (x : Page). x.content) o (content_at m p)) (last_at-same p xs ys bag (lawful_once table base records packets lawful)))
 
 -- no page is of a place
-last_none : (p : Place) (pages : List Page) → has_place (places_of pages) p ≡ false → last_at p pages ≡ None
+pub last_none : (p : Place) (pages : List Page) → has_place (places_of pages) p ≡ false → last_at p pages ≡ None
 last_none p [] none = last_at-nil p
 last_none p (x ∷ pages) none =
     let head : place_eq x.place p ≡ false = (or_parts (place_eq x.place p) (has_place (places_of pages) p) none).0 in

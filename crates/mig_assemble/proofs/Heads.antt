@@ -43,7 +43,7 @@ same_fault table p q same =
     ∙ ap (λ (os : List ℕ). head_fault table q.number q.id os) same.same_offsets
     ∙ sym (place_by table q)
 
-same_places : (table : RamTable) (p q : Fields) → SameHead p q → places_of (packet_pages table p) ≡ places_of (packet_pages table q)
+pub same_places : (table : RamTable) (p q : Fields) → SameHead p q → places_of (packet_pages table p) ≡ places_of (packet_pages table q)
 same_places table p q same =
     places-in table p (unwrap_or (block_of table.blocks p.id) 0)
     ∙ ap (λ (id : List ℕ). map (place_of table (unwrap_or (block_of table.blocks id) 0)) (offsets p)) same.same_id

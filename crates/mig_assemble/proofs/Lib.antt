@@ -14,5 +14,5 @@ pub mod Lawful
 pub mod Runs
 pub mod Once
 pub mod LawfulRounds
-mod Arriving
-mod Heads
+pub mod Arriving
+pub mod Heads

@@ -22,7 +22,7 @@ use Rattle.mig_assemble.specs.Judging.{offsets, is_outside, offset_fault, place_
 
 -- ---- offsets
 
-range-append : (a m n : ℕ) → range_with_len a (m + n) ≡ range_with_len a m ++ range_with_len (a + m) n
+pub range-append : (a m n : ℕ) → range_with_len a (m + n) ≡ range_with_len a m ++ range_with_len (a + m) n
 range-append a zero n = let e : 0 + n ≡ n = omega arith in let f : a ≡ a + 0 = omega arith in ap (range_with_len a) e ∙ ap (λ (k : ℕ). range_with_len k n) f
 range-append a (suc m) n =
     let e : suc m + n ≡ suc (m + n) = omega arith in

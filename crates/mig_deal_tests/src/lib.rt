@@ -15,7 +15,11 @@ mod gates;
 #[cfg(test)]
 mod multi;
 #[cfg(test)]
+mod open_end;
+#[cfg(test)]
 mod shown;
+#[cfg(test)]
+mod stepped;
 pub mod workers;
 #[cfg(test)]
 mod working;

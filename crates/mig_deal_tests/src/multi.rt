@@ -32,7 +32,7 @@ pub(crate) struct Round {
 
 // Six pages in four batches: pages 0 and 1 of block 0, then its page 2, and the same of block 1. All but page 1 of block 0 are
 // zeros.
-fn first_round(rt: &(impl AllocGlobal + Abort)) -> Round {
+pub(crate) fn first_round(rt: &(impl AllocGlobal + Abort)) -> Round {
     let memory = memory_of(rt, &[("a", 3), ("b", 3)]);
     let places = [at(0, 0), at(0, 1), at(0, 2), at(1, 0), at(1, 1), at(1, 2)];
     let dirty = places_of(rt.alloc(), memory.table(), &places).expect(rt, "a set");
@@ -40,7 +40,7 @@ fn first_round(rt: &(impl AllocGlobal + Abort)) -> Round {
 }
 
 // Two pages in two batches, one of zeros and one that no longer is.
-fn second_round(rt: &(impl AllocGlobal + Abort)) -> Round {
+pub(crate) fn second_round(rt: &(impl AllocGlobal + Abort)) -> Round {
     let mut memory = memory_of(rt, &[("a", 3), ("b", 3)]);
     assert!(rt; set(&mut memory, 1, 8191, 7));
     let places = [at(0, 2), at(1, 1)];
@@ -74,7 +74,7 @@ fn put_round(
 }
 
 // The packets of both rounds by their numbers.
-fn packets_by_hand(rt: &(impl AllocGlobal + Abort), channels: usize) -> Vec<Vec<u8>> {
+pub(crate) fn packets_by_hand(rt: &(impl AllocGlobal + Abort), channels: usize) -> Vec<Vec<u8>> {
     let mut packets = Vec::new(rt.alloc());
     put_round(rt, &mut packets, &first_round(rt), channels);
     put_round(rt, &mut packets, &second_round(rt), channels);
@@ -91,7 +91,7 @@ fn text_by_hand(rt: &(impl AllocGlobal + Abort)) -> Vec<u8> {
 }
 
 // The main stream: a FLUSH for each round.
-fn main_by_hand(rt: &(impl AllocGlobal + Abort)) -> Vec<u8> {
+pub(crate) fn main_by_hand(rt: &(impl AllocGlobal + Abort)) -> Vec<u8> {
     let round = first_round(rt);
     let Ok(mut writer) = StreamWriter::new(rt.alloc(), round.memory.table()) else {
         panic!(rt; "memory")
@@ -179,7 +179,7 @@ fn send_both<R: AllocGlobal + Abort + Threads + Sync, G: Gate + Sync>(
 }
 
 // Asserts the texts of both rounds on one channel.
-fn assert_sent<A: Allocator>(rt: &(impl AllocGlobal + Abort), sent: &Sent<A>) {
+pub(crate) fn assert_sent<A: Allocator>(rt: &(impl AllocGlobal + Abort), sent: &Sent<A>) {
     assert!(rt; sent.main.as_slice() == main_by_hand(rt).as_slice());
     assert!(rt; sent.channels.len() == 1);
     let text = sent.channels.first().expect(rt, "a text");
@@ -188,7 +188,7 @@ fn assert_sent<A: Allocator>(rt: &(impl AllocGlobal + Abort), sent: &Sent<A>) {
 
 // Asserts the texts of both rounds on two channels. Packets 0 to 3 and 6 and 7 have pages. 4 and 5 are the SYNC packets of the
 // first round, and 8 and 9 those of the second.
-fn assert_two_channels<A: Allocator>(rt: &(impl AllocGlobal + Abort), sent: &Sent<A>) {
+pub(crate) fn assert_two_channels<A: Allocator>(rt: &(impl AllocGlobal + Abort), sent: &Sent<A>) {
     assert!(rt; sent.main.as_slice() == main_by_hand(rt).as_slice());
     assert!(rt; sent.channels.len() == 2);
     let packets = packets_by_hand(rt, 2);

@@ -14,11 +14,11 @@ pub use mig_answer::{
 };
 pub use mig_relay::{
     ChannelEnd, Collector, Fed, Feeder, FeederStep, Item, Relay, load_multi, load_multi_in,
-    load_relayed, load_relayed_in,
+    load_relayed, load_relayed_in, multi_valid_up_to,
 };
 pub use mig_session::{Counted, PieceReader, PumpFault, ReadFailed, Session, Source, pump};
 pub use mig_single_load::{
     EagerState, Fault, FeedFault, InPlaceFault, InPlaceLoader, InPlaceState, LoadFault,
     LoadSettings, Loaded, Origin, SingleLoader, eager_keeps_other_places, eager_ok_is_by_sections,
-    load_single, load_single_in, sent_is_loaded_in_place, single_closed_at,
+    load_single, load_single_in, sent_is_loaded_in_place, single_closed_at, single_valid_up_to,
 };

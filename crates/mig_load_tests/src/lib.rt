@@ -5,6 +5,8 @@
 #[cfg(test)]
 mod eager;
 #[cfg(test)]
+mod framed;
+#[cfg(test)]
 mod load_cut;
 #[cfg(test)]
 mod load_refused;

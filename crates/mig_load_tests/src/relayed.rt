@@ -34,8 +34,8 @@ const TWO_ROUNDS: [Seen; 6] = [
     Seen::Stop(ChannelEnd::Clean),
 ];
 
-// What a relay of one text brings, whose feeder has pushed all of it.
-fn relayed<'a, R: Wait + Abort, A: Allocator + Copy>(
+/// What a relay of one text brings, whose feeder has pushed all of it.
+pub(crate) fn relayed<'a, R: Wait + Abort, A: Allocator + Copy>(
     rt: &R,
     alloc: A,
     texts: &'a [Vec<u8>],

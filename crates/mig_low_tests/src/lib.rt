@@ -8,6 +8,8 @@
 #[cfg(test)]
 mod arrivals;
 #[cfg(test)]
+mod channel_valid;
+#[cfg(test)]
 mod compared;
 #[cfg(test)]
 mod heap;

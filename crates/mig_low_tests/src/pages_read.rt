@@ -2,7 +2,8 @@
 
 use mig_fixtures::{TestHeap, put_page_and_zeros};
 use mig_packet::{
-    Came, ChannelReader, ChannelState, PacketRead, PageReader, hello, put_packet, read_packet,
+    Came, ChannelReader, ChannelState, PacketRead, PageReader, Wanted, hello, put_packet,
+    read_packet,
 };
 use std::alloc::{AllocGlobal, Allocator};
 use std::process::Abort;
@@ -180,4 +181,69 @@ fn allocations(rt: HostRuntime) {
     }
     assert!(rt; heap.is_waiting() && reader.state() == ChannelState::Reading);
     assert!(rt; reader.fed() == text.len() as u64);
+}
+
+// Reads a channel by what it wants: no byte beyond it is read, and each page is lent whole.
+fn read_wanted(rt: &(impl AllocGlobal + Abort), text: &[u8]) -> Read {
+    let made = PageReader::new(rt.alloc(), 4096, Uuid::nil(), 1);
+    let mut reader = made.ok().expect(rt, "a reader");
+    let mut read = Read::nothing(rt);
+    let mut rest = text;
+    for _ in 0..1000u64 {
+        let len = match reader.wanted() {
+            Wanted::Page(_, count) => {
+                assert!(rt; count > 0);
+                4096
+            }
+            Wanted::Bytes(len) => {
+                assert!(rt; len > 0);
+                len
+            }
+            Wanted::Nothing => 0,
+        };
+        let Some((piece, left)) = rest.split_at_checked(len) else {
+            assert!(rt; rest.is_empty());
+            return read;
+        };
+        rest = left;
+        read_piece(rt, &mut reader, piece, &mut read);
+    }
+    panic!(rt; "the channel never ends");
+}
+
+// Read by what is wanted next, the pages are the same.
+#[test]
+fn pages_wanted(rt: HostRuntime) {
+    let text = channel(&rt);
+    assert!(rt; read_wanted(&rt, &text).is_same(&read_whole(&rt, &text)));
+}
+
+// A page is wanted at its offset, with how many follow it; of a page that was begun its other bytes;
+// and nothing once a packet is complete, or the channel was ended.
+#[test]
+fn what_is_wanted(rt: HostRuntime) {
+    let text = channel(&rt);
+    let made = PageReader::new(rt.alloc(), 4096, Uuid::nil(), 1);
+    let mut reader = made.ok().expect(&rt, "a reader");
+    let mut read = Read::nothing(&rt);
+    let mut fed = 0usize;
+    let steps = [
+        (10usize, Wanted::Bytes(54)),
+        (54, Wanted::Bytes(1344)),
+        (1344, Wanted::Page(4096, 1)),
+        (1000, Wanted::Bytes(3096)),
+        (3096, Wanted::Bytes(1344)),
+        (1344, Wanted::Page(8192, 2)),
+        (4096, Wanted::Page(4096, 1)),
+    ];
+    assert!(rt; reader.wanted() == Wanted::Bytes(64));
+    for (len, wanted) in steps {
+        let end = fed.saturating_add(len);
+        let piece = text.get(fed..end).expect(&rt, "a piece");
+        fed = end;
+        read_piece(&rt, &mut reader, piece, &mut read);
+        assert!(rt; reader.wanted() == wanted);
+    }
+    reader.end();
+    assert!(rt; reader.wanted() == Wanted::Nothing);
 }

@@ -47,7 +47,7 @@ hello_over given hello has_packets None has_page head page head2 piece found fed
     record {
       takes = le;
       gains = tt;
-      stops = inl (λ h. absurd cc);
+      stops = inl (λ h. absurd cc, refl);
       copies = tt;
       moves = inr (
         fault,

@@ -369,8 +369,8 @@ steps_give answer count piece old new s = λ given text given_so_far g.
 -- what comes after what was given
 comes : (given : Settings) (text : List ℕ) (read : ChannelProgress) (packet : Option OpenPacket) (answer : Came) (taken : List ℕ) (old new : PageHolder)
     → Moves answer taken old new → Gives given text (so_far read packet) old → Comes given.page_size answer (so_far read packet)
-comes given text read packet (came.Hello id) taken old new m g = sym g.has_hello ∙ m.0
-comes given text read packet came.Head taken old new m g = none_kept packet (sym g.has_packet ∙ m.1.has_none_begun)
+comes given text read packet (came.Hello id) taken old new m g = (sym g.has_hello ∙ m.0, none_kept packet (sym g.has_packet ∙ m.1.has_none_begun))
+comes given text read packet came.Head taken old new m g = (λ none. m.0 (g.has_hello ∙ none), none_kept packet (sym g.has_packet ∙ m.1.has_none_begun))
 comes given text read None (came.Page offset page) taken old new m g = absurd (let clash : None ≡ Some m.0 = sym g.has_packet ∙ m.1.is_begun in cc)
 comes given text read (Some p) (came.Page offset page) taken old new m g =
     let begun : Some m.0 ≡ Some (p.head, length p.pages) = sym m.1.is_begun ∙ g.has_packet in

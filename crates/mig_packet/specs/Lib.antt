@@ -14,6 +14,7 @@ pub mod Progress
 pub mod Reading
 pub mod Reader
 pub mod Paging
+pub mod Wanted
 pub mod ChannelItems
 pub mod Law
 -- Of the inside: only contracts of private functions name these.

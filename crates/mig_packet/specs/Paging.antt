@@ -148,17 +148,17 @@ pub record Completes (page_size : ℕ) (packet : OpenPacket) (sync : Bool) : Typ
 
 -- what comes after what was given so far
 abbrev pub Comes : ℕ → Came → GivenSoFar → Type 0
-Comes page_size (came.Hello id) so_far = so_far.read.hello ≡ None
-Comes page_size came.Head so_far = so_far.packet ≡ None
+Comes page_size (came.Hello id) so_far = (so_far.read.hello ≡ None) × (so_far.packet ≡ None)
+Comes page_size came.Head so_far = (so_far.read.hello ≢ None) × (so_far.packet ≡ None)
 Comes page_size (came.Page offset page) so_far = IsSomeAnd so_far.packet (λ packet. length packet.pages < normal_count packet.head)
 Comes page_size (came.Packet sync) so_far = IsSomeAnd so_far.packet (λ packet. Completes page_size packet sync)
 Comes page_size other so_far = ⊤
 
 -- More: all bytes of the piece were taken, and the next is needed. Over: the bytes taken have a
--- fault, or the channel was ended.
+-- fault, which is never within a packet that was begun, or the channel was ended.
 abbrev pub Stops : Came → ℕ → List ℕ → PageHolder → Type 0
 Stops came.More taken piece r = (taken ≡ length piece) × (r.found ≡ Reading) × IsFalse r.ended
-Stops came.Over taken piece r = (r.found ≢ Reading) ⊎ IsTrue r.ended
+Stops came.Over taken piece r = ((r.found ≢ Reading) × (r.packet ≡ None)) ⊎ IsTrue r.ended
 Stops other taken piece r = ⊤
 
 -- Fewer bytes are kept than the hello or the head has, or than the next page of the packet.

@@ -27,6 +27,7 @@ mod put;
 mod reader;
 mod round;
 mod state;
+mod wanted;
 mod written;
 
 pub use fault::{ChannelFault, NoMemory};
@@ -44,4 +45,5 @@ pub use put::{hello, put_packet, put_packet_head};
 pub use reader::ChannelReader;
 pub use round::PacketRound;
 pub use state::ChannelState;
+pub use wanted::Wanted;
 pub use written::PacketFields;

@@ -56,24 +56,24 @@ pub enum Came<'b> {
 /// Reads a channel from pieces of its bytes, and gives each page as soon as its bytes have come.
 #[derive(Drop)]
 pub struct PageReader<A: Allocator = Global> {
-    page_size: u64,
-    uuid: Uuid,
-    channels: usize,
-    hello: Option<u8>,
+    pub(crate) page_size: u64,
+    pub(crate) uuid: Uuid,
+    pub(crate) channels: usize,
+    pub(crate) hello: Option<u8>,
     // whether the open round has packets
-    has_packets: bool,
+    pub(crate) has_packets: bool,
     // how many pages of the packet that was begun were given; None before its head is whole
-    pages: Option<usize>,
+    pub(crate) pages: Option<usize>,
     // the first bytes of the hello or the head, or the head of the packet that was begun
-    head: Vec<u8, A>,
+    pub(crate) head: Vec<u8, A>,
     // the first bytes of the next page, or the page that was given last
-    page: Vec<u8, A>,
+    pub(crate) page: Vec<u8, A>,
     // whether it is the page that was given last
-    has_page: bool,
+    pub(crate) has_page: bool,
     // how the bytes taken stand, whether or not the channel was ended
-    found: ChannelState,
-    fed: u64,
-    ended: bool,
+    pub(crate) found: ChannelState,
+    pub(crate) fed: u64,
+    pub(crate) ended: bool,
 }
 
 impl<A: Allocator> Model for PageReader<A> {
@@ -198,7 +198,7 @@ impl<A: Allocator + Copy> PageReader<A> {
 }
 
 impl<A: Allocator> PageReader<A> {
-    fn is_reading(&self) -> bool
+    pub(crate) fn is_reading(&self) -> bool
         ensures reading { IsTrue result → self.now.found ≡ state.Reading }
         ensures other { IsFalse result → self.now.found ≢ state.Reading }
     {

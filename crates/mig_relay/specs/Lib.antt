@@ -4,6 +4,8 @@ pub mod RelayItems
 pub mod Relay
 pub mod Relayed
 pub mod Multi
+-- The byte of a fault
+pub mod Valid
 -- Internal: messages in a queue under a rule, and what the two ends keep to
 pub mod Messages
 pub mod Queue

@@ -6,7 +6,7 @@
 //! brings; `load_multi` starts the relay and its workers too. `mig_answer` defines what they
 //! answer.
 //!
-//! Definitions, in reading order: `RelayItems`, `Relay`, `Relayed`, `Multi` (`specs/`). `Messages`,
+//! Definitions, in reading order: `RelayItems`, `Relay`, `Relayed`, `Multi`, `Valid` (`specs/`). `Messages`,
 //! `Queue`, `Cursor` and `Ends` are internal: only contracts of private functions name them.
 #![tactic(auto)]
 
@@ -22,9 +22,11 @@ mod queue;
 mod relay;
 mod relayed;
 mod taking;
+mod valid;
 
 pub use feeder::{Fed, Feeder, FeederStep};
 pub use item::{ChannelEnd, Item};
 pub use multi::{load_multi, load_multi_in};
 pub use relay::{Collector, Relay};
 pub use relayed::{load_relayed, load_relayed_in};
+pub use valid::multi_valid_up_to;

@@ -31,6 +31,13 @@ const QUEUE_CAPACITY: usize = 64;
 /// order, of pages of this size, under this UUID. The blocks may have `limit` bytes together. Each channel's text is read by a worker on a
 /// thread of its own for the whole load, which passes the gate with each item that it found, and that it pushed. All workers have ended
 /// when it returns.
+///
+/// # Errors
+///
+/// The verdict of what is returned is a fault of the main stream (`Fault::Stream`) or of a channel
+/// (`Fault::Channel`), `HelloTwice`, `Extra` or `Short` of a channel, a refusal of a round
+/// (`Fault::Round`, 54 to 59), or `NoMemory`, if an allocation was refused or a worker couldn't be
+/// started. It is never `OtherTable`.
 pub fn load_multi<
     R: Threads + Wait + Sync,
     A: Allocator + Copy + Send + Sync,
@@ -62,6 +69,13 @@ pub fn load_multi<
 
 /// Loads a guest from the texts of a migration on several channels that are there whole, as
 /// `load_multi` does, with the main stream read with `settings`.
+///
+/// # Errors
+///
+/// The verdict of what is returned is a fault of the main stream (`Fault::Stream`) or of a channel
+/// (`Fault::Channel`), `HelloTwice`, `Extra` or `Short` of a channel, a refusal of a round
+/// (`Fault::Round`, 54 to 59), or `NoMemory`, if an allocation was refused or a worker couldn't be
+/// started. It is never `OtherTable`.
 pub fn load_multi_in<
     R: Threads + Wait + Sync,
     A: Allocator + Copy + Send + Sync,

@@ -210,6 +210,13 @@ fn load_all<'a, R: Wait, A: Allocator + Copy>(
 /// Loads a guest from a main stream's text that is over and the channels of a relay, as far as they have to be taken: of each channel up
 /// to the round that is judged. It begins with what was taken before, and waits for the feeders. `limit` is that of the blocks' bytes
 /// together. Where a feeder was dropped before its stop, it may wait for ever.
+///
+/// # Errors
+///
+/// The verdict of what is returned is a fault of the main stream (`Fault::Stream`) or of a channel
+/// (`Fault::Channel`), `HelloTwice`, `Extra` or `Short` of a channel, a refusal of a round
+/// (`Fault::Round`, 54 to 59), or `NoMemory`, if an allocation was refused.
+/// It is never `OtherTable`.
 pub fn load_relayed<'a, R: Wait, A: Allocator + Copy>(
     wait: &R,
     alloc: A,
@@ -234,6 +241,13 @@ pub fn load_relayed<'a, R: Wait, A: Allocator + Copy>(
 
 /// Loads a guest from a main stream that is there whole, read with `settings`, and from the
 /// channels of a relay, as `load_relayed` does. The page size must be that of the relay.
+///
+/// # Errors
+///
+/// The verdict of what is returned is a fault of the main stream (`Fault::Stream`) or of a channel
+/// (`Fault::Channel`), `HelloTwice`, `Extra` or `Short` of a channel, a refusal of a round
+/// (`Fault::Round`, 54 to 59), or `NoMemory`, if an allocation was refused.
+/// It is never `OtherTable`.
 pub fn load_relayed_in<'a, R: Wait, A: Allocator + Copy>(
     wait: &R,
     alloc: A,

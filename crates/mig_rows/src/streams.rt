@@ -3,7 +3,7 @@
 use crate::show::{put_loaded, put_records, put_stream_state};
 use mig_cases::{Case, Done, Trouble, agree, put_fed, put_table};
 use mig_mem::{MAX_TOTAL, is_page_size};
-use mig_single_load::load_single;
+use mig_single_load::{LoadSettings, SingleLoader, load_single, load_single_in, single_closed_at};
 use mig_stream::{Frame, Mode, StreamReader, StreamRound, StreamState};
 use std::alloc::Global;
 
@@ -14,6 +14,7 @@ pub fn ask_stream(out: &mut String, case: &Case, name: &str) -> Result<bool, Tro
         "read_single" => read(out, case, Mode::Single, text),
         "read_main" => read(out, case, Mode::Main, text),
         "load_single" => load(out, case, text),
+        "closed_single" => closed(out, case, text),
         _ => return Ok(false),
     };
     answered?;
@@ -24,8 +25,55 @@ fn load(out: &mut String, case: &Case, text: &[u8]) -> Done {
     if !is_page_size(case.page_size) || case.limit > MAX_TOTAL {
         return Err(Trouble::Line);
     }
-    let loaded = load_single(case.alloc, case.page_size, text, case.limit);
+    let loaded = if case.is_machine {
+        let settings = LoadSettings::new(case.page_size, case.limit).with_frame(Frame::Machine);
+        load_single_in(case.alloc, settings, text)
+    } else {
+        load_single(case.alloc, case.page_size, text, case.limit)
+    };
     put_loaded(out, &loaded)
+}
+
+// Where the text is closed as a single stream: of the text itself, and of a loader that is fed it in
+// pieces.
+fn closed(out: &mut String, case: &Case, text: &[u8]) -> Done {
+    for len in &case.pieces {
+        let len = if *len == 0 { text.len().max(1) } else { *len };
+        let mut answer = String::new(case.alloc);
+        closed_in_pieces(&mut answer, case, text, len)?;
+        agree(out, &answer, len)?;
+    }
+    if !is_page_size(case.page_size) || case.limit > MAX_TOTAL {
+        return Err(Trouble::Line);
+    }
+    let settings = LoadSettings::new(case.page_size, case.limit).with_frame(frame_of(case));
+    let mut answer = String::new(case.alloc);
+    put_place_closed(&mut answer, single_closed_at(case.alloc, settings, text)?)?;
+    agree_of_text(out, &answer)
+}
+
+// Where a loader finds the text closed that is fed it in pieces of a length.
+fn closed_in_pieces(out: &mut String, case: &Case, text: &[u8], len: usize) -> Done {
+    if !is_page_size(case.page_size) || case.limit > MAX_TOTAL {
+        return Err(Trouble::Line);
+    }
+    let settings = LoadSettings::new(case.page_size, case.limit).with_frame(frame_of(case));
+    let mut loader = SingleLoader::new_in(case.alloc, settings);
+    for piece in text.chunks(len.max(1)) {
+        if loader.ended() || loader.fed() > MAX_TOTAL || piece.len() as u64 > MAX_TOTAL {
+            return Err(Trouble::Line);
+        }
+        loader.feed(piece).ok().ok_or(Trouble::NoMemory)?;
+    }
+    put_place_closed(out, loader.closed_at())
+}
+
+// How many bytes a stream has, or `none`.
+fn put_place_closed(out: &mut String, closed_at: Option<u64>) -> Done {
+    match closed_at {
+        Some(len) => Ok(write!(out, "{len}")?),
+        None => Ok(out.push_str("none")?),
+    }
 }
 
 // What a stream is read as.

@@ -23,7 +23,7 @@ use Rattle.mig_send.proofs.Dealings.{shares_are_dealt}
 -- ---- lists
 
 -- two lists that agree place by place, and one place more
-zip_push : {X Y : Type 0} (R : X → Y → Type 0) (xs : List X) (ys : List Y) (x : X) (y : Y) → AllZip R xs ys → R x y → AllZip R (xs ++ x ∷ []) (ys ++ y ∷ [])
+pub zip_push : {X Y : Type 0} (R : X → Y → Type 0) (xs : List X) (ys : List Y) (x : X) (y : Y) → AllZip R xs ys → R x y → AllZip R (xs ++ x ∷ []) (ys ++ y ∷ [])
 zip_push R [] [] x y zip last = (last, tt)
 zip_push R [] (b ∷ ys) x y zip last = absurd zip
 zip_push R (a ∷ xs) [] x y zip last = absurd zip

@@ -9,3 +9,5 @@ pub mod Channels
 pub mod Sendings
 pub mod Counting
 pub mod ReadBack
+pub mod Stepping
+pub mod OpenRounds

@@ -10,10 +10,10 @@ use Rattle.std.proofs.lemmas.Bool.{cases_Bool, eqb-true, eqb-false}
 use Rattle.mig_mem.proofs.Members.{map_agree, All-range}
 use Rattle.std.proofs.lemmas.List.Elements.{All-push}
 use Rattle.std.proofs.lemmas.List.Sums.{sum_by-append}
-use Rattle.mig_stream.specs.Written.{Part, FlushPart}
+use Rattle.mig_stream.specs.Written.{Part, FlushPart, main}
 use Rattle.mig_stream.specs.Writer.{Writer, HasDrained}
-use Rattle.mig_send.specs.DealtRounds.{DealtRound, IsDealtRound, AreNumbered, packet_count, round_text, channel_text, channel_texts}
-use Rattle.mig_send.specs.MultiSending.{MultiSending, Drained, HasSentRounds, KeepsSetting, KeepsCounts, with_main, with_channel, whole_texts, texts_of}
+use Rattle.mig_send.specs.DealtRounds.{DealtRound, IsDealtRound, IsSending, AreNumbered, packet_count, round_text, channel_text, channel_texts}
+use Rattle.mig_send.specs.MultiSending.{MultiSending, IsMultiSending, Drained, HasSentRounds, KeepsSetting, KeepsCounts, with_main, with_channel, whole_texts, texts_of}
 use Rattle.mig_send.proofs.Channels.{text_push}
 
 -- ---- one round more
@@ -36,28 +36,40 @@ HasFlushed old new = (drained : List ℕ) (parts : List Part) → HasDrained dra
 abbrev pub HaveRound : DealtRound → List (List ℕ) → List (List ℕ) → Type 0
 HaveRound round old new = (channel : ℕ) → channel < length old → get_or new channel [] ≡ get_or old channel [] ++ round_text channel round
 
-pub sent_more : (old new : MultiSending) (round : DealtRound) → KeepsSetting old new → IsDealtRound old.main.table old.limit (length old.channels) round
+-- so does a sender of whose channels bytes were drained meanwhile
+pub sent_on : (old new : MultiSending) (round : DealtRound) (before after : Drained) → KeepsSetting old new → IsDealtRound old.main.table old.limit (length old.channels) round
     → round.base ≡ old.base → new.base ≡ old.base + packet_count round → new.rounds ≡ old.rounds + 1
-    → HasFlushed old.main new.main → HaveRound round old.channels new.channels
-    → (drained : Drained) (rounds : List DealtRound) → HasSentRounds drained old rounds → HasSentRounds drained new (rounds ++ round ∷ [])
-sent_more old new round keeps dealt goes_on base count flushed have drained rounds sent =
+    → HasFlushed old.main new.main → after.main ≡ before.main
+    → ((channel : ℕ) → channel < length old.channels
+    → after.channel channel ++ get_or new.channels channel [] ≡ (before.channel channel ++ get_or old.channels channel []) ++ round_text channel round)
+    → (rounds : List DealtRound) → HasSentRounds before old rounds → HasSentRounds after new (rounds ++ round ∷ [])
+sent_on old new round before after keeps dealt goes_on base count flushed same_main have rounds sent =
     let long : length (rounds ++ round ∷ []) ≡ suc (length rounds) = omega (arith, length-append rounds (round ∷ [])) in
     let sum : sum_by packet_count (rounds ++ round ∷ []) ≡ sum_by packet_count rounds + packet_count round = omega (arith, sum_by-append packet_count rounds (round ∷ [])) in
     let are = All-push (IsDealtRound old.main.table old.limit (length old.channels)) rounds round sent.are_dealt dealt in
     record {
       are_dealt = rw (keeps.same_table, keeps.same_limit, keeps.as_many) are;
       are_numbered = numbered_push 0 rounds round sent.are_numbered (omega (arith, goes_on, sent.has_base));
-      has_main = subst (λ (l : List Part). HasDrained drained.main new.main l) (replicate_push (length rounds) FlushPart ∙ ap (λ (n : ℕ). replicate n FlushPart) (sym long))
-          (flushed drained.main (replicate (length rounds) FlushPart) sent.has_main);
+      has_main = subst (λ (d : List ℕ). HasDrained d new.main (replicate (length (rounds ++ round ∷ [])) FlushPart)) (sym same_main)
+          (subst (λ (l : List Part). HasDrained before.main new.main l) (replicate_push (length rounds) FlushPart ∙ ap (λ (n : ℕ). replicate n FlushPart) (sym long))
+          (flushed before.main (replicate (length rounds) FlushPart) sent.has_main));
       has_texts = λ channel lt.
           let below : channel < length old.channels = omega (arith, lt, keeps.as_many) in
-          ap (λ (l : List ℕ). drained.channel channel ++ l) (have channel below)
-          ∙ (sym (append_assoc (drained.channel channel) (get_or old.channels channel []) (round_text channel round))
+          have channel below
           ∙ (ap (λ (l : List ℕ). l ++ round_text channel round) (sent.has_texts channel below)
-          ∙ (sym (text_push old.uuid rounds round channel) ∙ ap (λ (u : List ℕ). channel_text u (rounds ++ round ∷ []) channel) (sym keeps.same_uuid))));
+          ∙ (sym (text_push old.uuid rounds round channel) ∙ ap (λ (u : List ℕ). channel_text u (rounds ++ round ∷ []) channel) (sym keeps.same_uuid)));
       has_base = omega (arith, base, sum, sent.has_base);
       has_rounds = omega (arith, count, long, sent.has_rounds);
     }
+
+pub sent_more : (old new : MultiSending) (round : DealtRound) → KeepsSetting old new → IsDealtRound old.main.table old.limit (length old.channels) round
+    → round.base ≡ old.base → new.base ≡ old.base + packet_count round → new.rounds ≡ old.rounds + 1
+    → HasFlushed old.main new.main → HaveRound round old.channels new.channels
+    → (drained : Drained) (rounds : List DealtRound) → HasSentRounds drained old rounds → HasSentRounds drained new (rounds ++ round ∷ [])
+sent_more old new round keeps dealt goes_on base count flushed have drained rounds sent =
+    sent_on old new round drained drained keeps dealt goes_on base count flushed refl
+    (λ channel below. ap (λ (l : List ℕ). drained.channel channel ++ l) (have channel below)
+    ∙ sym (append_assoc (drained.channel channel) (get_or old.channels channel []) (round_text channel round))) rounds sent
 
 pub texts_long : {A : Type 0} (xs ys : List (Vec ℕ A)) → length xs ≡ length ys → length (texts_of xs) ≡ length (texts_of ys)
 texts_long xs ys same = let f = λ (text : Vec ℕ _). text.items in length-map xs f ∙ (same ∙ sym (length-map ys f))
@@ -135,3 +147,16 @@ pub whole : (uuid : List ℕ) (rounds : List DealtRound) (drained : Drained) (ch
 whole uuid rounds drained channels each =
     map_agree (λ channel. drained.channel channel ++ get_or channels channel []) (channel_text uuid rounds) (range_with_len 0 (length channels))
     (All-range (λ channel. drained.channel channel ++ get_or channels channel [] ≡ channel_text uuid rounds channel) 0 (length channels) (λ k low high. each k (omega (arith, high))))
+
+-- A sender's rounds are a sending, whose main stream is what the writer's end makes of them.
+pub sending_of : (sender : MultiSending) (drained : Drained) (rounds : List DealtRound) (main_text : List ℕ) → IsMultiSending sender → HasSentRounds drained sender rounds
+    → main_text ≡ main sender.main.table (length rounds)
+    → IsSending sender.main.table sender.uuid sender.limit (length sender.channels) rounds main_text (whole_texts drained sender.channels)
+sending_of sender drained rounds main_text is sent has = record {
+  is_set = is.is_set;
+  are_dealt = sent.are_dealt;
+  are_numbered = sent.are_numbered;
+  numbers_fit = omega (arith, sent.has_base, is.has_base);
+  has_main = has;
+  has_texts = whole sender.uuid rounds drained sender.channels sent.has_texts;
+}

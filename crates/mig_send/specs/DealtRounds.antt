@@ -1,11 +1,12 @@
 -- Rounds that are dealt over several channels, and the texts that are made of them.
-use Rattle.std.specs.Prelude.{ℕ, ◌≡◌, ◌+◌, ◌^◌, ◌≤◌, ◌<◌, List, [], ◌∷◌, ◌++◌, length, map, flat_map, get_or, sum_by, All, ⊤}
+use Rattle.std.specs.Prelude.{ℕ, ◌≡◌, ◌+◌, ◌^◌, ◌≤◌, ◌<◌, List, [], ◌∷◌, ◌++◌, length, map, flat_map, replicate, get_or, sum_by, All, Option, ⊤}
 use Rattle.std.specs.List.{range_with_len}
 use Rattle.mig_mem.specs.RamTable.{RamTable, IsTable}
 use Rattle.mig_mem.specs.Image.{IsImage}
 use Rattle.mig_mem.specs.PlaceSet.{IsPlaceSet}
 use Rattle.mig_mem.specs.Tracking.{Snapshot}
-use Rattle.mig_stream.specs.Written.{main}
+use Rattle.mig_stream.specs.Written.{FlushPart, main}
+use Rattle.mig_stream.specs.MachineWritten.{machine_written}
 use Rattle.mig_packet.specs.PageSize.{page_limit}
 use Rattle.mig_packet.specs.Hello.{written_hello}
 use Rattle.mig_send.specs.Batches.{BatchOfPages, IsCut}
@@ -77,3 +78,9 @@ pub record IsSending (table : RamTable) (uuid : List ℕ) (limit channels : ℕ)
   pub numbers_fit : sum_by packet_count rounds < 2 ^ 64
   pub has_main : main_text ≡ main table (length rounds)
   pub has_texts : texts ≡ channel_texts uuid channels rounds
+
+-- The texts of some rounds where the main stream is a machine's of this name, up to the footer of
+-- RAM's END: the channels carry what they carry of a sending.
+pub record IsMachineSending (name : Option (List ℕ)) (table : RamTable) (uuid : List ℕ) (limit channels : ℕ) (rounds : List DealtRound) (main_text : List ℕ) (texts : List (List ℕ)) : Type 0 where
+  pub is_sending : IsSending table uuid limit channels rounds (main table (length rounds)) texts
+  pub has_main : main_text ≡ machine_written name table (replicate (length rounds) FlushPart)

@@ -1,12 +1,15 @@
 -- What the texts of a sending are read as.
-use Rattle.std.specs.Prelude.{ℕ, ◌≡◌, ◌<◌, ◌≤◌, ◌^◌, ◌*◌, true, false, List, [], ◌∷◌, ◌++◌, length, map, flat_map, replicate, get_or, Some, None}
+use Rattle.std.specs.Prelude.{ℕ, ◌≡◌, ◌<◌, ◌≤◌, ◌^◌, ◌*◌, true, false, List, [], ◌∷◌, ◌++◌, length, map, flat_map, replicate, get_or, Option, Some, None, IfSome}
 use Rattle.mig_mem.specs.RamTable.{RamTable, IsTable, block}
 use Rattle.mig_mem.specs.Image.{Image, IsImage}
 use Rattle.mig_mem.specs.Round.{round_of}
+use Rattle.mig_stream.specs.declared.item.Frame.TheVariants.{Machine}
 use Rattle.mig_stream.specs.declared.item.Mode.TheVariants.{Main}
+use Rattle.mig_stream.specs.Format.{most_name_bytes}
 use Rattle.mig_stream.specs.Text.{total_bytes}
 use Rattle.mig_stream.specs.Reading as stream
 use Rattle.mig_stream.specs.Law.{closed}
+use Rattle.mig_stream.specs.Written.{main}
 use Rattle.mig_packet.specs.declared.state.ChannelState.TheVariants.{Closed}
 use Rattle.mig_packet.specs.Packet.{Fields, fields_of}
 use Rattle.mig_packet.specs.Reading.{ChannelReading, IsReading, settings}
@@ -15,7 +18,7 @@ use Rattle.mig_send.specs.Batches.{BatchOfPages, IsBatch, batch_places}
 use Rattle.mig_send.specs.Packing.{packed_of, normals_of, zeros_of, offsets_of}
 use Rattle.mig_send.specs.Work.{Share, claimed_packet}
 use Rattle.mig_send.specs.Dealing.{sync_packet}
-use Rattle.mig_send.specs.DealtRounds.{DealtRound, IsSending, no_share}
+use Rattle.mig_send.specs.DealtRounds.{DealtRound, IsSending, IsMachineSending, no_share}
 
 -- ---- channels
 
@@ -52,6 +55,15 @@ pub record AreReadBack (table : RamTable) (uuid : List ℕ) (channels : ℕ) (ro
 abbrev pub SendingsAreReadBack : Type 0
 SendingsAreReadBack = (table : RamTable) (uuid : List ℕ) (limit channels : ℕ) (rounds : List DealtRound) (main_text : List ℕ) (texts : List (List ℕ))
     → IsSending table uuid limit channels rounds main_text texts → AreReadBack table uuid channels rounds main_text texts
+
+-- So are those whose main stream is a machine's: it is read in a machine's frame as its table and so
+-- many rounds without a record, whatever follows RAM's END.
+abbrev pub MachineSendingsAreReadBack : Type 0
+MachineSendingsAreReadBack = (name : Option (List ℕ)) (table : RamTable) (uuid : List ℕ) (limit channels : ℕ) (rounds : List DealtRound) (main_text : List ℕ) (texts : List (List ℕ))
+    → IfSome name (λ bytes. length bytes ≤ most_name_bytes) → IsMachineSending name table uuid limit channels rounds main_text texts
+    → ((most : ℕ) (rest : List ℕ) → total_bytes table ≤ most
+    → stream.IsReading (stream.in_frame Machine (stream.settings Main table.page_size most)) (main_text ++ rest) (closed table (replicate (length rounds) [])))
+    × AreReadBack table uuid channels rounds (main table (length rounds)) texts
 
 -- ---- what the packets say
 

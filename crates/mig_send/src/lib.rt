@@ -4,21 +4,26 @@
 //! `SingleSender` writes all rounds into one stream. `MultiSender` sends them on several channels
 //! beside a main stream: it cuts the dirty pages of a round into batches (`cut`), and runs a worker
 //! for each channel. A worker draws numbers from the round's deal, and appends the packets of the
-//! batches that these claim to its channel. `work` is a worker for callers with threads of their
-//! own, and returns its packets as a list. `pack` makes a single packet.
+//! batches that these claim to its channel. A caller with threads of its own begins a round by
+//! `MultiSender::begin_round`, and steps the workers that the `MultiRound` hands out, each a packet at
+//! a time. `work` is a worker whose packets are returned as a list. `pack` makes a single packet.
 //!
 //! What the streams look like is `mig_stream`'s and `mig_packet`'s. Which pages are dirty, and when
 //! a round is sent, is for the caller.
 //!
-//! Definitions to read first, in this order: `Sending`, `Batches`, `Packing`, `Work`, `Dealing`, `DealtRounds`, `MultiSending`
+//! Definitions to read first, in this order: `Sending`, `Batches`, `Packing`, `Work`, `Dealing`,
+//! `DealtRounds`, `MultiSending`; of workers that are stepped `ChannelWork` and `MultiRound`
 //! (`specs/`).
 #![tactic(auto)]
 
 mod batch;
+mod channel_worker;
 mod fault;
 mod laws;
 mod multi;
+mod multi_round;
 mod packed;
+mod round_work;
 mod share;
 mod single;
 mod sink;
@@ -26,9 +31,11 @@ mod worker;
 mod workers;
 
 pub use batch::{Batch, cut, pages_have_one_cut};
+pub use channel_worker::ChannelWorker;
 pub use fault::SendFault;
-pub use laws::{packets_say_their_pages, sendings_are_read_back};
+pub use laws::{machine_sendings_are_read_back, packets_say_their_pages, sendings_are_read_back};
 pub use multi::{MultiSender, Sent};
+pub use multi_round::MultiRound;
 pub use packed::{Packed, pack};
 pub use single::{OpenRound, SingleSender};
 pub use worker::{Worked, work, workers_make_a_dealing};

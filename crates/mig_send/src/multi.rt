@@ -1,12 +1,16 @@
 //! The sender on several channels, for hypervisors: a main stream with a FLUSH for each round, and the rounds' packets on the channels beside
 //! it.
 
-ghost use Rattle.std.specs.Prelude.{◌≡◌, ◌↔◌, ◌<◌, ◌≤◌, ◌++◌, ◌∷◌, [], List, ℕ, Err, length, map, replicate, IfOk, IfErr, OnOk, OnErr, vec_len};
+ghost use Rattle.std.specs.Prelude.{◌≡◌, ◌↔◌, ◌<◌, ◌≤◌, ◌++◌, ◌∷◌, [], List, ℕ, Option, Some, None, Err, length, map, replicate, IfOk, IfErr, OnOk, OnErr, vec_len};
 ghost use Rattle.std.specs.List.{range_with_len};
+ghost use Rattle.mig_stream.specs.Format.{most_name_bytes};
+ghost use Rattle.mig_stream.specs.Text.{file_header, configuration};
 ghost use Rattle.mig_stream.specs.Written.{FlushPart, written_so_far};
+ghost use Rattle.mig_stream.specs.Writer.{HasDrained};
+ghost use Rattle.mig_packet.specs.PageSize.{page_limit as most_pages};
 ghost use Rattle.mig_packet.specs.Hello.{written_hello};
 ghost use Rattle.mig_send.specs.Sending.{AreOf, IsRoundFault};
-ghost use Rattle.mig_send.specs.DealtRounds.{DealtRound, IsSending, channel_text};
+ghost use Rattle.mig_send.specs.DealtRounds.{DealtRound, IsSending, IsMachineSending, channel_text};
 ghost use Rattle.mig_send.specs.MultiSending.{Drained, nothing_drained, HasSentRounds, HasSentOne, KeepsSetting, KeepsCounts, IsRefused, texts_of, cut_texts, whole_texts, with_main, with_channel};
 
 use crate::SendFault;
@@ -14,7 +18,7 @@ use crate::batch::cut;
 use crate::workers::deal_round;
 use mig_mem::{Dirty, GuestPages, NoMemory, Table};
 use mig_packet::{Gate, hello, page_limit};
-use mig_stream::StreamWriter;
+use mig_stream::{StreamWriter, configured_is_written};
 use std::alloc::{Allocator, Global};
 use std::fmt::{self, Debug, Formatter};
 use std::marker::Model;
@@ -23,19 +27,19 @@ use std::thread::Threads;
 use uuid::Uuid;
 
 // The highest number that a round may begin with.
-const LAST_BASE: u64 = 1 << 63;
+pub(crate) const LAST_BASE: u64 = 1 << 63;
 
 /// Sends the rounds of one guest on several channels beside a main stream (QEMU's multifd migration, without compression). Each
 /// round is dealt to as many workers as there are channels, each on a thread of its own.
 #[derive(Drop)]
 pub struct MultiSender<A: Allocator = Global> {
-    alloc: A,
-    main: StreamWriter<A>,
+    pub(crate) alloc: A,
+    pub(crate) main: StreamWriter<A>,
     uuid: Uuid,
-    limit: usize,
-    channels: Vec<Vec<u8, A>, A>,
-    base: u64,
-    rounds: u64,
+    pub(crate) limit: usize,
+    pub(crate) channels: Vec<Vec<u8, A>, A>,
+    pub(crate) base: u64,
+    pub(crate) rounds: u64,
 }
 
 impl<A: Allocator> Model for MultiSender<A> {
@@ -83,6 +87,26 @@ fn hellos<A: Allocator + Copy>(
     Ok(texts)
 }
 
+// Whether a sender may have so many channels and this batch limit.
+fn test_setting<B: Allocator>(
+    table: &Table<B>,
+    channels: usize,
+    limit: usize,
+) -> Result<(), SendFault>
+    ensures channels { OnOk result ((0 < channels) × (channels ≤ 255)) }
+    ensures limit { OnOk result ((0 < limit) × (limit ≤ most_pages table.now.page_size)) }
+    ensures refused { IfErr result (λ fault. IsRefused table.now channels limit fault) }
+{
+    table.keeps_limits();
+    if channels == 0 || channels > 255 {
+        return Err(SendFault::Channels);
+    }
+    if limit == 0 || limit > page_limit(table.page_size()) {
+        return Err(SendFault::Limit);
+    }
+    Ok(())
+}
+
 // The lengths of some texts.
 fn lengths<A: Allocator>(alloc: A, texts: &[Vec<u8, A>]) -> Result<Vec<usize, A>, NoMemory>
     ensures { IfOk result (λ lens. lens.items ≡ map vec_len texts.now) }
@@ -118,14 +142,53 @@ impl<A: Allocator + Copy> MultiSender<A> {
         ensures none { IfOk result (λ s. HasSentRounds nothing_drained s []) }
         ensures refused { IfErr result (λ fault. IsRefused table.now channels limit fault) }
     {
-        table.keeps_limits();
-        if channels == 0 || channels > 255 {
-            return Err(SendFault::Channels);
-        }
-        if limit == 0 || limit > page_limit(table.page_size()) {
-            return Err(SendFault::Limit);
-        }
+        test_setting(table, channels, limit)?;
         let main = StreamWriter::new(alloc, table)?;
+        Ok(MultiSender::of_writer(alloc, main, uuid, channels, limit)?)
+    }
+
+    /// Creates a sender whose main stream is a machine's: returns that stream's first bytes, the
+    /// file header and a configuration with the machine's `name`, and the sender of what follows
+    /// them. QEMU refuses a stream with another name than its own machine's.
+    ///
+    /// # Errors
+    ///
+    /// Those of `new`.
+    pub fn with_configuration<B: Allocator>(
+        alloc: A,
+        table: &Table<B>,
+        uuid: Uuid,
+        channels: usize,
+        limit: usize,
+        name: &[u8],
+    ) -> Result<(Vec<u8, A>, MultiSender<A>), SendFault>
+        requires name { length name.now ≤ most_name_bytes }
+        ensures first { IfOk result (λ r. r.0.items ≡ file_header ++ configuration (Some name.now)) }
+        ensures made { IfOk result (λ r. (r.1.main.table ≡ table.now) × (r.1.uuid ≡ uuid) × (r.1.limit ≡ limit) × (length r.1.channels ≡ channels)) }
+        ensures none { IfOk result (λ r. HasSentRounds (with_main nothing_drained file_header) r.1 []) }
+        ensures refused { IfErr result (λ fault. IsRefused table.now channels limit fault) }
+    {
+        test_setting(table, channels, limit)?;
+        let (first, main) = StreamWriter::with_configuration(alloc, table, name)?;
+        let sender = MultiSender::of_writer(alloc, main, uuid, channels, limit)?;
+        Ok((first, sender))
+    }
+
+    // The sender whose main stream this writer writes, which was given no part yet.
+    fn of_writer(
+        alloc: A,
+        main: StreamWriter<A>,
+        uuid: Uuid,
+        channels: usize,
+        limit: usize,
+    ) -> Result<MultiSender<A>, NoMemory>
+        requires channels { (0 < channels) × (channels ≤ 255) }
+        requires limit { (0 < limit) × (limit ≤ most_pages main.table.page_size) }
+        ensures made { IfOk result (λ s. (s.main.table ≡ main.table) × (s.uuid ≡ uuid) × (s.limit ≡ limit) × (length s.channels ≡ channels)) }
+        ensures none { IfOk result (λ s. (drained : List ℕ) → HasDrained drained main [] → HasSentRounds (with_main nothing_drained drained) s []) }
+    {
+        // Shows the prover that the table is a lawful one.
+        main.table().keeps_limits();
         Ok(MultiSender {
             alloc,
             main,
@@ -257,6 +320,51 @@ impl<A: Allocator> MultiSender<A> {
         } = self;
         match main.finish() {
             Ok(main) => Ok(Sent { main, channels }),
+            Err(main) => Err(MultiSender {
+                alloc,
+                main,
+                uuid,
+                limit,
+                channels,
+                base,
+                rounds,
+            }),
+        }
+    }
+
+    /// Ends RAM's sections of the main stream without the stream's end byte, and returns all
+    /// streams, or what of them wasn't drained. The caller goes on with the sections of devices and
+    /// the end byte on the main stream. That is a machine's then, up to the footer of RAM's END; with
+    /// a configuration after the file header, that of a machine of that name.
+    ///
+    /// # Errors
+    ///
+    /// The sender, as it was: an allocation was refused.
+    pub fn finish_open(self) -> Result<Sent<A>, MultiSender<A>>
+        ensures ok { IfOk result (λ sent. (drained : Drained) (rounds : List DealtRound) → HasSentRounds drained self rounds
+            → IsMachineSending None self.main.table self.uuid self.limit (length self.channels) rounds
+            (drained.main ++ sent.main.items) (whole_texts drained (texts_of sent.channels.items))) }
+        ensures configured { IfOk result (λ sent. (name : Option (List ℕ)) (main : List ℕ) (drained : Drained) (rounds : List DealtRound)
+            → HasSentRounds (record drained { main = file_header ++ main }) self rounds
+            → IsMachineSending name self.main.table self.uuid self.limit (length self.channels) rounds
+            (file_header ++ configuration name ++ main ++ sent.main.items) (whole_texts drained (texts_of sent.channels.items))) }
+        ensures err { IfErr result (λ s. s ≡ self) }
+    {
+        configured_is_written();
+        let MultiSender {
+            alloc,
+            main,
+            uuid,
+            limit,
+            channels,
+            base,
+            rounds,
+        } = self;
+        match main.finish_open() {
+            Ok(open) => Ok(Sent {
+                main: open,
+                channels,
+            }),
             Err(main) => Err(MultiSender {
                 alloc,
                 main,

@@ -87,6 +87,18 @@ fn end<A: Allocator, M: GuestPages>(
     ensures prefix { IsPrefix text.old.items text.new.items }
 {
     made?;
+    put_sync(text, memory, number)
+}
+
+/// Appends the SYNC packet of a number. After an `Err` a part of it may have been appended.
+pub(crate) fn put_sync<A: Allocator, M: GuestPages>(
+    text: &mut Vec<u8, A>,
+    memory: &M,
+    number: u64,
+) -> Result<(), NoMemory>
+    ensures ok { OnOk result (text.new.items ≡ text.old.items ++ sync_packet (M.image memory.now).table.page_size number) }
+    ensures prefix { IsPrefix text.old.items text.new.items }
+{
     let table = memory.table();
     // as in `pack`
     table.keeps_limits();

@@ -1,16 +1,19 @@
 //! The sender of a single stream, for hypervisors and the tool: each round becomes one section of page records.
 
-ghost use Rattle.std.specs.Prelude.{◌≡◌, ◌++◌, ◌↔◌, ℕ, [], ◌∷◌, List, length, map, Err, IfOk, IfErr, OnOk, OnErr};
+ghost use Rattle.std.specs.Prelude.{◌≡◌, ◌≤◌, ◌++◌, ◌↔◌, ℕ, [], ◌∷◌, List, length, map, Option, Some, None, Err, IfOk, IfErr, OnOk, OnErr};
 ghost use Rattle.mig_mem.specs.Place.{IsPlace};
 ghost use Rattle.mig_mem.specs.Image.{Page};
 ghost use Rattle.mig_mem.specs.Round.{round_of};
+ghost use Rattle.mig_stream.specs.Format.{most_name_bytes};
+ghost use Rattle.mig_stream.specs.Text.{file_header, configuration};
 ghost use Rattle.mig_stream.specs.Written.{RoundPart, single, written_so_far};
+ghost use Rattle.mig_stream.specs.MachineWritten.{machine_written};
 ghost use Rattle.mig_stream.specs.Writer.{HasPut};
 ghost use Rattle.mig_send.specs.Sending.{HasSent, HasSentDrained, AreOf, IsRoundFault};
 
 use crate::SendFault;
 use mig_mem::{Dirty, GuestPages, NoMemory, Place, Table};
-use mig_stream::{OpenPart, StreamWriter};
+use mig_stream::{OpenPart, StreamWriter, configured_is_written};
 use std::alloc::{Allocator, Global};
 use std::fmt::{self, Debug, Formatter};
 use std::marker::Model;
@@ -43,6 +46,27 @@ impl<A: Allocator + Copy> SingleSender<A> {
     {
         let writer = StreamWriter::new(alloc, table)?;
         Ok(SingleSender { writer })
+    }
+
+    /// Creates a machine's stream: returns its first bytes, the file header and a configuration
+    /// with the machine's `name`, and the sender of what follows them. QEMU refuses a stream with
+    /// another name than its own machine's.
+    ///
+    /// # Errors
+    ///
+    /// `NoMemory`: an allocation was refused.
+    pub fn with_configuration<B: Allocator>(
+        alloc: A,
+        table: &Table<B>,
+        name: &[u8],
+    ) -> Result<(Vec<u8, A>, SingleSender<A>), NoMemory>
+        requires name { length name.now ≤ most_name_bytes }
+        ensures first { IfOk result (λ r. r.0.items ≡ file_header ++ configuration (Some name.now)) }
+        ensures table { IfOk result (λ r. r.1.table ≡ table.now) }
+        ensures none { IfOk result (λ r. HasSentDrained file_header r.1 []) }
+    {
+        let (first, writer) = StreamWriter::with_configuration(alloc, table, name)?;
+        Ok((first, SingleSender { writer }))
     }
 }
 
@@ -115,6 +139,29 @@ impl<A: Allocator> SingleSender<A> {
     {
         match self.writer.finish() {
             Ok(text) => Ok(text),
+            Err(writer) => Err(SingleSender { writer }),
+        }
+    }
+
+    /// Ends RAM's sections without the stream's end byte, and returns the bytes that weren't
+    /// drained. The caller goes on with the sections of devices and the end byte. The drained bytes
+    /// and these are a machine's stream of the rounds, up to the footer of RAM's END; with a
+    /// configuration after the file header, that of a machine of that name.
+    ///
+    /// # Errors
+    ///
+    /// The sender, as it was: an allocation was refused.
+    pub fn finish_open(self) -> Result<Vec<u8, A>, SingleSender<A>>
+        ensures ok { IfOk result (λ text. (drained : List ℕ) (rounds : List (List Page)) → HasSentDrained drained self rounds
+            → drained ++ text.items ≡ machine_written None self.table (map RoundPart rounds)) }
+        ensures configured { IfOk result (λ text. (name : Option (List ℕ)) (drained : List ℕ) (rounds : List (List Page))
+            → HasSentDrained (file_header ++ drained) self rounds
+            → file_header ++ configuration name ++ drained ++ text.items ≡ machine_written name self.table (map RoundPart rounds)) }
+        ensures err { IfErr result (λ s. s ≡ self) }
+    {
+        configured_is_written();
+        match self.writer.finish_open() {
+            Ok(bytes) => Ok(bytes),
             Err(writer) => Err(SingleSender { writer }),
         }
     }

@@ -1,15 +1,16 @@
 -- What a session keeps of all its sources, and what they tell together.
-use Rattle.std.proofs.Common.{ℕ, zero, suc, ◌≡◌, ◌≢◌, ◌+◌, ◌<◌, List, [], ◌∷◌, ◌++◌, append_assoc, length, map, take, drop, set, get_or, replicate, refl, sym, ap, subst, ◌∙◌, Option, Some, None, arith}
+use Rattle.std.proofs.Common.{ℕ, zero, suc, ◌≡◌, ◌≢◌, ◌+◌, ◌<◌, ◌≤◌, List, [], ◌∷◌, ◌++◌, append_assoc, length, map, take, drop, set, get_or, replicate, refl, sym, ap, subst, ◌∙◌, Option, Some, None, arith}
 use Rattle.std.specs.Prelude.{slice_get, Result, Ok, Err, OnOk}
 use Rattle.std.specs.List.{All, AllZip, flat_map, enumerate_from}
-use Rattle.std.proofs.lemmas.List.{length-set, length-map, replicate_more, take_more, take_more_set, drop_more, drop-set-lt, map-append, append-nil}
+use Rattle.std.proofs.lemmas.List.{set_past, length-set, length-map, replicate_more, take_more, take_more_set, drop_more, drop-set-lt, map-append, append-nil}
 use Rattle.std.proofs.lemmas.Grind.{flat_map-append}
 use Rattle.std.proofs.lemmas.Option.{slice_get_read}
 use Rattle.std.proofs.lemmas.List.Elements.{All-nil, All-cons, All-head, All-tail, All-push}
 use Rattle.mig_mem.specs.PageSize.{IsPageSize}
 use Rattle.mig_mem.specs.First.{first_some}
 use Rattle.mig_stream.specs.Round.{RoundOfRecords}
-use Rattle.mig_stream.specs.Reader.{waiting as stream_waiting}
+use Rattle.mig_stream.specs.Reader.{HasClosedAt, waiting as stream_waiting, IsValidUpTo as IsMainValidUpTo}
+use Rattle.mig_packet.specs.Reader.{IsValidUpTo}
 use Rattle.mig_packet.specs.Packet.{Fields, fields_of}
 use Rattle.mig_packet.specs.Lent.{fields}
 use Rattle.mig_packet.specs.declared.packet.Packet.{Packet}
@@ -26,8 +27,8 @@ use Rattle.mig_answer.specs.Texts.{Text, Texts, Readings, AreReadings, no_text}
 use Rattle.mig_answer.specs.Rounds.{channel_packets_at, packets_at}
 use Rattle.mig_answer.specs.MultiLoad.{Standing, main_standing, main_at, channels_at, hello_ids, repeated_hello, verdicts_told}
 use Rattle.mig_answer.specs.Told.{standings}
-use Rattle.mig_session.specs.Sources.{FedMain, FedChannel, FedSources, channel_count, HoldsMain, HoldsChannel, Holds, TellsMainStatus, TellsChannelStatus, TellsHello, TellsAll, HaveRound, TakesMain, TakesChannel, packets_of, packets_of_all, IsOfSize, with_one, main_waiting}
-use Rattle.mig_session.specs.Session.{at_source, no_count}
+use Rattle.mig_session.specs.Sources.{Places, FedMain, FedChannel, FedSources, channel_count, HoldsMain, HoldsChannel, Holds, TellsMainStatus, TellsChannelStatus, TellsHello, TellsAll, HaveRound, TakesMain, TakesChannel, packets_of, packets_of_all, IsOfSize, with_one, main_waiting}
+use Rattle.mig_session.specs.Session.{at_source, no_count, HasPlaces}
 use Rattle.mig_session.specs.Advancing.{IsDue}
 use Rattle.mig_answer.proofs.Judged.{IsWhole}
 use Rattle.mig_session.proofs.KeptChannel as channel
@@ -49,6 +50,18 @@ zip_at R [] (b ∷ ys) j d y zip is = absurd zip
 zip_at R (a ∷ xs) [] j d y zip is = absurd zip
 zip_at R (a ∷ xs) (b ∷ ys) zero d y zip is = subst (λ z. R a z) (let same : b ≡ y = cc in same) zip.0
 zip_at R (a ∷ xs) (b ∷ ys) (suc j) d y zip is = zip_at R xs ys j d y zip.1 is
+
+pub zip_here : {X Y : Type 0} (R : X → Y → Type 0) (xs : List X) (ys : List Y) (j : ℕ) (x : X) (y : Y) → AllZip R (set xs j x) ys → slice_get ys j ≡ Some y → R x y
+zip_here R [] [] j x y zip is = absurd cc
+zip_here R [] (b ∷ ys) j x y zip is = absurd zip
+zip_here R (a ∷ xs) [] zero x y zip is = absurd zip
+zip_here R (a ∷ xs) [] (suc j) x y zip is = absurd zip
+zip_here R (a ∷ xs) (b ∷ ys) zero x y zip is = subst (λ z. R x z) (let same : b ≡ y = cc in same) zip.0
+zip_here R (a ∷ xs) (b ∷ ys) (suc j) x y zip is = zip_here R xs ys j x y zip.1 is
+
+-- a place that there isn't
+pub set_beyond : (ns : List ℕ) (j n : ℕ) → length ns ≤ j → set ns j n ≡ ns
+set_beyond ns j n le = set_past ns j n le
 
 -- ---- what is told
 
@@ -122,6 +135,32 @@ channel_steps given uuid k j step texts s c holds here =
       channels = subst (λ (n : ℕ). AllZip (HoldsChannel (settings given.page_size uuid n) k) (set texts.channels j text) (set s.channels j c)) (sym (length-set texts.channels j text))
           (zip_set (HoldsChannel channel_given k) texts.channels s.channels j text c holds.channels here);
     }
+
+-- and up to where it is valid is noted
+pub main_noted : (given : LoadSettings) (uuid : List ℕ) (step : Text → Text) (texts : Texts) (places : Places) (n : ℕ) (o : Option ℕ) → HasPlaces given uuid texts places
+    → IsMainValidUpTo (main_of given) (step texts.main).bytes n → HasClosedAt (main_of given) (step texts.main).bytes o
+    → HasPlaces given uuid (at_source source.Main step texts) (record places { main = n; closed_at = o })
+main_noted given uuid step texts places n o have valid closed = record { main = valid; closed = closed; channels = have.channels }
+
+pub channel_noted : (given : LoadSettings) (uuid : List ℕ) (j : ℕ) (step : Text → Text) (texts : Texts) (places : Places) (n : ℕ) → HasPlaces given uuid texts places
+    → IsValidUpTo (settings given.page_size uuid (length (at_source (source.Channel j) step texts).channels)) (step (get_or texts.channels j no_text)).bytes n
+    → HasPlaces given uuid (at_source (source.Channel j) step texts) (record places { channels = set places.channels j n })
+channel_noted given uuid j step texts places n have valid =
+    let text : Text = step (get_or texts.channels j no_text) in
+    let are_valid : ℕ → Text → ℕ → Type 0 = λ many t m. IsValidUpTo (settings given.page_size uuid many) t.bytes m in
+    record {
+      main = have.main;
+      closed = have.closed;
+      channels = zip_set (are_valid (length (set texts.channels j text))) texts.channels places.channels j text n
+          (subst (λ (many : ℕ). AllZip (are_valid many) texts.channels places.channels) (sym (length-set texts.channels j text)) have.channels) valid;
+    }
+
+-- the channel that was read stands for the text with the step
+pub channel_stands : (given : LoadSettings) (uuid : List ℕ) (k j : ℕ) (step : Text → Text) (texts : Texts) (s : FedSources) (c : FedChannel) → Holds given uuid k (at_source (source.Channel j) step texts) s → slice_get s.channels j ≡ Some c
+    → HoldsChannel (settings given.page_size uuid (length (at_source (source.Channel j) step texts).channels)) k (step (get_or texts.channels j no_text)) c
+channel_stands given uuid k j step texts s c holds there =
+    let text : Text = step (get_or texts.channels j no_text) in
+    zip_here (HoldsChannel (settings given.page_size uuid (length (set texts.channels j text))) k) texts.channels s.channels j text c holds.channels there
 
 -- ---- all go on to the next round
 

@@ -1,6 +1,6 @@
 mod KeptChannel
 mod KeptMain
-mod Telling
+pub mod Telling
 mod KeptSources
 mod Advances
 mod Sessions

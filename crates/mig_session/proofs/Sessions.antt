@@ -1,21 +1,26 @@
 -- What a session stands for: before the first piece, after each, and once a text is over.
-use Rattle.std.proofs.Common.{ℕ, zero, suc, ◌≡◌, ◌≢◌, ◌⊎◌, ◌+◌, ◌<◌, Bool, true, false, List, [], ◌∷◌, length, map, set, get_or, replicate, refl, sym, ap, subst, ◌∙◌, cond, inl, inr, Option, Some, None, arith}
-use Rattle.std.specs.Prelude.{nat_lt, ◌==◌, IsFalse, Result, Ok, Err, IfOk, IfSome}
+use Rattle.std.proofs.Common.{ℕ, zero, suc, ◌≡◌, ◌≢◌, ◌⊎◌, ◌+◌, ◌<◌, Bool, true, false, List, [], ◌∷◌, ◌++◌, append_assoc, length, map, set, get_or, replicate, refl, sym, ap, subst, ◌∙◌, cond, inl, inr, Option, Some, None, arith}
+use Rattle.std.specs.Prelude.{nat_lt, ◌==◌, IsFalse, slice_get, Result, Ok, Err, IfOk, OnOk, IfSome}
 use Rattle.std.specs.List.{AllZip, All, enumerate_from, range_with_len}
 use Rattle.std.specs.Option.{option_map, unwrap_or}
 use Rattle.std.proofs.lemmas.Bool.{cases_order, le-ltb, ne_eqb, cond-false}
-use Rattle.std.proofs.lemmas.List.{length-append, append-nil, length-map, length-set, get_or-map}
+use Rattle.std.proofs.lemmas.List.{length-append, append-nil, length-map, length-set, get_or-map, take-append-le}
 use Rattle.std.proofs.lemmas.List.Elements.{All-nil, All-cons, All-head, All-tail}
 use Rattle.mig_mem.specs.PageSize.{IsPageSize}
 use Rattle.mig_mem.specs.RamTable.{RamTable}
 use Rattle.mig_mem.specs.Round.{after}
 use Rattle.mig_stream.specs.declared.item.Mode.TheVariants.{Main}
-use Rattle.mig_stream.specs.declared.item.StreamState.TheVariants.{Reading}
+use Rattle.mig_stream.specs.declared.item.StreamState.TheVariants.{Reading, Closed}
 use Rattle.mig_stream.specs.Progress.{StreamProgress, start}
 use Rattle.mig_stream.specs.PageRecord.{PageRecord}
-use Rattle.mig_stream.specs.Reading.{StreamReading, IsReading as IsStreamReading}
+use Rattle.mig_stream.specs.Reading.{Settings as StreamSettings, StreamReading, Reads, IsReading as IsStreamReading}
+use Rattle.mig_stream.specs.Reader as stream
 use Rattle.mig_stream.proofs.Feeding.{reads_short}
-use Rattle.mig_packet.specs.Reading.{Settings, settings, ChannelReading, IsReading}
+use Rattle.mig_packet.specs.Reader as channel
+use Rattle.mig_packet.specs.declared.state.ChannelState.TheVariants as channel_state
+use Rattle.mig_packet.specs.Progress.{ChannelProgress, start as channel_start}
+use Rattle.mig_packet.proofs.Feeding.{reads_short as channel_short}
+use Rattle.mig_packet.specs.Reading.{Settings, settings, ChannelReading, IsReading, Reads as ChannelReads}
 use Rattle.mig_assemble.specs.Target.{LoadTarget}
 use Rattle.mig_session.specs.declared.counts.Count.{Count}
 use Rattle.mig_session.specs.declared.source.Source.{Source}
@@ -30,10 +35,10 @@ use Rattle.mig_answer.specs.declared.verdict.Verdict.TheVariants.{Running, Done,
 use Rattle.mig_answer.specs.Status.{status_at, stream_end, channel_end, channel_status, is_whole, is_pending}
 use Rattle.mig_answer.specs.Texts.{Text, Texts, Readings, IsMainReading, AreReadings, no_text, no_texts, with_piece, over}
 use Rattle.mig_answer.specs.Rounds.{memory_at, base_at, pages_at}
-use Rattle.mig_answer.specs.MultiLoad.{Standing, main_at, channels_at, passes, IsFirstStop, verdict_at}
+use Rattle.mig_answer.specs.MultiLoad.{IsAnswer, Standing, main_at, channels_at, passes, IsFirstStop, verdict_at}
 use Rattle.mig_answer.specs.Growing.{GoesOn, GoOn}
-use Rattle.mig_session.specs.Sources.{Counts, FedChannel, FedSources, main_count, channel_count, counts_of, HoldsChannel, Holds, TellsAll}
-use Rattle.mig_session.specs.Session.{LoadSession, rounds_loaded, answer_in, HasSource, count_of, no_count, with_count, with_fed, with_end, count_in, counts_in, at_source, feed_step, end_step, HasBase, IsRunning, StandsFor, LacksMemory, StandsForSome, IsSession}
+use Rattle.mig_session.specs.Sources.{Counts, Places, FedChannel, FedSources, main_count, channel_count, counts_of, HoldsChannel, Holds, TellsAll}
+use Rattle.mig_session.specs.Session.{LoadSession, rounds_loaded, answer_in, HasSource, count_of, no_count, with_count, with_fed, with_end, count_in, counts_in, at_source, feed_step, end_step, HasBase, IsRunning, place_of, HasPlaces, HavePlaces, IsSourceValidUpTo, AsRead, StandsFor, LacksMemory, StandsForSome, IsSession}
 use Rattle.mig_session.specs.Advancing.{Feeding, HasPutRounds, HasRounds, Advances, TellsVerdict, HasAdvanced, HasTaken, failed_without_memory, IsDue}
 use Rattle.mig_answer.proofs.Statuses.{status_whole, status_end, stream_ends, channel_ends}
 use Rattle.mig_answer.proofs.Judged.{IsWhole, IsSettled, settled_is_told}
@@ -193,11 +198,11 @@ bases given uuid texts readings (Some t) size are has = record {
 }
 
 -- the verdict is told: the session stands for the texts
-pub stands_told : (given : LoadSettings) (uuid : List ℕ) (texts : Texts) (readings : Readings) (counts : Counts) (kept : Option FedSources) (sources : FedSources) (target : Option LoadTarget) (verdict : Verdict)
+pub stands_told : (given : LoadSettings) (uuid : List ℕ) (texts : Texts) (readings : Readings) (counts : Counts) (places : Option Places) (kept : Option FedSources) (sources : FedSources) (target : Option LoadTarget) (verdict : Verdict)
     → IsPageSize given.page_size → AreReadings given uuid texts readings → counts ≡ counts_in texts → Holds given uuid (rounds_loaded target) texts sources → HasRounds readings target
-    → TellsVerdict readings target verdict → (kept ≡ Some sources) ⊎ (kept ≡ None)
-    → StandsFor given uuid texts (record { counts = counts; sources = kept; target = target; verdict = verdict })
-stands_told given uuid texts readings counts kept sources target verdict size are counted holds has told which = record {
+    → TellsVerdict readings target verdict → (kept ≡ Some sources) ⊎ (kept ≡ None) → HavePlaces given uuid texts places
+    → StandsFor given uuid texts (record { counts = counts; places = places; sources = kept; target = target; verdict = verdict })
+stands_told given uuid texts readings counts places kept sources target verdict size are counted holds has told which have = record {
   is_page_size = size;
   has_counts = counted;
   is_answer = record { readings = readings; are_readings = are; has_rounds = told.is_first_stop; has_memory = told.has_memory; has_verdict = told.has_verdict };
@@ -205,21 +210,28 @@ stands_told given uuid texts readings counts kept sources target verdict size ar
     | inl some ↦ rw some (record { holds = holds; has_base = bases given uuid texts readings target size are has })
     | inr none ↦ rw none tt
   ];
+  read = texts;
+  goes_on = record { main = stays_same texts.main; channels = all_same texts.channels };
+  has_read_all = λ some. refl;
+  is_answer_there = record { readings = readings; are_readings = are; has_rounds = told.is_first_stop; has_memory = told.has_memory; has_verdict = told.has_verdict };
+  have_places = have;
 }
 
 -- an allocation was refused
 pub lacks_of : (given : LoadSettings) (uuid : List ℕ) (texts : Texts) (readings : Readings) (counts : Counts) (kept : Option FedSources) (target : Option LoadTarget)
     → IsPageSize given.page_size → AreReadings given uuid texts readings → counts ≡ counts_in texts → HasRounds readings target
-    → LacksMemory given uuid texts (record { counts = counts; sources = kept; target = target; verdict = failed_without_memory (rounds_loaded target) })
+    → LacksMemory given uuid texts (record { counts = counts; places = None; sources = kept; target = target; verdict = failed_without_memory (rounds_loaded target) })
 lacks_of given uuid texts readings counts kept None size are counted has = record {
   is_page_size = size;
   has_counts = counted;
   is_without = record { readings = readings; are_readings = are; have_passed = has.have_passed; has_memory = inr (refl, refl); has_verdict = refl };
+  has_no_places = refl;
 }
 lacks_of given uuid texts readings counts kept (Some t) size are counted has = record {
   is_page_size = size;
   has_counts = counted;
   is_without = record { readings = readings; are_readings = are; have_passed = has.have_passed; has_memory = inl (sym has.has_put.has_loaded.has_memory); has_verdict = refl };
+  has_no_places = refl;
 }
 
 -- ---- before the first piece
@@ -241,31 +253,81 @@ none_counted : (n : ℕ) → replicate n no_count ≡ map count_in (replicate n 
 none_counted zero = refl
 none_counted (suc n) = ap (λ (l : List Count). no_count ∷ l) (none_counted n)
 
-pub stands_at_first : (given : LoadSettings) (uuid : List ℕ) (n : ℕ) (sources : FedSources) (counts : Counts) → IsPageSize given.page_size
-    → counts ≡ record { main = no_count; channels = replicate n no_count } → Holds given uuid 0 (no_texts n) sources
-    → StandsFor given uuid (no_texts n) (record { counts = counts; sources = Some sources; target = None; verdict = Running })
-stands_at_first given uuid n sources counts size counted holds =
+-- nothing is valid up to its first byte
+main_first : (given : LoadSettings) → stream.IsValidUpTo (main_of given) [] 0
+main_first given =
+    let begin : StreamProgress = start given.frame Main given.page_size given.limit in
+    let reads : Reads begin [] begin [] Reading = reads_short begin [] (omega arith) in
+    record { to = begin; rest = []; state = Reading; reads = reads; has_length = omega (arith, ap (λ (l : List ℕ). length l) reads.has_text, length-append reads.front []) }
+
+main_open : (given : LoadSettings) → stream.HasClosedAt (main_of given) [] None
+main_open given =
+    let begin : StreamProgress = start given.frame Main given.page_size given.limit in
+    (nothing_read, record { to = begin; rest = []; reads = reads_short begin [] (omega arith); has_table = refl; has_rounds = refl }, λ e. absurd cc)
+
+channel_first : (given : Settings) → channel.IsValidUpTo given [] 0
+channel_first given =
+    let begin : ChannelProgress = channel_start given.page_size given.uuid given.channels in
+    let reads : ChannelReads begin [] begin [] channel_state.Reading = channel_short begin [] (record { has_no_fault = refl; is_short = λ le. absurd (omega (arith, le)) }) in
+    record { to = begin; rest = []; found = channel_state.Reading; reads = reads; has_length = omega (arith, ap (λ (l : List ℕ). length l) reads.has_text, length-append reads.front []) }
+
+channels_first : (given : Settings) (n : ℕ) → AllZip (λ (text : Text) (m : ℕ). channel.IsValidUpTo given text.bytes m) (replicate n no_text) (replicate n 0)
+channels_first given zero = tt
+channels_first given (suc n) = (channel_first given, channels_first given n)
+
+pub places_first : (given : LoadSettings) (uuid : List ℕ) (n : ℕ) (places : Places) → places ≡ record { main = 0; closed_at = None; channels = replicate n 0 } → HasPlaces given uuid (no_texts n) places
+places_first given uuid n places is = rw is record {
+  main = main_first given;
+  closed = main_open given;
+  channels = channels_first (settings given.page_size uuid (length (replicate n no_text))) n;
+}
+
+pub stands_at_first : (given : LoadSettings) (uuid : List ℕ) (n : ℕ) (sources : FedSources) (counts : Counts) (places : Option Places) → IsPageSize given.page_size
+    → counts ≡ record { main = no_count; channels = replicate n no_count } → Holds given uuid 0 (no_texts n) sources → HavePlaces given uuid (no_texts n) places
+    → StandsFor given uuid (no_texts n) (record { counts = counts; places = places; sources = Some sources; target = None; verdict = Running })
+stands_at_first given uuid n sources counts places size counted holds have =
     let some = some_readings given uuid (no_texts n) size in
     let readings : Readings = some.0 in
     let is : readings.main ≡ nothing_read = main_nothing given readings.main size some.1.has_main in
     let channels : List ChannelReading = readings.channels in
+    let answer : IsAnswer given uuid (no_texts n) (record { memory = None; rounds = 0; verdict = Running }) = record {
+      readings = readings;
+      are_readings = some.1;
+      has_rounds = record {
+        before = λ j below. absurd (omega (arith, below));
+        here = ap (λ (m : StreamReading). passes 0 (record { main = m; channels = channels })) is;
+      };
+      has_memory = sym (ap (λ (m : StreamReading). memory_at 0 (record { main = m; channels = channels })) is);
+      has_verdict = sym (ap (λ (m : StreamReading). verdict_at 0 (record { main = m; channels = channels })) is);
+    } in
     record {
       is_page_size = size;
       has_counts = counted ∙ ap (λ (l : List Count). record { main = no_count; channels = l }) (none_counted n);
-      is_answer = record {
-        readings = readings;
-        are_readings = some.1;
-        has_rounds = record {
-          before = λ j below. absurd (omega (arith, below));
-          here = ap (λ (m : StreamReading). passes 0 (record { main = m; channels = channels })) is;
-        };
-        has_memory = sym (ap (λ (m : StreamReading). memory_at 0 (record { main = m; channels = channels })) is);
-        has_verdict = sym (ap (λ (m : StreamReading). verdict_at 0 (record { main = m; channels = channels })) is);
-      };
+      is_answer = answer;
       runs = record { holds = holds; has_base = tt };
+      read = no_texts n;
+      goes_on = record { main = stays_same no_text; channels = all_same (replicate n no_text) };
+      has_read_all = λ some. refl;
+      is_answer_there = answer;
+      have_places = have;
     }
 
 -- ---- a session that is settled
+
+goes_then : (a b c : Text) → GoesOn a b → GoesOn b c → GoesOn a c
+goes_then a b c one two = record {
+  more = one.more ++ two.more;
+  has_bytes = two.has_bytes ∙ ap (λ (l : List ℕ). l ++ two.more) one.has_bytes ∙ append_assoc a.bytes one.more two.more;
+  stays_ended = λ e. let same : b ≡ a = one.stays_ended e in two.stays_ended (ap (λ (t : Text). t.ended) same ∙ e) ∙ same;
+}
+
+all_then : (a b c : List Text) → AllZip GoesOn a b → AllZip GoesOn b c → AllZip GoesOn a c
+all_then [] [] [] one two = tt
+all_then [] [] (z ∷ c) one two = absurd two
+all_then [] (y ∷ b) c one two = absurd one
+all_then (x ∷ a) [] c one two = absurd one
+all_then (x ∷ a) (y ∷ b) [] one two = absurd two
+all_then (x ∷ a) (y ∷ b) (z ∷ c) one two = (goes_then x y z one.0 two.0, all_then a b c one.1 two.1)
 
 pub settled_steps : (given : LoadSettings) (uuid : List ℕ) (texts now : Texts) (s : LoadSession) (counts : Counts) → StandsFor given uuid texts s → s.sources ≡ None → s.verdict ≢ Running
     → GoOn texts now → counts ≡ counts_in now → StandsFor given uuid now (record s { counts = counts })
@@ -274,6 +336,14 @@ settled_steps given uuid texts now s counts stands none settled goes counted = r
   has_counts = counted;
   is_answer = answers_law given uuid texts now (answer_in s) stands.is_page_size goes stands.is_answer settled;
   runs = rw none tt;
+  read = stands.read;
+  goes_on = record {
+    main = goes_then stands.read.main texts.main now.main stands.goes_on.main goes.main;
+    channels = all_then stands.read.channels texts.channels now.channels stands.goes_on.channels goes.channels;
+  };
+  has_read_all = λ some. absurd (some none);
+  is_answer_there = stands.is_answer_there;
+  have_places = stands.have_places;
 }
 
 pub lacking_steps : (given : LoadSettings) (uuid : List ℕ) (texts now : Texts) (s : LoadSession) (counts : Counts) → LacksMemory given uuid texts s → GoOn texts now → counts ≡ counts_in now
@@ -282,6 +352,7 @@ lacking_steps given uuid texts now s counts lacks goes counted = record {
   is_page_size = lacks.is_page_size;
   has_counts = counted;
   is_without = wants_law given uuid texts now (answer_in s) lacks.is_page_size goes lacks.is_without;
+  has_no_places = lacks.has_no_places;
 }
 
 -- one that lacks memory is settled
@@ -424,23 +495,60 @@ keeps_runs s sources is some = go s.verdict is.is_settled
     go Done settled = let bad : Some sources ≡ None = sym some ∙ settled (λ e. absurd cc) in absurd cc
     go (Failed f) settled = let bad : Some sources ≡ None = sym some ∙ settled (λ e. absurd cc) in absurd cc
 
+-- a source that a piece was counted of is still there
+pub there_fed : (counts : Counts) (from : Source) (n : ℕ) → HasSource counts from → HasSource (with_fed counts from n) from
+there_fed counts source.Main n there = tt
+there_fed counts (source.Channel j) n there = subst (λ (k : ℕ). j < k) (sym (length-set counts.channels j _)) there
+
+-- where a piece of a source was taken, the places are those with it
+abbrev pub Notes : Source → List ℕ → FedSources → Option Places → Option Places → Type 0
+Notes from piece sources old new = (given : LoadSettings) (uuid : List ℕ) (k : ℕ) (texts : Texts) → IsPageSize given.page_size → Holds given uuid k texts sources
+    → HavePlaces given uuid texts old → HavePlaces given uuid (feed_step from piece texts) new
+
+-- those of a session that runs are of all its texts
+places_now : (given : LoadSettings) (uuid : List ℕ) (texts : Texts) (s : LoadSession) (sources : FedSources) → s.sources ≡ Some sources → StandsFor given uuid texts s → HavePlaces given uuid texts s.places
+places_now given uuid texts s sources some stands =
+    subst (λ (t : Texts). HavePlaces given uuid t s.places) (stands.has_read_all (λ none. let bad : Some sources ≡ None = sym some ∙ none in absurd cc)) stands.have_places
+
+-- an end leaves them where they are
+places_over : (given : Settings) (j : ℕ) (texts : List Text) (ns : List ℕ) → AllZip (λ (text : Text) (n : ℕ). channel.IsValidUpTo given text.bytes n) texts ns
+    → AllZip (λ (text : Text) (n : ℕ). channel.IsValidUpTo given text.bytes n) (set texts j (over (get_or texts j no_text))) ns
+places_over given j [] [] have = tt
+places_over given j [] (n ∷ ns) have = absurd have
+places_over given j (text ∷ texts) [] have = absurd have
+places_over given zero (text ∷ texts) (n ∷ ns) have = (have.0, have.1)
+places_over given (suc j) (text ∷ texts) (n ∷ ns) have = (have.0, places_over given j texts ns have.1)
+
+places_ended : (given : LoadSettings) (uuid : List ℕ) (from : Source) (texts : Texts) (places : Option Places) → HavePlaces given uuid texts places → HavePlaces given uuid (end_step from texts) places
+places_ended given uuid from texts None have = absurd have
+places_ended given uuid source.Main texts (Some places) have = record { main = have.main; closed = have.closed; channels = have.channels }
+places_ended given uuid (source.Channel j) texts (Some places) have = record {
+  main = have.main;
+  closed = have.closed;
+  channels = subst (λ (n : ℕ). AllZip (λ (text : Text) (m : ℕ). channel.IsValidUpTo (settings given.page_size uuid n) text.bytes m) (set texts.channels j (over (get_or texts.channels j no_text))) places.channels)
+      (sym (length-set texts.channels j (over (get_or texts.channels j no_text)))) (places_over (settings given.page_size uuid (length texts.channels)) j texts.channels places.channels have.channels);
+}
+
 -- a piece was taken
 pub feed_steps : {E : Type 0} (given : LoadSettings) (uuid : List ℕ) (texts : Texts) (s : LoadSession) (sources new : FedSources) (from : Source) (piece : List ℕ) (target : Option LoadTarget)
-    (taken : Result Verdict E) (verdict : Verdict) (kept : Option FedSources) (counts : Counts) → StandsFor given uuid texts s → s.sources ≡ Some sources
+    (taken : Result Verdict E) (verdict : Verdict) (kept : Option FedSources) (counts : Counts) (places : Option Places) → StandsFor given uuid texts s → s.sources ≡ Some sources
     → ((f : Feeding) → Advances f sources s.target → HasTaken f from piece new target taken) → taken ≡ Ok verdict → counts ≡ with_fed s.counts from (length piece) → Keeps verdict kept new
-    → StandsFor given uuid (feed_step from piece texts) (record { counts = counts; sources = kept; target = target; verdict = verdict })
-feed_steps given uuid texts s sources new from piece target taken verdict kept counts stands some takes ok counted keeps =
+    → Notes from piece sources s.places places
+    → StandsFor given uuid (feed_step from piece texts) (record { counts = counts; places = places; sources = kept; target = target; verdict = verdict })
+feed_steps given uuid texts s sources new from piece target taken verdict kept counts places stands some takes ok counted keeps notes =
     let f : Feeding = record { given = given; uuid = uuid; texts = texts; readings = stands.is_answer.readings } in
     let next = some_readings given uuid (feed_step from piece texts) stands.is_page_size in
-    let has = subst (λ (r : Result Verdict _). HasTaken f from piece new target r) ok (takes f (feeding_of given uuid texts s sources some stands)) next.0 next.1 in
-    stands_told given uuid (feed_step from piece texts) next.0 counts kept new target verdict stands.is_page_size next.1
+    let advances = feeding_of given uuid texts s sources some stands in
+    let has = subst (λ (r : Result Verdict _). HasTaken f from piece new target r) ok (takes f advances) next.0 next.1 in
+    stands_told given uuid (feed_step from piece texts) next.0 counts places kept new target verdict stands.is_page_size next.1
     (counted ∙ ap (λ (c : Counts). with_fed c from (length piece)) stands.has_counts ∙ sym (counts_fed from piece texts)) has.1.0 has.0 has.1.1 (kept_or_not verdict kept new keeps)
+    (notes given uuid (rounds_loaded s.target) texts stands.is_page_size advances.holds (places_now given uuid texts s sources some stands))
 
 -- it wasn't, since an allocation was refused
 pub feed_runs_out : {E : Type 0} (given : LoadSettings) (uuid : List ℕ) (texts : Texts) (s : LoadSession) (sources new : FedSources) (from : Source) (piece : List ℕ) (target : Option LoadTarget)
     (taken : Result Verdict E) (kept : Option FedSources) (counts : Counts) → StandsFor given uuid texts s → s.sources ≡ Some sources
     → ((f : Feeding) → Advances f sources s.target → HasTaken f from piece new target taken) → counts ≡ with_fed s.counts from (length piece)
-    → LacksMemory given uuid (feed_step from piece texts) (record { counts = counts; sources = kept; target = target; verdict = failed_without_memory (rounds_loaded target) })
+    → LacksMemory given uuid (feed_step from piece texts) (record { counts = counts; places = None; sources = kept; target = target; verdict = failed_without_memory (rounds_loaded target) })
 feed_runs_out given uuid texts s sources new from piece target taken kept counts stands some takes counted =
     let f : Feeding = record { given = given; uuid = uuid; texts = texts; readings = stands.is_answer.readings } in
     let next = some_readings given uuid (feed_step from piece texts) stands.is_page_size in
@@ -490,11 +598,11 @@ told_either f s None v advances none told = told_without f s v advances (none re
 told_either f s (Some t) v advances none told = told_of f s t v advances told
 
 pub end_steps : (given : LoadSettings) (uuid : List ℕ) (texts : Texts) (s : LoadSession) (sources new : FedSources) (from : Source) (n : ℕ) (told : Option Verdict) (verdict : Verdict)
-    (kept : Option FedSources) (counts : Counts) → IsSession s → StandsFor given uuid texts s → s.sources ≡ Some sources
+    (kept : Option FedSources) (counts : Counts) (places : Option Places) → IsSession s → StandsFor given uuid texts s → s.sources ≡ Some sources → places ≡ s.places
     → ((given : LoadSettings) (uuid : List ℕ) (k : ℕ) (texts : Texts) → Holds given uuid k texts sources → Holds given uuid k (end_step from texts) new)
     → n ≡ rounds_loaded s.target → TellsAll n new told → verdict ≡ unwrap_or told Running → counts ≡ with_end s.counts from → Keeps verdict kept new
-    → StandsFor given uuid (end_step from texts) (record { counts = counts; sources = kept; target = s.target; verdict = verdict })
-end_steps given uuid texts s sources new from n told verdict kept counts is stands some holds same tells is_verdict counted keeps =
+    → StandsFor given uuid (end_step from texts) (record { counts = counts; places = places; sources = kept; target = s.target; verdict = verdict })
+end_steps given uuid texts s sources new from n told verdict kept counts places is stands some same_places holds same tells is_verdict counted keeps =
     let before : Readings = stands.is_answer.readings in
     let f : Feeding = record { given = given; uuid = uuid; texts = texts; readings = before } in
     let advances = feeding_of given uuid texts s sources some stands in
@@ -508,8 +616,9 @@ end_steps given uuid texts s sources new from n told verdict kept counts is stan
     ∙ none_there before (sym (ap (λ (o : Option LoadTarget). option_map (λ t. t.memory) o) none) ∙ stands.is_answer.has_memory ∙ ap (λ (o : Option LoadTarget). memory_at (rounds_loaded o) before) none) in
     let is_told : (o : Option Verdict) → told ≡ o → TellsVerdict next.0 s.target (unwrap_or o Running) = λ o e. go o (subst (λ (x : Option Verdict). TellsAll (rounds_loaded s.target) new x) e tells_here) further_on no_table running in
     let here : TellsVerdict next.0 s.target verdict = subst (λ (v : Verdict). TellsVerdict next.0 s.target v) (sym is_verdict) (is_told told refl) in
-    stands_told given uuid (end_step from texts) next.0 counts kept new s.target verdict stands.is_page_size next.1
+    stands_told given uuid (end_step from texts) next.0 counts places kept new s.target verdict stands.is_page_size next.1
     (counted ∙ ap (λ (c : Counts). with_end c from) stands.has_counts ∙ sym (counts_ended from texts)) further_on.holds further_on.has_rounds here (kept_or_not verdict kept new keeps)
+    (subst (λ (o : Option Places). HavePlaces given uuid (end_step from texts) o) (sym same_places) (places_ended given uuid from texts s.places (places_now given uuid texts s sources some stands)))
   where
     go : (o : Option Verdict) → TellsAll (rounds_loaded s.target) new o
         → Advances (record { given = given; uuid = uuid; texts = end_step from texts; readings = (some_readings given uuid (end_step from texts) stands.is_page_size).0 }) new s.target
@@ -523,10 +632,10 @@ end_steps given uuid texts s sources new from n told verdict kept counts is stan
         told_either (record { given = given; uuid = uuid; texts = end_step from texts; readings = (some_readings given uuid (end_step from texts) stands.is_page_size).0 }) new s.target v advances none tells
 
 -- it is still a session
-pub is_session_still : (counts : Counts) (kept : Option FedSources) (sources : FedSources) (target : Option LoadTarget) (verdict : Verdict) → Keeps verdict kept sources
-    → (verdict ≡ Running → counts_of sources ≡ counts) → StandsForSome (record { counts = counts; sources = kept; target = target; verdict = verdict })
-    → IsSession (record { counts = counts; sources = kept; target = target; verdict = verdict })
-is_session_still counts kept sources target verdict keeps counted some = record {
+pub is_session_still : (counts : Counts) (places : Option Places) (kept : Option FedSources) (sources : FedSources) (target : Option LoadTarget) (verdict : Verdict) → Keeps verdict kept sources
+    → (verdict ≡ Running → counts_of sources ≡ counts) → StandsForSome (record { counts = counts; places = places; sources = kept; target = target; verdict = verdict })
+    → IsSession (record { counts = counts; places = places; sources = kept; target = target; verdict = verdict })
+is_session_still counts places kept sources target verdict keeps counted some = record {
   is_open = λ running none. let bad : Some sources ≡ None = sym (keeps.0 running) ∙ none in absurd cc;
   is_settled = keeps.1;
   has_counts = go verdict keeps counted;
@@ -537,6 +646,73 @@ is_session_still counts kept sources target verdict keeps counted some = record 
     go Running k c = rw (k.0 refl) (c refl)
     go Done k c = rw (k.1 (λ e. absurd cc)) tt
     go (Failed f) k c = rw (k.1 (λ e. absurd cc)) tt
+
+-- ---- up to where the texts are valid
+
+-- what is so of the texts that it stands for as read
+pub as_read : (given : LoadSettings) (uuid : List ℕ) (texts : Texts) (s t : LoadSession) (IsSo : Texts → Type 0) → t ≡ s → IsSession t → (stands : StandsFor given uuid texts s) → IsSo stands.read
+    → AsRead given uuid texts s IsSo
+as_read given uuid texts s t IsSo same is stands so =
+    let here : IsSession s = subst IsSession same is in (
+      stands.read,
+      record { goes_on = stands.goes_on; has_read_all = λ running. stands.has_read_all (here.is_open running); is_answer = stands.is_answer_there },
+      so,
+    )
+
+pub places_read : (given : LoadSettings) (uuid : List ℕ) (texts : Texts) (s : LoadSession) (p : Places) → (stands : StandsFor given uuid texts s) → s.places ≡ Some p → HasPlaces given uuid stands.read p
+places_read given uuid texts s p stands some = subst (λ (o : Option Places). HavePlaces given uuid stands.read o) some stands.have_places
+
+pub no_places_read : (given : LoadSettings) (uuid : List ℕ) (texts : Texts) (s : LoadSession) → StandsFor given uuid texts s → s.places ≡ None → ⊥
+no_places_read given uuid texts s stands none = subst (λ (o : Option Places). HavePlaces given uuid stands.read o) none stands.have_places
+
+as_many_texts : (a b : List Text) → AllZip GoesOn a b → length a ≡ length b
+as_many_texts [] [] go = refl
+as_many_texts [] (y ∷ b) go = absurd go
+as_many_texts (x ∷ a) [] go = absurd go
+as_many_texts (x ∷ a) (y ∷ b) go = ap suc (as_many_texts a b go.1)
+
+valid_at : (R : Text → ℕ → Type 0) (texts : List Text) (ns : List ℕ) (j : ℕ) → AllZip R texts ns → j < length texts → (n : ℕ) × (slice_get ns j ≡ Some n) × R (get_or texts j no_text) n
+valid_at R [] ns j zip below = absurd (omega (arith, below))
+valid_at R (text ∷ texts) [] j zip below = absurd zip
+valid_at R (text ∷ texts) (n ∷ ns) zero zip below = (n, refl, zip.0)
+valid_at R (text ∷ texts) (n ∷ ns) (suc j) zip below = valid_at R texts ns j zip.1 (omega (arith, below))
+
+pub source_read : (given : LoadSettings) (uuid : List ℕ) (texts : Texts) (s : LoadSession) (p : Places) (from : Source) → (stands : StandsFor given uuid texts s) → s.places ≡ Some p → HasSource s.counts from
+    → IsSourceValidUpTo given uuid stands.read from (place_of p from)
+source_read given uuid texts s p source.Main stands some there = (places_read given uuid texts s p stands some).main
+source_read given uuid texts s p (source.Channel j) stands some there =
+    let read : Texts = stands.read in
+    let below : j < length (map count_in texts.channels) = subst (λ (c : Counts). j < length c.channels) stands.has_counts there in
+    let here = valid_at (λ (text : Text) (n : ℕ). channel.IsValidUpTo (settings given.page_size uuid (length read.channels)) text.bytes n) read.channels p.channels j
+    (places_read given uuid texts s p stands some).channels
+    (omega (arith, below, length-map texts.channels count_in, as_many_texts read.channels texts.channels stands.goes_on.channels)) in
+    subst (λ (o : Option ℕ). IsSourceValidUpTo given uuid read (source.Channel j) o) (sym here.1) here.2
+
+-- a text that is closed is so where others follow
+closed_more : (given : StreamSettings) (text more : List ℕ) (n : ℕ) → stream.IsClosedAt given text n → stream.IsClosedAt given (text ++ more) n
+closed_more given text more n c = record {
+  fits = omega (arith, c.fits, length-append text more);
+  is_closed = subst (λ (l : List ℕ). stream.HasState given l false Closed) (sym (take-append-le n text more c.fits)) c.is_closed;
+  is_first = λ m lt s. c.is_first m lt (subst (λ (l : List ℕ). stream.HasState given l false Closed) (take-append-le m text more (omega (arith, lt, c.fits))) s);
+}
+
+closed_on : (given : StreamSettings) (a b : Text) (o : Option ℕ) → GoesOn a b → stream.HasClosedAt given a.bytes o → IfSome o (stream.IsClosedAt given b.bytes)
+closed_on given a b None go has = tt
+closed_on given a b (Some n) go has = subst (λ (l : List ℕ). stream.IsClosedAt given l n) (sym go.has_bytes) (closed_more given a.bytes go.more n has)
+
+-- where the main stream was closed when it was read, it is closed
+pub closed_still : (s : LoadSession) (o : Option ℕ) (p : Places) → s.places ≡ Some p → o ≡ p.closed_at
+    → IfSome o (λ n. (given : LoadSettings) (uuid : List ℕ) (texts : Texts) → StandsFor given uuid texts s → stream.IsClosedAt (main_of given) texts.main.bytes n)
+closed_still s None p some is = tt
+closed_still s (Some n) p some is = λ given uuid texts stands.
+    let was : stream.HasClosedAt (main_of given) stands.read.main.bytes (Some n) =
+    subst (λ (x : Option ℕ). stream.HasClosedAt (main_of given) stands.read.main.bytes x) (sym is) (places_read given uuid texts s p stands some).closed in
+    closed_on (main_of given) stands.read.main texts.main (Some n) stands.goes_on.main was
+
+-- whatever is answered, this holds of it where it is an Ok
+pub any_ok : {X Y : Type 0} (r : Result X Y) (P : Type 0) → P → OnOk r P
+any_ok (Ok x) P p = p
+any_ok (Err y) P p = tt
 
 -- what is asked of a session is asked of what it holds
 pub has_source_of : (s t : LoadSession) (from : Source) → s ≡ t → HasSource t.counts from → HasSource s.counts from

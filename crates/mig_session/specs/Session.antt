@@ -1,29 +1,36 @@
 -- A load whose texts come in pieces: what a session holds, and the texts that it stands for.
-use Rattle.std.specs.Prelude.{ℕ, ◌≡◌, ◌≢◌, ◌≤◌, ◌<◌, ◌+◌, ◌^◌, true, false, List, length, map, slice_set, get_or, Option, None, IfSome, ⊤}
+use Rattle.std.specs.Prelude.{ℕ, ◌≡◌, ◌≢◌, ◌≤◌, ◌<◌, ◌+◌, ◌^◌, true, false, List, length, map, slice_get, slice_set, get_or, Option, None, Some, IfSome, ⊤}
+use Rattle.std.specs.List.{AllZip}
 use Rattle.std.specs.Option.{option_map, option_map_or}
 use Rattle.mig_mem.specs.PageSize.{IsPageSize}
 use Rattle.mig_mem.specs.RamTable.{RamTable}
 use Rattle.mig_assemble.specs.Target.{LoadTarget}
+use Rattle.mig_stream.specs.Reader as stream
 use Rattle.mig_stream.specs.Text.{total_bytes}
+use Rattle.mig_packet.specs.Reader as channel
+use Rattle.mig_packet.specs.Reading.{settings}
 use Rattle.mig_send.specs.DealtRounds.{DealtRound}
-use Rattle.mig_single_load.specs.Settings.{ram_settings}
+use Rattle.mig_single_load.specs.Settings.{ram_settings, main_of}
 use Rattle.mig_single_load.specs.declared.settings.LoadSettings.{LoadSettings}
 use Rattle.mig_session.specs.declared.counts.Count.{Count}
 use Rattle.mig_session.specs.declared.source.Source.{Source}
 use Rattle.mig_session.specs.declared.source.Source.TheVariants as source
 use Rattle.mig_answer.specs.declared.verdict.Verdict.{Verdict}
 use Rattle.mig_answer.specs.declared.verdict.Verdict.TheVariants.{Running}
+use Rattle.mig_answer.specs.Growing.{GoOn}
 use Rattle.mig_answer.specs.Texts.{Text, Texts, Readings, AreReadings, no_text, with_piece, over, ended_texts}
 use Rattle.mig_answer.specs.Rounds.{base_at}
 use Rattle.mig_answer.specs.MultiLoad.{Answer, IsAnswer, IsWithoutMemory}
 use Rattle.mig_answer.specs.Sent.{IsSentInAnyOrder, sent_answer}
-use Rattle.mig_session.specs.Sources.{Counts, FedSources, counts_of, Holds}
+use Rattle.mig_session.specs.Sources.{Counts, Places, FedSources, counts_of, Holds}
 
 -- ---- what a session holds
 
 pub record LoadSession : Type 0 where
   -- how much of each text has come
   pub counts : Counts
+  -- up to where each was valid, as far as it was read; None after a refused allocation
+  pub places : Option Places
   -- what is kept of each source, as long as the load runs
   pub sources : Option FedSources
   -- None before the size list is whole, or where no memory was found for it
@@ -95,18 +102,61 @@ pub record IsRunning (given : LoadSettings) (uuid : List ℕ) (texts : Texts) (t
   pub holds : Holds given uuid (rounds_loaded target) texts sources
   pub has_base : IfSome target (HasBase given uuid texts)
 
+-- ---- up to where the texts are valid
+
+-- that of a source, None for a channel that there isn't
+abbrev pub place_of : Places → Source → Option ℕ
+place_of places source.Main = Some places.main
+place_of places (source.Channel j) = slice_get places.channels j
+
+-- These are the places up to which the texts are valid, and where the main stream is closed.
+pub record HasPlaces (given : LoadSettings) (uuid : List ℕ) (texts : Texts) (places : Places) : Type 0 where
+  pub main : stream.IsValidUpTo (main_of given) texts.main.bytes places.main
+  pub closed : stream.HasClosedAt (main_of given) texts.main.bytes places.closed_at
+  pub channels : AllZip (λ (text : Text) (n : ℕ). channel.IsValidUpTo (settings given.page_size uuid (length texts.channels)) text.bytes n) texts.channels places.channels
+
+abbrev pub HavePlaces : LoadSettings → List ℕ → Texts → Option Places → Type 0
+HavePlaces given uuid texts None = ⊥
+HavePlaces given uuid texts (Some places) = HasPlaces given uuid texts places
+
+-- a source's text is valid up to there
+abbrev pub IsSourceValidUpTo : LoadSettings → List ℕ → Texts → Source → Option ℕ → Type 0
+IsSourceValidUpTo given uuid texts from None = ⊥
+IsSourceValidUpTo given uuid texts source.Main (Some n) = stream.IsValidUpTo (main_of given) texts.main.bytes n
+IsSourceValidUpTo given uuid texts (source.Channel j) (Some n) =
+    channel.IsValidUpTo (settings given.page_size uuid (length texts.channels)) (get_or texts.channels j no_text).bytes n
+
+-- ---- the texts, and how the session stands at them
+
 -- The session was made with these settings and UUID, and so much of the texts has come. It tells their answer.
+-- It has read all of them as long as it runs. Once it doesn't, it has read so much as its answer rests on.
 pub record StandsFor (given : LoadSettings) (uuid : List ℕ) (texts : Texts) (s : LoadSession) : Type 0 where
   pub is_page_size : IsPageSize given.page_size
   pub has_counts : s.counts ≡ counts_in texts
   pub is_answer : IsAnswer given uuid texts (answer_in s)
   pub runs : IfSome s.sources (IsRunning given uuid texts s.target)
+  pub read : Texts
+  pub goes_on : GoOn read texts
+  pub has_read_all : s.sources ≢ None → read ≡ texts
+  pub is_answer_there : IsAnswer given uuid read (answer_in s)
+  pub have_places : HavePlaces given uuid read s.places
+
+-- The session read so much of the texts: all of them as long as it runs, and later so much as its answer rests on.
+pub record HasRead (given : LoadSettings) (uuid : List ℕ) (texts : Texts) (s : LoadSession) (read : Texts) : Type 0 where
+  pub goes_on : GoOn read texts
+  pub has_read_all : s.verdict ≡ Running → read ≡ texts
+  pub is_answer : IsAnswer given uuid read (answer_in s)
+
+-- This is so of the texts as far as the session read them.
+abbrev pub AsRead : LoadSettings → List ℕ → Texts → LoadSession → (Texts → Type 0) → Type 0
+AsRead given uuid texts s IsSo = (read : Texts) × HasRead given uuid texts s read × IsSo read
 
 -- The same, where an allocation was refused: the answer is the one for that, and stays.
 pub record LacksMemory (given : LoadSettings) (uuid : List ℕ) (texts : Texts) (s : LoadSession) : Type 0 where
   pub is_page_size : IsPageSize given.page_size
   pub has_counts : s.counts ≡ counts_in texts
   pub is_without : IsWithoutMemory given uuid texts (answer_in s)
+  pub has_no_places : s.places ≡ None
 
 -- A call takes this step: whatever texts the session stood for before it, it stands for those with the step done.
 abbrev pub StepsOn : (Texts → Texts) → LoadSession → LoadSession → Type 0

@@ -42,6 +42,12 @@ pub record Counts : Type 0 where
   pub main : Count
   pub channels : List Count
 
+-- up to where each source's text is valid, and where the main stream is closed
+pub record Places : Type 0 where
+  pub main : ℕ
+  pub closed_at : Option ℕ
+  pub channels : List ℕ
+
 abbrev pub main_count : FedMain → Count
 main_count m = record { fed = m.reader.fed; ended = m.reader.ended }
 

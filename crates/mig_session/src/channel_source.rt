@@ -4,6 +4,7 @@ ghost use Rattle.std.specs.Prelude.{ℕ, true, false, ◌≡◌, ◌+◌, ◌++�
 ghost use Rattle.mig_packet.specs.PageSize.{IsPageSize};
 ghost use Rattle.mig_packet.specs.Lent.{fields};
 ghost use Rattle.mig_packet.specs.Reading.{Settings, settings};
+ghost use Rattle.mig_packet.specs.Reader.{IsValidUpTo};
 ghost use Rattle.mig_answer.specs.Texts.{Text, no_text, with_piece, over};
 ghost use Rattle.mig_session.specs.Sources.{HoldsChannel, TakesChannel, TellsChannelStatus, TellsHello, channel_count, packets_of, IsOfSize};
 
@@ -112,6 +113,13 @@ impl<A: Allocator> ChannelSource<A> {
             return Status::Whole;
         }
         channel_end(self.reader.state())
+    }
+
+    /// Returns up to where the text is valid.
+    pub(crate) fn valid_up_to(&self) -> u64
+        ensures { (given : Settings) (k : ℕ) (text : Text) → HoldsChannel given k text self.now → IsValidUpTo given text.bytes result }
+    {
+        self.reader.valid_up_to()
     }
 
     /// The id that its hello names. None before the hello is whole, and where it has a fault.

@@ -13,6 +13,7 @@ mod channel_source;
 mod counts;
 mod main_source;
 mod piece_reader;
+mod places;
 mod pumping;
 mod session;
 mod source;

@@ -4,7 +4,7 @@ ghost use Rattle.std.specs.Prelude.{ℕ, true, false, ◌≡◌, ◌+◌, ◌<�
 ghost use Rattle.std.specs.Option.{option_copied};
 ghost use Rattle.mig_mem.specs.PageSize.{IsPageSize};
 ghost use Rattle.mig_stream.specs.Reading.{Settings};
-ghost use Rattle.mig_stream.specs.Reader.{waiting, HasTable};
+ghost use Rattle.mig_stream.specs.Reader.{waiting, HasTable, HasClosedAt, IsValidUpTo};
 ghost use Rattle.mig_single_load.specs.Settings.{main_of};
 ghost use Rattle.mig_answer.specs.Texts.{Text, no_text, with_piece, over};
 ghost use Rattle.mig_session.specs.Sources.{HoldsMain, TakesMain, TellsMainStatus, main_count, main_waiting};
@@ -107,6 +107,20 @@ impl<A: Allocator> MainSource<A> {
         ensures { (given : Settings) (k : ℕ) (text : Text) → HoldsMain given k text self.now → HasTable given text.bytes (option_copied result) }
     {
         self.reader.table()
+    }
+
+    /// Returns up to where the text is valid.
+    pub(crate) fn valid_up_to(&self) -> u64
+        ensures { (given : Settings) (k : ℕ) (text : Text) → HoldsMain given k text self.now → IsValidUpTo given text.bytes result }
+    {
+        self.reader.valid_up_to()
+    }
+
+    /// Returns where the text is closed, if it is.
+    pub(crate) fn closed_at(&self) -> Option<u64>
+        ensures { (given : Settings) (k : ℕ) (text : Text) → HoldsMain given k text self.now → HasClosedAt given text.bytes result }
+    {
+        self.reader.closed_at()
     }
 
     /// The round that is judged next, where it is whole.

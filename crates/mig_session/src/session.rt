@@ -5,16 +5,18 @@ ghost use Rattle.std.specs.Option.{option_copied, unwrap_or};
 ghost use Rattle.mig_mem.specs.PageSize.{IsPageSize};
 ghost use Rattle.mig_single_load.specs.declared.fault.Fault.TheVariants.{NoMemory as fault_no_memory};
 ghost use Rattle.mig_single_load.specs.declared.settings.LoadSettings.{LoadSettings};
-ghost use Rattle.mig_single_load.specs.Settings.{ram_settings};
+ghost use Rattle.mig_single_load.specs.Settings.{ram_settings, main_of};
 ghost use Rattle.mig_answer.specs.declared.verdict.Verdict.TheVariants.{Running as running, Failed as failed_with};
 ghost use Rattle.mig_answer.specs.declared.verdict.Verdict.{Verdict};
-ghost use Rattle.mig_answer.specs.Texts.{Texts, no_texts};
+ghost use Rattle.mig_stream.specs.Reader.{HasClosedAt, IsClosedAt};
+ghost use Rattle.mig_answer.specs.Texts.{Text, Texts, no_texts};
 ghost use Rattle.mig_session.specs.Sources.{counts_of, Holds, TellsAll};
-ghost use Rattle.mig_session.specs.Session.{HasSource, count_of, no_count, with_fed, with_end, feed_step, end_step, answer_in, rounds_loaded, StandsFor, StepsOn, RunsOut, StillLacks, KeepsRounds, LoadsSent};
+ghost use Rattle.mig_session.specs.Session.{HasSource, count_of, no_count, with_fed, with_end, at_source, feed_step, end_step, answer_in, rounds_loaded, HavePlaces, IsSourceValidUpTo, AsRead, StandsFor, LacksMemory, StepsOn, RunsOut, StillLacks, KeepsRounds, LoadsSent};
 ghost use Rattle.mig_session.specs.Advancing.{Feeding, Advances, HasAdvanced, HasTaken, TellsVerdict, failed_without_memory};
 
 use crate::Source;
 use crate::counts::SourceCounts;
+use crate::places::SourcePlaces;
 use crate::sources::Sources;
 use mig_answer::Verdict;
 use mig_assemble::Target;
@@ -33,6 +35,8 @@ use uuid::Uuid;
 pub struct Session<A: Allocator = Global> {
     alloc: A,
     counts: SourceCounts<A>,
+    // up to where each text was valid, as far as it was read; None after a refused allocation
+    places: Option<SourcePlaces<A>>,
     // as long as it runs
     sources: Option<Sources<A>>,
     // made as soon as the table is there
@@ -45,9 +49,9 @@ impl<A: Allocator> Model for Session<A> {
 
     ghost Value = { LoadSession };
 
-    ghost view = { λ s. record { counts = s.counts; sources = s.sources; target = s.target; verdict = s.verdict } };
+    ghost view = { λ s. record { counts = s.counts; places = s.places; sources = s.sources; target = s.target; verdict = s.verdict } };
 
-    ghost invariant = { λ s. IsSession (record { counts = s.counts; sources = s.sources; target = s.target; verdict = s.verdict }) };
+    ghost invariant = { λ s. IsSession (record { counts = s.counts; places = s.places; sources = s.sources; target = s.target; verdict = s.verdict }) };
 }
 
 fn wants_memory(round: u64) -> Verdict
@@ -160,11 +164,24 @@ fn advance<A: Allocator + Copy>(
     }
 }
 
+// Notes up to where the text of `source` is valid, as long as no allocation was refused.
+fn note<A: Allocator>(sources: &Sources<A>, source: Source, places: &mut Option<SourcePlaces<A>>)
+    requires { HasSource (counts_of sources.now) source }
+    ensures { (given : LoadSettings) (uuid : List ℕ) (k : ℕ) (step : Text → Text) (texts : Texts) → Holds given uuid k (at_source source step texts) sources.now
+        → HavePlaces given uuid texts places.old → HavePlaces given uuid (at_source source step texts) places.new }
+{
+    match places {
+        Some(places) => sources.note(source, places),
+        None => {}
+    }
+}
+
 // Takes a piece, and judges what has come. Gives the verdict.
 fn take<A: Allocator + Copy>(
     alloc: A,
     sources: &mut Sources<A>,
     target: &mut Option<Target<A>>,
+    places: &mut Option<SourcePlaces<A>>,
     source: Source,
     piece: &[u8],
 ) -> Result<Verdict, NoMemory>
@@ -176,10 +193,13 @@ fn take<A: Allocator + Copy>(
     ensures counts { OnOk result (counts_of sources.new ≡ with_fed (counts_of sources.old) source (length piece.now)) }
     ensures rounds { rounds_loaded target.old ≤ rounds_loaded target.new }
     ensures stays { target.old ≢ None → target.new ≢ None }
+    ensures places { OnOk result ((given : LoadSettings) (uuid : List ℕ) (k : ℕ) (texts : Texts) → IsPageSize given.page_size → Holds given uuid k texts sources.old
+        → HavePlaces given uuid texts places.old → HavePlaces given uuid (feed_step source piece.now texts) places.new) }
 {
     let Ok(()) = sources.feed(source, piece) else {
         return Err(NoMemory);
     };
+    note(sources, source, places);
     advance(alloc, sources, target)
 }
 
@@ -251,9 +271,12 @@ impl<A: Allocator + Copy> Session<A> {
         ensures counts { IfOk result (λ s. s.counts ≡ record { main = no_count; channels = replicate channels no_count }) }
     {
         let sources = Sources::new(alloc, settings, uuid, channels)?;
+        let counts = SourceCounts::new(alloc, channels)?;
+        let places = SourcePlaces::new(alloc, channels)?;
         Ok(Session {
             alloc,
-            counts: SourceCounts::new(alloc, channels)?,
+            counts,
+            places: Some(places),
             sources: Some(sources),
             target: None,
             verdict: Verdict::Running,
@@ -278,7 +301,14 @@ impl<A: Allocator + Copy> Session<A> {
         self.counts.add(source, piece.len());
         let taken = match &mut self.sources {
             None => return Ok(()),
-            Some(sources) => take(self.alloc, sources, &mut self.target, source, piece),
+            Some(sources) => take(
+                self.alloc,
+                sources,
+                &mut self.target,
+                &mut self.places,
+                source,
+                piece,
+            ),
         };
         match taken {
             Ok(verdict) => {
@@ -289,6 +319,7 @@ impl<A: Allocator + Copy> Session<A> {
             Err(NoMemory) => {
                 self.verdict = wants_memory(rounds_of(&self.target));
                 self.sources = None;
+                self.places = None;
                 Err(NoMemory)
             }
         }
@@ -357,9 +388,51 @@ impl<A: Allocator> Session<A> {
         self.counts.of(source).fed
     }
 
+    /// Returns how many bytes of the main stream close it, once it is closed: those up to its end
+    /// byte, or in a machine's stream up to the footer of RAM's END. The bytes fed after them are
+    /// left to the caller.
+    ///
+    /// A session reads no more of its sources once its verdict isn't `Running`: a main stream that
+    /// wasn't closed by then is reported as open. None after a refused allocation.
+    pub fn closed_at(&self) -> Option<u64>
+        ensures stands { (given : LoadSettings) (uuid : List ℕ) (texts : Texts) → StandsFor given uuid texts self.now
+            → AsRead given uuid texts self.now (λ read. HasClosedAt (main_of given) read.main.bytes result) }
+        ensures closed { IfSome result (λ n. (given : LoadSettings) (uuid : List ℕ) (texts : Texts) → StandsFor given uuid texts self.now → IsClosedAt (main_of given) texts.main.bytes n) }
+        ensures lacking { (given : LoadSettings) (uuid : List ℕ) (texts : Texts) → LacksMemory given uuid texts self.now → result ≡ None }
+    {
+        match &self.places {
+            Some(places) => places.closed_at(),
+            None => None,
+        }
+    }
+
+    /// Returns how many bytes of `source` are complete items without a fault, from the first byte
+    /// on. If the verdict is a fault of that source's text (`Fault::Stream`, `Fault::Channel`), the
+    /// item at fault begins after them. `HelloTwice`, `Extra` and `Short` are faults of what several
+    /// texts tell together, and 54 to 59 of a round: they belong to no item.
+    ///
+    /// A session reads no more of its sources once its verdict isn't `Running`: the bytes after that
+    /// aren't looked at. None after a refused allocation.
+    pub fn valid_up_to(&self, source: Source) -> Option<u64>
+        requires { HasSource self.now.counts source }
+        ensures stands { (given : LoadSettings) (uuid : List ℕ) (texts : Texts) → StandsFor given uuid texts self.now
+            → AsRead given uuid texts self.now (λ read. IsSourceValidUpTo given uuid read source result) }
+        ensures lacking { (given : LoadSettings) (uuid : List ℕ) (texts : Texts) → LacksMemory given uuid texts self.now → result ≡ None }
+    {
+        match &self.places {
+            Some(places) => places.of(source),
+            None => None,
+        }
+    }
+
     /// How the load stands on the texts so far. What a sender on several channels has sent, fed in any pieces and in any order of the sources
     /// and ended, is done, with the memory after its rounds, where the session has the sender's page size and UUID, and a limit of at least
     /// the table's bytes.
+    ///
+    /// A `Failed` has a fault of the main stream (`Fault::Stream`) or of a channel
+    /// (`Fault::Channel`), `HelloTwice`, `Extra` or `Short` of a channel, a refusal of a round
+    /// (`Fault::Round`, 54 to 59), or `NoMemory`, if an allocation was refused in a `feed`. It is
+    /// never `OtherTable`.
     pub fn verdict(&self) -> Verdict
         ensures value { result ≡ self.now.verdict }
         ensures sent { LoadsSent self.now }

@@ -9,15 +9,16 @@ ghost use Rattle.mig_packet.specs.Lent.{fields};
 ghost use Rattle.mig_packet.specs.Reading.{settings};
 ghost use Rattle.mig_single_load.specs.declared.settings.LoadSettings.{LoadSettings};
 ghost use Rattle.mig_single_load.specs.Settings.{main_of};
-ghost use Rattle.mig_answer.specs.Texts.{Texts, no_text, no_texts};
+ghost use Rattle.mig_answer.specs.Texts.{Text, Texts, no_text, no_texts};
 ghost use Rattle.mig_answer.specs.MultiLoad.{repeated_hello};
 ghost use Rattle.mig_session.specs.Sources.{FedSources, Holds, HoldsChannel, counts_of, channel_count, TellsChannelStatus, TellsHello, TellsAll, HaveRound, TakesChannel, packets_of_all, IsOfSize, main_waiting};
-ghost use Rattle.mig_session.specs.Session.{HasSource, count_of, with_fed, with_end, feed_step, end_step, no_count};
+ghost use Rattle.mig_session.specs.Session.{HasSource, HasPlaces, count_of, with_fed, with_end, at_source, feed_step, end_step, no_count};
 ghost use Rattle.mig_session.specs.Advancing.{Feeding, RoundIsDue, PutsOrRefuses};
 
 use crate::Source;
 use crate::channel_source::ChannelSource;
 use crate::main_source::MainSource;
+use crate::places::SourcePlaces;
 use mig_answer::{Status, Verdict, put, repeated_id, verdict_told};
 use mig_assemble::{Gathered, Target};
 use mig_mem::{NoMemory, Table};
@@ -214,6 +215,21 @@ impl<A: Allocator> Sources<A> {
         look_at_statuses(&self.channels, &mut self.statuses);
         look_at_hellos(&self.channels, &mut self.hellos);
         verdict_told(round, main, &self.statuses, repeated_id(&self.hellos))
+    }
+
+    /// Notes up to where the text of `source` is valid, and where a main stream is closed.
+    pub(crate) fn note(&self, source: Source, places: &mut SourcePlaces<A>)
+        requires { HasSource (counts_of self.now) source }
+        ensures { (given : LoadSettings) (uuid : List ℕ) (k : ℕ) (step : Text → Text) (texts : Texts) → Holds given uuid k (at_source source step texts) self.now
+            → HasPlaces given uuid texts places.old → HasPlaces given uuid (at_source source step texts) places.new }
+    {
+        match source {
+            Source::Main => places.set_main(self.main.valid_up_to(), self.main.closed_at()),
+            Source::Channel(j) => {
+                let channel = &self.channels[j];
+                places.set_channel(j, channel.valid_up_to());
+            }
+        }
     }
 
     /// The main stream's table, as soon as the size list is whole.

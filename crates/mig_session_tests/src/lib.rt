@@ -12,6 +12,8 @@ mod faulty;
 #[cfg(test)]
 mod feeding;
 #[cfg(test)]
+mod framed;
+#[cfg(test)]
 mod guests;
 #[cfg(test)]
 mod held;

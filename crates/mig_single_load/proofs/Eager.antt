@@ -22,8 +22,8 @@ use Rattle.mig_stream.specs.declared.giving.Given.{Given}
 use Rattle.mig_stream.specs.declared.giving.Given.TheVariants.{Records, Section, End}
 use Rattle.mig_stream.specs.PageRecord.{PageRecord, page_of}
 use Rattle.mig_stream.specs.Progress.{StreamProgress, start, whole_table}
-use Rattle.mig_stream.specs.Reading.{Settings, StreamReading, IsReading, Ends}
-use Rattle.mig_stream.specs.Reader.{HasTable}
+use Rattle.mig_stream.specs.Reading.{Settings, StreamReading, IsReading, Ends, Reads}
+use Rattle.mig_stream.specs.Reader.{HasTable, IsValidUpTo}
 use Rattle.mig_stream.specs.Round.{RoundOfRecords}
 use Rattle.mig_stream.specs.Giving.{Giver, GivenSoFar, none_given, with_more, with_last, with_given, Gives, GivesOn, GiverTells, EndsSo, LeavesNone, HasNoneLeft, HasReading, LeavesLess, all_read, Paused, giver_at, PausesAt}
 use Rattle.mig_stream.specs.Law.{StaysRead}
@@ -31,6 +31,7 @@ use Rattle.mig_stream.proofs.Between.{closed_is_empty}
 use Rattle.mig_stream.proofs.Exists.{one_reading_law}
 use Rattle.mig_stream.proofs.Feeding.{reads_short}
 use Rattle.mig_stream.proofs.Longer.{longer_law}
+use Rattle.mig_stream.proofs.Valid.{closed_is_valid}
 use Rattle.mig_stream.proofs.Giver.{none_before_table, few_sections, table_each, paused_table, same_page_size}
 use Rattle.mig_assemble.specs.Target.{FitsTable, pages_of_round}
 use Rattle.mig_single_load.specs.Settings.{for_table}
@@ -40,7 +41,7 @@ use Rattle.mig_single_load.specs.declared.eager_state.LoadState.TheVariants as l
 use Rattle.mig_single_load.specs.declared.fault.LoadFault.{LoadFault}
 use Rattle.mig_single_load.specs.SingleLoad.{verdict_of}
 use Rattle.mig_single_load.specs.InPlace.{settings_of, IsOfOwnTable, IsOfOtherTable, HasVerdictOnto}
-use Rattle.mig_single_load.specs.Eager.{EagerKeepsOtherPlaces, EagerOkIsBySections, pages_on, given_pages, settings_for, IsOfTable, HasRecordsOnto, IsEnd, GaveNext, PutsNext, PutsNextSome, GaveAll, GivesAll, PutsAll, PausesOnto, PausesSome, IsInState, StandsOnto, EagerLoad, eager_load, EagerlyLoads, HasSomeOnto, PutsSome, LacksMemory}
+use Rattle.mig_single_load.specs.Eager.{EagerKeepsOtherPlaces, EagerOkIsBySections, pages_on, given_pages, settings_for, IsOfTable, HasRecordsOnto, IsEnd, GaveNext, PutsNext, PutsNextSome, GaveAll, GivesAll, PutsAll, PausesOnto, PausesSome, IsInState, StandsOnto, EagerLoad, eager_load, EagerlyLoads, HasSomeOnto, PutsSome, LacksMemory, closed_place, valid_place, HasClosedAtOnto, IsValidUpToOnto}
 use Rattle.mig_single_load.proofs.Sections.{same_reading}
 use Rattle.mig_single_load.proofs.Onto.{apart}
 use Rattle.mig_single_load.proofs.LoadedAtOnce.{given_more, given_last, put_behind, few_first, calls}
@@ -262,23 +263,25 @@ records_onto given first text so_far found m n size own has memory count = recor
 -- it goes on, and was paused
 pub stands_at : (given : LoadSettings) (first : Image) (text : List ℕ) (so_far : GivenSoFar) (p : Paused) (m : Image) (n : ℕ) → IsPageSize first.table.page_size → IsOfTable given first.table text
     → HasReading (settings_of first given) text so_far Reading → PausesAt (settings_of first given) text so_far p → m ≡ with_round first (given_pages first so_far) → n ≡ length so_far.sections
-    → StandsOnto given first text m n (Some p) (load_state.Stream Reading)
+    → (k : ℕ) → IsValidUpTo (settings_of first given) text k → StandsOnto given first text m n (Some p) (load_state.Stream Reading k)
 unfolding records_onto
-stands_at given first text so_far p m n size own has at memory count = record {
+stands_at given first text so_far p m n size own has at memory count k valid = record {
   has_records = records_onto given first text so_far Reading m n size own has memory count;
   pauses = record { so_far = so_far; pauses = at; is_own = own; has_memory = memory; has_sections = count };
   is_in_state = (own_of given first text has.reading size has.is_reading own, refl, has.has_state);
+  is_read_to = valid;
 }
 
 -- it doesn't
 pub stands_off : (given : LoadSettings) (first : Image) (text : List ℕ) (so_far : GivenSoFar) (found : StreamState) (m : Image) (n : ℕ) → IsPageSize first.table.page_size → IsOfTable given first.table text
     → HasReading (settings_of first given) text so_far found → found ≢ Reading → m ≡ with_round first (given_pages first so_far) → n ≡ length so_far.sections
-    → StandsOnto given first text m n None (load_state.Stream found)
+    → (k : ℕ) → IsValidUpTo (settings_of first given) text k → StandsOnto given first text m n None (load_state.Stream found k)
 unfolding records_onto
-stands_off given first text so_far found m n size own has over memory count = record {
+stands_off given first text so_far found m n size own has over memory count k valid = record {
   has_records = records_onto given first text so_far found m n size own has memory count;
   pauses = tt;
   is_in_state = (own_of given first text has.reading size has.is_reading own, over, has.has_state);
+  is_read_to = valid;
 }
 
 -- the table of a text, all of which was given
@@ -356,16 +359,18 @@ stands_other given first text piece p m n so_far r t image at g whole differ =
       };
       pauses = tt;
       is_in_state = other;
+      is_read_to = tt;
     }
 
 -- ---- before the first byte
 
 pub eager_first : (given : LoadSettings) (first : Image) (p : Paused) (table : RamTable) → IsTable first.table → IsImage first → first.table ≡ table → PausesAt (settings_for first.table given) [] none_given p
-    → EagerlyLoads first given first (eager_load (Some p) (load_state.Stream Reading) table 0 0 false) [] false
+    → EagerlyLoads first given first (eager_load (Some p) (load_state.Stream Reading 0) table 0 0 false) [] false
 eager_first given first p table is image same at =
     let begin : StreamProgress = start given.frame Single first.table.page_size given.limit in
     let reading : StreamReading = record { table = None; rounds = []; state = Reading } in
-    let is_reading : IsReading (settings_of first given) [] reading = record { to = begin; rest = []; reads = reads_short begin [] (omega arith); has_table = refl; has_rounds = refl } in
+    let reads : Reads begin [] begin [] Reading = reads_short begin [] (omega arith) in
+    let is_reading : IsReading (settings_of first given) [] reading = record { to = begin; rest = []; reads = reads; has_table = refl; has_rounds = refl } in
     let nothing : first ≡ with_rounds first [] = sym (onto-nil first image) in
     record {
       is_table = is;
@@ -383,26 +388,102 @@ eager_first given first p table is image same at =
         };
         pauses = record { so_far = none_given; pauses = at; is_own = inl (reading, is_reading, refl); has_memory = nothing; has_sections = refl };
         is_in_state = (inl refl, refl, refl);
+        is_read_to = record { to = begin; rest = []; state = Reading; reads = reads; has_length = omega (arith, ap (λ (l : List ℕ). length l) reads.has_text, length-append reads.front []) };
       };
     }
 
 -- ---- the verdict
 
-pub verdict_onto : (given : LoadSettings) (first : Image) (text : List ℕ) (m : Image) (n : ℕ) (pause : Option Paused) (found : StreamState) (v : Result ⊤ LoadFault) → StandsOnto given first text m n pause (load_state.Stream found)
+of_state : (first : Image) (reading : StreamReading) (pause : Option Paused) (found : StreamState) (at : ℕ) → IsInState first reading pause (load_state.Stream found at) → IsOfOwnTable first reading × (reading.state ≡ found)
+of_state first reading None found at s = (s.0, s.2)
+of_state first reading (Some p) found at s = (s.0, s.2)
+
+of_other : (first : Image) (reading : StreamReading) (pause : Option Paused) → IsInState first reading pause load_state.OtherTable → IsOfOtherTable first reading
+of_other first reading None s = s
+of_other first reading (Some p) s = absurd s
+
+of_none : (first : Image) (reading : StreamReading) (pause : Option Paused) → IsInState first reading pause load_state.NoMemory → ⊥
+of_none first reading None s = s
+of_none first reading (Some p) s = s
+
+pub verdict_onto : (given : LoadSettings) (first : Image) (text : List ℕ) (m : Image) (n : ℕ) (pause : Option Paused) (found : StreamState) (at : ℕ) (v : Result ⊤ LoadFault) → StandsOnto given first text m n pause (load_state.Stream found at)
     → v ≡ verdict_of n found → HasVerdictOnto given first text v
-verdict_onto given first text m n pause found v st is =
+verdict_onto given first text m n pause found at v st is =
     let reading : StreamReading = st.has_records.reading in
-    let so : IsOfOwnTable first reading × (reading.state ≡ found) = of_state first reading pause found st.is_in_state in
+    let so : IsOfOwnTable first reading × (reading.state ≡ found) = of_state first reading pause found at st.is_in_state in
     record {
       reading = reading;
       is_reading = st.has_records.is_reading;
       own = λ own. is ∙ ap (λ (k : ℕ). verdict_of k found) (st.has_records.own own).1 ∙ ap (verdict_of (length reading.rounds)) (sym so.1);
       other = λ o. absurd (apart first reading so.0 o);
     }
-  where
-    of_state : (first : Image) (reading : StreamReading) (pause : Option Paused) (found : StreamState) → IsInState first reading pause (load_state.Stream found) → IsOfOwnTable first reading × (reading.state ≡ found)
-    of_state first reading None found s = (s.0, s.2)
-    of_state first reading (Some p) found s = (s.0, s.2)
+
+-- ---- where it is closed, and up to where it is valid
+
+pub closed_onto : (given : LoadSettings) (first : Image) (text : List ℕ) (m : Image) (n : ℕ) (pause : Option Paused) (at : ℕ) → StandsOnto given first text m n pause (load_state.Stream Closed at)
+    → HasClosedAtOnto given first text (Some at)
+closed_onto given first text m n pause at st =
+    let reading : StreamReading = st.has_records.reading in
+    let so : IsOfOwnTable first reading × (reading.state ≡ Closed) = of_state first reading pause Closed at st.is_in_state in
+    record {
+      reading = reading;
+      is_reading = st.has_records.is_reading;
+      own = λ own. (closed_is_valid (settings_of first given) text at (reading, st.has_records.is_reading, sym so.1)).0 st.is_read_to;
+      other = λ o. absurd (apart first reading so.0 o);
+    }
+
+pub open_onto : (given : LoadSettings) (first : Image) (text : List ℕ) (m : Image) (n : ℕ) (pause : Option Paused) (found : LoadState) → ((at : ℕ) → found ≢ load_state.Stream Closed at)
+    → StandsOnto given first text m n pause found → HasClosedAtOnto given first text None
+open_onto given first text m n pause (load_state.Stream found at) open_ st =
+    let reading : StreamReading = st.has_records.reading in
+    let so : IsOfOwnTable first reading × (reading.state ≡ found) = of_state first reading pause found at st.is_in_state in
+    record {
+      reading = reading;
+      is_reading = st.has_records.is_reading;
+      own = λ own. (reading, st.has_records.is_reading, λ closed. open_ at (ap (λ (s : StreamState). load_state.Stream s at) (sym so.1 ∙ closed)));
+      other = λ o. refl;
+    }
+open_onto given first text m n pause load_state.OtherTable open_ st = record {
+  reading = st.has_records.reading;
+  is_reading = st.has_records.is_reading;
+  own = λ own. absurd (apart first st.has_records.reading own (of_other first st.has_records.reading pause st.is_in_state));
+  other = λ o. refl;
+}
+open_onto given first text m n pause load_state.NoMemory open_ st = absurd (of_none first st.has_records.reading pause st.is_in_state)
+
+pub valid_onto : (given : LoadSettings) (first : Image) (text : List ℕ) (m : Image) (n : ℕ) (pause : Option Paused) (found : StreamState) (at : ℕ) → StandsOnto given first text m n pause (load_state.Stream found at)
+    → IsValidUpToOnto given first text (Some at)
+valid_onto given first text m n pause found at st =
+    let reading : StreamReading = st.has_records.reading in
+    let so : IsOfOwnTable first reading × (reading.state ≡ found) = of_state first reading pause found at st.is_in_state in
+    record {
+      reading = reading;
+      is_reading = st.has_records.is_reading;
+      own = λ own. (at, refl, st.is_read_to);
+      other = λ o. absurd (apart first reading so.0 o);
+    }
+
+pub unread_onto : (given : LoadSettings) (first : Image) (text : List ℕ) (m : Image) (n : ℕ) (pause : Option Paused) → StandsOnto given first text m n pause load_state.OtherTable → IsValidUpToOnto given first text None
+unread_onto given first text m n pause st = record {
+  reading = st.has_records.reading;
+  is_reading = st.has_records.is_reading;
+  own = λ own. absurd (apart first st.has_records.reading own (of_other first st.has_records.reading pause st.is_in_state));
+  other = λ o. refl;
+}
+
+pub closed_told : (given : LoadSettings) (first : Image) (text : List ℕ) (m : Image) (n : ℕ) (pause : Option Paused) (found : LoadState) → StandsOnto given first text m n pause found
+    → HasClosedAtOnto given first text (closed_place found)
+closed_told given first text m n pause (load_state.Stream Closed at) st = closed_onto given first text m n pause at st
+closed_told given first text m n pause (load_state.Stream Reading at) st = open_onto given first text m n pause (load_state.Stream Reading at) (λ k e. absurd cc) st
+closed_told given first text m n pause (load_state.Stream (Bad fault) at) st = open_onto given first text m n pause (load_state.Stream (Bad fault) at) (λ k e. absurd cc) st
+closed_told given first text m n pause load_state.OtherTable st = open_onto given first text m n pause load_state.OtherTable (λ k e. absurd cc) st
+closed_told given first text m n pause load_state.NoMemory st = absurd (of_none first st.has_records.reading pause st.is_in_state)
+
+pub valid_told : (given : LoadSettings) (first : Image) (text : List ℕ) (m : Image) (n : ℕ) (pause : Option Paused) (found : LoadState) → StandsOnto given first text m n pause found
+    → IsValidUpToOnto given first text (valid_place found)
+valid_told given first text m n pause (load_state.Stream found at) st = valid_onto given first text m n pause found at st
+valid_told given first text m n pause load_state.OtherTable st = unread_onto given first text m n pause st
+valid_told given first text m n pause load_state.NoMemory st = absurd (of_none first st.has_records.reading pause st.is_in_state)
 
 -- ---- a text that isn't read on
 
@@ -426,10 +507,30 @@ reading_more given text piece reading is over = record {
   has_rounds = is.has_rounds;
 }
 
+-- so does the place up to which it is valid
+valid_more : (given : LoadSettings) (first : Image) (text piece : List ℕ) (reading : StreamReading) (at : ℕ) → IsPageSize first.table.page_size → IsReading (settings_of first given) text reading → reading.state ≢ Reading
+    → IsValidUpTo (settings_of first given) text at → IsValidUpTo (settings_of first given) (text ++ piece) at
+valid_more given first text piece reading at size is over v =
+    let other : StreamReading = record { table = whole_table v.to; rounds = v.to.rounds; state = v.state } in
+    let is_other : IsReading (settings_of first given) text other = record { to = v.to; rest = v.rest; reads = v.reads; has_table = refl; has_rounds = refl } in
+    let same : v.state ≡ reading.state = ap (λ (x : StreamReading). x.state) (same_reading (for_table first.table given) text other reading size is_other is) in
+    record {
+      to = v.to;
+      rest = v.rest ++ piece;
+      state = v.state;
+      reads = record {
+        front = v.reads.front;
+        has_text = ap (λ (x : List ℕ). x ++ piece) v.reads.has_text ∙ append_assoc v.reads.front v.rest piece;
+        leads = v.reads.leads;
+        ends = ends_more v.to v.rest piece v.state (λ e. over (sym same ∙ e)) v.reads.ends;
+      };
+      has_length = v.has_length;
+    }
+
 pub stands_more : (given : LoadSettings) (first : Image) (text piece : List ℕ) (m : Image) (n : ℕ) (found : LoadState) → IsPageSize first.table.page_size → StandsOnto given first text m n None found
     → StandsOnto given first (text ++ piece) m n None found
 unfolding reading_more
-stands_more given first text piece m n (load_state.Stream found) size st =
+stands_more given first text piece m n (load_state.Stream found at) size st =
     let has = st.has_records in
     let over : has.reading.state ≢ Reading = λ e. st.is_in_state.1 (sym st.is_in_state.2 ∙ e) in
     record {
@@ -442,6 +543,7 @@ stands_more given first text piece m n (load_state.Stream found) size st =
       };
       pauses = tt;
       is_in_state = st.is_in_state;
+      is_read_to = valid_more given first text piece has.reading at size has.is_reading over st.is_read_to;
     }
 stands_more given first text piece m n load_state.OtherTable size st =
     let has = st.has_records in
@@ -459,6 +561,7 @@ stands_more given first text piece m n load_state.OtherTable size st =
       };
       pauses = tt;
       is_in_state = other;
+      is_read_to = tt;
     }
 stands_more given first text piece m n load_state.NoMemory size st = absurd st.is_in_state
 
@@ -504,6 +607,10 @@ found_other given first text piece p m n fresh r gave t image f at whole differ 
     stands_other given first text piece p m n (with_given gave r.given.records at.so_far) r t image at
     (found_next given first.table text piece at.so_far p fresh r gave f at.pauses).gives whole differ
 
+-- what a reader tells, once it reads no further, of a text of fewer than 2^64 bytes
+abbrev pub TellsValid : Giver → ℕ → Type 0
+TellsValid r at = r.found ≢ None → GiverTells r (λ given text so_far. length text < 2 ^ 64 → IsValidUpTo given text at)
+
 -- all was put
 pub found_all : (given : LoadSettings) (first : Image) (text piece : List ℕ) (p : Paused) (m new : Image) (n more : ℕ) (fresh r s : Giver) (gave : Given) (found : StreamState) → Found p piece fresh r gave
     → PausesOnto given first text p m n → (whole_table r.progress ≡ None) ⊎ (whole_table r.progress ≡ Some first.table) → PutsAll gave r m n found s new more
@@ -519,19 +626,22 @@ found_all given first text piece p m new n more fresh r s gave found f at own pu
 
 pub found_off : (given : LoadSettings) (first : Image) (text piece : List ℕ) (p : Paused) (m new : Image) (n more : ℕ) (fresh r s : Giver) (gave : Given) (found : StreamState) → Found p piece fresh r gave
     → PausesOnto given first text p m n → (whole_table r.progress ≡ None) ⊎ (whole_table r.progress ≡ Some first.table) → PutsAll gave r m n found s new more → found ≢ Reading
-    → StandsOnto given first (text ++ piece) new more None (load_state.Stream found)
-found_off given first text piece p m new n more fresh r s gave found f at own puts over =
+    → (k : ℕ) → TellsValid s k → length (text ++ piece) < 2 ^ 64 → StandsOnto given first (text ++ piece) new more None (load_state.Stream found k)
+found_off given first text piece p m new n more fresh r s gave found f at own puts over k tells few =
     let all = found_all given first text piece p m new n more fresh r s gave found f at own puts in
-    stands_off given first (text ++ piece) all.0 found new more all.1.gives.is_page_size all.3 all.1.has_reading over all.2 all.1.has_sections
+    stands_off given first (text ++ piece) all.0 found new more all.1.gives.is_page_size all.3 all.1.has_reading over all.2 all.1.has_sections k
+    (tells (λ none. let bad : Some found ≡ None = sym all.1.has_none_left.has_found ∙ none in absurd cc) (settings_of first given) (text ++ piece) all.0 all.1.gives few)
 
 pub found_on : (given : LoadSettings) (first : Image) (text piece : List ℕ) (p q : Paused) (m new : Image) (n more : ℕ) (fresh r s : Giver) (gave : Given) (found : StreamState) → Found p piece fresh r gave
     → PausesOnto given first text p m n → (whole_table r.progress ≡ None) ⊎ (whole_table r.progress ≡ Some first.table) → PutsAll gave r m n found s new more → found ≡ Reading
-    → ((single : Settings) (text : List ℕ) (so_far : GivenSoFar) → Gives single text so_far s → PausesAt single text so_far q) → StandsOnto given first (text ++ piece) new more (Some q) (load_state.Stream found)
-found_on given first text piece p q m new n more fresh r s gave found f at own puts is pauses =
+    → ((single : Settings) (text : List ℕ) (so_far : GivenSoFar) → Gives single text so_far s → PausesAt single text so_far q)
+    → (k : ℕ) → TellsValid s k → length (text ++ piece) < 2 ^ 64 → StandsOnto given first (text ++ piece) new more (Some q) (load_state.Stream found k)
+found_on given first text piece p q m new n more fresh r s gave found f at own puts is pauses k tells few =
     let all = found_all given first text piece p m new n more fresh r s gave found f at own puts in
     let has : HasReading (settings_of first given) (text ++ piece) all.0 Reading = subst (λ (x : StreamState). HasReading (settings_of first given) (text ++ piece) all.0 x) is all.1.has_reading in
-    subst (λ (x : StreamState). StandsOnto given first (text ++ piece) new more (Some q) (load_state.Stream x)) (sym is)
-    (stands_at given first (text ++ piece) all.0 q new more all.1.gives.is_page_size all.3 has (pauses (settings_of first given) (text ++ piece) all.0 all.1.gives) all.2 all.1.has_sections)
+    subst (λ (x : StreamState). StandsOnto given first (text ++ piece) new more (Some q) (load_state.Stream x k)) (sym is)
+    (stands_at given first (text ++ piece) all.0 q new more all.1.gives.is_page_size all.3 has (pauses (settings_of first given) (text ++ piece) all.0 all.1.gives) all.2 all.1.has_sections k
+    (tells (λ none. let bad : Some found ≡ None = sym all.1.has_none_left.has_found ∙ none in absurd cc) (settings_of first given) (text ++ piece) all.0 all.1.gives few))
 
 -- and of any text so much was given
 pub found_on_some : (given : LoadSettings) (fed : ℕ) (table : RamTable) (piece : List ℕ) (p q : Paused) (n more : ℕ) (fresh r s : Giver) (gave : Given) (found : StreamState) → Found p piece fresh r gave

@@ -12,7 +12,7 @@ use Rattle.mig_stream.specs.declared.giving.Given.{Given}
 use Rattle.mig_stream.specs.declared.giving.Given.TheVariants as gave
 use Rattle.mig_stream.specs.PageRecord.{PageRecord, page_of}
 use Rattle.mig_stream.specs.Reading.{Settings, StreamReading, IsReading}
-use Rattle.mig_stream.specs.Reader.{HasTable}
+use Rattle.mig_stream.specs.Reader.{HasTable, IsValidUpTo, HasClosedAt}
 use Rattle.mig_stream.specs.Giving.{Giver, GivenSoFar, with_given, Gives, EndsSo, LeavesNone, HasNoneLeft, HasReading, Paused, PausesAt}
 use Rattle.mig_single_load.specs.Settings.{single_of, for_table}
 use Rattle.mig_single_load.specs.declared.settings.LoadSettings.{LoadSettings}
@@ -90,10 +90,15 @@ pub record PausesOnto (given : LoadSettings) (first : Image) (text : List ℕ) (
 -- the state that a reading of the text gives: it goes on, is closed, has a fault, or has another
 -- table
 abbrev pub IsInState : Image → StreamReading → Option Paused → LoadState → Type 0
-IsInState first reading (Some p) (load_state.Stream found) = IsOfOwnTable first reading × (found ≡ state.Reading) × (reading.state ≡ found)
-IsInState first reading None (load_state.Stream found) = IsOfOwnTable first reading × (found ≢ state.Reading) × (reading.state ≡ found)
+IsInState first reading (Some p) (load_state.Stream found at) = IsOfOwnTable first reading × (found ≡ state.Reading) × (reading.state ≡ found)
+IsInState first reading None (load_state.Stream found at) = IsOfOwnTable first reading × (found ≢ state.Reading) × (reading.state ≡ found)
 IsInState first reading None load_state.OtherTable = IsOfOtherTable first reading
 IsInState first reading pause other = ⊥
+
+-- up to where the text is valid, as long as the load reads it as that of its memory
+abbrev pub IsReadTo : LoadSettings → Image → List ℕ → LoadState → Type 0
+IsReadTo given first text (load_state.Stream found at) = IsValidUpTo (settings_of first given) text at
+IsReadTo given first text other = ⊤
 
 -- The memory has all records of the text so far, and `pause` and `found` are what the load keeps of
 -- it.
@@ -101,6 +106,7 @@ pub record StandsOnto (given : LoadSettings) (first : Image) (text : List ℕ) (
   pub has_records : HasRecordsOnto given first text memory sections
   pub pauses : IfSome pause (λ p. PausesOnto given first text p memory sections)
   pub is_in_state : IsInState first has_records.reading pause found
+  pub is_read_to : IsReadTo given first text found
 
 -- A load that was made for the memory `first` with these settings, and fed this text, which may be over.
 -- The memory is now what all page records of the text make of `first`.
@@ -111,6 +117,35 @@ pub record EagerlyLoads (memory : Image) (given : LoadSettings) (first : Image) 
   pub has_fed : s.fed ≡ length text
   pub has_ended : s.ended ≡ ended
   pub stands : StandsOnto given first text memory s.rounds s.pause s.state
+
+-- ---- where the text is closed, and up to where it is valid
+
+-- what the state of a load tells of them
+abbrev pub closed_place : LoadState → Option ℕ
+closed_place (load_state.Stream state.Closed at) = Some at
+closed_place (load_state.Stream state.Reading at) = None
+closed_place (load_state.Stream (state.Bad fault) at) = None
+closed_place load_state.OtherTable = None
+closed_place load_state.NoMemory = None
+
+abbrev pub valid_place : LoadState → Option ℕ
+valid_place (load_state.Stream found at) = Some at
+valid_place load_state.OtherTable = None
+valid_place load_state.NoMemory = None
+
+-- Where the text is closed, if it is. Of a text of another table nothing is told.
+pub record HasClosedAtOnto (given : LoadSettings) (first : Image) (text : List ℕ) (n : Option ℕ) : Type 0 where
+  pub reading : StreamReading
+  pub is_reading : IsReading (settings_of first given) text reading
+  pub own : IsOfOwnTable first reading → HasClosedAt (settings_of first given) text n
+  pub other : IsOfOtherTable first reading → n ≡ None
+
+-- Up to where the text is valid. Of a text of another table nothing is told.
+pub record IsValidUpToOnto (given : LoadSettings) (first : Image) (text : List ℕ) (n : Option ℕ) : Type 0 where
+  pub reading : StreamReading
+  pub is_reading : IsReading (settings_of first given) text reading
+  pub own : IsOfOwnTable first reading → (at : ℕ) × (n ≡ Some at) × IsValidUpTo (settings_of first given) text at
+  pub other : IsOfOtherTable first reading → n ≡ None
 
 -- ---- where an allocation was refused
 

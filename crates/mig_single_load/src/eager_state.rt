@@ -13,7 +13,7 @@ ghost use Rattle.mig_single_load.specs.declared.settings.LoadSettings.{LoadSetti
 ghost use Rattle.mig_single_load.specs.Settings.{ram_settings};
 ghost use Rattle.mig_single_load.specs.SingleLoad.{no_memory_at};
 ghost use Rattle.mig_single_load.specs.InPlace.{HasVerdictOnto};
-ghost use Rattle.mig_single_load.specs.Eager.{EagerKeepsOtherPlaces, EagerOkIsBySections, EagerlyLoads, settings_for, GaveNext, PutsNextSome, PutsAll, GivesAll, IsEnd, PausesSome, PausesOnto, StandsOnto, PutsSome, HasSomeOnto, LacksMemory};
+ghost use Rattle.mig_single_load.specs.Eager.{EagerKeepsOtherPlaces, EagerOkIsBySections, EagerlyLoads, settings_for, GaveNext, PutsNextSome, PutsAll, GivesAll, IsEnd, PausesSome, PausesOnto, StandsOnto, PutsSome, HasSomeOnto, LacksMemory, closed_place, valid_place, HasClosedAtOnto, IsValidUpToOnto};
 
 use crate::in_place_state::other_table;
 use crate::settle::{no_memory, verdict_at};
@@ -28,8 +28,9 @@ use std::marker::Model;
 /// The state of an eager load.
 #[derive(Clone, Copy)]
 pub(crate) enum LoadState {
-    /// That of the stream: only while it is `Reading` is more of it read.
-    Stream(StreamState),
+    /// That of the stream, and how many of its bytes are complete items without a fault. Only while
+    /// it is `Reading` is more of it read.
+    Stream(StreamState, u64),
     /// The stream has another table than the memory, and isn't read further.
     OtherTable,
     /// An allocation was refused, and the stream isn't read further.
@@ -142,7 +143,7 @@ fn load_piece<A: Allocator + Copy, M: GuestTarget>(
 ) -> Result<(Option<Pause<A>>, LoadState), NoMemory>
     requires { (given : LoadSettings) × (fed : ℕ) × PausesSome given (M.image memory.old).table pause sections.old fed × (fed + length piece.now < 2 ^ 63) }
     ensures ok { IfOk result (λ r. (given : LoadSettings) (first : Image) (text : List ℕ) → IsImage first → PausesOnto given first text pause (M.image memory.old) sections.old
-        → StandsOnto given first (text ++ piece.now) (M.image memory.new) sections.new r.0 r.1) }
+        → length (text ++ piece.now) < 2 ^ 64 → StandsOnto given first (text ++ piece.now) (M.image memory.new) sections.new r.0 r.1) }
     ensures some { IfOk result (λ r. (given : LoadSettings) (fed : ℕ) → PausesSome given (M.image memory.old).table pause sections.old fed
         → IfSome r.0 (λ p. PausesSome given (M.image memory.old).table p sections.new (fed + length piece.now))) }
     ensures err { OnErr result ((given : LoadSettings) (first : Image) (text : List ℕ) → PausesOnto given first text pause (M.image memory.old) sections.old
@@ -155,9 +156,30 @@ fn load_piece<A: Allocator + Copy, M: GuestTarget>(
         return Ok((None, LoadState::OtherTable));
     }
     let found = put_given(&mut reader, gave, memory, sections)?;
+    let state = LoadState::Stream(found, reader.valid_up_to());
     match found {
-        StreamState::Reading => Ok((Some(reader.pause()?), LoadState::Stream(found))),
-        _ => Ok((None, LoadState::Stream(found))),
+        StreamState::Reading => Ok((Some(reader.pause()?), state)),
+        _ => Ok((None, state)),
+    }
+}
+
+// Returns where the stream is closed.
+fn closed_in(state: LoadState) -> Option<u64>
+    ensures { result ≡ closed_place state }
+{
+    match state {
+        LoadState::Stream(StreamState::Closed, at) => Some(at),
+        _ => None,
+    }
+}
+
+// Returns up to where the stream is valid, as long as it is read as one of the memory's table.
+fn valid_in(state: LoadState) -> Option<u64>
+    ensures { result ≡ valid_place state }
+{
+    match state {
+        LoadState::Stream(_, at) => Some(at),
+        LoadState::OtherTable | LoadState::NoMemory => None,
     }
 }
 
@@ -198,7 +220,7 @@ impl<A: Allocator + Copy> EagerState<A> {
         let table = table.copy_in(alloc)?;
         Ok(EagerState {
             pause: Some(Pause::new_in(alloc, settings.frame, page_size, settings.limit)),
-            state: LoadState::Stream(StreamState::Reading),
+            state: LoadState::Stream(StreamState::Reading, 0),
             table,
             rounds: 0,
             fed: 0,
@@ -276,6 +298,35 @@ impl<A: Allocator> EagerState<A> {
         self.fed
     }
 
+    /// Returns how many of the bytes fed the stream has, once it is closed: those up to its end
+    /// byte, or in a machine's stream up to the footer of RAM's END. The bytes fed after them are
+    /// left to the caller.
+    ///
+    /// None for a stream of another table, which isn't read to its end, and after a refused
+    /// allocation.
+    pub fn closed_at(&self) -> Option<u64>
+        ensures loads { (memory : Image) (given : LoadSettings) (first : Image) (text : List ℕ) (ended : Bool) → EagerlyLoads memory given first self.now text ended
+            → HasClosedAtOnto given first text result }
+        ensures lacking { (memory : Image) (given : LoadSettings) (first : Image) (text : List ℕ) (ended : Bool) → LacksMemory memory given first self.now text ended
+            → result ≡ None }
+    {
+        closed_in(self.state)
+    }
+
+    /// Returns how many of the bytes fed are complete items without a fault, from the first byte
+    /// on. If the verdict is a fault of the stream, the item at fault begins after them.
+    ///
+    /// None for a stream of another table, which isn't read on, and after a refused allocation:
+    /// `OtherTable` and `NoMemory` are faults of no item.
+    pub fn valid_up_to(&self) -> Option<u64>
+        ensures loads { (memory : Image) (given : LoadSettings) (first : Image) (text : List ℕ) (ended : Bool) → EagerlyLoads memory given first self.now text ended
+            → IsValidUpToOnto given first text result }
+        ensures lacking { (memory : Image) (given : LoadSettings) (first : Image) (text : List ℕ) (ended : Bool) → LacksMemory memory given first self.now text ended
+            → result ≡ None }
+    {
+        valid_in(self.state)
+    }
+
     /// Returns the table of the memory.
     pub fn table(&self) -> &Table<A>
         ensures { result.now ≡ self.now.table }
@@ -305,7 +356,7 @@ impl<A: Allocator> EagerState<A> {
             → HasVerdictOnto given first text result }
     {
         match self.state {
-            LoadState::Stream(found) => verdict_at(self.rounds, found),
+            LoadState::Stream(found, _) => verdict_at(self.rounds, found),
             LoadState::OtherTable => other_table(),
             LoadState::NoMemory => no_memory(self.rounds),
         }

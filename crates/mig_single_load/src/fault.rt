@@ -29,7 +29,8 @@ pub enum Fault {
     Stream(StreamFault),
     /// The channel's fault.
     Channel(ChannelFault),
-    /// The round isn't lawful: 54 to 59. A refused allocation is `NoMemory` instead.
+    /// The round isn't lawful: 54 to 59. A refused allocation is `Fault::NoMemory`, and never
+    /// `RoundFault::NoMemory` in here.
     Round(RoundFault),
     /// The channel's hello names the id of an earlier channel.
     HelloTwice,
@@ -37,7 +38,8 @@ pub enum Fault {
     Extra,
     /// The channel is over where the main stream goes on.
     Short,
-    /// The stream is of another table than the memory that was handed in for it.
+    /// The stream is of another table than the memory that was handed in for it. Only loads in
+    /// place report it.
     OtherTable,
     /// An allocation was refused.
     NoMemory,

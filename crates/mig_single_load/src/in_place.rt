@@ -2,7 +2,7 @@
 
 ghost use Rattle.std.specs.Prelude.{◌≡◌, ◌+◌, ◌<◌, ◌≤◌, ◌^◌, ◌++◌, ℕ, Bool, List, [], length, true, false, IsFalse, IsOk, OnOk, OnErr, IfOk, IfErr};
 ghost use Rattle.mig_mem.specs.Image.{Image};
-ghost use Rattle.mig_stream.specs.Reader.{IsSettled, HasClosedAt};
+ghost use Rattle.mig_stream.specs.Reader.{IsSettled, HasClosedAt, IsValidUpTo};
 ghost use Rattle.mig_assemble.specs.Target.{target_over};
 ghost use Rattle.mig_single_load.specs.declared.settings.LoadSettings.{LoadSettings};
 ghost use Rattle.mig_single_load.specs.Settings.{ram_settings};
@@ -135,6 +135,16 @@ impl<A: Allocator, M: GuestTarget> InPlaceLoader<A, M> {
         self.state.closed_at()
     }
 
+    /// Returns how many of the bytes fed are complete items without a fault, from the first byte
+    /// on. If the verdict is a fault of the stream, the item at fault begins after them.
+    /// `OtherTable` is a fault of no item: a stream of another table is read on.
+    pub fn valid_up_to(&self) -> u64
+        ensures { (given : LoadSettings) (first : Image) (text : List ℕ) (ended : Bool) → LoadsOnto given first self.now text ended
+            → IsValidUpTo (settings_of first given) text result }
+    {
+        self.state.valid_up_to()
+    }
+
     /// The memory after the sections so far.
     pub fn memory(&self) -> &M
         ensures { M.image result.now ≡ self.now.target.memory }
@@ -151,6 +161,11 @@ impl<A: Allocator, M: GuestTarget> InPlaceLoader<A, M> {
 
     /// The verdict on the text so far, as if it were over here: Ok where the end byte was read, else its first fault, which is
     /// `Truncated` where it is whole so far. Of another table than the memory's it is `OtherTable`, as soon as the size list is whole.
+    ///
+    /// # Errors
+    ///
+    /// A fault of the stream (`Fault::Stream`), or `OtherTable`, and no other `Fault`: a refused
+    /// allocation is an `Err` of `feed`, which changes nothing.
     pub fn verdict(&self) -> Result<(), LoadFault>
         ensures { (given : LoadSettings) (first : Image) (text : List ℕ) (ended : Bool) → LoadsOnto given first self.now text ended → HasVerdictOnto given first text result }
     {

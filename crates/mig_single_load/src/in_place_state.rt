@@ -4,7 +4,7 @@ ghost use Rattle.std.specs.Prelude.{◌≡◌, ◌≢◌, ◌+◌, ◌<◌, ◌�
 ghost use Rattle.mig_mem.specs.PageSize.{IsPageSize};
 ghost use Rattle.mig_mem.specs.Image.{Image, IsImage};
 ghost use Rattle.mig_mem.specs.Round.{with_round};
-ghost use Rattle.mig_stream.specs.Reader.{IsSettled, HasClosedAt, HasRound, waiting};
+ghost use Rattle.mig_stream.specs.Reader.{IsSettled, HasClosedAt, IsValidUpTo, HasRound, waiting};
 ghost use Rattle.mig_assemble.specs.Target.{FitsTable, pages_of_round};
 ghost use Rattle.mig_single_load.specs.declared.fault.Fault.TheVariants.{OtherTable};
 ghost use Rattle.mig_single_load.specs.declared.fault.InPlaceFault.TheVariants as in_place_fault;
@@ -253,6 +253,15 @@ impl<A: Allocator> InPlaceState<A> {
         self.reader.closed_at()
     }
 
+    /// Returns how many of the bytes fed are complete items without a fault, from the first byte
+    /// on. If the verdict is a fault of the stream, the item at fault begins after them.
+    /// `OtherTable` is a fault of no item: a stream of another table is read on.
+    pub fn valid_up_to(&self) -> u64
+        ensures { WhereFed self.now (λ memory given first text ended. IsValidUpTo (settings_of first given) text result) }
+    {
+        self.reader.valid_up_to()
+    }
+
     /// The table of the memory.
     pub fn table(&self) -> &Table<A>
         ensures { result.now ≡ self.now.table }
@@ -270,6 +279,11 @@ impl<A: Allocator> InPlaceState<A> {
     /// The verdict on the text so far, as if it were over here: Ok where the end byte was read, else its first fault, which is
     /// `Truncated` where it is whole so far. Of another table than the memory's it is `OtherTable`, as soon as the size list is whole. It counts
     /// the sections that were put or taken, so that of a text of which some wait a fault is told with fewer rounds before it.
+    ///
+    /// # Errors
+    ///
+    /// A fault of the stream (`Fault::Stream`), or `OtherTable`, and no other `Fault`: a refused
+    /// allocation is an `Err` of `feed`, which changes nothing.
     pub fn verdict(&self) -> Result<(), LoadFault>
         ensures loads { (memory : Image) (given : LoadSettings) (first : Image) (text : List ℕ) (ended : Bool) → LoadsWith memory given first self.now text ended
             → HasVerdictOnto given first text result }

@@ -38,4 +38,4 @@ pub use loaded::Loaded;
 pub use loader::SingleLoader;
 pub use settings::LoadSettings;
 pub use settle::{no_memory, without_memory};
-pub use single::{load_single, load_single_in, single_closed_at};
+pub use single::{load_single, load_single_in, single_closed_at, single_valid_up_to};

@@ -3,7 +3,7 @@
 ghost use Rattle.std.specs.Prelude.{◌≡◌, ◌+◌, ◌<◌, ◌≤◌, ◌^◌, ◌++◌, ℕ, Bool, List, [], length, true, false, IsFalse, IsOk, OnOk, OnErr, IfErr};
 ghost use Rattle.std.specs.Option.{option_copied};
 ghost use Rattle.mig_mem.specs.PageSize.{IsPageSize};
-ghost use Rattle.mig_stream.specs.Reader.{IsSettled, HasClosedAt};
+ghost use Rattle.mig_stream.specs.Reader.{IsSettled, HasClosedAt, IsValidUpTo};
 ghost use Rattle.mig_single_load.specs.declared.fault.FeedFault.TheVariants.{NoMemory as fault_no_memory, NoGuestMemory as fault_no_guest_memory};
 ghost use Rattle.mig_single_load.specs.declared.settings.LoadSettings.{LoadSettings};
 ghost use Rattle.mig_single_load.specs.Settings.{ram_settings, single_of};
@@ -150,6 +150,15 @@ impl<A: Allocator> SingleLoader<A> {
         self.reader.closed_at()
     }
 
+    /// Returns how many of the bytes fed are complete items without a fault, from the first byte
+    /// on. If the verdict is a fault of the stream, the item at fault begins after them. `NoMemory`
+    /// is a fault of no item.
+    pub fn valid_up_to(&self) -> u64
+        ensures { (given : LoadSettings) (text : List ℕ) (ended : Bool) → Loads given self.now text ended → IsValidUpTo (single_of given) text result }
+    {
+        self.reader.valid_up_to()
+    }
+
     /// The memory after the sections so far. None as long as the size list isn't whole, or where its sections wait.
     pub fn memory(&self) -> Option<&Memory<A>>
         ensures { option_copied result ≡ memory_of self.now }
@@ -169,6 +178,10 @@ impl<A: Allocator> SingleLoader<A> {
 
     /// The verdict that `finish` would give now: Ok where the end byte was read, else the text's first fault, which is `Truncated` where
     /// it is whole so far; or `NoMemory`, where sections wait.
+    ///
+    /// # Errors
+    ///
+    /// A fault of the stream (`Fault::Stream`), or `NoMemory`, and no other `Fault`.
     pub fn verdict(&self) -> Result<(), LoadFault>
         ensures { (given : LoadSettings) (text : List ℕ) (ended : Bool) → Loads given self.now text ended → Judges given self.now text result }
     {

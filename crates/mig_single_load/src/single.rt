@@ -8,7 +8,7 @@ ghost use Rattle.mig_mem.specs.Round.{IsRound};
 ghost use Rattle.mig_stream.specs.declared.item.Frame.TheVariants.{Machine};
 ghost use Rattle.mig_stream.specs.Text.{total_bytes};
 ghost use Rattle.mig_stream.specs.Written.{single};
-ghost use Rattle.mig_stream.specs.Reader.{HasClosedAt};
+ghost use Rattle.mig_stream.specs.Reader.{HasClosedAt, IsValidUpTo};
 ghost use Rattle.mig_single_load.specs.Settings.{ram_settings, single_of};
 ghost use Rattle.mig_single_load.specs.SingleLoad.{IsSingleAnswer, IsSingleWithoutMemory, loaded};
 ghost use Rattle.mig_single_load.specs.MachineSent.{IsMachineSent};
@@ -23,6 +23,11 @@ use std::alloc::Allocator;
 /// Loads a guest from the text of a single stream whose pages have this size, and whose blocks may have `limit` bytes together.
 /// What follows the end byte is not looked at. A text without a fault is gone through once; any other is read a second time, and its
 /// memory begun anew.
+///
+/// # Errors
+///
+/// The verdict of what is returned is a fault of the stream (`Fault::Stream`, 11 to 34), or
+/// `NoMemory`, if an allocation was refused. It is no other `Fault`.
 pub fn load_single<A: Allocator + Copy>(
     alloc: A,
     page_size: u64,
@@ -42,6 +47,12 @@ pub fn load_single<A: Allocator + Copy>(
 /// follows the stream isn't looked at: the bytes after its end byte, or in a machine's stream those
 /// after the footer of RAM's END. A stream without a fault is read once. Any other is read a second
 /// time, and its memory begun anew.
+///
+/// # Errors
+///
+/// The verdict of what is returned is a fault of the stream (`Fault::Stream`, 11 to 34, in a
+/// machine's stream also 46 to 49), or `NoMemory`, if an allocation was refused. It is no other
+/// `Fault`.
 pub fn load_single_in<A: Allocator + Copy>(
     alloc: A,
     settings: LoadSettings,
@@ -85,6 +96,34 @@ pub fn single_closed_at<A: Allocator + Copy>(
         text,
     )?;
     Ok(reader.closed_at())
+}
+
+/// Returns how many bytes of `text` are complete items without a fault, read with `settings`, from
+/// the first byte on. If `load_single_in` finds a fault of the stream, the item at fault begins
+/// after them: a caller that is told a fault asks here for its byte. It reads the stream once, and
+/// copies no page.
+///
+/// # Errors
+///
+/// An allocation was refused.
+pub fn single_valid_up_to<A: Allocator + Copy>(
+    alloc: A,
+    settings: LoadSettings,
+    text: &[u8],
+) -> Result<u64, NoMemory>
+    requires page_size { IsPageSize settings.page_size }
+    requires limit { settings.limit ≤ 2 ^ 40 }
+    ensures { IfOk result (IsValidUpTo (single_of settings) text.now) }
+{
+    let reader = StreamReader::of_text_in(
+        alloc,
+        settings.frame,
+        Mode::Single,
+        settings.page_size,
+        settings.limit,
+        text,
+    )?;
+    Ok(reader.valid_up_to())
 }
 
 // Reads the text, and puts its sections into memory, each when it is whole.

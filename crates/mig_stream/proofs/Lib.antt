@@ -42,6 +42,7 @@ pub mod Longer
 pub mod ZeroRecords
 pub mod Between
 pub mod Giver
+pub mod Taken
 pub mod Waiting
 pub mod Closing
 pub mod Valid

@@ -13,6 +13,7 @@ pub mod Writer
 pub mod Round
 pub mod Reader
 pub mod Giving
+pub mod Wanted
 pub mod Law
 pub mod FaultNumber
 -- How reading keeps and goes back: only contracts of the inside cite these.

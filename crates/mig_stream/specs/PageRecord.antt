@@ -14,6 +14,10 @@ pub record PageRecord : Type 0 where
   pub place : Place
   pub content : Option (List ℕ)
 
+-- the record of a page with these bytes
+abbrev pub page_record : Place → List ℕ → PageRecord
+page_record place content = record { place = place; content = Some content }
+
 -- the page that it stands for, at pages of a size
 abbrev pub page_of : ℕ → PageRecord → Page
 page_of size r = record { place = r.place; content = unwrap_or r.content (zero_page size) }

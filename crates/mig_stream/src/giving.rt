@@ -81,12 +81,13 @@ impl<'a, A: Allocator> fmt::Debug for RecordReader<'a, A> {
 /// isn't whole yet. All records that were read have been given.
 ///
 /// Load piece after piece: `resume` with the next one, `read_on` until `End(Reading)`, and `pause`.
+/// A caller that reads pages straight to where they belong asks for each piece by `wanted`.
 #[derive(Drop)]
 pub struct Pause<A: Allocator = Global> {
-    progress: Progress<'static, A>,
-    pending: Vec<u8, A>,
+    pub(crate) progress: Progress<'static, A>,
+    pub(crate) pending: Vec<u8, A>,
     // how many bytes the stream has so far
-    fed: u64,
+    pub(crate) fed: u64,
 }
 
 impl<A: Allocator> Model for Pause<A> {
@@ -219,6 +220,14 @@ impl<A: Allocator> Pause<A> {
         ensures { PauseTells self.now (λ given text so_far. length text < 2 ^ 64 → IsValidUpTo given text result) }
     {
         self.fed.saturating_sub(self.pending.len() as u64)
+    }
+
+    /// Returns how many bytes a page of the stream has: `take_page` takes so many.
+    pub fn page_size(&self) -> u64
+        ensures value { result ≡ self.now.progress.page_size }
+        ensures given { PauseTells self.now (λ given text so_far. result ≡ given.page_size) }
+    {
+        self.progress.entries.page_size()
     }
 
     /// Returns the stream's table, once its size list was read whole.

@@ -27,6 +27,7 @@ mod reader;
 mod record;
 mod round;
 mod stop;
+mod wanted;
 mod writer;
 mod zeros;
 
@@ -40,4 +41,5 @@ pub use laws::{
 };
 pub use reader::StreamReader;
 pub use round::StreamRound;
+pub use wanted::Wanted;
 pub use writer::{OpenPart, StreamWriter};

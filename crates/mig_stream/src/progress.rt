@@ -111,6 +111,13 @@ impl<'a, A: Allocator + Copy> Progress<'a, A> {
         }
     }
 
+    /// Goes on after the content of a page, whose record isn't kept here.
+    pub(crate) fn pass_page(&mut self)
+        ensures { self.new ≡ record self.old { due = due.RecordHead } }
+    {
+        self.due = Due::RecordHead;
+    }
+
     /// Lets go of the bytes read so far, where it has no records that lend them.
     pub(crate) fn without_records<'b>(self) -> Progress<'b, A>
         requires records { self.records ≡ [] }

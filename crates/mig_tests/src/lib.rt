@@ -7,11 +7,17 @@
 #[cfg(test)]
 mod building;
 #[cfg(test)]
+mod configured;
+#[cfg(test)]
+mod framed;
+#[cfg(test)]
 mod in_place;
 #[cfg(test)]
 mod in_place_state;
 #[cfg(test)]
 mod lent;
+#[cfg(test)]
+mod open_senders;
 #[cfg(test)]
 mod parts;
 #[cfg(test)]
@@ -32,3 +38,7 @@ mod sender;
 mod streams;
 #[cfg(test)]
 mod texts;
+#[cfg(test)]
+mod valid;
+#[cfg(test)]
+mod wanted;

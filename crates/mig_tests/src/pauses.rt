@@ -90,8 +90,8 @@ fn read_all(
     panic!(rt; "the text never ends");
 }
 
-// Pauses behind all that a reader gave, where the text goes on.
-fn pause_of<'a, A: Allocator + Copy>(
+/// Pauses behind all that a reader gave, where the text goes on.
+pub(crate) fn pause_of<'a, A: Allocator + Copy>(
     rt: &impl Abort,
     mut reader: RecordReader<'a, A>,
 ) -> Result<Pause<A>, NoMemory> {
@@ -194,8 +194,8 @@ fn is_paused(rt: &(impl AllocGlobal + Abort), frame: Frame, front: &[u8], nth: u
     is_whole
 }
 
-// Reads all that a reader has.
-fn skip_all<'a, A: Allocator + Copy>(rt: &impl Abort, reader: &mut RecordReader<'a, A>) {
+/// Reads all that a reader has.
+pub(crate) fn skip_all<'a, A: Allocator + Copy>(rt: &impl Abort, reader: &mut RecordReader<'a, A>) {
     for _ in 0..1000u64 {
         match reader.read_on() {
             Ok(Given::End(_)) => return,

@@ -1,6 +1,9 @@
-use Rattle.mig_session.specs.Session.{rounds_loaded, feed_step}
+use Rattle.std.proofs.Common.{length, subst, sym}
+use Rattle.mig_session.specs.Session.{HasSource, rounds_loaded, feed_step}
 use Rattle.mig_session.specs.Advancing.{Feeding}
-use Rattle.mig_session.proofs.Sessions.{further, goes_fed, next_feeding, rounds_further, advances_further, taken_of}
+use Rattle.mig_answer.specs.Texts.{with_piece}
+use Rattle.mig_session.specs.Sources.{Counts, counts_of}
+use Rattle.mig_session.proofs.Sessions.{any_ok, there_fed, further, goes_fed, next_feeding, rounds_further, advances_further, taken_of}
 use Rattle.mig_session.proofs.session.take.Goals as goal
 
 pub returns-in_default-clause-taken : goal.returns-in_default-clause-taken
@@ -17,6 +20,15 @@ advance-requires g c =
     next_feeding f c.args.sources.now c.feed.new.self c.args.target.now (feed_step c.args.source c.args.piece.now f.texts) advances
     (goes_fed f c.args.sources.now c.args.target.now c.args.source c.args.piece.now advances c.requires.source c.requires.open)
     (c.in-Ok.ensures.ok f.given f.uuid (rounds_loaded c.args.target.now) f.texts advances.is_page_size advances.holds)
+
+pub note-requires : goal.note-requires
+note-requires g c =
+    subst (λ (x : Counts). HasSource x c.args.source) (sym c.in-Ok.ensures.counts) (there_fed (counts_of c.args.sources.now) c.args.source (length c.args.piece.now) c.requires.source)
+
+pub returns-clause-places : goal.returns-clause-places
+returns-clause-places g c =
+    any_ok c.advance.result _ (λ given uuid k texts size holds have.
+    c.note.ensures given uuid k (with_piece c.args.piece.now) texts (c.in-Ok.ensures.ok given uuid k texts size holds) have)
 
 pub returns-clause-taken : goal.returns-clause-taken
 returns-clause-taken g c = λ f advances readings are.

@@ -8,7 +8,7 @@ use Rattle.mig_single_load.proofs.Eager.{Found, found_some, found_other, found_o
 use Rattle.mig_single_load.proofs.eager_state.load_piece.Goals as goal
 
 pub returns-then-is_of_other_table-clause-ok : goal.returns-then-is_of_other_table-clause-ok
-returns-then-is_of_other_table-clause-ok g c = λ given first text image at.
+returns-then-is_of_other_table-clause-ok g c = λ given first text image at few.
     let f : Found c.args.pause c.args.piece.now c.resume-reader.result c.find_table.new.reader c.in_ok-gave.gave =
     record { resumed = c.resume-reader.ensures.gives; is_fresh = c.resume-reader.ensures.given; gave_next = c.in_ok-gave.ensures.gave; there = c.in_ok-gave.ensures.there } in
     let other = c.if-is_of_other_table.ensures.other refl in
@@ -33,7 +33,7 @@ pause-requires g c =
     c.in_ok-gave.gave c.in_ok-found.found f need.2 (c.if-is_of_other_table.ensures.own refl) c.in_ok-found.ensures.gives)
 
 pub returns-in_ok-pause-in-Reading-clause-ok : goal.returns-in_ok-pause-in-Reading-clause-ok
-returns-in_ok-pause-in-Reading-clause-ok g c = λ given first text image at.
+returns-in_ok-pause-in-Reading-clause-ok g c = λ given first text image at few.
     let f : Found c.args.pause c.args.piece.now c.resume-reader.result c.find_table.new.reader c.in_ok-gave.gave =
     record { resumed = c.resume-reader.ensures.gives; is_fresh = c.resume-reader.ensures.given; gave_next = c.in_ok-gave.ensures.gave; there = c.in_ok-gave.ensures.there } in
     let r = c.find_table.new.reader in
@@ -41,6 +41,7 @@ returns-in_ok-pause-in-Reading-clause-ok g c = λ given first text image at.
     subst (λ (t : RamTable). (whole_table r.progress ≡ None) ⊎ (whole_table r.progress ≡ Some t)) (ap (λ (m : Image). m.table) at.has_memory) (c.if-is_of_other_table.ensures.own refl) in
     found_on given first text c.args.piece.now c.args.pause c.in_ok-pause-in-Reading.field-0 (g.M.GuestTarget.image c.args.memory.now) (g.M.GuestTarget.image c.put_given.new.memory) c.args.sections.now c.put_given.new.sections
     c.resume-reader.result r c.put_given.new.reader c.in_ok-gave.gave c.in_ok-found.found f at own c.in_ok-found.ensures.ok c.in-Reading.is c.in_ok-pause-in-Reading.ensures
+    c.valid_up_to.result c.valid_up_to.ensures.end few
 
 pub returns-in_ok-pause-in-Reading-clause-some : goal.returns-in_ok-pause-in-Reading-clause-some
 returns-in_ok-pause-in-Reading-clause-some g c = λ given fed some.
@@ -50,7 +51,7 @@ returns-in_ok-pause-in-Reading-clause-some g c = λ given fed some.
     c.put_given.new.reader c.in_ok-gave.gave c.in_ok-found.found f some (c.if-is_of_other_table.ensures.own refl) c.in_ok-found.ensures.gives c.in_ok-pause-in-Reading.ensures
 
 pub returns-in_default-clause-ok : goal.returns-in_default-clause-ok
-returns-in_default-clause-ok g c = λ given first text image at.
+returns-in_default-clause-ok g c = λ given first text image at few.
     let f : Found c.args.pause c.args.piece.now c.resume-reader.result c.find_table.new.reader c.in_ok-gave.gave =
     record { resumed = c.resume-reader.ensures.gives; is_fresh = c.resume-reader.ensures.given; gave_next = c.in_ok-gave.ensures.gave; there = c.in_ok-gave.ensures.there } in
     let r = c.find_table.new.reader in
@@ -58,6 +59,7 @@ returns-in_default-clause-ok g c = λ given first text image at.
     subst (λ (t : RamTable). (whole_table r.progress ≡ None) ⊎ (whole_table r.progress ≡ Some t)) (ap (λ (m : Image). m.table) at.has_memory) (c.if-is_of_other_table.ensures.own refl) in
     found_off given first text c.args.piece.now c.args.pause (g.M.GuestTarget.image c.args.memory.now) (g.M.GuestTarget.image c.put_given.new.memory) c.args.sections.now c.put_given.new.sections
     c.resume-reader.result r c.put_given.new.reader c.in_ok-gave.gave c.in_ok-found.found f at own c.in_ok-found.ensures.ok c.in_default.not-Reading
+    c.valid_up_to.result c.valid_up_to.ensures.end few
 
 pub returns-in_err-gave-clause-err : goal.returns-in_err-gave-clause-err
 returns-in_err-gave-clause-err g c = any_err c.from_residual.result _ (λ given first text at.

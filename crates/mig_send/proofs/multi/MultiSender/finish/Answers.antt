@@ -1,8 +1,8 @@
-use Rattle.std.proofs.Common.{List, ◌++◌, length, replicate, subst, arith}
+use Rattle.std.proofs.Common.{List, ◌++◌, length, replicate, subst}
 use Rattle.mig_stream.specs.Written.{FlushPart}
 use Rattle.mig_send.specs.DealtRounds.{DealtRound, IsSending}
 use Rattle.mig_send.specs.MultiSending.{MultiSending, Drained, HasSentRounds, whole_texts, texts_of}
-use Rattle.mig_send.proofs.Sendings.{whole}
+use Rattle.mig_send.proofs.Sendings.{sending_of}
 use Rattle.mig_send.proofs.multi.MultiSender.finish.Goals as goal
 
 pub returns-in-Ok-clause-ok : goal.returns-in-Ok-clause-ok
@@ -10,11 +10,4 @@ returns-in-Ok-clause-ok g c =
     let texts = texts_of c.self.inside.channels.items in
     subst (λ (s : MultiSending). (drained : Drained) (rounds : List DealtRound) → HasSentRounds drained s rounds
     → IsSending s.main.table s.uuid s.limit (length s.channels) rounds (drained.main ++ c.in-Ok.main.items) (whole_texts drained texts)) c.self.view_is
-    (λ drained rounds sent. record {
-      is_set = c.self.invariant.is_set;
-      are_dealt = sent.are_dealt;
-      are_numbered = sent.are_numbered;
-      numbers_fit = omega (arith, sent.has_base, c.self.invariant.has_base);
-      has_main = c.in-Ok.ensures.ok drained.main (replicate (length rounds) FlushPart) sent.has_main;
-      has_texts = whole c.self.inside.uuid rounds drained texts sent.has_texts;
-    })
+    (λ drained rounds sent. sending_of _ drained rounds _ c.self.invariant sent (c.in-Ok.ensures.ok drained.main (replicate (length rounds) FlushPart) sent.has_main))

@@ -1,4 +1,5 @@
-use Rattle.std.proofs.Common.{◌≡◌, ◌+◌, ◌++◌, false, length, Some, None, arith, rules, sym, ap, refl, subst, ◌∙◌}
+use Rattle.std.proofs.Common.{◌≡◌, ◌+◌, ◌<◌, ◌^◌, ◌++◌, false, length, Some, None, arith, rules, sym, ap, refl, subst, ◌∙◌}
+use Rattle.std.proofs.lemmas.List.{length-append}
 use Rattle.std.specs.Prelude.{Option, IfSome}
 use Rattle.mig_mem.specs.RamTable.{RamTable}
 use Rattle.mig_mem.specs.Image.{Image}
@@ -60,7 +61,8 @@ returns-in-Ok-clause-ok g c = λ given first text loads.
     let is : c.self.inside.pause ≡ Some c.in-Some.pause = search rules in
     let at : PausesOnto given first text c.in-Some.pause old c.self.inside.rounds =
     at_some (λ (p : Paused). PausesOnto given first text p old c.self.inside.rounds) c.self.inside.pause c.in-Some.pause is mine.stands.pauses in
-    let stands = c.in-Ok.ensures.ok given first text loads.is_image at in
+    let few : length (text ++ c.args.piece.now) < 2 ^ 64 = omega (arith, c.requires.room, loads.has_fed, length-append text c.args.piece.now) in
+    let stands = c.in-Ok.ensures.ok given first text loads.is_image at few in
     rw (c.in-Ok.pause-is, c.in-Ok.state-is) (eager_on old new given first (eager_load c.self.inside.pause c.self.inside.state c.self.inside.table c.self.inside.rounds c.self.inside.fed c.self.inside.ended) text c.args.piece.now _ _ c.load_piece.new.sections mine stands)
 
 pub returns-in_default-clause-lacking : goal.returns-in_default-clause-lacking

@@ -1,0 +1,160 @@
+-- Each place that what is kept of a round names is named by the texts.
+use Rattle.std.proofs.Common.{ℕ, ◌≡◌, ◌≢◌, ◌+◌, ◌<◌, ◌≤◌, ◌&&◌, ◌||◌, Bool, true, false, List, [], ◌∷◌, ◌++◌, length, map, get_or, Option, Some, None, refl, sym, ap, subst, ◌∙◌, append_assoc, inl, inr, arith}
+use Rattle.std.specs.Prelude.{if◌then◌else◌, ◌⊎◌, IsTrue, IsFalse, IfSome, is_none}
+use Rattle.std.specs.List.{flat_map}
+use Rattle.std.proofs.Math.ListN.{get_or-eq_default}
+use Rattle.std.proofs.lemmas.Bool.{cases_Bool, le-leb}
+use Rattle.std.proofs.lemmas.List.{append-nil, get_or_default, length-append}
+use Rattle.std.proofs.lemmas.List.Folds.{list_any-append}
+use Rattle.std.proofs.lemmas.List.Concat.{flat_map-append}
+use Rattle.mig_mem.specs.PageSize.{IsPageSize}
+use Rattle.mig_mem.specs.declared.place.Place.{Place}
+use Rattle.mig_mem.specs.RamTable.{RamTable}
+use Rattle.mig_mem.specs.Place.{has_place, place_eq}
+use Rattle.mig_mem.specs.Image.{Page}
+use Rattle.mig_mem.proofs.Members.{map-map}
+use Rattle.mig_stream.specs.PageRecord.{PageRecord, page_of}
+use Rattle.mig_stream.specs.Reading.{StreamReading}
+use Rattle.mig_packet.specs.PageSize.{head_len}
+use Rattle.mig_packet.specs.Faults.{first_of}
+use Rattle.mig_packet.specs.declared.fault.ChannelFault.{ChannelFault}
+use Rattle.mig_packet.specs.Packet.{packet_faults}
+use Rattle.mig_packet.specs.Progress.{ChannelProgress, start, judged_len, faults, first_fault, due_fault}
+use Rattle.mig_packet.specs.Reading.{Settings, ChannelReading, state_at}
+use Rattle.mig_packet.specs.Paging.{OpenPacket, GivenSoFar, IsOpenPacket, bytes_of, is_complete, read_to, open_bytes}
+use Rattle.mig_packet.proofs.Fronts.{due_is}
+use Rattle.mig_packet.proofs.Later.{IsLater-front}
+use Rattle.mig_packet.proofs.Judging.{packet_faults-front}
+use Rattle.mig_assemble.specs.Judging.{places_of}
+use Rattle.mig_single_load.specs.declared.settings.LoadSettings.{LoadSettings}
+use Rattle.mig_single_load.specs.Settings.{main_of}
+use Rattle.mig_answer.specs.Texts.{Text, IsMainReading}
+use Rattle.mig_in_place.specs.Named.{MainNames, ChannelNames, round_so_far, begun, packet_places}
+use Rattle.mig_in_place.specs.Sources.{KeptMain, KeptChannel, HoldsMain, HoldsChannel, heads_given, heads_begun, packets_given, head_places, rounds_come}
+use Rattle.mig_in_place.proofs.Channels.{read_as_given}
+use Rattle.mig_in_place.proofs.Heading.{all_places_named, places_front}
+use Rattle.mig_in_place.proofs.Mains.{taken_are_there}
+
+has_append : (xs ys : List Place) (p : Place) → has_place (xs ++ ys) p ≡ (has_place xs p || has_place ys p)
+has_append xs ys p = list_any-append (λ (q : Place). place_eq q p) xs ys
+
+or_split : (a b : Bool) → (a || b) ≡ true → (a ≡ true) ⊎ (b ≡ true)
+or_split true b t = inl refl
+or_split false b t = inr t
+
+pub or_left : (a b : Bool) → a ≡ true → (a || b) ≡ true
+or_left true b t = refl
+or_left false b t = absurd cc
+
+pub or_right : (a b : Bool) → b ≡ true → (a || b) ≡ true
+or_right true b t = refl
+or_right false b t = t
+
+-- places of either list
+pub in_either : (xs ys : List Place) (p : Place) → has_place (xs ++ ys) p ≡ true → (has_place xs p ≡ true) ⊎ (has_place ys p ≡ true)
+in_either xs ys p t = or_split (has_place xs p) (has_place ys p) (sym (has_append xs ys p) ∙ t)
+
+pub in_second : (xs ys : List Place) (p : Place) → has_place ys p ≡ true → has_place (xs ++ ys) p ≡ true
+in_second xs ys p t = has_append xs ys p ∙ or_right (has_place xs p) (has_place ys p) t
+
+-- ---- the main stream
+
+pub main_named : (given : LoadSettings) (k size : ℕ) (text : Text) (reading : StreamReading) (m : KeptMain) (p : Place) → IsPageSize given.page_size → HoldsMain (main_of given) k text m
+    → (is : IsMainReading given text reading) → IsTrue m.is_whole → has_place (places_of (map (page_of size) (get_or reading.rounds k []))) p ≡ true → MainNames (main_of given) k text.bytes p
+main_named given k size text reading m p is_size holds is whole t =
+    let same : reading.rounds ≡ is.found.rounds = ap (λ (r : StreamReading). r.rounds) is.has_end in
+    let count : k + 1 ≤ length reading.rounds = (let least = taken_are_there given text (rounds_come k m.is_whole) m.reader reading is_size holds.stands is in
+    let n : rounds_come k m.is_whole ≡ k + 1 = ap (rounds_come k) whole in omega (arith, least, n)) in
+    let below : k < length is.found.rounds = (let e = ap (λ (l : List (List PageRecord)). length l) same in omega (arith, e, count)) in
+    let places : places_of (map (page_of size) (get_or reading.rounds k [])) ≡ map (λ (r : PageRecord). r.place) (get_or is.found.rounds k is.is_reading.to.records) =
+    map-map (λ (x : Page). x.place) (page_of size) (get_or reading.rounds k [])
+    ∙ ap (λ (l : List (List PageRecord)). map (λ (r : PageRecord). r.place) (get_or l k [])) same
+    ∙ ap (λ (l : List PageRecord). map (λ (r : PageRecord). r.place) l) (get_or_default is.found.rounds k [] is.is_reading.to.records below) in
+    record {
+      reading = is.found;
+      is_reading = is.is_reading;
+      has_record = subst (λ (l : List Place). has_place l p ≡ true) places t;
+    }
+
+-- ---- a channel
+
+-- the head of the packet that was begun stands first in what is left
+begun_left : (c : ChannelProgress) (q : OpenPacket) (kept : List ℕ) (hello : Option ℕ) → c.hello ≡ hello → hello ≢ None → IsOpenPacket c.page_size q → begun c hello (bytes_of q ++ kept) ≡ (bytes_of q ++ kept) ∷ []
+begun_left c q kept None e some is = absurd (some refl)
+begun_left c q kept (Some id) e some is =
+    let more : List ℕ = flat_map (λ page. page.content) q.pages ++ kept in
+    let rest : List ℕ = bytes_of q ++ kept in
+    let split : rest ≡ q.head ++ more = append_assoc q.head (flat_map (λ page. page.content) q.pages) kept in
+    let head : head_len c.page_size ≤ length q.head = omega (arith, is.is_head.has_length) in
+    let long : head_len c.page_size ≤ length rest = (let l = ap (λ (x : List ℕ). length x) split in omega (arith, l, head, length-append q.head more)) in
+    let none : first_fault c rest ≡ None =
+    ap (λ (h : Option ℕ). first_of (faults c h rest)) e
+    ∙ ap (λ (x : List ℕ). first_of (packet_faults c.page_size x)) split
+    ∙ ap first_of (packet_faults-front c.page_size q.head more head) ∙ is.is_head.has_no_fault in
+    let judged : judged_len c.page_size c.hello ≤ length rest = subst (λ (h : Option ℕ). judged_len c.page_size h ≤ length rest) (sym e) long in
+    let due : due_fault c rest ≡ None = due_is c rest judged ∙ none in
+    ap (λ (b : Bool). if b && is_none (due_fault c rest) then rest ∷ [] else []) (le-leb (head_len c.page_size) (length rest) long)
+    ∙ ap (λ (o : Option ChannelFault). if is_none o then rest ∷ [] else []) due
+
+-- what was begun is named by what is left
+begun_named : (table : RamTable) (size : ℕ) (read : ChannelProgress) (o : Option OpenPacket) (kept : List ℕ) (p : Place) → read.page_size ≡ size → IfSome o (IsOpenPacket size)
+    → IfSome o (λ packet. read.hello ≢ None) → IfSome o (λ packet. IsFalse (is_complete packet)) → has_place (flat_map (head_places table) (heads_begun o)) p ≡ true
+    → has_place (flat_map (packet_places table) (begun read read.hello (open_bytes o ++ kept))) p ≡ true
+begun_named table size read None kept p same is hello missing t = absurd cc
+begun_named table size read (Some q) kept p same is hello missing t =
+    let more : List ℕ = flat_map (λ page. page.content) q.pages ++ kept in
+    let left : open_bytes (Some q) ++ kept ≡ bytes_of q ++ kept = ap (λ (b : Bool). (if b then [] else bytes_of q) ++ kept) missing in
+    let one : begun read read.hello (open_bytes (Some q) ++ kept) ≡ (bytes_of q ++ kept) ∷ [] =
+    ap (λ (l : List ℕ). begun read read.hello l) left ∙ begun_left read q kept read.hello refl hello (subst (λ (n : ℕ). IsOpenPacket n q) (sym same) is) in
+    let places : flat_map (head_places table) (q.head ∷ []) ≡ flat_map (packet_places table) ((bytes_of q ++ kept) ∷ []) =
+    ap (λ (l : List Place). l ++ []) (places_front table size q.head more is.is_head
+    ∙ ap (packet_places table) (sym (append_assoc q.head (flat_map (λ page. page.content) q.pages) kept))) in
+    ap (λ (l : List (List ℕ)). has_place (flat_map (packet_places table) l) p) one ∙ subst (λ (l : List Place). has_place l p ≡ true) places t
+
+-- what was read has the page size of the settings
+page_size_of : (given : Settings) (table : RamTable) (k : ℕ) (text : Text) (so_far : GivenSoFar) (c : KeptChannel) → HoldsChannel given table k text so_far c → so_far.read.page_size ≡ given.page_size
+page_size_of given table k text so_far c holds =
+    sym (ap (λ (x : ChannelProgress). x.page_size) (read_as_given so_far.read so_far.packet holds.has_missing))
+    ∙ (IsLater-front (start given.page_size given.uuid given.channels) (read_to so_far.read so_far.packet) holds.gives.reads.front holds.gives.reads.leads).1.same_page_size
+
+pub channel_named : (given : Settings) (table : RamTable) (k : ℕ) (text : Text) (so_far : GivenSoFar) (c : KeptChannel) (p : Place) → HoldsChannel given table k text so_far c
+    → has_place (flat_map (head_places table) (heads_given k so_far)) p ≡ true → ChannelNames given table k text p
+channel_named given table k text so_far c p holds t =
+    let read : ChannelProgress = so_far.read in
+    let to : ChannelProgress = read_to read so_far.packet in
+    let rest : List ℕ = open_bytes so_far.packet ++ c.reader.kept in
+    let same : to ≡ read = read_as_given read so_far.packet holds.has_missing in
+    let reading : ChannelReading = record { hello = to.hello; rounds = to.rounds; state = state_at text.ended to rest c.reader.found } in
+    let size : read.page_size ≡ given.page_size = page_size_of given table k text so_far c holds in
+    record {
+      reading = reading;
+      is_reading = record { to = to; rest = rest; found = c.reader.found; reads = holds.gives.reads; has_hello = refl; has_rounds = refl; has_state = refl };
+      has_packet = subst (λ (x : ChannelProgress). has_place (flat_map (packet_places table) (round_so_far k x.rounds (x.packets ++ begun x x.hello rest))) p ≡ true) (sym same) (elim (cases_Bool c.is_whole) [
+        | inl whole ↦
+            let none : so_far.packet ≡ None = (holds.is_between whole).1 in
+            let below : k < length read.rounds = (let n = holds.has_rounds ∙ ap (rounds_come k) whole in omega (arith, n)) in
+            let here : heads_given k so_far ≡ round_so_far k read.rounds (read.packets ++ begun read read.hello rest) =
+            ap (λ (o : Option OpenPacket). packets_given k so_far ++ heads_begun o) none ∙ append-nil (packets_given k so_far)
+            ∙ get_or_default read.rounds k read.packets (read.packets ++ begun read read.hello rest) below in
+            subst (λ (l : List (List ℕ)). has_place (flat_map (packet_places table) l) p ≡ true) here
+            (ap (λ (l : List Place). has_place l p) (sym (all_places_named table (heads_given k so_far))) ∙ t)
+        | inr open_ ↦
+            let past : length read.rounds ≤ k = (let n = holds.has_rounds ∙ ap (rounds_come k) open_ in omega (arith, n)) in
+            let came : heads_given k so_far ≡ read.packets ++ heads_begun so_far.packet = ap (λ (l : List (List ℕ)). l ++ heads_begun so_far.packet) (get_or-eq_default read.rounds read.packets past) in
+            let now : round_so_far k read.rounds (read.packets ++ begun read read.hello rest) ≡ read.packets ++ begun read read.hello rest =
+            get_or-eq_default read.rounds (read.packets ++ begun read read.hello rest) past in
+            let parts : has_place (flat_map (head_places table) read.packets ++ flat_map (head_places table) (heads_begun so_far.packet)) p ≡ true =
+            ap (λ (l : List Place). has_place l p) (sym (flat_map-append (head_places table) read.packets (heads_begun so_far.packet)))
+            ∙ ap (λ (l : List (List ℕ)). has_place (flat_map (head_places table) l) p) (sym came) ∙ t in
+            let A : List Place = flat_map (packet_places table) read.packets in
+            let B : List Place = flat_map (packet_places table) (begun read read.hello rest) in
+            let either : (has_place A p || has_place B p) ≡ true = elim (in_either (flat_map (head_places table) read.packets) (flat_map (head_places table) (heads_begun so_far.packet)) p parts) [
+              | inl first ↦ or_left (has_place A p) (has_place B p) (ap (λ (l : List Place). has_place l p) (sym (all_places_named table read.packets)) ∙ first)
+              | inr last ↦ or_right (has_place A p) (has_place B p)
+                  (begun_named table given.page_size read so_far.packet c.reader.kept p size holds.gives.is_open holds.has_hello holds.has_missing last)
+            ] in
+            ap (λ (l : List (List ℕ)). has_place (flat_map (packet_places table) l) p) now
+            ∙ ap (λ (l : List Place). has_place l p) (flat_map-append (packet_places table) read.packets (begun read read.hello rest))
+            ∙ has_append A B p ∙ either
+      ]);
+    }

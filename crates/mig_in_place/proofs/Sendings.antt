@@ -1,0 +1,97 @@
+-- What was sent on several channels is loaded in place: the memory has the rounds sent on top of what it held.
+use Rattle.std.proofs.Common.{ℕ, zero, suc, ◌≡◌, ◌+◌, ◌<◌, ◌≤◌, List, [], ◌∷◌, ◌++◌, length, map, take, get_or, refl, sym, ap, subst, ◌∙◌, inr, arith}
+use Rattle.std.specs.List.{range_with_len}
+use Rattle.std.proofs.lemmas.List.{length-map, get_or-map, take_more, take_all}
+use Rattle.std.proofs.lemmas.List.FromFn.{map-range_with_len_more}
+use Rattle.mig_mem.specs.RamTable.{RamTable}
+use Rattle.mig_mem.specs.Image.{Page, Image}
+use Rattle.mig_mem.specs.Round.{round_of, with_round, with_rounds}
+use Rattle.mig_mem.specs.Tracking.{Snapshot}
+use Rattle.mig_mem.proofs.Rounds.{rounds_onto as go_onto}
+use Rattle.mig_stream.specs.Reading.{StreamReading}
+use Rattle.mig_stream.proofs.WrittenText.{written_main}
+use Rattle.mig_stream.proofs.SpelledText.{spelled_law}
+use Rattle.mig_send.specs.DealtRounds.{DealtRound}
+use Rattle.mig_send.specs.ReadBack.{SendingsAreReadBack}
+use Rattle.mig_send.proofs.ReadBack.{sendings_are_read_back}
+use Rattle.mig_single_load.specs.Settings.{ram_settings}
+use Rattle.mig_single_load.specs.InPlace.{IsOfOwnTable}
+use Rattle.mig_single_load.specs.declared.settings.LoadSettings.{LoadSettings}
+use Rattle.mig_answer.specs.declared.verdict.Verdict.{Verdict}
+use Rattle.mig_answer.specs.declared.verdict.Verdict.TheVariants.{Done}
+use Rattle.mig_answer.specs.Texts.{Texts, Readings, ended_texts}
+use Rattle.mig_answer.specs.Rounds.{pages_at, memory_at}
+use Rattle.mig_answer.specs.MultiLoad.{Answer, IsAnswer}
+use Rattle.mig_answer.specs.Sent.{sent_rounds, sent_answer}
+use Rattle.mig_answer.proofs.SentRounds.{AreOfSending, brings, round_at, no_round}
+use Rattle.mig_answer.proofs.Headline.{of_sending, sendings_are_loaded}
+use Rattle.mig_in_place.specs.Answer.{rounds_onto, IsOwnAnswer, IsOtherAnswer, IsInPlaceAnswer}
+use Rattle.mig_in_place.specs.Law.{SentIsLoadedInPlace}
+use Rattle.mig_in_place.proofs.Exact.{exact_law}
+
+-- the first rounds of the readings leave what the first ones sent do, whatever the memory held
+first_rounds : (table : RamTable) (limit channels : ℕ) (rounds : List DealtRound) (readings : Readings) → AreOfSending table limit channels rounds readings → (m : Image) (k : ℕ) → k ≤ length rounds
+    → with_rounds m (map (λ i. pages_at table i readings) (range_with_len 0 k)) ≡ with_rounds m (take k (sent_rounds rounds))
+first_rounds table limit channels rounds readings is m zero few = refl
+first_rounds table limit channels rounds readings is m (suc k) few =
+    let pages : ℕ → List Page = λ i. pages_at table i readings in
+    let before : List (List Page) = map pages (range_with_len 0 k) in
+    let sent : List (List Page) = sent_rounds rounds in
+    let round : DealtRound = round_at table rounds k in
+    let below : k < length rounds = omega (arith, few) in
+    let own : List Page = round_of round.snapshot.image round.snapshot.dirty in
+    let next : suc k ≡ k + 1 = omega arith in
+    let mine : map pages (range_with_len 0 (k + 1)) ≡ before ++ pages k ∷ [] = map-range_with_len_more pages 0 k k (omega arith) in
+    let snapshots : List Snapshot = map (λ (r : DealtRound). r.snapshot) rounds in
+    let many : length snapshots ≡ length rounds = length-map rounds (λ (r : DealtRound). r.snapshot) in
+    let long : length sent ≡ length snapshots = length-map snapshots (λ (s : Snapshot). round_of s.image s.dirty) in
+    let at : get_or sent k [] ≡ own =
+    get_or-map (λ (s : Snapshot). round_of s.image s.dirty) snapshots k (no_round table).snapshot [] (omega (arith, below, many))
+    ∙ ap (λ (s : Snapshot). round_of s.image s.dirty) (get_or-map (λ (r : DealtRound). r.snapshot) rounds k (no_round table) (no_round table).snapshot below) in
+    let theirs : take (k + 1) sent ≡ take k sent ++ own ∷ [] = take_more sent k [] (omega (arith, below, many, long)) ∙ ap (λ (l : List Page). take k sent ++ l ∷ []) at in
+    ap (λ n. with_rounds m (map pages (range_with_len 0 n))) next
+    ∙ ap (λ (l : List (List Page)). with_rounds m l) mine ∙ go_onto.one_more m before (pages k)
+    ∙ ap (λ (x : Image). with_round x (pages k)) (first_rounds table limit channels rounds readings is m k (omega (arith, few)))
+    ∙ brings table limit channels rounds readings is k below (with_rounds m (take k sent))
+    ∙ sym (go_onto.one_more m (take k sent) own) ∙ ap (λ (l : List (List Page)). with_rounds m l) (sym theirs)
+    ∙ ap (λ n. with_rounds m (take n sent)) (sym next)
+
+-- so all of them leave what was sent
+all_rounds : (table : RamTable) (limit channels : ℕ) (rounds : List DealtRound) (readings : Readings) → AreOfSending table limit channels rounds readings → (m : Image)
+    → with_rounds m (map (λ i. pages_at table i readings) (range_with_len 0 (length rounds))) ≡ with_rounds m (sent_rounds rounds)
+all_rounds table limit channels rounds readings is m =
+    let snapshots : List Snapshot = map (λ (r : DealtRound). r.snapshot) rounds in
+    let many : length snapshots ≡ length rounds = length-map rounds (λ (r : DealtRound). r.snapshot) in
+    let long : length (sent_rounds rounds) ≡ length snapshots = length-map snapshots (λ (s : Snapshot). round_of s.image s.dirty) in
+    first_rounds table limit channels rounds readings is m (length rounds) (omega arith)
+    ∙ ap (λ (l : List (List Page)). with_rounds m l) (take_all (length rounds) (sent_rounds rounds) (omega (arith, many, long)))
+
+read_back : SendingsAreReadBack
+read_back = sendings_are_read_back (λ limit table n is room. written_main table n limit is room) spelled_law
+
+pub sent_law : SentIsLoadedInPlace
+sent_law uuid limit first rounds main channels memory k verdict is_table is_image is_memory sent room here =
+    let given : LoadSettings = ram_settings first.table.page_size limit in
+    let texts : Texts = ended_texts main channels in
+    let readings : Readings = here.readings in
+    let is : AreOfSending first.table sent.batch_limit (length channels) rounds readings = of_sending read_back first.table uuid limit rounds main channels readings sent room here.are_readings in
+    let own : IsOfOwnTable first readings.main = inr (ap (λ (r : StreamReading). r.table) is.told.has_main) in
+    let mine : IsOwnAnswer given uuid first texts readings memory k verdict = here.own own in
+    let answer : Answer = record { memory = memory_at k readings; rounds = k; verdict = verdict } in
+    let answers : IsAnswer given uuid texts answer =
+    record { readings = readings; are_readings = here.are_readings; has_rounds = mine.has_rounds; has_memory = refl; has_verdict = mine.has_verdict } in
+    let same : answer ≡ sent_answer first.table rounds = sendings_are_loaded first.table uuid limit rounds main channels answer sent room answers in
+    let done : verdict ≡ Done = ap (λ (a : Answer). a.verdict) same in
+    let all : k ≡ length rounds = ap (λ (a : Answer). a.rounds) same in
+    let there : IsInPlaceAnswer given uuid first texts memory k Done = record {
+      readings = readings;
+      are_readings = here.are_readings;
+      own = λ o. subst (λ (v : Verdict). IsOwnAnswer given uuid first texts readings memory k v) done (here.own o);
+      unknown = here.unknown;
+      other = λ o. subst (λ (v : Verdict). IsOtherAnswer first memory k v) done (here.other o);
+    } in
+    let exact : memory ≡ rounds_onto first k readings = exact_law given uuid first texts memory k is_table is_image is_memory there in (
+      done,
+      all,
+      exact ∙ ap (λ (n : ℕ). rounds_onto first n readings) all ∙ all_rounds first.table sent.batch_limit (length channels) rounds readings is first,
+    )

@@ -1,0 +1,47 @@
+-- What holds of each answer of a load in place.
+use Rattle.std.specs.Prelude.{ℕ, ◌≡◌, ◌≢◌, ◌≤◌, List, length}
+use Rattle.mig_mem.specs.RamTable.{IsTable}
+use Rattle.mig_mem.specs.Image.{Image, IsImage}
+use Rattle.mig_mem.specs.Round.{with_rounds}
+use Rattle.mig_stream.specs.Text.{total_bytes}
+use Rattle.mig_send.specs.DealtRounds.{DealtRound}
+use Rattle.mig_single_load.specs.Settings.{ram_settings, for_table}
+use Rattle.mig_single_load.specs.declared.fault.Origin.TheVariants as origin
+use Rattle.mig_single_load.specs.declared.fault.Fault.TheVariants as fault
+use Rattle.mig_single_load.specs.declared.settings.LoadSettings.{LoadSettings}
+use Rattle.mig_answer.specs.declared.verdict.Verdict.{Verdict}
+use Rattle.mig_answer.specs.declared.verdict.Verdict.TheVariants.{Running, Done}
+use Rattle.mig_answer.specs.Texts.{Text, Texts, ended_texts}
+use Rattle.mig_answer.specs.Growing.{GoesOn}
+use Rattle.mig_answer.specs.MultiLoad.{Answer, IsAnswer, failed}
+use Rattle.mig_answer.specs.Sent.{IsSentInAnyOrder, sent_rounds}
+use Rattle.mig_session.specs.declared.source.Source.{Source}
+use Rattle.mig_session.specs.Session.{at_source}
+use Rattle.mig_in_place.specs.Answer.{rounds_onto, IsInPlaceAnswer}
+use Rattle.mig_in_place.specs.Session.{text_of, TakesBytes}
+
+-- Rounds and verdict are those of any load on several channels, but of a stream of another table.
+abbrev pub InPlaceTellsAlike : Type 0
+InPlaceTellsAlike = (given : LoadSettings) (uuid : List ℕ) (first : Image) (texts : Texts) (memory : Image) (rounds : ℕ) (verdict : Verdict) (answer : Answer) → IsTable first.table
+    → IsInPlaceAnswer given uuid first texts memory rounds verdict → IsAnswer (for_table first.table given) uuid texts answer → verdict ≢ failed 0 origin.Main fault.OtherTable
+    → (rounds ≡ answer.rounds) × (verdict ≡ answer.verdict)
+
+-- Where the load is done the memory has all rounds on top of what it held first, and nothing else.
+abbrev pub InPlaceDoneIsExact : Type 0
+InPlaceDoneIsExact = (given : LoadSettings) (uuid : List ℕ) (first : Image) (texts : Texts) (memory : Image) (rounds : ℕ) → IsTable first.table → IsImage first → IsImage memory
+    → (answer : IsInPlaceAnswer given uuid first texts memory rounds Done) → memory ≡ rounds_onto first rounds answer.readings
+
+-- A source's bytes that aren't taken change no answer, nor does its end after them. So the answer on
+-- the bytes taken is that on all bytes that have come to the caller.
+abbrev pub WaitingBytesChangeNothing : Type 0
+WaitingBytesChangeNothing = (given : LoadSettings) (uuid : List ℕ) (first : Image) (texts : Texts) (memory : Image) (rounds : ℕ) (from : Source) (new : Text) → IsTable first.table
+    → GoesOn (text_of texts from) new → (TakesBytes (for_table first.table given) uuid rounds texts from → ⊥)
+    → IsInPlaceAnswer given uuid first texts memory rounds Running → IsInPlaceAnswer given uuid first (at_source from (λ text. new) texts) memory rounds Running
+
+-- What a sender on several channels has sent of the memory's table is loaded: the memory has the
+-- rounds sent on top of what it held first.
+abbrev pub SentIsLoadedInPlace : Type 0
+SentIsLoadedInPlace = (uuid : List ℕ) (limit : ℕ) (first : Image) (rounds : List DealtRound) (main : List ℕ) (channels : List (List ℕ)) (memory : Image) (k : ℕ) (verdict : Verdict)
+    → IsTable first.table → IsImage first → IsImage memory → IsSentInAnyOrder first.table uuid rounds main channels → total_bytes first.table ≤ limit
+    → IsInPlaceAnswer (ram_settings first.table.page_size limit) uuid first (ended_texts main channels) memory k verdict
+    → (verdict ≡ Done) × (k ≡ length rounds) × (memory ≡ with_rounds first (sent_rounds rounds))

@@ -1,0 +1,9 @@
+-- To read first, in this order: the places that a round names so far; the answer of a load in
+-- place; what an `InPlaceSession` stands for; the laws
+pub mod Named
+pub mod Answer
+pub mod Session
+pub mod Law
+-- Internal: what is kept of the round in hand, and of the sources
+pub mod Round
+pub mod Sources

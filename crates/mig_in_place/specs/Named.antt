@@ -1,0 +1,53 @@
+-- The places that a round names as far as it has come: those of its page records, and those of the
+-- pages of each packet whose head has come.
+use Rattle.std.specs.Prelude.{ℕ, ◌⊎◌, ◌&&◌, if◌then◌else◌, nat_le, is_none, IsTrue, List, [], ◌∷◌, ◌++◌, length, map, get_or, Option, Some, None, Contains}
+use Rattle.std.specs.List.{flat_map}
+use Rattle.mig_mem.specs.declared.place.Place.{Place}
+use Rattle.mig_mem.specs.RamTable.{RamTable}
+use Rattle.mig_mem.specs.Place.{has_place}
+use Rattle.mig_stream.specs.Reading as stream
+use Rattle.mig_packet.specs.PageSize.{head_len}
+use Rattle.mig_packet.specs.Packet.{fields_of}
+use Rattle.mig_packet.specs.Progress.{ChannelProgress, due_fault}
+use Rattle.mig_packet.specs.Reading as channel
+use Rattle.mig_assemble.specs.Judging.{places_of}
+use Rattle.mig_assemble.specs.Arrivals.{OnePacket, arrival_pages}
+use Rattle.mig_single_load.specs.Settings.{main_of}
+use Rattle.mig_single_load.specs.declared.settings.LoadSettings.{LoadSettings}
+use Rattle.mig_answer.specs.Texts.{Text, Texts}
+
+-- what has come of round k: all of it, or, where it is the open one, what has come of that
+abbrev pub round_so_far : {X : Type 0} → ℕ → List (List X) → List X → List X
+round_so_far k rounds in_hand = get_or rounds k in_hand
+
+-- The main stream has a record of this place that came in round k.
+pub record MainNames (given : stream.Settings) (k : ℕ) (text : List ℕ) (p : Place) : Type 0 where
+  pub reading : stream.StreamReading
+  pub is_reading : stream.IsReading given text reading
+  pub has_record : IsTrue (has_place (map (λ r. r.place) (round_so_far k reading.rounds is_reading.to.records)) p)
+
+-- the packet whose head has come without a fault, while pages are missing: what follows the packets
+-- that are complete
+abbrev pub begun : ChannelProgress → Option ℕ → List ℕ → List (List ℕ)
+begun c None rest = []
+begun c (Some id) rest = if nat_le (head_len c.page_size) (length rest) && is_none (due_fault c rest) then rest ∷ [] else []
+
+-- the places of a packet's pages, which its head names; none where a page lies wrong
+abbrev pub packet_places : RamTable → List ℕ → List Place
+packet_places table packet = places_of (arrival_pages table (OnePacket (fields_of table.page_size packet)))
+
+-- The channel has a packet with a page of this place, whose head came in round k.
+pub record ChannelNames (given : channel.Settings) (table : RamTable) (k : ℕ) (text : Text) (p : Place) : Type 0 where
+  pub reading : channel.ChannelReading
+  pub is_reading : channel.IsReading given text.bytes text.ended reading
+  pub has_packet : IsTrue (has_place (flat_map (packet_places table)
+      (round_so_far k reading.rounds (is_reading.to.packets ++ begun is_reading.to is_reading.to.hello is_reading.rest))) p)
+
+abbrev pub SomeChannelNames : channel.Settings → RamTable → ℕ → List Text → Place → Type 0
+SomeChannelNames given table k texts p = (text : Text) × Contains texts text × ChannelNames given table k text p
+
+-- A source names the place in round k.
+abbrev pub IsNamed : LoadSettings → List ℕ → RamTable → ℕ → Texts → Place → Type 0
+IsNamed given uuid table k texts p =
+    MainNames (main_of given) k texts.main.bytes p
+    ⊎ SomeChannelNames (channel.settings given.page_size uuid (length texts.channels)) table k texts.channels p

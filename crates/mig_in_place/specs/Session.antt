@@ -1,0 +1,217 @@
+-- What an `InPlaceSession` holds, the texts and the memory that it stands for, and which bytes it
+-- takes. The memory is passed to each call.
+use Rattle.std.specs.Prelude.{ℕ, ◌≡◌, ◌≢◌, ◌<◌, ◌≤◌, ◌^◌, false, List, [], length, map, zip, get_or, All, IsTrue, IsFalse, IfSome, slice_get, take, ⊤, ◌⊎◌, Option, Some, None, if◌then◌else◌}
+use Rattle.std.specs.List.{AllZip}
+use Rattle.mig_mem.specs.PageSize.{IsPageSize}
+use Rattle.mig_mem.specs.RamTable.{RamTable, IsTable}
+use Rattle.mig_mem.specs.Image.{Page, Image, IsImage}
+use Rattle.mig_stream.specs.declared.item.StreamState.TheVariants as stream_state
+use Rattle.mig_stream.specs.Reading as stream
+use Rattle.mig_stream.specs.Reader.{HasTable}
+use Rattle.mig_packet.specs.Reading as channel
+use Rattle.mig_packet.specs.Paging.{GivenSoFar}
+use Rattle.mig_single_load.specs.Settings.{main_of, for_table}
+use Rattle.mig_single_load.specs.InPlace.{IsOfOwnTable}
+use Rattle.mig_single_load.specs.declared.settings.LoadSettings.{LoadSettings}
+use Rattle.mig_single_load.specs.declared.fault.Origin.TheVariants as origin
+use Rattle.mig_single_load.specs.declared.fault.Fault.TheVariants as fault
+use Rattle.mig_answer.specs.declared.verdict.Verdict.{Verdict}
+use Rattle.mig_answer.specs.declared.verdict.Verdict.TheVariants.{Running}
+use Rattle.mig_answer.specs.declared.status.Status.{Status}
+use Rattle.mig_answer.specs.declared.status.Status.TheVariants.{Pending}
+use Rattle.mig_answer.specs.Status.{main_status, channel_status}
+use Rattle.mig_answer.specs.Texts.{Text, Texts, Readings, AreReadings, no_text}
+use Rattle.mig_answer.specs.Rounds.{record_pages_at, base_at}
+use Rattle.mig_answer.specs.MultiLoad.{main_at, channels_at, hello_ids, repeated_hello, verdicts_told, passes, failed}
+use Rattle.mig_mem.specs.First.{first_some}
+use Rattle.mig_session.specs.declared.source.Source.{Source}
+use Rattle.mig_session.specs.declared.source.Source.TheVariants as source
+use Rattle.mig_session.specs.Session.{feed_step, end_step}
+use Rattle.mig_in_place.specs.Answer.{rounds_onto, IsInPlaceAnswer, IsInPlaceWithoutMemory}
+use Rattle.mig_in_place.specs.declared.main_stream.SizeList.{SizeList}
+use Rattle.mig_in_place.specs.Round.{KeptRound, Keeps, KeepsSome}
+use Rattle.mig_in_place.specs.Sources.{KeptMain, KeptSources, StandsAt, IsChannelOf, TellsList, TellsTakes, HasHelloAlone, WritesPages, HoldsMain, HoldsChannel, HoldsRound}
+
+-- ---- what it holds
+
+pub record InPlaceLoad : Type 0 where
+  -- the memory's table
+  pub table : RamTable
+  pub sources : KeptSources
+  -- what has come of the round in hand
+  pub round : KeptRound
+  -- how many rounds were judged lawful, and how many packets they had
+  pub rounds : ℕ
+  pub base : ℕ
+  pub verdict : Verdict
+
+-- ---- which bytes are taken
+
+-- a source's text
+abbrev pub text_of : Texts → Source → Text
+text_of texts source.Main = texts.main
+text_of texts (source.Channel j) = get_or texts.channels j no_text
+
+-- how a source stands at round k
+abbrev pub status_of : ℕ → Readings → Source → Status
+status_of k readings source.Main = main_status k readings.main
+status_of k readings (source.Channel j) = get_or (map (channel_status k) readings.channels) j Pending
+
+-- A channel is held back after its hello as long as the main stream's size list may still come. Its
+-- pages would be written before the table is known.
+abbrev pub IsHeldBack : Readings → Source → Type 0
+IsHeldBack readings source.Main = ⊥
+IsHeldBack readings (source.Channel j) =
+    (readings.main.table ≡ None) × (readings.main.state ≡ stream_state.Reading) × (get_or (map (λ c. c.hello) readings.channels) j None ≢ None)
+
+-- A source takes bytes at round k: it doesn't have that round, it isn't closed or bad, and it isn't
+-- held back.
+pub record TakesBytes (given : LoadSettings) (uuid : List ℕ) (k : ℕ) (texts : Texts) (from : Source) : Type 0 where
+  pub readings : Readings
+  pub are_readings : AreReadings given uuid texts readings
+  pub is_pending : status_of k readings from ≡ Pending
+  pub is_free : IsHeldBack readings from → ⊥
+
+-- ---- what it stands for
+
+-- the pages of the main stream's records of the round in hand, if it has come
+abbrev pub records_come : ℕ → ℕ → Readings → KeptMain → List Page
+records_come page_size k readings m = if m.is_whole then record_pages_at page_size k readings else []
+
+-- As long as a load runs: what is kept of each source, and of the round in hand. Before the table is
+-- known nothing was written.
+pub record IsRunning (given : LoadSettings) (uuid : List ℕ) (first : Image) (texts : Texts) (memory : Image) (s : InPlaceLoad) : Type 0 where
+  pub readings : Readings
+  pub are_readings : AreReadings given uuid texts readings
+  pub is_own : IsOfOwnTable first readings.main
+  pub have_passed : (j : ℕ) → j < s.rounds → IsTrue (passes j readings)
+  pub main : HoldsMain (main_of given) s.rounds texts.main s.sources.main
+  pub gave : List GivenSoFar
+  pub as_many : length gave ≡ length texts.channels
+  pub has_channel : 1 ≤ length texts.channels
+  pub channels : AllZip (λ c kept. HoldsChannel (channel.settings given.page_size uuid (length texts.channels)) first.table s.rounds c.0 c.1 kept) (zip texts.channels gave) s.sources.channels
+  pub has_base : s.base ≡ base_at s.rounds readings
+  pub own : readings.main.table ≡ Some first.table
+      → HoldsRound first.table (rounds_onto first s.rounds readings) s.rounds
+      (record { records = records_come first.table.page_size s.rounds readings s.sources.main; channels = gave }) s.round memory
+  pub writes : readings.main.table ≡ Some first.table → IsFalse s.round.has_misplaced → AllZip WritesPages gave s.sources.channels
+  pub unknown : readings.main.table ≡ None → (memory ≡ first) × (s.rounds ≡ 0) × Keeps first.table [] s.round
+  pub is_unwritten : readings.main.table ≡ None → All (λ kept. kept.block ≡ None) s.sources.channels
+  pub awaited : readings.main.table ≡ None → readings.main.state ≡ stream_state.Reading → All HasHelloAlone gave
+
+-- A load was made for the memory `first` with these settings and under this UUID, and took so much
+-- of the texts. Its answer on them is that of a load in place; `memory` is the memory now.
+pub record StandsFor (given : LoadSettings) (uuid : List ℕ) (first : Image) (texts : Texts) (memory : Image) (s : InPlaceLoad) : Type 0 where
+  pub is_table : IsTable first.table
+  pub is_image : IsImage first
+  pub same_table : first.table ≡ s.table
+  pub is_answer : IsInPlaceAnswer given uuid first texts memory s.rounds s.verdict
+  pub runs : s.verdict ≡ Running → IsRunning (for_table first.table given) uuid first texts memory s
+
+-- The same, where an allocation was refused.
+pub record LacksMemory (given : LoadSettings) (uuid : List ℕ) (first : Image) (texts : Texts) (memory : Image) (s : InPlaceLoad) : Type 0 where
+  pub is_table : IsTable first.table
+  pub is_image : IsImage first
+  pub same_table : first.table ≡ s.table
+  pub is_without : IsInPlaceWithoutMemory given uuid first texts memory s.rounds s.verdict
+
+-- A call takes this step: whatever texts the load stood for with the memory before it, it stands for
+-- those with the step done, with the memory after it.
+abbrev pub StepsOn : (Texts → Texts) → Image → InPlaceLoad → Image → InPlaceLoad → Type 0
+StepsOn step before old after new = (given : LoadSettings) (uuid : List ℕ) (first : Image) (texts : Texts)
+    → StandsFor given uuid first texts before old → StandsFor given uuid first (step texts) after new
+
+-- An allocation was refused as a piece of a source was fed, of which some bytes had been taken.
+abbrev pub RunsOut : Source → List ℕ → Image → InPlaceLoad → Image → InPlaceLoad → Type 0
+RunsOut from piece before old after new = (given : LoadSettings) (uuid : List ℕ) (first : Image) (texts : Texts)
+    → StandsFor given uuid first texts before old → (n : ℕ) × (n ≤ length piece) × LacksMemory given uuid first (feed_step from (take n piece) texts) after new
+
+-- what is said of a load and a memory by the texts that they stand for alone
+abbrev pub Tells : Image → InPlaceLoad → (LoadSettings → List ℕ → Image → Texts → Type 0) → Type 0
+Tells memory s says = (given : LoadSettings) (uuid : List ℕ) (first : Image) (texts : Texts) → StandsFor given uuid first texts memory s → says given uuid first texts
+
+-- ---- in the midst of a call
+
+-- what a load is of, and how much of the texts it took
+pub record Loading : Type 0 where
+  pub given : LoadSettings
+  pub uuid : List ℕ
+  pub first : Image
+  pub texts : Texts
+
+-- A load that runs, whose rounds up to the one in hand were judged.
+pub record Loads (f : Loading) (memory : Image) (s : InPlaceLoad) : Type 0 where
+  pub is_table : IsTable f.first.table
+  pub is_image : IsImage f.first
+  pub same_table : f.first.table ≡ s.table
+  pub is_running : IsRunning (for_table f.first.table f.given) f.uuid f.first f.texts memory s
+
+abbrev pub Stands : Loading → Image → InPlaceLoad → Type 0
+Stands f memory s = StandsFor f.given f.uuid f.first f.texts memory s
+
+-- The sources tell no verdict at the round in hand: all have it, and no hello's id comes again.
+abbrev pub IsDue : Loading → ℕ → Type 0
+IsDue f k = (readings : Readings) → AreReadings (for_table f.first.table f.given) f.uuid f.texts readings
+    → first_some (verdicts_told k (main_at k readings) (channels_at k readings) (repeated_hello (hello_ids readings))) ≡ None
+
+-- this is the verdict that they tell, None where the round in hand is due
+abbrev pub TellsVerdict : Option Verdict → Loading → ℕ → Type 0
+TellsVerdict told f k = (readings : Readings) → AreReadings (for_table f.first.table f.given) f.uuid f.texts readings
+    → told ≡ first_some (verdicts_told k (main_at k readings) (channels_at k readings) (repeated_hello (hello_ids readings)))
+
+-- the round passes
+abbrev pub PassesAt : Loading → ℕ → Type 0
+PassesAt f k = (readings : Readings) → AreReadings (for_table f.first.table f.given) f.uuid f.texts readings → IsTrue (passes k readings)
+
+-- with so many bytes more of a source
+abbrev pub with_bytes : Source → List ℕ → Loading → Loading
+with_bytes from bytes f = record f { texts = feed_step from bytes f.texts }
+
+-- where a source has ended
+abbrev pub with_over : Source → Loading → Loading
+with_over from f = record f { texts = end_step from f.texts }
+
+-- A load that took bytes: it runs, and is to be judged, or its verdict is there.
+pub record IsUnsettled (f : Loading) (memory : Image) (s : InPlaceLoad) : Type 0 where
+  pub runs : s.verdict ≡ Running → Loads f memory s
+  pub stands : s.verdict ≢ Running → Stands f memory s
+
+-- it would stand for the texts without memory
+abbrev pub Lacks : Loading → Image → InPlaceLoad → Type 0
+Lacks f memory s = LacksMemory f.given f.uuid f.first f.texts memory (record s { verdict = failed s.rounds origin.Round fault.NoMemory })
+
+-- no more bytes of a channel are taken before the round is judged
+abbrev pub TakesNoMore : Source → KeptSources → Type 0
+TakesNoMore source.Main s = ⊥
+TakesNoMore (source.Channel j) s = IfSome (slice_get s.channels j) (λ c. (l : SizeList) × TellsList s.main l × TellsTakes l c false)
+
+-- the main stream isn't read on where it has the round in hand
+abbrev pub IsOpenAt : Source → KeptSources → Type 0
+IsOpenAt source.Main s = IsFalse s.main.is_whole
+IsOpenAt (source.Channel j) s = ⊤
+
+-- So many bytes of a piece were taken, and an allocation was refused.
+abbrev pub LacksBehind : Source → List ℕ → Loading → Image → InPlaceLoad → Type 0
+LacksBehind from piece f memory s = (n : ℕ) × (n ≤ length piece) × Lacks (with_bytes from (take n piece) f) memory s
+
+-- ---- whatever the memory holds
+
+-- A main stream of a load into memory of this table: it is of that table, or its table isn't known.
+pub record IsMainOf (table : RamTable) (m : KeptMain) : Type 0 where
+  pub given : stream.Settings
+  pub k : ℕ
+  pub text : Text
+  pub stands : StandsAt given k text m
+  pub is_page_size : IsPageSize given.page_size
+  pub has_page_size : given.page_size ≡ table.page_size
+  pub is_own : HasTable given text.bytes None ⊎ HasTable given text.bytes (Some table)
+
+-- What is so of each load, with room for what so many channels tell.
+pub record IsLoad (s : InPlaceLoad) (statuses hellos : ℕ) : Type 0 where
+  pub channels : All (IsChannelOf s.table) s.sources.channels
+  pub round : KeepsSome s.table s.round
+  pub main : s.verdict ≡ Running → IsMainOf s.table s.sources.main
+  pub is_few : s.base ≤ 2 ^ 63
+  pub has_few_rounds : s.rounds ≤ 2 ^ 63
+  pub has_room : length s.sources.channels ≤ statuses
+  pub has_hello_room : length s.sources.channels ≤ hellos

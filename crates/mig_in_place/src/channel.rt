@@ -1,0 +1,282 @@
+//! What a load in place keeps of a channel: the reader, and how the round in hand stands.
+
+ghost use Rattle.std.specs.Prelude.{ℕ, ◌≡◌, ◌≢◌, ◌+◌, ◌<◌, ◌≤◌, ◌^◌, List, Option, length, true, false, None, Some, IsTrue, IsFalse, IfOk, IfSome, IfNone, OnOk, OnErr, ◌/◌};
+ghost use Rattle.std.specs.Option.{option_map};
+ghost use Rattle.mig_mem.specs.Place.{IsPlace, place_at};
+ghost use Rattle.mig_packet.specs.PageSize.{IsPageSize};
+ghost use Rattle.mig_packet.specs.Reading.{settings};
+ghost use Rattle.mig_packet.specs.Paging.{GivenSoFar, none_given, content_of};
+ghost use Rattle.mig_mem.specs.RamTable.{RamTable};
+ghost use Rattle.mig_mem.specs.Image.{Image, with_page};
+ghost use Rattle.mig_answer.specs.Texts.{Text, no_text, over};
+ghost use Rattle.mig_packet.specs.Reading.{Settings};
+ghost use Rattle.mig_answer.specs.declared.status.Status.TheVariants.{Whole as whole};
+ghost use Rattle.mig_in_place.specs.declared.main_stream.SizeList.TheVariants as size_list;
+ghost use Rattle.mig_in_place.specs.Round.{KeepsSome};
+ghost use Rattle.mig_in_place.specs.Sources.{IsChannelOf, HoldsChannel, TellsChannelStatus, TellsHello, TellsTakes, holds_back, HasRead, HasReadSome, AddsHead, WritesInto, AddsPage, channel_count};
+
+use crate::main_stream::{SizeList, is_pending};
+use crate::put::put_zeros;
+use crate::round::{Pages, RoundInHand};
+use mig_answer::{Status, channel_end};
+use mig_mem::{GuestTarget, NoMemory, Place};
+use mig_packet::{Came, PageContent, PageReader};
+use std::alloc::{Allocator, Global};
+use std::marker::Model;
+use uuid::Uuid;
+
+/// A channel as far as it has come.
+#[derive(Drop)]
+pub(crate) struct Channel<A: Allocator = Global> {
+    reader: PageReader<A>,
+    // the block of the packet that was begun, if its pages are to be written
+    block: Option<usize>,
+    // whether the round in hand has come
+    is_whole: bool,
+}
+
+// Returns whether a channel whose hello named an id, or not, is held back.
+fn holds_back(list: SizeList, hello: Option<u8>) -> bool
+    ensures { result ≡ holds_back list hello }
+{
+    match (list, hello) {
+        (SizeList::Awaited, Some(_)) => true,
+        (SizeList::Awaited | SizeList::Complete | SizeList::Lost, _) => false,
+    }
+}
+
+impl<A: Allocator> Model for Channel<A> {
+    ghost use Rattle.mig_in_place.specs.Sources.{KeptChannel};
+
+    ghost Value = { KeptChannel };
+
+    ghost view = { λ c. record { reader = c.reader; block = c.block; is_whole = c.is_whole } };
+}
+
+impl<A: Allocator + Copy> Channel<A> {
+    /// Creates a channel before its first byte.
+    pub(crate) fn new(
+        alloc: A,
+        page_size: u64,
+        uuid: Uuid,
+        channels: usize,
+    ) -> Result<Channel<A>, NoMemory>
+        requires page_size { IsPageSize page_size }
+        ensures holds { IfOk result (λ c. (table : RamTable) → HoldsChannel (settings page_size uuid channels) table 0 no_text (none_given (settings page_size uuid channels)) c) }
+        ensures count { IfOk result (λ c. channel_count c ≡ record { fed = 0; ended = false }) }
+    {
+        let Ok(reader) = PageReader::new(alloc, page_size, uuid, channels) else {
+            return Err(NoMemory);
+        };
+        Ok(Channel {
+            reader,
+            block: None,
+            is_whole: false,
+        })
+    }
+}
+
+impl<A: Allocator> Channel<A> {
+    /// Reads on in `piece`, up to the SYNC packet of the round in hand, or, as long as the size list
+    /// is awaited, up to the hello. Adds the packets to `round`, and writes their pages. Returns how
+    /// many bytes were taken.
+    ///
+    /// # Errors
+    ///
+    /// `NoMemory`: an allocation was refused. Some bytes may have been taken.
+    pub(crate) fn read<M: GuestTarget>(
+        &mut self,
+        list: SizeList,
+        round: &mut RoundInHand<A>,
+        memory: &mut M,
+        piece: &[u8],
+    ) -> Result<usize, NoMemory>
+        requires open { IsFalse self.old.reader.ended }
+        requires room { self.old.reader.fed + length piece.now < 2 ^ 64 }
+        requires channel { IsChannelOf (M.image memory.old).table self.old }
+        requires round { KeepsSome (M.image memory.old).table round.old }
+        ensures taken { IfOk result (λ n. n ≤ length piece.now) }
+        ensures read { IfOk result (λ n. HasRead list piece.now n self.old round.old (M.image memory.old) self.new round.new (M.image memory.new)) }
+        ensures some { OnErr result (HasReadSome list piece.now self.old round.old (M.image memory.old) round.new (M.image memory.new)) }
+        ensures waits { IfOk result (λ n. n < length piece.now → TellsTakes list self.new false) }
+        ensures unknown { list ≢ size_list.Complete → self.old.block ≡ None → (round.new ≡ round.old) × (M.image memory.new ≡ M.image memory.old) × (self.new.block ≡ None) }
+        ensures fed { IfOk result (λ n. self.new.reader.fed ≡ self.old.reader.fed + n) }
+        ensures ended { self.new.reader.ended ≡ self.old.reader.ended }
+        ensures channel { IsChannelOf (M.image memory.old).table self.new }
+        ensures round { KeepsSome (M.image memory.old).table round.new }
+        ensures misplaced { IsTrue round.old.has_misplaced → IsTrue round.new.has_misplaced }
+        ensures table { (M.image memory.new).table ≡ (M.image memory.old).table }
+    {
+        if !self.takes(list) {
+            return Ok(0);
+        }
+        let mut taken = 0;
+        'items: loop {
+            let (came, count) = self.reader.read_on(&piece[taken..]);
+            taken += count;
+            match came {
+                Came::More | Came::Over => return Ok(taken),
+                Came::Hello(_) => {
+                    if !self.takes(list) {
+                        return Ok(taken);
+                    }
+                }
+                Came::Head => self.begin_packet(list, round, memory)?,
+                Came::Page(offset, content) => self.put_page(round, memory, offset, content),
+                Came::Packet(sync) => {
+                    self.end_packet(sync);
+                    if sync {
+                        return Ok(taken);
+                    }
+                }
+            }
+        }
+    }
+
+    // Adds the packet whose head has come, and writes its pages of zeros. If pages are known to lie
+    // wrong in the round, none is written.
+    fn begin_packet<M: GuestTarget>(
+        &mut self,
+        list: SizeList,
+        round: &mut RoundInHand<A>,
+        memory: &mut M,
+    ) -> Result<(), NoMemory>
+        requires page_size { self.old.reader.given.page_size ≡ (M.image memory.old).table.page_size }
+        requires table { round.old.arrivals.seen.table ≡ (M.image memory.old).table }
+        requires block { self.old.block ≡ None }
+        ensures adds { OnOk result (list ≡ size_list.Complete → (head : List ℕ) → option_map (λ packet. packet.0) self.old.reader.packet ≡ Some head
+            → AddsHead head round.old (M.image memory.old) round.new (M.image memory.new)) }
+        ensures writes { OnOk result (list ≡ size_list.Complete → (head : List ℕ) → option_map (λ packet. packet.0) self.old.reader.packet ≡ Some head
+            → WritesInto (M.image memory.old).table head round.new self.new.block) }
+        ensures unknown { list ≢ size_list.Complete → (self.new ≡ self.old) × (round.new ≡ round.old) }
+        ensures same { list ≢ size_list.Complete → M.image memory.new ≡ M.image memory.old }
+        ensures err { OnErr result ((self.new ≡ self.old) × (round.new ≡ round.old) × (M.image memory.new ≡ M.image memory.old)) }
+        ensures reader { (self.new.reader ≡ self.old.reader) × (self.new.is_whole ≡ self.old.is_whole) }
+        ensures round { KeepsSome (M.image memory.old).table round.old → KeepsSome (M.image memory.old).table round.new }
+        ensures misplaced { IsTrue round.old.has_misplaced → IsTrue round.new.has_misplaced }
+        ensures table { (M.image memory.new).table ≡ (M.image memory.old).table }
+    {
+        let Some(head) = self.reader.head() else {
+            return Ok(());
+        };
+        if list != SizeList::Complete {
+            return Ok(());
+        }
+        let pages = round.packet(&head)?;
+        if round.has_misplaced() {
+            return Ok(());
+        }
+        match pages {
+            Pages::In(block) => {
+                put_zeros(memory, block, &head);
+                self.block = Some(block);
+            }
+            Pages::Nowhere | Pages::Misplaced => {}
+        }
+        Ok(())
+    }
+
+    // Writes a page of the packet that was begun.
+    fn put_page<M: GuestTarget>(
+        &self,
+        round: &RoundInHand<A>,
+        memory: &mut M,
+        offset: u64,
+        content: PageContent<'_>,
+    )
+        requires size { length (content_of content self.now.reader) ≡ (M.image memory.old).table.page_size }
+        requires lies { IfSome self.now.block (λ b. IsPlace (M.image memory.old).table (place_at b (offset / (M.image memory.old).table.page_size))) }
+        ensures written { IsFalse round.now.has_misplaced → IfSome self.now.block (λ b. M.image memory.new
+            ≡ with_page (M.image memory.old) (place_at b (offset / (M.image memory.old).table.page_size)) (content_of content.entry self.now.reader)) }
+        ensures same { IsTrue round.now.has_misplaced → M.image memory.new ≡ M.image memory.old }
+        ensures none { IfNone self.now.block (M.image memory.new ≡ M.image memory.old) }
+        ensures adds { AddsPage offset (content_of content.entry self.now.reader) self.now.block round.now (M.image memory.old) (M.image memory.new) }
+        ensures table { (M.image memory.new).table ≡ (M.image memory.old).table }
+    {
+        if round.has_misplaced() {
+            return;
+        }
+        if let Some(block) = self.block {
+            let table = memory.table();
+            table.keeps_limits();
+            let page = offset / table.page_size();
+            memory.put_page(Place { block, page }, self.reader.content(content));
+        }
+    }
+
+    // Ends the packet that was begun.
+    fn end_packet(&mut self, sync: bool)
+        ensures { self.new ≡ record self.old { block = None; is_whole = sync } }
+    {
+        self.block = None;
+        self.is_whole = sync;
+    }
+
+    /// Returns whether bytes of the channel are taken: it is pending at the round in hand, and isn't
+    /// held back.
+    pub(crate) fn takes(&self, list: SizeList) -> bool
+        ensures tells { TellsTakes list self.now result }
+        ensures open { IsTrue result → IsFalse self.now.is_whole }
+    {
+        if self.is_held_back(list) {
+            return false;
+        }
+        is_pending(self.status())
+    }
+
+    // Whether the hello has come, while the main stream's size list may still come.
+    fn is_held_back(&self, list: SizeList) -> bool
+        ensures { (hello : Option ℕ) × TellsHello self.now hello × (result ≡ holds_back list hello) }
+    {
+        holds_back(list, self.hello())
+    }
+
+    /// Goes on to the next round.
+    pub(crate) fn advance(&mut self)
+        ensures { self.new ≡ record self.old { is_whole = false } }
+    {
+        self.is_whole = false;
+    }
+
+    /// Ends the channel.
+    pub(crate) fn end(&mut self)
+        ensures holds { (given : Settings) (table : RamTable) (k : ℕ) (text : Text) (so_far : GivenSoFar) → HoldsChannel given table k text so_far self.old
+            → HoldsChannel given table k (over text) so_far self.new }
+        ensures value { self.new ≡ record self.old { reader = record self.old.reader { ended = true } } }
+    {
+        self.reader.end();
+    }
+
+    /// Returns whether the channel was ended.
+    pub(crate) fn ended(&self) -> bool
+        ensures { result ≡ self.now.reader.ended }
+    {
+        self.reader.ended()
+    }
+
+    /// Returns how many bytes were taken.
+    pub(crate) fn fed(&self) -> u64
+        ensures { result ≡ self.now.reader.fed }
+    {
+        self.reader.fed()
+    }
+
+    /// Returns how the channel stands at the round in hand.
+    pub(crate) fn status(&self) -> Status
+        ensures tells { TellsChannelStatus self.now result }
+        ensures whole { IsTrue self.now.is_whole → result ≡ whole }
+    {
+        if self.is_whole {
+            return Status::Whole;
+        }
+        channel_end(self.reader.state())
+    }
+
+    /// Returns the id that its hello names. None before the hello is complete, and where it has a
+    /// fault.
+    pub(crate) fn hello(&self) -> Option<u8>
+        ensures { TellsHello self.now result }
+    {
+        self.reader.hello_id()
+    }
+}

@@ -1,0 +1,24 @@
+//! What holds of each answer of a load in place: laws over the definitions, as clauses of functions
+//! that do nothing.
+
+ghost use Rattle.mig_in_place.specs.Law.{InPlaceTellsAlike, InPlaceDoneIsExact, WaitingBytesChangeNothing, SentIsLoadedInPlace};
+
+/// Rounds and verdict are those of any load on several channels.
+pub fn in_place_tells_alike()
+    ensures { InPlaceTellsAlike }
+{}
+
+/// A load that is done has all rounds in the memory, on top of what it held first, and nothing else.
+pub fn in_place_done_is_exact()
+    ensures { InPlaceDoneIsExact }
+{}
+
+/// Bytes that wait with the caller change no answer.
+pub fn waiting_bytes_change_nothing()
+    ensures { WaitingBytesChangeNothing }
+{}
+
+/// What a sender on several channels has sent is loaded in place.
+pub fn sent_is_loaded_in_place()
+    ensures { SentIsLoadedInPlace }
+{}

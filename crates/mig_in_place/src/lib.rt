@@ -1,0 +1,25 @@
+//! Loads several channels into memory that is there already, each page as soon as its bytes have
+//! come. No round is kept.
+//!
+//! An `InPlaceSession` is for a guest whose memory the caller has mapped where it is to run. A
+//! `Session` (`mig_session`) keeps each round until all sources have it, and judges it before it
+//! writes a page of it. So its memory has complete lawful rounds alone. This one writes first and
+//! judges at the round's end. So its memory may hold anything at the places that the unfinished
+//! round names. Both return the same verdict.
+//!
+//! Definitions, in reading order: `Named`, `Answer`, `Session`, `Law` (`specs/`). `Round` and
+//! `Sources` are internal: only contracts of private functions name them.
+#![tactic(auto)]
+
+mod channel;
+mod laws;
+mod main_stream;
+mod put;
+mod round;
+mod session;
+
+pub use laws::{
+    in_place_done_is_exact, in_place_tells_alike, sent_is_loaded_in_place,
+    waiting_bytes_change_nothing,
+};
+pub use session::InPlaceSession;

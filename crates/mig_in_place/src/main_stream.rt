@@ -1,0 +1,178 @@
+//! What a load in place keeps of its main stream: the reader, and how the round in hand stands.
+
+ghost use Rattle.std.specs.Prelude.{ℕ, ◌≡◌, ◌+◌, ◌<◌, ◌≤◌, ◌^◌, true, false, List, All, length, None, Some, IsTrue, IsFalse, IfSome, IfNone, OnOk, OnErr};
+ghost use Rattle.std.specs.Option.{option_copied};
+ghost use Rattle.mig_mem.specs.PageSize.{IsPageSize};
+ghost use Rattle.mig_mem.specs.RamTable.{RamTable};
+ghost use Rattle.mig_mem.specs.Place.{IsPlace};
+ghost use Rattle.mig_stream.specs.Reading.{Settings};
+ghost use Rattle.mig_stream.specs.Reader.{HasTable, HasRound};
+ghost use Rattle.mig_single_load.specs.Settings.{main_of};
+ghost use Rattle.mig_answer.specs.Texts.{Text, no_text, with_piece, over};
+ghost use Rattle.mig_answer.specs.Status.{is_pending};
+ghost use Rattle.mig_answer.specs.declared.status.Status.TheVariants.{Whole as whole};
+ghost use Rattle.mig_in_place.specs.Sources.{StandsAt, HasNoRound, HoldsMain, TellsMainStatus, TellsList, main_count};
+
+use mig_answer::{Status, stream_end};
+use mig_mem::{NoMemory, Table};
+use mig_single_load::LoadSettings;
+use mig_stream::{Mode, StreamReader, StreamRound, StreamState};
+use std::alloc::{Allocator, Global};
+use std::marker::Model;
+
+/// How the size list of the main stream stands.
+#[derive(Clone, Copy, PartialEq, Eq)]
+pub(crate) enum SizeList {
+    /// It is complete.
+    Complete,
+    /// It may still come.
+    Awaited,
+    /// It doesn't come: the stream ended before it, or has a fault there.
+    Lost,
+}
+
+/// Returns whether a source needs more of its bytes.
+pub(crate) fn is_pending(status: Status) -> bool
+    ensures { result ≡ is_pending status }
+{
+    matches!(status, Status::Pending)
+}
+
+/// The main stream as far as it has come.
+#[derive(Drop)]
+pub(crate) struct MainStream<A: Allocator = Global> {
+    reader: StreamReader<'static, A>,
+    // whether the round in hand has come, and was taken from the reader
+    is_whole: bool,
+}
+
+impl<A: Allocator> Model for MainStream<A> {
+    ghost use Rattle.mig_in_place.specs.Sources.{KeptMain};
+
+    ghost Value = { KeptMain };
+
+    ghost view = { λ m. record { reader = m.reader; is_whole = m.is_whole } };
+}
+
+impl<A: Allocator + Copy> MainStream<A> {
+    /// Creates the main stream before its first byte.
+    pub(crate) fn new(alloc: A, settings: LoadSettings) -> MainStream<A>
+        requires page_size { IsPageSize settings.page_size }
+        requires limit { settings.limit ≤ 2 ^ 40 }
+        ensures holds { HoldsMain (main_of settings) 0 no_text result }
+        ensures whole { IsFalse result.is_whole }
+        ensures count { main_count result ≡ record { fed = 0; ended = false } }
+    {
+        MainStream {
+            reader: StreamReader::new_in(
+                alloc,
+                settings.frame,
+                Mode::Main,
+                settings.page_size,
+                settings.limit,
+            ),
+            is_whole: false,
+        }
+    }
+
+    /// Reads the next piece.
+    ///
+    /// # Errors
+    ///
+    /// `NoMemory`: an allocation was refused. Nothing has changed.
+    pub(crate) fn feed(&mut self, piece: &[u8]) -> Result<(), NoMemory>
+        requires open { IsFalse self.old.reader.ended }
+        requires room { self.old.reader.fed + length piece.now < 2 ^ 64 }
+        ensures stands { OnOk result ((given : Settings) (k : ℕ) (text : Text) → StandsAt given k text self.old → StandsAt given k (with_piece piece.now text) self.new) }
+        ensures whole { self.new.is_whole ≡ self.old.is_whole }
+        ensures count { OnOk result ((self.new.reader.fed ≡ self.old.reader.fed + length piece.now) × (self.new.reader.ended ≡ self.old.reader.ended)) }
+        ensures err { OnErr result (self.new ≡ self.old) }
+    {
+        self.reader.feed(piece)?;
+        Ok(())
+    }
+}
+
+impl<A: Allocator> MainStream<A> {
+    /// Takes the round in hand, once: where it has come, and wasn't taken.
+    pub(crate) fn take_round(&mut self) -> Option<StreamRound<'static, A>>
+        ensures stands { (given : Settings) (k : ℕ) (text : Text) → StandsAt given k text self.old → StandsAt given k text self.new }
+        ensures none { IfNone result (self.new ≡ self.old) }
+        ensures last { IfNone result (IsFalse self.old.is_whole → (given : Settings) (k : ℕ) (text : Text) → StandsAt given k text self.old → HasNoRound given k text) }
+        ensures whole { IfSome result (λ round. IsFalse self.old.is_whole × IsTrue self.new.is_whole) }
+        ensures round { IfSome result (λ round. (given : Settings) (k : ℕ) (text : Text) → StandsAt given k text self.old
+            → (round.page_size ≡ given.page_size) × HasRound given text.bytes k round.records) }
+        ensures places { IfSome result (λ round. (given : Settings) (k : ℕ) (text : Text) (table : RamTable) → StandsAt given k text self.old
+            → HasTable given text.bytes (Some table) → All (λ x. IsPlace table x.place) round.records) }
+        ensures count { main_count self.new ≡ main_count self.old }
+    {
+        if self.is_whole {
+            return None;
+        }
+        let Ok(round) = self.reader.take_round() else {
+            return None;
+        };
+        self.is_whole = round.is_some();
+        round
+    }
+
+    /// Goes on to the next round.
+    pub(crate) fn advance(&mut self)
+        ensures { self.new ≡ record self.old { is_whole = false } }
+    {
+        self.is_whole = false;
+    }
+
+    /// Ends the main stream.
+    pub(crate) fn end(&mut self)
+        ensures stands { (given : Settings) (k : ℕ) (text : Text) → StandsAt given k text self.old → StandsAt given k (over text) self.new }
+        ensures value { self.new ≡ record self.old { reader = record self.old.reader { ended = true } } }
+    {
+        self.reader.end();
+    }
+
+    /// Returns whether the main stream was ended.
+    pub(crate) fn ended(&self) -> bool
+        ensures { result ≡ self.now.reader.ended }
+    {
+        self.reader.ended()
+    }
+
+    /// Returns how many bytes were taken.
+    pub(crate) fn fed(&self) -> u64
+        ensures { result ≡ self.now.reader.fed }
+    {
+        self.reader.fed()
+    }
+
+    /// Returns how the main stream stands at the round in hand.
+    pub(crate) fn status(&self) -> Status
+        ensures tells { TellsMainStatus self.now result }
+        ensures whole { IsTrue self.now.is_whole → result ≡ whole }
+    {
+        if self.is_whole {
+            return Status::Whole;
+        }
+        stream_end(self.reader.state())
+    }
+
+    /// Returns the table, once the size list is complete.
+    pub(crate) fn table(&self) -> Option<&Table<A>>
+        ensures { (given : Settings) (k : ℕ) (text : Text) → StandsAt given k text self.now → HasTable given text.bytes (option_copied result) }
+    {
+        self.reader.table()
+    }
+
+    /// Returns how the size list stands.
+    pub(crate) fn size_list(&self) -> SizeList
+        ensures { TellsList self.now result }
+    {
+        if self.reader.table().is_some() {
+            return SizeList::Complete;
+        }
+        match self.reader.state() {
+            StreamState::Reading => SizeList::Awaited,
+            StreamState::Closed | StreamState::Bad(_) => SizeList::Lost,
+        }
+    }
+}

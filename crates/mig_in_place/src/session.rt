@@ -1,0 +1,645 @@
+//! The load of several channels into memory that is there already, from pieces of their bytes.
+
+ghost use Rattle.std.specs.Prelude.{ℕ, ◌≡◌, ◌≢◌, ◌⊎◌, ◌+◌, ◌<◌, ◌≤◌, ◌^◌, ◌++◌, ◌↔◌, List, [], length, map, take, replicate, true, false, None, Some, Ok, Err, IsTrue, IsFalse, IfOk, IfErr, OnOk, OnErr, All, vec_capacity};
+ghost use Rattle.std.specs.List.{AllZip};
+ghost use Rattle.std.specs.Option.{option_copied};
+ghost use Rattle.mig_mem.specs.PageSize.{IsPageSize};
+ghost use Rattle.mig_mem.specs.RamTable.{RamTable};
+ghost use Rattle.mig_mem.specs.Image.{Image, IsImage};
+ghost use Rattle.mig_packet.specs.Reading.{settings};
+ghost use Rattle.mig_packet.specs.Paging.{none_given};
+ghost use Rattle.mig_single_load.specs.declared.fault.InPlaceFault.TheVariants as in_place_fault;
+ghost use Rattle.mig_single_load.specs.declared.fault.Origin.TheVariants as origin;
+ghost use Rattle.mig_single_load.specs.declared.settings.LoadSettings.{LoadSettings};
+ghost use Rattle.mig_single_load.specs.Settings.{ram_settings, for_table};
+ghost use Rattle.mig_answer.specs.declared.verdict.Verdict.TheVariants.{Running as running};
+ghost use Rattle.mig_answer.specs.Texts.{no_text, no_texts};
+ghost use Rattle.mig_answer.specs.MultiLoad.{failed};
+ghost use Rattle.mig_session.specs.declared.source.Source.TheVariants as source;
+ghost use Rattle.mig_session.specs.Session.{HasSource, count_of, no_count, with_fed, with_end, feed_step, end_step};
+ghost use Rattle.mig_in_place.specs.Answer.{IsInPlaceAnswer};
+ghost use Rattle.mig_stream.specs.Reading.{Settings};
+ghost use Rattle.mig_stream.specs.Reader.{HasTable};
+ghost use Rattle.mig_answer.specs.Texts.{Text};
+ghost use Rattle.mig_in_place.specs.Round.{KeepsSome};
+ghost use Rattle.mig_in_place.specs.Sources.{counts_of, main_count, channel_count, at_next_round, StandsAt, HoldsChannel, TellsChannelStatus, TellsHello, HasTakenRecords};
+ghost use Rattle.mig_in_place.specs.Session.{TakesBytes, StandsFor, LacksMemory, StepsOn, RunsOut, Tells, Loading, Loads, Stands, IsDue, TellsVerdict, PassesAt, IsUnsettled, Lacks, LacksBehind, with_bytes, with_over, TakesNoMore, IsOpenAt, IsMainOf};
+
+use crate::channel::Channel;
+use crate::main_stream::{MainStream, is_pending};
+use crate::round::RoundInHand;
+use mig_answer::{Status, Verdict, repeated_id, verdict_told};
+use mig_assemble::put_records;
+use mig_mem::{GuestTarget, NoMemory, Table};
+use mig_session::Source;
+use mig_single_load::{Fault, InPlaceFault, LoadFault, LoadSettings, Origin};
+use std::alloc::{Allocator, Global};
+use std::fmt::{self, Debug, Formatter};
+use std::marker::Model;
+use uuid::Uuid;
+
+// Packets are numbered below 2^63, and as many rounds are counted: more are refused with
+// `NoMemory`. No stream in memory has so many.
+const PACKET_LIMIT: u64 = 1 << 63;
+
+const ROUND_LIMIT: u64 = 1 << 63;
+
+/// Loads a guest from the pieces of a main stream and of its channels, into memory that is passed
+/// with each piece, and writes each page once, when its bytes have come.
+///
+/// A source takes bytes up to the end of the round in hand. What follows waits with the caller
+/// until all sources have the round, and it was judged. Verdict and rounds are a `Session`'s of the
+/// bytes taken.
+#[derive(Drop)]
+pub struct InPlaceSession<A: Allocator = Global> {
+    table: Table<A>,
+    main: MainStream<A>,
+    channels: Vec<Channel<A>, A>,
+    round: RoundInHand<A>,
+    // what the channels told last, with room for all of them
+    statuses: Vec<Status, A>,
+    hellos: Vec<Option<u8>, A>,
+    // how many rounds were judged, and how many packets they had
+    rounds: u64,
+    base: u64,
+    verdict: Verdict,
+}
+
+impl<A: Allocator> Model for InPlaceSession<A> {
+    ghost use Rattle.std.specs.Prelude.{vec_capacity};
+    ghost use Rattle.mig_in_place.specs.Session.{InPlaceLoad, IsLoad};
+
+    ghost Value = { InPlaceLoad };
+
+    ghost view = { λ s. record {
+      table = s.table;
+      sources = record { main = s.main; channels = s.channels.items };
+      round = s.round;
+      rounds = s.rounds;
+      base = s.base;
+      verdict = s.verdict;
+    } };
+
+    ghost invariant = { λ s. IsLoad (record {
+      table = s.table;
+      sources = record { main = s.main; channels = s.channels.items };
+      round = s.round;
+      rounds = s.rounds;
+      base = s.base;
+      verdict = s.verdict;
+    }) (vec_capacity s.statuses) (vec_capacity s.hellos) };
+}
+
+/// Opaque: it holds a guest's bytes.
+impl<A: Allocator> Debug for InPlaceSession<A> {
+    fn fmt<W: fmt::Write>(&self, f: &mut Formatter<W>) -> fmt::Result {
+        f.write_str("InPlaceSession { .. }")
+    }
+}
+
+fn failed(round: u64, source: Origin, fault: Fault) -> Verdict
+    ensures { result ≡ failed round source fault }
+{
+    Verdict::Failed(LoadFault {
+        round,
+        source,
+        fault,
+    })
+}
+
+// Creates channels before their first byte.
+fn new_channels<A: Allocator + Copy>(
+    alloc: A,
+    page_size: u64,
+    uuid: &Uuid,
+    channels: usize,
+) -> Result<Vec<Channel<A>, A>, NoMemory>
+    requires page_size { IsPageSize page_size }
+    ensures holds { IfOk result (λ v. (table : RamTable) → AllZip (λ text c. HoldsChannel (settings page_size uuid.now channels) table 0 text (none_given (settings page_size uuid.now channels)) c)
+        (replicate channels no_text) v.items) }
+    ensures counts { IfOk result (λ v. map channel_count v.items ≡ replicate channels no_count) }
+{
+    let mut made = Vec::with_capacity(alloc, channels)?;
+    for _ in 0..channels {
+        made.push_reserved(Channel::new(alloc, page_size, *uuid, channels)?);
+    }
+    Ok(made)
+}
+
+// Returns whether the main stream's size list is complete, and names another table.
+fn is_of_other_table<A: Allocator>(main: &MainStream<A>, table: &Table<A>) -> bool
+    ensures other { IsTrue result → (given : Settings) (k : ℕ) (text : Text) → StandsAt given k text main.now
+        → (other : RamTable) × HasTable given text.bytes (Some other) × (other ≢ table.now) }
+    ensures own { IsFalse result → (given : Settings) (k : ℕ) (text : Text) → StandsAt given k text main.now
+        → HasTable given text.bytes None ⊎ HasTable given text.bytes (Some table.now) }
+{
+    match main.table() {
+        Some(found) => !found.same(table),
+        None => false,
+    }
+}
+
+// Takes the main stream's records of the round in hand, if they have come, adds them to the round,
+// and writes them, as long as no page is known to lie wrong.
+fn take_main_round<A: Allocator, M: GuestTarget>(
+    main: &mut MainStream<A>,
+    round: &mut RoundInHand<A>,
+    memory: &mut M,
+)
+    requires main { IsMainOf (M.image memory.old).table main.old }
+    requires round { KeepsSome (M.image memory.old).table round.old }
+    ensures taken { (given : Settings) (k : ℕ) (text : Text) → StandsAt given k text main.old
+        → HasTakenRecords given k text main.old round.old (M.image memory.old) main.new round.new (M.image memory.new) }
+    ensures main { IsMainOf (M.image memory.old).table main.new }
+    ensures round { KeepsSome (M.image memory.old).table round.new }
+    ensures table { (M.image memory.new).table ≡ (M.image memory.old).table }
+    ensures count { main_count main.new ≡ main_count main.old }
+{
+    if let Some(records) = main.take_round() {
+        round.records(&records);
+        if !round.has_misplaced() {
+            put_records(memory, &records);
+        }
+    }
+}
+
+// Goes on to the next round of each channel.
+fn advance_channels<A: Allocator>(channels: &mut [Channel<A>])
+    ensures { channels.new ≡ map at_next_round channels.old }
+{
+    for channel in channels.iter_mut() {
+        channel.advance();
+    }
+}
+
+// How the channels stand at the round in hand.
+fn look_at_statuses<A: Allocator>(channels: &[Channel<A>], statuses: &mut Vec<Status, A>)
+    requires room { length channels.now ≤ vec_capacity statuses.old }
+    ensures told { AllZip TellsChannelStatus channels.now statuses.new.items }
+    ensures room { vec_capacity statuses.old ≤ vec_capacity statuses.new }
+{
+    statuses.clear();
+    for channel in channels {
+        statuses.push_reserved(channel.status());
+    }
+}
+
+// The ids that the channels' hellos name.
+fn look_at_hellos<A: Allocator>(channels: &[Channel<A>], hellos: &mut Vec<Option<u8>, A>)
+    requires room { length channels.now ≤ vec_capacity hellos.old }
+    ensures told { AllZip TellsHello channels.now hellos.new.items }
+    ensures room { vec_capacity hellos.old ≤ vec_capacity hellos.new }
+{
+    hellos.clear();
+    for channel in channels {
+        hellos.push_reserved(channel.hello());
+    }
+}
+
+impl<A: Allocator + Copy> InPlaceSession<A> {
+    /// Creates a load into memory of `table`, of which it takes a copy, from `channels` channels
+    /// under `uuid`. A stream whose blocks have more than `limit` bytes together is refused, so
+    /// `limit` must be at least the table's own total.
+    ///
+    /// # Errors
+    ///
+    /// `NoMemory`: an allocation was refused.
+    pub fn new<B: Allocator>(
+        alloc: A,
+        table: &Table<B>,
+        uuid: &Uuid,
+        channels: usize,
+        limit: u64,
+    ) -> Result<InPlaceSession<A>, NoMemory>
+        requires channels { (1 ≤ channels) × (channels ≤ 255) }
+        requires limit { limit ≤ 2 ^ 40 }
+        ensures stands { IfOk result (λ s. (first : Image) → IsImage first → first.table ≡ table.now
+            → StandsFor (ram_settings table.now.page_size limit) uuid.now first (no_texts channels) first s) }
+        ensures table { IfOk result (λ s. s.table ≡ table.now) }
+        ensures counts { IfOk result (λ s. counts_of s.sources ≡ record { main = no_count; channels = replicate channels no_count }) }
+    {
+        let settings = LoadSettings::new(table.page_size(), limit);
+        InPlaceSession::new_in(alloc, table, settings, uuid, channels)
+    }
+
+    /// Creates a load into memory of `table`, of which it takes a copy, from `channels` channels
+    /// under `uuid`. Of `settings` the limit and the frame count: the pages have the size that
+    /// `table` has. The limit must be at least the table's own total.
+    ///
+    /// # Errors
+    ///
+    /// `NoMemory`: an allocation was refused.
+    pub fn new_in<B: Allocator>(
+        alloc: A,
+        table: &Table<B>,
+        settings: LoadSettings,
+        uuid: &Uuid,
+        channels: usize,
+    ) -> Result<InPlaceSession<A>, NoMemory>
+        requires channels { (1 ≤ channels) × (channels ≤ 255) }
+        requires limit { settings.limit ≤ 2 ^ 40 }
+        ensures stands { IfOk result (λ s. (first : Image) → IsImage first → first.table ≡ table.now → StandsFor settings uuid.now first (no_texts channels) first s) }
+        ensures table { IfOk result (λ s. s.table ≡ table.now) }
+        ensures counts { IfOk result (λ s. counts_of s.sources ≡ record { main = no_count; channels = replicate channels no_count }) }
+    {
+        table.keeps_limits();
+        let page_size = table.page_size();
+        let settings = LoadSettings {
+            page_size,
+            ..settings
+        };
+        Ok(InPlaceSession {
+            table: table.copy_in(alloc)?,
+            main: MainStream::new(alloc, settings),
+            channels: new_channels(alloc, page_size, uuid, channels)?,
+            round: RoundInHand::new(alloc, table)?,
+            statuses: Vec::with_capacity(alloc, channels)?,
+            hellos: Vec::with_capacity(alloc, channels)?,
+            rounds: 0,
+            base: 0,
+            verdict: Verdict::Running,
+        })
+    }
+
+    /// Takes the first bytes of `piece`, the next of `source`, as far as they belong to the round in
+    /// hand, and writes their pages into the memory. Returns how many bytes it took. The others are
+    /// to be fed again once `takes` returns true for the source.
+    ///
+    /// # Errors
+    ///
+    /// - `OtherTable`: `memory` has another table than the load. Nothing has changed.
+    /// - `NoMemory`: an allocation was refused. The load has failed for good: the verdict is
+    ///   `NoMemory` from now on.
+    pub fn feed<M: GuestTarget>(
+        &mut self,
+        memory: &mut M,
+        source: Source,
+        piece: &[u8],
+    ) -> Result<usize, InPlaceFault>
+        requires source { HasSource (counts_of self.old.sources) source }
+        requires open { IsFalse (count_of (counts_of self.old.sources) source).ended }
+        requires room { (count_of (counts_of self.old.sources) source).fed + length piece.now < 2 ^ 64 }
+        ensures taken { IfOk result (λ n. n ≤ length piece.now) }
+        ensures ok { IfOk result (λ n. StepsOn (feed_step source (take n piece.now)) (M.image memory.old) self.old (M.image memory.new) self.new) }
+        ensures waits { IfOk result (λ n. n < length piece.now → (self.new.verdict ≢ running)
+            ⊎ Tells (M.image memory.new) self.new (λ given uuid first texts. TakesBytes (for_table first.table given) uuid self.new.rounds texts source → ⊥)) }
+        ensures other { (result ≡ Err in_place_fault.OtherTable) ↔ ((M.image memory.old).table ≢ self.old.table) }
+        ensures unchanged { result ≡ Err in_place_fault.OtherTable → (self.new ≡ self.old) × (M.image memory.new ≡ M.image memory.old) }
+        ensures failed { result ≡ Err in_place_fault.NoMemory → RunsOut source piece.now (M.image memory.old) self.old (M.image memory.new) self.new }
+        ensures settled { self.old.verdict ≢ running → result ≢ Err in_place_fault.OtherTable
+            → (result ≡ Ok 0) × (self.new ≡ self.old) × (M.image memory.new ≡ M.image memory.old) }
+        ensures counts { IfOk result (λ n. counts_of self.new.sources ≡ with_fed (counts_of self.old.sources) source n) }
+        ensures table { (self.new.table ≡ self.old.table) × ((M.image memory.new).table ≡ (M.image memory.old).table) }
+        ensures rounds { self.old.rounds ≤ self.new.rounds }
+    {
+        if !self.table.same(memory.table()) {
+            return Err(InPlaceFault::OtherTable);
+        }
+        match self.take(memory, source, piece) {
+            Ok(taken) => Ok(taken),
+            Err(NoMemory) => {
+                self.verdict = failed(self.rounds, Origin::Round, Fault::NoMemory);
+                Err(InPlaceFault::NoMemory)
+            }
+        }
+    }
+
+    // Takes bytes of a source, round after round, as long as it takes some.
+    fn take<M: GuestTarget>(
+        &mut self,
+        memory: &mut M,
+        source: Source,
+        piece: &[u8],
+    ) -> Result<usize, NoMemory>
+        requires source { HasSource (counts_of self.old.sources) source }
+        requires open { IsFalse (count_of (counts_of self.old.sources) source).ended }
+        requires room { (count_of (counts_of self.old.sources) source).fed + length piece.now < 2 ^ 64 }
+        requires table { (M.image memory.old).table ≡ self.old.table }
+        ensures taken { IfOk result (λ n. n ≤ length piece.now) }
+        ensures steps { IfOk result (λ n. StepsOn (feed_step source (take n piece.now)) (M.image memory.old) self.old (M.image memory.new) self.new) }
+        ensures lacks { OnErr result ((f : Loading) → Stands f (M.image memory.old) self.old → LacksBehind source piece.now f (M.image memory.new) self.new) }
+        ensures waits { IfOk result (λ n. n < length piece.now → (self.new.verdict ≢ running)
+            ⊎ Tells (M.image memory.new) self.new (λ given uuid first texts. TakesBytes (for_table first.table given) uuid self.new.rounds texts source → ⊥)) }
+        ensures settled { self.old.verdict ≢ running → (result ≡ Ok 0) × (self.new ≡ self.old) × (M.image memory.new ≡ M.image memory.old) }
+        ensures counts { IfOk result (λ n. counts_of self.new.sources ≡ with_fed (counts_of self.old.sources) source n) }
+        ensures table { (self.new.table ≡ self.old.table) × ((M.image memory.new).table ≡ (M.image memory.old).table) }
+        ensures rounds { self.old.rounds ≤ self.new.rounds }
+    {
+        let mut taken = 0;
+        'rounds: while taken < piece.len() {
+            if !self.is_taking(source) {
+                return Ok(taken);
+            }
+            let rounds = self.rounds;
+            let count = self.read(memory, source, &piece[taken..])?;
+            taken += count;
+            self.settle(memory)?;
+            if count == 0 && self.rounds == rounds {
+                return Ok(taken);
+            }
+        }
+        Ok(taken)
+    }
+
+    // Takes bytes of a source for the round in hand.
+    fn read<M: GuestTarget>(
+        &mut self,
+        memory: &mut M,
+        source: Source,
+        piece: &[u8],
+    ) -> Result<usize, NoMemory>
+        requires source { HasSource (counts_of self.old.sources) source }
+        requires open { IsFalse (count_of (counts_of self.old.sources) source).ended }
+        requires room { (count_of (counts_of self.old.sources) source).fed + length piece.now < 2 ^ 64 }
+        requires table { (M.image memory.old).table ≡ self.old.table }
+        requires runs { self.old.verdict ≡ running }
+        requires here { IsOpenAt source self.old.sources }
+        ensures taken { IfOk result (λ n. n ≤ length piece.now) }
+        ensures read { IfOk result (λ n. (f : Loading) → Loads f (M.image memory.old) self.old
+            → IsUnsettled (with_bytes source (take n piece.now) f) (M.image memory.new) self.new) }
+        ensures lacks { OnErr result ((f : Loading) → Loads f (M.image memory.old) self.old → LacksBehind source piece.now f (M.image memory.new) self.new) }
+        ensures waits { IfOk result (λ n. n < length piece.now → TakesNoMore source self.new.sources) }
+        ensures counts { IfOk result (λ n. counts_of self.new.sources ≡ with_fed (counts_of self.old.sources) source n) }
+        ensures table { (self.new.table ≡ self.old.table) × ((M.image memory.new).table ≡ (M.image memory.old).table) }
+        ensures rounds { self.new.rounds ≡ self.old.rounds }
+    {
+        match source {
+            Source::Main => {
+                self.read_main(memory, piece)?;
+                Ok(piece.len())
+            }
+            Source::Channel(j) => self.read_channel(memory, j, piece),
+        }
+    }
+
+    // Takes bytes of a channel.
+    fn read_channel<M: GuestTarget>(
+        &mut self,
+        memory: &mut M,
+        j: usize,
+        piece: &[u8],
+    ) -> Result<usize, NoMemory>
+        requires source { j < length self.old.sources.channels }
+        requires open { IsFalse (count_of (counts_of self.old.sources) (source.Channel j)).ended }
+        requires room { (count_of (counts_of self.old.sources) (source.Channel j)).fed + length piece.now < 2 ^ 64 }
+        requires table { (M.image memory.old).table ≡ self.old.table }
+        ensures taken { IfOk result (λ n. n ≤ length piece.now) }
+        ensures read { IfOk result (λ n. (f : Loading) → Loads f (M.image memory.old) self.old
+            → Loads (with_bytes (source.Channel j) (take n piece.now) f) (M.image memory.new) self.new) }
+        ensures lacks { OnErr result ((f : Loading) → Loads f (M.image memory.old) self.old → LacksBehind (source.Channel j) piece.now f (M.image memory.new) self.new) }
+        ensures waits { IfOk result (λ n. n < length piece.now → TakesNoMore (source.Channel j) self.new.sources) }
+        ensures counts { IfOk result (λ n. counts_of self.new.sources ≡ with_fed (counts_of self.old.sources) (source.Channel j) n) }
+        ensures table { (self.new.table ≡ self.old.table) × ((M.image memory.new).table ≡ (M.image memory.old).table) }
+        ensures others { (self.new.rounds ≡ self.old.rounds) × (self.new.verdict ≡ self.old.verdict) }
+    {
+        let list = self.main.size_list();
+        let channel = &mut self.channels[j];
+        channel.read(list, &mut self.round, memory, piece)
+    }
+
+    // Takes a piece of the main stream, and writes the records of the round in hand once it is
+    // complete. Of a stream of another table none is written.
+    fn read_main<M: GuestTarget>(&mut self, memory: &mut M, piece: &[u8]) -> Result<(), NoMemory>
+        requires open { IsFalse self.old.sources.main.reader.ended }
+        requires room { self.old.sources.main.reader.fed + length piece.now < 2 ^ 64 }
+        requires table { (M.image memory.old).table ≡ self.old.table }
+        requires runs { self.old.verdict ≡ running }
+        requires here { IsFalse self.old.sources.main.is_whole }
+        ensures read { OnOk result ((f : Loading) → Loads f (M.image memory.old) self.old → IsUnsettled (with_bytes source.Main piece.now f) (M.image memory.new) self.new) }
+        ensures lacks { OnErr result ((self.new ≡ self.old) × (M.image memory.new ≡ M.image memory.old)) }
+        ensures counts { OnOk result (counts_of self.new.sources ≡ with_fed (counts_of self.old.sources) source.Main (length piece.now)) }
+        ensures table { (self.new.table ≡ self.old.table) × ((M.image memory.new).table ≡ (M.image memory.old).table) }
+        ensures rounds { self.new.rounds ≡ self.old.rounds }
+    {
+        self.main.feed(piece)?;
+        if is_of_other_table(&self.main, &self.table) {
+            self.verdict = failed(0, Origin::Main, Fault::OtherTable);
+            return Ok(());
+        }
+        take_main_round(&mut self.main, &mut self.round, memory);
+        Ok(())
+    }
+}
+
+impl<A: Allocator> InPlaceSession<A> {
+    // Judges what has come.
+    fn settle<M: GuestTarget>(&mut self, memory: &mut M) -> Result<(), NoMemory>
+        requires { (M.image memory.old).table ≡ self.old.table }
+        ensures stands { OnOk result ((f : Loading) → IsUnsettled f (M.image memory.old) self.old → Stands f (M.image memory.new) self.new) }
+        ensures lacks { OnErr result ((f : Loading) → IsUnsettled f (M.image memory.old) self.old → Lacks f (M.image memory.new) self.new) }
+        ensures sources { self.new.rounds ≡ self.old.rounds → self.new.sources ≡ self.old.sources }
+        ensures counts { counts_of self.new.sources ≡ counts_of self.old.sources }
+        ensures table { (self.new.table ≡ self.old.table) × ((M.image memory.new).table ≡ (M.image memory.old).table) }
+        ensures rounds { self.old.rounds ≤ self.new.rounds }
+    {
+        if self.verdict != Verdict::Running || self.tell() {
+            return Ok(());
+        }
+        if self.judge()? {
+            self.advance(memory);
+            self.tell();
+        }
+        Ok(())
+    }
+
+    // Returns the verdict that the sources tell at the round in hand, None if all have it.
+    fn told(&mut self) -> Option<Verdict>
+        ensures told { (f : Loading) (memory : Image) → Loads f memory self.old → TellsVerdict result f self.old.rounds }
+        ensures same { self.new ≡ self.old }
+    {
+        look_at_statuses(&self.channels, &mut self.statuses);
+        look_at_hellos(&self.channels, &mut self.hellos);
+        let repeated = repeated_id(&self.hellos);
+        verdict_told(self.rounds, self.main.status(), &self.statuses, repeated)
+    }
+
+    // Sets that verdict. Returns false, and sets none, if all sources have the round.
+    fn tell(&mut self) -> bool
+        requires { self.old.verdict ≡ running }
+        ensures told { IsTrue result → (f : Loading) (memory : Image) → Loads f memory self.old → Stands f memory self.new }
+        ensures due { IsFalse result → (f : Loading) (memory : Image) → Loads f memory self.old → IsDue f self.old.rounds }
+        ensures same { IsFalse result → self.new ≡ self.old }
+        ensures others { self.new ≡ record self.old { verdict = self.new.verdict } }
+    {
+        match self.told() {
+            Some(verdict) => {
+                self.verdict = verdict;
+                true
+            }
+            None => false,
+        }
+    }
+
+    // Judges the round in hand, which all sources have. Returns whether it is lawful.
+    fn judge(&mut self) -> Result<bool, NoMemory>
+        requires { self.old.verdict ≡ running }
+        ensures lawful { IfOk result (λ lawful. IsTrue lawful → (f : Loading) (memory : Image) → Loads f memory self.old → IsDue f self.old.rounds
+            → Loads f memory self.new × PassesAt f self.old.rounds) }
+        ensures refused { IfOk result (λ lawful. IsFalse lawful → (f : Loading) (memory : Image) → Loads f memory self.old → IsDue f self.old.rounds → Stands f memory self.new) }
+        ensures room { IfOk result (λ lawful. IsTrue lawful → (self.new.base + length self.new.round.arrivals.numbers ≤ 2 ^ 63) × (self.new.rounds < 2 ^ 63)) }
+        ensures runs { IfOk result (λ lawful. IsTrue lawful → self.new.verdict ≡ running) }
+        ensures err { OnErr result (self.new ≡ self.old) }
+        ensures others { self.new ≡ record self.old { round = self.new.round; verdict = self.new.verdict } }
+    {
+        if self.rounds >= ROUND_LIMIT || self.round.len() as u64 > PACKET_LIMIT - self.base {
+            return Err(NoMemory);
+        }
+        match self.round.judge(self.base) {
+            Ok(()) => Ok(true),
+            Err(fault) => {
+                self.verdict = failed(self.rounds, Origin::Round, Fault::Round(fault));
+                Ok(false)
+            }
+        }
+    }
+
+    // Counts the round in hand, which is lawful, and goes on to the next one.
+    fn advance<M: GuestTarget>(&mut self, memory: &mut M)
+        requires table { (M.image memory.old).table ≡ self.old.table }
+        requires runs { self.old.verdict ≡ running }
+        requires room { self.old.base + length self.old.round.arrivals.numbers ≤ 2 ^ 63 }
+        requires rounds { self.old.rounds < 2 ^ 63 }
+        ensures loads { (f : Loading) → Loads f (M.image memory.old) self.old → IsDue f self.old.rounds → PassesAt f self.old.rounds → Loads f (M.image memory.new) self.new }
+        ensures counts { counts_of self.new.sources ≡ counts_of self.old.sources }
+        ensures table { (self.new.table ≡ self.old.table) × ((M.image memory.new).table ≡ (M.image memory.old).table) }
+        ensures rounds { self.new.rounds ≡ self.old.rounds + 1 }
+        ensures runs { self.new.verdict ≡ running }
+        ensures open { All (λ c. IsFalse c.is_whole) self.new.sources.channels }
+    {
+        self.rounds += 1;
+        self.base += self.round.len() as u64;
+        self.round.clear();
+        self.main.advance();
+        advance_channels(&mut self.channels);
+        take_main_round(&mut self.main, &mut self.round, memory);
+    }
+
+    /// Ends a source, all of whose bytes were taken. A second call changes nothing.
+    pub fn end(&mut self, source: Source)
+        requires { HasSource (counts_of self.old.sources) source }
+        ensures steps { (memory : Image) → self.old.verdict ≡ running → StepsOn (end_step source) memory self.old memory self.new }
+        ensures settled { self.old.verdict ≢ running → (self.new.verdict ≡ self.old.verdict) × (self.new.rounds ≡ self.old.rounds) }
+        ensures counts { counts_of self.new.sources ≡ with_end (counts_of self.old.sources) source }
+        ensures table { self.new.table ≡ self.old.table }
+    {
+        self.end_source(source);
+        if self.verdict == Verdict::Running {
+            self.tell();
+        }
+    }
+
+    // Ends a source, and judges nothing.
+    fn end_source(&mut self, source: Source)
+        requires { HasSource (counts_of self.old.sources) source }
+        ensures loads { (f : Loading) (memory : Image) → Loads f memory self.old → Loads (with_over source f) memory self.new }
+        ensures counts { counts_of self.new.sources ≡ with_end (counts_of self.old.sources) source }
+        ensures others { self.new ≡ record self.old { sources = self.new.sources } }
+    {
+        match source {
+            Source::Main => self.main.end(),
+            Source::Channel(j) => {
+                let channel = &mut self.channels[j];
+                channel.end();
+            }
+        }
+    }
+
+    /// Returns whether bytes of `source` are taken now. They aren't once the verdict is there, nor
+    /// of a source that has the round in hand, is closed, or has a fault. Of a channel they wait
+    /// after its hello until the main stream's size list is complete.
+    pub fn takes(&self, source: Source) -> bool
+        requires { HasSource (counts_of self.now.sources) source }
+        ensures takes { (memory : Image) → self.now.verdict ≡ running
+            → Tells memory self.now (λ given uuid first texts. IsTrue result ↔ TakesBytes (for_table first.table given) uuid self.now.rounds texts source) }
+        ensures settled { self.now.verdict ≢ running → IsFalse result }
+    {
+        self.is_taking(source)
+    }
+
+    // The same, and that the main stream doesn't have the round in hand then.
+    fn is_taking(&self, source: Source) -> bool
+        requires { HasSource (counts_of self.now.sources) source }
+        ensures takes { (memory : Image) → self.now.verdict ≡ running
+            → Tells memory self.now (λ given uuid first texts. IsTrue result ↔ TakesBytes (for_table first.table given) uuid self.now.rounds texts source) }
+        ensures runs { IsTrue result → self.now.verdict ≡ running }
+        ensures open { IsTrue result → IsOpenAt source self.now.sources }
+    {
+        if self.verdict != Verdict::Running {
+            return false;
+        }
+        match source {
+            Source::Main => is_pending(self.main.status()),
+            Source::Channel(j) => self.channels[j].takes(self.main.size_list()),
+        }
+    }
+
+    /// Returns the table of the memory.
+    pub fn table(&self) -> &Table<A>
+        ensures { result.now ≡ self.now.table }
+    {
+        &self.table
+    }
+
+    /// Returns the number of channels.
+    pub fn channels(&self) -> usize
+        ensures { result ≡ length (counts_of self.now.sources).channels }
+    {
+        self.channels.len()
+    }
+
+    /// Returns whether the load has `source`: the main stream, or a channel that there is.
+    pub fn has(&self, source: Source) -> bool
+        ensures { IsTrue result ↔ HasSource (counts_of self.now.sources) source }
+    {
+        match source {
+            Source::Main => true,
+            Source::Channel(j) => j < self.channels.len(),
+        }
+    }
+
+    /// Returns whether a piece of `len` bytes of `source` has room: fewer than 2^64 bytes of it were
+    /// taken with that piece.
+    pub fn has_room(&self, source: Source, len: usize) -> bool
+        requires { HasSource (counts_of self.now.sources) source }
+        ensures { IsTrue result ↔ (count_of (counts_of self.now.sources) source).fed + len < 2 ^ 64 }
+    {
+        len as u64 <= u64::MAX - self.fed(source)
+    }
+
+    /// Returns how many bytes of `source` were taken.
+    pub fn fed(&self, source: Source) -> u64
+        requires { HasSource (counts_of self.now.sources) source }
+        ensures { result ≡ (count_of (counts_of self.now.sources) source).fed }
+    {
+        match source {
+            Source::Main => self.main.fed(),
+            Source::Channel(j) => self.channels[j].fed(),
+        }
+    }
+
+    /// Returns whether `source` was ended.
+    pub fn ended(&self, source: Source) -> bool
+        requires { HasSource (counts_of self.now.sources) source }
+        ensures { result ≡ (count_of (counts_of self.now.sources) source).ended }
+    {
+        match source {
+            Source::Main => self.main.ended(),
+            Source::Channel(j) => self.channels[j].ended(),
+        }
+    }
+
+    /// Returns the verdict on the bytes taken.
+    pub fn verdict(&self) -> Verdict
+        ensures value { result ≡ self.now.verdict }
+        ensures answer { (memory : Image) → Tells memory self.now (λ given uuid first texts. IsInPlaceAnswer given uuid first texts memory self.now.rounds result) }
+    {
+        self.verdict
+    }
+
+    /// Returns how many rounds were judged lawful. The memory has all of them.
+    pub fn rounds(&self) -> u64
+        ensures { result ≡ self.now.rounds }
+    {
+        self.rounds
+    }
+}

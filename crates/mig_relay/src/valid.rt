@@ -1,0 +1,98 @@
+//! The byte at which a load of several channels found a fault: for callers of `load_multi` that are
+//! told one, and have the texts.
+
+ghost use Rattle.std.specs.Prelude.{◌≡◌, ◌≤◌, ◌^◌, length, IfOk};
+ghost use Rattle.mig_mem.specs.PageSize.{IsPageSize};
+ghost use Rattle.mig_stream.specs.Reader.{IsValidUpTo};
+ghost use Rattle.mig_packet.specs.Reader as channel;
+ghost use Rattle.mig_packet.specs.Reading.{settings as channel_settings};
+ghost use Rattle.mig_single_load.specs.Settings.{main_of};
+ghost use Rattle.mig_answer.specs.MultiLoad.{bytes_of};
+ghost use Rattle.mig_relay.specs.Valid.{IsOriginValidUpTo};
+
+use mig_mem::NoMemory;
+use mig_packet::ChannelReader;
+use mig_single_load::{LoadSettings, Origin};
+use mig_stream::{Mode, StreamReader};
+use std::alloc::Allocator;
+use uuid::Uuid;
+
+/// Returns how many bytes of the text of `origin` are complete items without a fault, from the first
+/// byte on. If `load_multi_in` finds a fault of that text (`Fault::Stream`, `Fault::Channel`) on the
+/// same texts, the item at fault begins after them.
+///
+/// `HelloTwice`, `Extra` and `Short` are faults of what several texts tell together: no item of the
+/// text is at fault. What is found in the round (54 to 60) belongs to no one text, and there is no
+/// number for it; nor is there for a channel that there isn't.
+///
+/// It reads that text alone, once, and of a channel holds a copy of its packets until it returns.
+///
+/// # Errors
+///
+/// An allocation was refused.
+pub fn multi_valid_up_to<A: Allocator + Copy, B: Allocator>(
+    alloc: A,
+    settings: LoadSettings,
+    uuid: &Uuid,
+    main: &[u8],
+    channels: &[Vec<u8, B>],
+    origin: Origin,
+) -> Result<Option<u64>, NoMemory>
+    requires page_size { IsPageSize settings.page_size }
+    requires channels { (1 ≤ length channels.now) × (length channels.now ≤ 255) }
+    requires limit { settings.limit ≤ 2 ^ 40 }
+    ensures { IfOk result (IsOriginValidUpTo settings uuid.now main.now (bytes_of channels.now) origin) }
+{
+    match origin {
+        Origin::Main => Ok(Some(main_valid_up_to(alloc, settings, main)?)),
+        Origin::Channel(j) => {
+            let Some(text) = channels.get(j) else {
+                return Ok(None);
+            };
+            let count = channels.len();
+            let at = channel_valid_up_to(alloc, settings.page_size, uuid, count, text.as_slice())?;
+            Ok(Some(at))
+        }
+        Origin::Round => Ok(None),
+    }
+}
+
+// Returns up to where a main stream is valid.
+fn main_valid_up_to<A: Allocator + Copy>(
+    alloc: A,
+    settings: LoadSettings,
+    main: &[u8],
+) -> Result<u64, NoMemory>
+    requires page_size { IsPageSize settings.page_size }
+    requires limit { settings.limit ≤ 2 ^ 40 }
+    ensures { IfOk result (IsValidUpTo (main_of settings) main.now) }
+{
+    let reader = StreamReader::of_text_in(
+        alloc,
+        settings.frame,
+        Mode::Main,
+        settings.page_size,
+        settings.limit,
+        main,
+    )?;
+    Ok(reader.valid_up_to())
+}
+
+// Returns up to where a channel is valid.
+fn channel_valid_up_to<A: Allocator + Copy>(
+    alloc: A,
+    page_size: u64,
+    uuid: &Uuid,
+    channels: usize,
+    text: &[u8],
+) -> Result<u64, NoMemory>
+    requires page_size { IsPageSize page_size }
+    requires channels { (1 ≤ channels) × (channels ≤ 255) }
+    ensures { IfOk result (channel.IsValidUpTo (channel_settings page_size uuid.now channels) text.now) }
+{
+    let mut reader = ChannelReader::new(alloc, page_size, *uuid, channels);
+    let Ok(()) = reader.feed(text) else {
+        return Err(NoMemory);
+    };
+    Ok(reader.valid_up_to())
+}

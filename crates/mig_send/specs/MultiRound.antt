@@ -1,0 +1,153 @@
+-- A round on several channels whose workers run on threads of the caller's.
+use Rattle.std.specs.Prelude.{ℕ, ◌≡◌, ◌+◌, ◌-◌, ◌<◌, ◌≤◌, ◌^◌, List, [], ◌∷◌, ◌++◌, length, flat_map, replicate, get_or, All}
+use Rattle.std.specs.List.{AllZip, slice_set}
+use Rattle.mig_mem.specs.RamTable.{RamTable}
+use Rattle.mig_mem.specs.declared.place.Place.{Place}
+use Rattle.mig_mem.specs.Image.{Image, IsImage}
+use Rattle.mig_mem.specs.PlaceSet.{PlaceSet, IsPlaceSet}
+use Rattle.mig_mem.specs.Tracking.{Snapshot}
+use Rattle.mig_deal.specs.Deal.{SeatView, new_seat}
+use Rattle.mig_send.specs.declared.fault.SendFault.{SendFault}
+use Rattle.mig_send.specs.declared.fault.SendFault.TheVariants.{Channels, Limit, OtherTable, NoMemory}
+use Rattle.mig_send.specs.Batches.{BatchOfPages, IsCut, batch_places}
+use Rattle.mig_send.specs.Work.{Share, HasShare, ClaimsBatches}
+use Rattle.mig_send.specs.Dealing.{share_text}
+use Rattle.mig_send.specs.DealtRounds.{DealtRound, IsDealtRound, packet_count, no_share}
+use Rattle.mig_send.specs.MultiSending.{MultiSending, Drained, KeepsSetting, HasSentRounds, HasSentOne}
+use Rattle.mig_send.specs.ChannelWork.{RoundTerms, ChannelWork, HasPacked, seats_of}
+
+-- An open round: its sender, without the bytes of the channels whose workers are out; what the
+-- workers share; the seats of those that weren't handed out, and what is left of the seats of those
+-- that were given back, channel 0 first.
+pub record OpenMulti : Type 0 where
+  pub sender : MultiSending
+  pub terms : RoundTerms
+  pub seats : List SeatView
+  pub spents : List SeatView
+
+-- the dirty places of a round
+abbrev pub dirty_of : RoundTerms → List Place
+dirty_of terms = flat_map batch_places terms.batches
+
+-- how many workers were handed out
+abbrev pub handed_out : OpenMulti → ℕ
+handed_out round = length round.sender.channels - length round.seats
+
+-- What holds of each open round: its batches are those of its dirty places, its deal has one number
+-- for each and a seat for each channel, and goes on where the sender's packets end.
+pub record IsOpenMulti (round : OpenMulti) : Type 0 where
+  pub same_table : round.terms.table ≡ round.sender.main.table
+  pub claims : ClaimsBatches round.terms.deal round.terms.table round.terms.batches
+  pub are_cut : IsCut round.sender.limit (dirty_of round.terms) round.terms.batches
+  pub are_places : IsPlaceSet record { table = round.terms.table; marked = dirty_of round.terms }
+  pub has_base : round.terms.deal.base ≡ round.sender.base
+  pub base_fits : round.sender.base ≤ 2 ^ 63
+  pub as_many : round.terms.deal.seats ≡ length round.sender.channels
+  pub are_new : All (λ seat. seat ≡ new_seat round.terms.deal) round.seats
+  pub are_own : All (λ spent. spent.deal ≡ round.terms.deal) round.spents
+  pub are_few : length round.spents + length round.seats ≤ length round.sender.channels
+
+-- ---- how far a round has come
+
+-- no channel's bytes were drained in the round
+abbrev pub none_drained : ℕ → List ℕ
+none_drained = λ _. []
+
+-- The round was begun by a sender, and the workers that were given back packed what they drew from
+-- the pages of this image: each of their channels has, after what it had, what is sent of a share.
+-- These bytes of it were drained in the round. The channels whose workers are still to be handed out
+-- have what they had.
+pub record IsRoundSoFar (image : Image) (drained : ℕ → List ℕ) (old : MultiSending) (round : OpenMulti) : Type 0 where
+  pub same_sender : round.sender ≡ record old { channels = round.sender.channels }
+  pub same_channels : length round.sender.channels ≡ length old.channels
+  pub shares : List Share
+  pub have_shares : AllZip (HasShare (new_seat round.terms.deal)) round.spents shares
+  pub have_texts : (channel : ℕ) → channel < length round.spents
+      → drained channel ++ get_or round.sender.channels channel []
+      ≡ get_or old.channels channel [] ++ share_text round.terms.deal.base image round.terms.batches (get_or shares channel no_share)
+  pub are_waiting : (channel : ℕ) → handed_out round ≤ channel → channel < length old.channels
+      → get_or round.sender.channels channel [] ≡ get_or old.channels channel []
+
+-- ---- its calls
+
+-- The round of a dirty set is begun: no worker was handed out.
+pub record HasBegun (dirty : PlaceSet) (old : MultiSending) (round : OpenMulti) : Type 0 where
+  pub same_table : dirty.table ≡ old.main.table
+  pub of_table : round.terms.table ≡ old.main.table
+  pub is_of : dirty_of round.terms ≡ dirty.marked
+  pub same_sender : round.sender ≡ old
+  pub all_left : length round.seats ≡ length old.channels
+  pub none_back : round.spents ≡ []
+  pub has_come : (image : Image) (drained : ℕ → List ℕ) → IsRoundSoFar image drained old round
+
+-- why a round isn't begun: the first that applies
+abbrev pub IsBeginFault : RamTable → RamTable → SendFault → Type 0
+IsBeginFault table other Channels = ⊥
+IsBeginFault table other Limit = ⊥
+IsBeginFault table other OtherTable = other ≡ table → ⊥
+IsBeginFault table other NoMemory = other ≡ table
+
+-- What the workers share has these batches of a table, which the numbers from a base on claim, and
+-- there is a new seat for each worker.
+pub record IsDealtTo (base : ℕ) (table : RamTable) (batches : List BatchOfPages) (workers : ℕ) (terms : RoundTerms) (seats : List SeatView) : Type 0 where
+  pub same_table : terms.table ≡ table
+  pub same_batches : terms.batches ≡ batches
+  pub claims : ClaimsBatches terms.deal terms.table terms.batches
+  pub has_base : terms.deal.base ≡ base
+  pub as_many : terms.deal.seats ≡ workers
+  pub are_seats : seats ≡ replicate workers (new_seat terms.deal)
+
+-- And these are the batches of a dirty set, for a sender's channels.
+pub record IsDealtOut (dirty : PlaceSet) (sender : MultiSending) (terms : RoundTerms) (seats : List SeatView) : Type 0 where
+  pub are_cut : IsCut sender.limit dirty.marked terms.batches
+  pub is_dealt : IsDealtTo sender.base sender.main.table terms.batches (length sender.channels) terms seats
+  pub base_fits : sender.base ≤ 2 ^ 63
+
+-- The next channel's worker is handed out, with the bytes that the channel had.
+pub record HandsOut (old new : OpenMulti) (worker : ChannelWork) : Type 0 where
+  pub same_terms : new.terms ≡ old.terms
+  pub worker_terms : worker.terms ≡ old.terms
+  pub is_next : worker.channel ≡ handed_out old
+  pub one_fewer : length old.seats ≡ length new.seats + 1
+  pub same_spents : new.spents ≡ old.spents
+  pub same_sender : new.sender ≡ record old.sender { channels = slice_set old.sender.channels worker.channel [] }
+  pub has_come : (image : Image) (drained : ℕ → List ℕ) (sender : MultiSending) → IsRoundSoFar image drained sender old
+      → IsRoundSoFar image drained sender new × HasPacked image (get_or sender.channels worker.channel []) worker.text worker
+
+-- A worker that has ended is given back: its bytes that weren't drained are its channel's.
+pub record TakesBack (worker : ChannelWork) (old new : OpenMulti) : Type 0 where
+  pub same_terms : new.terms ≡ old.terms
+  pub same_seats : new.seats ≡ old.seats
+  pub one_more : new.spents ≡ old.spents ++ seats_of worker.hand
+  pub same_sender : new.sender ≡ record old.sender { channels = slice_set old.sender.channels worker.channel worker.text }
+  pub has_come : (image : Image) (drained : ℕ → List ℕ) (sender : MultiSending) → IsRoundSoFar image drained sender old
+      → HasPacked image (get_or sender.channels worker.channel []) (drained worker.channel ++ worker.text) worker
+      → IsRoundSoFar image drained sender new
+
+-- ---- the round sent
+
+-- what was drained, and these bytes of each channel
+abbrev pub with_channels : Drained → (ℕ → List ℕ) → Drained
+with_channels drained more = record drained { channel = λ channel. drained.channel channel ++ more channel }
+
+-- As `HasSentOne`, where these bytes of the channels were drained in the round.
+pub record HasSentRound (drained : ℕ → List ℕ) (snapshot : Snapshot) (old new : MultiSending) : Type 0 where
+  pub round : DealtRound
+  pub is_of : round.snapshot ≡ snapshot
+  pub is_dealt : IsDealtRound old.main.table old.limit (length old.channels) round
+  pub goes_on : round.base ≡ old.base
+  pub has_base : new.base ≡ old.base + packet_count round
+  pub has_rounds : new.rounds ≡ old.rounds + 1
+  pub has_sent : (before : Drained) (rounds : List DealtRound) → HasSentRounds before old rounds
+      → HasSentRounds (with_channels before drained) new (rounds ++ round ∷ [])
+
+-- The round is ended: where it was begun by a sender and came so far, that sender has sent it, as
+-- `MultiSender::round` sends one.
+pub record EndsRound (round : OpenMulti) (sender : MultiSending) : Type 0 where
+  pub same_setting : KeepsSetting round.sender sender
+  pub has_sent : (image : Image) (drained : ℕ → List ℕ) (old : MultiSending) → IsImage image → image.table ≡ round.sender.main.table
+      → IsRoundSoFar image drained old round
+      → HasSentRound drained (record { image = image; dirty = dirty_of round.terms }) old sender
+  pub has_sent_undrained : (image : Image) (old : MultiSending) → IsImage image → image.table ≡ round.sender.main.table
+      → IsRoundSoFar image none_drained old round
+      → HasSentOne (record { image = image; dirty = dirty_of round.terms }) old sender

@@ -1,0 +1,208 @@
+//! A worker of one channel, for callers with threads of their own: its caller steps it, and each
+//! step writes one packet. `MultiRound` hands out a worker for each channel of a sender.
+//!
+//! A worker starts no thread and waits for nobody. It shares the round's deal with the other
+//! workers, and nothing else that is written.
+
+ghost use Rattle.std.specs.Prelude.{◌≡◌, ◌↔◌, ◌++◌, [], List, ℕ, IsTrue, OnOk, OnErr};
+ghost use Rattle.mig_mem.specs.Image.{Image};
+ghost use Rattle.mig_send.specs.Packing.{IsPrefix};
+ghost use Rattle.mig_send.specs.ChannelWork.{IsHand, HasNumber, HasClaimed, HasEnded, HasStepped, HasPacked, IsStep, after_packet, hand_bytes};
+
+use crate::packed::{Offsets, append_packet};
+use crate::round_work::RoundWork;
+use crate::share::put_sync;
+use mig_deal::{Deal, Drawn, Seat, Spent};
+use mig_mem::{GuestPages, NoMemory, Table};
+use std::alloc::{Allocator, Global};
+use std::fmt::{self, Debug, Formatter};
+use std::marker::Model;
+use std::mem;
+use std::sync::Arc;
+
+/// What a worker has in hand.
+#[derive(Drop)]
+pub(crate) enum Hand {
+    /// A seat to draw with.
+    Drawing(Seat),
+    /// A number whose batch isn't packed yet.
+    Claimed(Seat, u64),
+    /// Its last number, whose SYNC packet isn't written yet.
+    Ending(Spent, u64),
+    /// What is left of its seat.
+    Ended(Spent),
+    /// Nothing, while a step runs.
+    Moving,
+}
+
+/// Packs batches of one round for one channel, a packet at each step. Several workers of a round
+/// run at once, each on a thread of its own; each holds the bytes of its channel until they are
+/// drained. Whoever drops a worker gives up the sender's streams, since the round can't be ended
+/// then.
+#[derive(Drop)]
+pub struct ChannelWorker<A: Allocator = Global> {
+    pub(crate) shared: Arc<RoundWork<A>, A>,
+    pub(crate) channel: usize,
+    pub(crate) hand: Hand,
+    pub(crate) text: Vec<u8, A>,
+    pub(crate) offsets: Offsets<A>,
+}
+
+impl<A: Allocator> Model for ChannelWorker<A> {
+    ghost use Rattle.std.specs.Arc.{arc_value};
+    ghost use Rattle.mig_send.specs.ChannelWork.{ChannelWork, IsHand};
+
+    ghost Value = { ChannelWork };
+
+    ghost view = { λ w. record { terms = arc_value w.shared; channel = w.channel; hand = w.hand; text = w.text.items } };
+
+    ghost invariant = { λ w. IsHand (arc_value w.shared).deal w.hand };
+}
+
+impl<A: Allocator> Debug for ChannelWorker<A> {
+    fn fmt<W: fmt::Write>(&self, f: &mut Formatter<W>) -> fmt::Result {
+        f.pad("ChannelWorker { .. }")
+    }
+}
+
+// Draws a number, where none is in hand and one is left to draw.
+fn claimed<A: Allocator>(deal: &Deal<A>, hand: Hand) -> Hand
+    requires { IsHand deal.now hand }
+    ensures hand { IsHand deal.now result }
+    ensures claimed { HasClaimed deal.now hand result }
+{
+    match hand {
+        Hand::Drawing(seat) => match deal.draw(seat) {
+            Drawn::Work(number, next) => Hand::Claimed(next, number),
+            Drawn::Last(last, spent) => Hand::Ending(spent, last),
+        },
+        Hand::Claimed(seat, number) => Hand::Claimed(seat, number),
+        Hand::Ending(spent, last) => Hand::Ending(spent, last),
+        Hand::Ended(spent) => Hand::Ended(spent),
+        Hand::Moving => Hand::Moving,
+    }
+}
+
+// Appends the packet of what is in hand, if anything is. After an `Err` a part of it may stand.
+fn put_in_hand<A: Allocator, M: GuestPages>(
+    work: &RoundWork<A>,
+    hand: &Hand,
+    text: &mut Vec<u8, A>,
+    offsets: &mut Offsets<A>,
+    memory: &M,
+) -> Result<(), NoMemory>
+    requires table { (M.image memory.now).table ≡ work.now.table }
+    requires hand { IsHand work.now.deal hand.now }
+    ensures ok { OnOk result (text.new.items ≡ text.old.items ++ hand_bytes (M.image memory.now) work.now hand.now) }
+    ensures prefix { IsPrefix text.old.items text.new.items }
+    ensures refused { OnErr result (HasNumber hand.now) }
+{
+    match hand {
+        Hand::Claimed(_, number) => {
+            let batch = &work.batches[(*number - work.deal.base()) as usize];
+            append_packet(text, offsets, memory, batch, *number)
+        }
+        Hand::Ending(_, last) => put_sync(text, memory, *last),
+        Hand::Drawing(_) => Ok(()),
+        Hand::Ended(_) => Ok(()),
+        Hand::Moving => Ok(()),
+    }
+}
+
+// What is in hand once the packet of what was is written.
+fn written(hand: Hand) -> Hand
+    ensures { result ≡ after_packet hand }
+{
+    match hand {
+        Hand::Drawing(seat) => Hand::Drawing(seat),
+        Hand::Claimed(seat, _) => Hand::Drawing(seat),
+        Hand::Ending(spent, _) => Hand::Ended(spent),
+        Hand::Ended(spent) => Hand::Ended(spent),
+        Hand::Moving => Hand::Moving,
+    }
+}
+
+// One step, on the parts of a worker.
+fn step_parts<A: Allocator, M: GuestPages>(
+    work: &RoundWork<A>,
+    hand: &mut Hand,
+    text: &mut Vec<u8, A>,
+    offsets: &mut Offsets<A>,
+    memory: &M,
+) -> Result<(), NoMemory>
+    requires table { (M.image memory.now).table ≡ work.now.table }
+    requires hand { IsHand work.now.deal hand.old }
+    ensures hand { IsHand work.now.deal hand.new }
+    ensures step { IsStep (M.image memory.now) work.now result hand.old hand.new text.old.items text.new.items }
+{
+    let in_hand = claimed(&work.deal, mem::replace(hand, Hand::Moving));
+    let len = text.len();
+    match put_in_hand(work, &in_hand, text, offsets, memory) {
+        Ok(()) => {
+            *hand = written(in_hand);
+            Ok(())
+        }
+        Err(NoMemory) => {
+            text.truncate(len);
+            *hand = in_hand;
+            Err(NoMemory)
+        }
+    }
+}
+
+impl<A: Allocator> ChannelWorker<A> {
+    /// The table whose pages it sends.
+    pub fn table(&self) -> &Table<A>
+        ensures { result.now ≡ self.now.terms.table }
+    {
+        &self.shared.table
+    }
+
+    /// The number of its channel.
+    pub fn channel(&self) -> usize
+        ensures { result ≡ self.now.channel }
+    {
+        self.channel
+    }
+
+    /// Whether it has written its SYNC packet, after which a step does nothing.
+    pub fn has_ended(&self) -> bool
+        ensures { IsTrue result ↔ HasEnded self.now.hand }
+    {
+        matches!(self.hand, Hand::Ended(_))
+    }
+
+    /// Writes one packet: that of the next batch that no worker of the round has, or, if none is
+    /// left, the channel's SYNC packet. All steps of a round take one and the same memory.
+    ///
+    /// # Errors
+    ///
+    /// `NoMemory`: an allocation was refused. Nothing was written, and the next step writes the
+    /// packet.
+    pub fn step<M: GuestPages>(&mut self, memory: &M) -> Result<(), NoMemory>
+        requires table { (M.image memory.now).table ≡ self.old.terms.table }
+        ensures step { HasStepped (M.image memory.now) result self.old self.new }
+        ensures packed { (before drained : List ℕ) → HasPacked (M.image memory.now) before (drained ++ self.old.text) self.old
+            → HasPacked (M.image memory.now) before (drained ++ self.new.text) self.new }
+    {
+        step_parts(
+            &self.shared,
+            &mut self.hand,
+            &mut self.text,
+            &mut self.offsets,
+            memory,
+        )
+    }
+
+    /// Hands out the bytes of its channel that were written and not drained yet, into a buffer: what
+    /// it held is dropped, and its room is used for what is written next. It allocates nothing.
+    pub fn drain_into(&mut self, bytes: &mut Vec<u8, A>)
+        ensures all { bytes.new.items ≡ self.old.text }
+        ensures rest { self.new ≡ record self.old { text = [] } }
+        ensures packed { (image : Image) (before drained : List ℕ) → HasPacked image before (drained ++ self.old.text) self.old
+            → HasPacked image before ((drained ++ bytes.new.items) ++ self.new.text) self.new }
+    {
+        bytes.clear();
+        mem::swap(&mut self.text, bytes);
+    }
+}

@@ -1,0 +1,284 @@
+//! A round of a sender on several channels whose workers run on threads of the caller's: it hands
+//! out a worker for each channel, takes them back once they have ended, and ends with a FLUSH.
+
+ghost use Rattle.std.specs.Prelude.{◌≡◌, ◌<◌, [], length, get_or, slice_set, All, IfOk, IfErr, OnOk, OnErr};
+ghost use Rattle.std.specs.Arc.{arc_value};
+ghost use Rattle.mig_mem.specs.PlaceSet.{IsPlaceSet};
+ghost use Rattle.mig_deal.specs.Deal.{IsWithinLimits};
+ghost use Rattle.mig_send.specs.Batches.{IsBatch};
+ghost use Rattle.mig_send.specs.ChannelWork.{HasEnded};
+ghost use Rattle.mig_send.specs.MultiRound.{HasBegun, IsBeginFault, IsDealtTo, IsDealtOut, HandsOut, TakesBack, EndsRound, handed_out};
+
+use crate::SendFault;
+use crate::batch::{Batch, cut};
+use crate::channel_worker::{ChannelWorker, Hand};
+use crate::multi::{LAST_BASE, MultiSender};
+use crate::packed::Offsets;
+use crate::round_work::RoundWork;
+use mig_deal::{Deal, Seat, Spent};
+use mig_mem::{Dirty, NoMemory, Table};
+use std::alloc::{AllocFailed, Allocator, Global};
+use std::fmt::{self, Debug, Formatter};
+use std::marker::Model;
+use std::mem;
+use std::sync::Arc;
+
+/// A round that is being sent on several channels, by workers on threads of the caller's. It has the
+/// sender until the round is ended; whoever drops it drops the sender too, and so gives up the
+/// streams.
+#[derive(Drop)]
+pub struct MultiRound<A: Allocator = Global> {
+    sender: MultiSender<A>,
+    shared: Arc<RoundWork<A>, A>,
+    // of the workers that weren't handed out yet
+    seats: Vec<Seat, A>,
+    // of those that were given back
+    spents: Vec<Spent, A>,
+}
+
+impl<A: Allocator> Model for MultiRound<A> {
+    ghost use Rattle.std.specs.Arc.{arc_value};
+    ghost use Rattle.mig_send.specs.MultiRound.{OpenMulti, IsOpenMulti};
+
+    ghost Value = { OpenMulti };
+
+    ghost view = { λ r. record { sender = r.sender; terms = arc_value r.shared; seats = r.seats.items; spents = r.spents.items } };
+
+    ghost invariant = { λ r. IsOpenMulti (record { sender = r.sender; terms = arc_value r.shared; seats = r.seats.items; spents = r.spents.items }) };
+}
+
+impl<A: Allocator> Debug for MultiRound<A> {
+    fn fmt<W: fmt::Write>(&self, f: &mut Formatter<W>) -> fmt::Result {
+        f.pad("MultiRound { .. }")
+    }
+}
+
+// Deals batches of a table to so many seats.
+fn deal_out<A: Allocator + Copy>(
+    alloc: A,
+    base: u64,
+    table: &Table<A>,
+    batches: Vec<Batch<A>, A>,
+    seats: usize,
+) -> Result<(Arc<RoundWork<A>, A>, Vec<Seat, A>), NoMemory>
+    requires limits { IsWithinLimits base (length batches.items) seats }
+    requires batches { All (IsBatch table.now) batches.items }
+    ensures { IfOk result (λ r. IsDealtTo base table.now batches.items seats (arc_value r.0) r.1.items) }
+{
+    let table = table.copy_in(alloc)?;
+    let Ok((deal, seats)) = Deal::new(alloc, base, batches.len() as u64, seats) else {
+        return Err(NoMemory);
+    };
+    let work = RoundWork {
+        deal,
+        table,
+        batches,
+    };
+    match Arc::new(alloc, work) {
+        Ok(shared) => Ok((shared, seats)),
+        Err(_) => Err(NoMemory),
+    }
+}
+
+impl<A: Allocator + Copy> MultiSender<A> {
+    /// Begins a round whose workers run on threads of the caller's: cuts the dirty pages into
+    /// batches and deals these out. It starts no thread.
+    ///
+    /// # Errors
+    ///
+    /// Gives the sender back as it was, with:
+    ///
+    /// - `OtherTable`: `dirty` is of another table than the sender's.
+    /// - `NoMemory`: an allocation was refused, or more than 2^63 packets were numbered.
+    pub fn begin_round<C: Allocator>(
+        self,
+        dirty: &Dirty<C>,
+    ) -> Result<MultiRound<A>, (MultiSender<A>, SendFault)>
+        ensures ok { IfOk result (λ round. HasBegun dirty.now self round) }
+        ensures same { IfErr result (λ e. e.0 ≡ self) }
+        ensures refused { IfErr result (λ e. IsBeginFault self.main.table dirty.now.table e.1) }
+    {
+        if !dirty.table().same(self.main.table()) {
+            return Err((self, SendFault::OtherTable));
+        }
+        match self.dealt_out(dirty) {
+            Ok((shared, seats)) => {
+                let spents = Vec::new(self.alloc);
+                Ok(MultiRound {
+                    sender: self,
+                    shared,
+                    seats,
+                    spents,
+                })
+            }
+            Err(NoMemory) => Err((self, SendFault::NoMemory)),
+        }
+    }
+
+    // What the workers of a round share, and their seats.
+    fn dealt_out<C: Allocator>(
+        &self,
+        dirty: &Dirty<C>,
+    ) -> Result<(Arc<RoundWork<A>, A>, Vec<Seat, A>), NoMemory>
+        requires table { dirty.now.table ≡ self.now.main.table }
+        requires set { IsPlaceSet dirty.now }
+        ensures { IfOk result (λ r. IsDealtOut dirty.now self.now (arc_value r.0) r.1.items) }
+    {
+        if self.base > LAST_BASE {
+            return Err(NoMemory);
+        }
+        let table = self.main.table();
+        let batches = cut(self.alloc, table, dirty, self.limit)?;
+        deal_out(self.alloc, self.base, table, batches, self.channels.len())
+    }
+
+    // Hands out the bytes that it holds of a channel.
+    fn take_channel(&mut self, channel: usize) -> Vec<u8, A>
+        requires { channel < length self.old.channels }
+        ensures text { result.items ≡ get_or self.old.channels channel [] }
+        ensures rest { self.new ≡ record self.old { channels = slice_set self.old.channels channel [] } }
+    {
+        let alloc = self.alloc;
+        mem::replace(&mut self.channels[channel], Vec::new(alloc))
+    }
+}
+
+impl<A: Allocator> MultiSender<A> {
+    // Gives it bytes to hold of a channel, in place of what it held.
+    fn put_channel(&mut self, channel: usize, text: Vec<u8, A>)
+        requires { channel < length self.old.channels }
+        ensures { self.new ≡ record self.old { channels = slice_set self.old.channels channel text.items } }
+    {
+        self.channels[channel] = text;
+    }
+}
+
+impl<A: Allocator + Copy> MultiRound<A> {
+    /// Hands out the worker of the next channel, beginning with channel 0. Its bytes begin with
+    /// those of its channel that the sender wrote before and that weren't drained.
+    ///
+    /// # Errors
+    ///
+    /// `NoMemory`: there are more than 2^63 owners of what the workers share. The round is as it was.
+    pub fn worker(&mut self) -> Result<ChannelWorker<A>, NoMemory>
+        requires left { 0 < length self.old.seats }
+        ensures ok { IfOk result (λ worker. HandsOut self.old self.new worker) }
+        ensures err { IfErr result (λ _. self.new ≡ self.old) }
+    {
+        let Ok(shared) = Arc::try_clone(&self.shared) else {
+            return Err(NoMemory);
+        };
+        let channel = self.sender.channels() - self.seats.len();
+        let Some(seat) = self.seats.pop() else {
+            unreachable!()
+        };
+        let text = self.sender.take_channel(channel);
+        let offsets = Offsets::new(*text.allocator());
+        Ok(ChannelWorker {
+            shared,
+            channel,
+            hand: Hand::Drawing(seat),
+            text,
+            offsets,
+        })
+    }
+}
+
+impl<A: Allocator> MultiRound<A> {
+    /// The table whose pages it sends.
+    pub fn table(&self) -> &Table<A>
+        ensures { result.now ≡ self.now.sender.main.table }
+    {
+        self.sender.main.table()
+    }
+
+    /// How many channels its sender has.
+    pub fn channels(&self) -> usize
+        ensures { result ≡ length self.now.sender.channels }
+    {
+        self.sender.channels.len()
+    }
+
+    /// How many workers weren't handed out yet.
+    pub fn workers_left(&self) -> usize
+        ensures { result ≡ length self.now.seats }
+    {
+        self.seats.len()
+    }
+
+    /// How many workers were given back. It is the channel of the next one that is.
+    pub fn given_back(&self) -> usize
+        ensures { result ≡ length self.now.spents }
+    {
+        self.spents.len()
+    }
+
+    /// Takes back a worker that has ended: workers come back in the order of their channels. Bytes
+    /// that it didn't drain are the sender's again.
+    ///
+    /// # Errors
+    ///
+    /// The worker: an allocation was refused. The round is as it was.
+    pub fn give_back(&mut self, worker: ChannelWorker<A>) -> Result<(), ChannelWorker<A>>
+        requires own { worker.terms ≡ self.old.terms }
+        requires turn { (worker.channel ≡ length self.old.spents) × (length self.old.spents < handed_out self.old) }
+        requires ended { HasEnded worker.hand }
+        ensures ok { OnOk result (TakesBack worker self.old self.new) }
+        ensures same { OnErr result (self.new ≡ self.old) }
+        ensures err { IfErr result (λ w. w ≡ worker) }
+    {
+        let ChannelWorker {
+            shared,
+            channel,
+            hand,
+            text,
+            offsets,
+        } = worker;
+        let Hand::Ended(spent) = hand else {
+            unreachable!()
+        };
+        match self.spents.push(spent) {
+            Ok(()) => {
+                self.sender.put_channel(channel, text);
+                Ok(())
+            }
+            Err(AllocFailed { value: spent }) => Err(ChannelWorker {
+                shared,
+                channel,
+                hand: Hand::Ended(spent),
+                text,
+                offsets,
+            }),
+        }
+    }
+
+    /// Ends the round with a FLUSH on the main stream. All workers have been given back.
+    ///
+    /// # Errors
+    ///
+    /// The round, as it was: an allocation was refused.
+    pub fn end_round(self) -> Result<MultiSender<A>, MultiRound<A>>
+        requires all { length self.spents ≡ length self.sender.channels }
+        ensures ok { IfOk result (λ sender. EndsRound self sender) }
+        ensures err { IfErr result (λ round. round ≡ self) }
+    {
+        let MultiRound {
+            mut sender,
+            shared,
+            seats,
+            spents,
+        } = self;
+        let Ok(()) = sender.main.flush_part() else {
+            return Err(MultiRound {
+                sender,
+                shared,
+                seats,
+                spents,
+            });
+        };
+        sender.base += (shared.batches.len() + sender.channels.len()) as u64;
+        sender.rounds += 1;
+        let _next = shared.deal.end_number(spents);
+        Ok(sender)
+    }
+}

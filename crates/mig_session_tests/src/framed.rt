@@ -1,0 +1,189 @@
+//! Sessions with settings: the main stream of RAM's sections alone and that of a machine, in
+//! pieces, with each allocation refused; and which sources and how long pieces a session takes.
+
+use crate::feeding::text_of;
+use crate::texts::page_and_zeros;
+use mig_answer::Verdict;
+use mig_fixtures::{TestHeap, at, has_byte, is_full};
+use mig_mem::NoMemory;
+use mig_send::Sent;
+use mig_session::{Session, Source};
+use mig_single_load::{Fault, LoadFault, LoadSettings, Origin};
+use mig_stream::{Frame, StreamFault};
+use std::alloc::{AllocGlobal, Allocator};
+use std::process::Abort;
+use uuid::Uuid;
+
+const FRAMES: [Frame; 2] = [Frame::Ram, Frame::Machine];
+
+const CHANNEL: Source = Source::Channel(0);
+
+fn append(rt: &impl Abort, text: &mut Vec<u8>, piece: &[u8]) {
+    assert!(rt; text.extend_from_slice(piece).is_ok());
+}
+
+// One round of two pages on one channel, with a main stream of a frame: that of a machine has the
+// configuration `pc` and OPEN_RETURN_PATH before START, and a device's section after the 18 bytes
+// of END, which begin at byte 82 of RAM's sections.
+fn texts_in(rt: &(impl AllocGlobal + Abort), frame: Frame) -> Sent {
+    let mut texts = page_and_zeros(rt);
+    if frame == Frame::Machine {
+        let mut main = Vec::new(rt.alloc());
+        append(rt, &mut main, texts.main.get(..8).expect(rt, "a header"));
+        append(rt, &mut main, b"\x07\x00\x00\x00\x02pc\x08\x00\x01\x00\x00");
+        append(rt, &mut main, texts.main.get(8..82).expect(rt, "sections"));
+        append(rt, &mut main, b"\x08\x00\x0b\x00\x00");
+        append(rt, &mut main, texts.main.get(82..100).expect(rt, "END"));
+        append(rt, &mut main, b"\x04\x00\x00\x00\x02\x05timer");
+        texts.main = main;
+    }
+    texts
+}
+
+fn new_session<A: Allocator + Copy>(alloc: A, frame: Frame) -> Result<Session<A>, NoMemory> {
+    let settings = LoadSettings::new(4096, 1 << 40).with_frame(frame);
+    Session::new_in(alloc, settings, &Uuid::nil(), 1)
+}
+
+// Feeds a piece of a source that the session has, where it has room.
+fn feed<A: Allocator + Copy>(
+    rt: &impl Abort,
+    session: &mut Session<A>,
+    source: Source,
+    piece: &[u8],
+) -> Result<(), NoMemory> {
+    assert!(rt; session.has(source));
+    assert!(rt; !session.ended(source) && session.has_room(source, piece.len()));
+    session.feed(source, piece)
+}
+
+// Feeds the channel and then the main stream in pieces of `len` bytes, up to the first refusal.
+fn feed_all<A: Allocator + Copy>(
+    rt: &impl Abort,
+    session: &mut Session<A>,
+    texts: &Sent,
+    len: usize,
+) -> Result<(), NoMemory> {
+    for source in [CHANNEL, Source::Main] {
+        for piece in text_of(rt, texts, source).chunks(len.max(1)) {
+            feed(rt, session, source, piece)?;
+        }
+    }
+    Ok(())
+}
+
+fn end<A: Allocator>(rt: &impl Abort, session: &mut Session<A>, source: Source) {
+    assert!(rt; session.has(source));
+    session.end(source);
+}
+
+// Asserts that a session has its round: page 0 as zeros, and page 1 with the first byte 9.
+fn assert_done<A: Allocator>(rt: &impl Abort, session: &mut Session<A>) {
+    assert!(rt; session.verdict() == Verdict::Running);
+    end(rt, session, CHANNEL);
+    end(rt, session, Source::Main);
+    assert!(rt; session.verdict() == Verdict::Done && session.rounds() == 1);
+    let memory = session.memory().expect(rt, "a memory");
+    assert!(rt; is_full(memory, at(0, 0), 0) && has_byte(memory, at(0, 1), 0, 9));
+}
+
+#[test]
+fn fed_in_both_frames(rt: HostRuntime) {
+    for frame in FRAMES {
+        let texts = texts_in(&rt, frame);
+        for len in [1usize, 7, 4096, 10_000] {
+            let mut session = new_session(rt.alloc(), frame).expect(&rt, "a session");
+            assert!(rt; feed_all(&rt, &mut session, &texts, len) == Ok(()));
+            assert_done(&rt, &mut session);
+        }
+    }
+}
+
+// A machine's stream read as RAM's sections fails at its first COMMAND, byte 15, where the channel
+// has its round. RAM's sections alone are a machine's stream as well.
+#[test]
+fn fed_in_another_frame(rt: HostRuntime) {
+    let texts = texts_in(&rt, Frame::Machine);
+    let mut session = new_session(rt.alloc(), Frame::Ram).expect(&rt, "a session");
+    let failed = Verdict::Failed(LoadFault {
+        round: 0,
+        source: Origin::Main,
+        fault: Fault::Stream(StreamFault::SectionType),
+    });
+    let channel = text_of(&rt, &texts, CHANNEL);
+    assert!(rt; feed(&rt, &mut session, CHANNEL, channel) == Ok(()));
+    let (front, rest) = texts.main.split_at_checked(15).expect(&rt, "two pieces");
+    assert!(rt; feed(&rt, &mut session, Source::Main, front) == Ok(()));
+    assert!(rt; session.verdict() == Verdict::Running);
+    let first = rest.get(..1).expect(&rt, "a type byte");
+    assert!(rt; feed(&rt, &mut session, Source::Main, first) == Ok(()));
+    assert!(rt; session.verdict() == failed && session.memory().is_none());
+    let ram = texts_in(&rt, Frame::Ram);
+    let mut session = new_session(rt.alloc(), Frame::Machine).expect(&rt, "a session");
+    assert!(rt; feed_all(&rt, &mut session, &ram, 50) == Ok(()));
+    assert_done(&rt, &mut session);
+}
+
+// Makes and feeds a session with allocation `nth` refused. Whether there was no such allocation.
+fn is_done_with<A: Allocator + Copy>(
+    rt: &impl Abort,
+    alloc: A,
+    frame: Frame,
+    texts: &Sent,
+) -> bool {
+    let Ok(mut session) = new_session(alloc, frame) else {
+        return false;
+    };
+    if feed_all(rt, &mut session, texts, 1000).is_err() {
+        let failed = LoadFault {
+            round: session.rounds(),
+            source: Origin::Round,
+            fault: Fault::NoMemory,
+        };
+        assert!(rt; session.verdict() == Verdict::Failed(failed));
+        return false;
+    }
+    assert_done(rt, &mut session);
+    true
+}
+
+#[test]
+fn each_allocation_refused(rt: HostRuntime) {
+    for frame in FRAMES {
+        let heap = TestHeap::new(rt.alloc());
+        let texts = texts_in(&rt, frame);
+        let mut refused = 0u64;
+        for nth in 1..1000u64 {
+            heap.refuse(nth);
+            let is_done = is_done_with(&rt, &heap, frame, &texts);
+            assert!(rt; is_done == heap.is_waiting());
+            if is_done {
+                break;
+            }
+            refused = nth;
+        }
+        assert!(rt; 2 < refused && refused < 999);
+    }
+}
+
+// A session of 3 channels has the main stream and channels 0 to 2. Of a source of which 10 bytes
+// came, a piece of 2^64 - 11 bytes has room, and no longer one.
+#[test]
+fn sources_and_room(rt: HostRuntime) {
+    let settings = LoadSettings::new(4096, 1 << 40);
+    let made = Session::new_in(rt.alloc(), settings, &Uuid::nil(), 3);
+    let mut session = made.expect(&rt, "a session");
+    assert!(rt; session.has(Source::Main) && session.has(Source::Channel(0)));
+    assert!(rt; session.has(Source::Channel(2)) && !session.has(Source::Channel(3)));
+    assert!(rt; !session.has(Source::Channel(usize::MAX)));
+    for source in [Source::Main, Source::Channel(2)] {
+        assert!(rt; session.has(source));
+        assert!(rt; session.has_room(source, usize::MAX));
+        assert!(rt; feed(&rt, &mut session, source, &[0; 10]) == Ok(()));
+        assert!(rt; session.has(source));
+        assert!(rt; session.has_room(source, usize::MAX - 10));
+        assert!(rt; !session.has_room(source, usize::MAX - 9));
+    }
+    assert!(rt; session.has(Source::Channel(1)));
+    assert!(rt; session.has_room(Source::Channel(1), usize::MAX));
+}

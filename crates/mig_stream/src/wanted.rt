@@ -1,0 +1,54 @@
+//! What the next bytes of a paused stream are: so a caller reads the content of a page straight to
+//! where it belongs, and copies nothing. QEMU's threads for channels read so.
+
+ghost use Rattle.std.specs.Prelude.{◌≡◌, ◌∷◌, ◌++◌, ◌<◌, [], ℕ, List, length, MatchOption, IfSome, IsSome, Some};
+ghost use Rattle.mig_stream.specs.declared.wanted.Wanted.TheVariants as wanted;
+ghost use Rattle.mig_stream.specs.PageRecord.{page_record};
+ghost use Rattle.mig_stream.specs.Reading.{Settings};
+ghost use Rattle.mig_stream.specs.Giving.{GivenSoFar, with_more, PausesAt};
+ghost use Rattle.mig_stream.specs.Wanted.{page_due, AreWanted};
+
+use crate::giving::Pause;
+use crate::item::{Due, Filling};
+use mig_mem::Place;
+use std::alloc::Allocator;
+
+/// What the next bytes of a stream are.
+#[derive(Clone, Copy, Debug, PartialEq, Eq)]
+pub enum Wanted {
+    /// The content of the page at this place, from its first byte on.
+    Page(Place),
+    /// So many bytes belong to an item that isn't complete: at least 1. With fewer it isn't complete
+    /// either.
+    Bytes(usize),
+}
+
+impl<A: Allocator + Copy> Pause<A> {
+    /// Returns what the next bytes of the stream are. A caller that has `Bytes` reads no more than
+    /// those, and resumes with them; one that has a `Page` reads its content to where it belongs, and
+    /// calls `take_page`, or resumes with it as with any other bytes.
+    pub fn wanted(&self) -> Wanted
+        ensures { MatchOption (page_due self.now) ((n : ℕ) × (result ≡ wanted.Bytes n) × AreWanted self.now n) (λ place. result ≡ wanted.Page place) }
+    {
+        if self.pending.is_empty() {
+            if let Due::Content(Filling::Normal, place) = self.progress.due {
+                return Wanted::Page(place);
+            }
+        }
+        let size = self.progress.size(&self.pending);
+        Wanted::Bytes(size - self.pending.len())
+    }
+
+    /// Takes the content of the page that is due, all of it, as the next bytes of the stream. They
+    /// aren't looked at and not kept: the page record is given to the caller by this call, who has
+    /// them where they belong.
+    pub fn take_page(&mut self, content: &[u8])
+        requires due { IsSome (page_due self.old) }
+        requires len { length content.now ≡ self.old.progress.page_size }
+        ensures { IfSome (page_due self.old) (λ place. (given : Settings) (text : List ℕ) (so_far : GivenSoFar) → PausesAt given text so_far self.old
+            → PausesAt given (text ++ content.now) (with_more (page_record place content.now ∷ []) so_far) self.new) }
+    {
+        self.progress.pass_page();
+        self.fed = self.fed.saturating_add(content.len() as u64);
+    }
+}

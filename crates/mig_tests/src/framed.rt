@@ -1,0 +1,285 @@
+//! Loads of one stream with settings, in both frames: of the text of two rounds with bytes after
+//! it, and where it is closed; with ample memory, and with each allocation refused.
+
+ghost use Rattle.std.specs.Prelude.{◌≡◌, ◌≤◌, ◌^◌};
+ghost use Rattle.mig_mem.specs.PageSize.{IsPageSize};
+
+use crate::building::{BLOCKS, Run, append, run_of, two_rounds, two_rounds_in};
+use crate::refused::assert_two_rounds;
+use mig_fixtures::{TestHeap, at, has_byte, is_full, with_each_allocation_refused, zeroed};
+use mig_mem::{MAX_TOTAL, Memory, PAGE_SIZE_4K, PAGE_SIZE_8K};
+use mig_single_load::{
+    Fault, InPlaceFault, InPlaceLoader, InPlaceState, LoadFault, LoadSettings, Loaded, Origin,
+    SingleLoader, load_single_in, single_closed_at,
+};
+use mig_stream::{Frame, StreamFault};
+use std::alloc::{AllocGlobal, Allocator};
+use std::process::Abort;
+use std::test::Fail;
+
+// What a load answers beside its memory.
+type Answer = (u64, Result<(), LoadFault>);
+
+const FRAMES: [Frame; 2] = [Frame::Ram, Frame::Machine];
+
+fn settings(frame: Frame) -> LoadSettings
+    ensures page_size { result.page_size ≡ 4096 }
+    ensures limit { result.limit ≤ 2 ^ 40 }
+{
+    LoadSettings::new(PAGE_SIZE_4K, MAX_TOTAL).with_frame(frame)
+}
+
+// Where the text of two rounds is closed: its sections have 8, 63, 4149, 27 and 18 bytes, and the
+// end byte follows; before START of a machine are 131 bytes, and before END 5.
+fn closed_at(frame: Frame) -> u64 {
+    match frame {
+        Frame::Ram => 8 + 63 + 4149 + 27 + 18 + 1,
+        Frame::Machine => 8 + 131 + 63 + 4149 + 27 + 5 + 18,
+    }
+}
+
+// That text with bytes after it.
+fn followed(rt: &(impl AllocGlobal + Abort), frame: Frame) -> Vec<u8> {
+    let (mut text, _after) = two_rounds_in(rt, frame);
+    append(rt, &mut text, b"\x06\x00\x00\x00\x02{}");
+    text
+}
+
+fn fault_of(round: u64, fault: StreamFault) -> LoadFault {
+    LoadFault {
+        round,
+        source: Origin::Main,
+        fault: Fault::Stream(fault),
+    }
+}
+
+// A load's answer, or its fault where that is `NoMemory`, with no memory and no round.
+fn load_or_fault<'a>(
+    heap: &'a TestHeap,
+    settings: LoadSettings,
+    text: &[u8],
+) -> Result<Loaded<&'a TestHeap>, Fault>
+    requires page_size { IsPageSize settings.page_size }
+    requires limit { settings.limit ≤ 2 ^ 40 }
+{
+    let loaded = load_single_in(heap, settings, text);
+    let refused = LoadFault {
+        round: 0,
+        source: Origin::Round,
+        fault: Fault::NoMemory,
+    };
+    if loaded.verdict == Err(refused) && loaded.memory.is_none() && loaded.rounds == 0 {
+        return Err(refused.fault);
+    }
+    Ok(loaded)
+}
+
+// Loads a text in its frame after refused allocations.
+fn assert_loaded(rt: &(impl AllocGlobal + Abort), frame: Frame, text: &[u8]) -> Result<(), Fail> {
+    let heap = TestHeap::new(rt.alloc());
+    with_each_allocation_refused!(rt, heap, load_or_fault(&heap, settings(frame), text), loaded => {
+        assert_two_rounds(rt, &loaded);
+    });
+}
+
+#[test]
+fn loads(rt: HostRuntime) -> Result<(), Fail> {
+    assert_loaded(&rt, Frame::Ram, &followed(&rt, Frame::Ram))?;
+    assert_loaded(&rt, Frame::Machine, &followed(&rt, Frame::Machine))
+}
+
+// Loads a text with settings, and returns the answer without the memory, and whether there is one.
+fn answer_of(rt: &impl AllocGlobal, settings: LoadSettings, text: &[u8]) -> (Answer, bool)
+    requires page_size { IsPageSize settings.page_size }
+    requires limit { settings.limit ≤ 2 ^ 40 }
+{
+    let loaded = load_single_in(rt.alloc(), settings, text);
+    ((loaded.rounds, loaded.verdict), loaded.memory.is_some())
+}
+
+// A machine's stream isn't one of RAM's sections alone: a subsection follows the configuration. The
+// other way round it is one. The limit and the page size count in both frames: `a` has 2 pages of
+// 4096 bytes, `pc.ram` 65; read with pages of 8192, the last bit of their sum is a flag.
+#[test]
+fn other_settings(rt: HostRuntime) {
+    let ram = two_rounds(&rt);
+    let machine = followed(&rt, Frame::Machine);
+    let other_type = (0, Err(fault_of(0, StreamFault::SectionType)));
+    assert!(rt; answer_of(&rt, settings(Frame::Ram), &machine) == (other_type, false));
+    assert!(rt; answer_of(&rt, settings(Frame::Machine), &ram) == ((4, Ok(())), true));
+    let total = (0, Err(fault_of(0, StreamFault::Total)));
+    for (frame, text) in [
+        (Frame::Ram, ram.as_slice()),
+        (Frame::Machine, machine.as_slice()),
+    ] {
+        let fits = LoadSettings::new(PAGE_SIZE_4K, 67 * 4096).with_frame(frame);
+        assert!(rt; answer_of(&rt, fits, text) == ((4, Ok(())), true));
+        let small = LoadSettings::new(PAGE_SIZE_4K, 67 * 4096 - 1).with_frame(frame);
+        assert!(rt; answer_of(&rt, small, text) == (total, false));
+    }
+    let large = LoadSettings::new(PAGE_SIZE_8K, MAX_TOTAL);
+    let flags = (0, Err(fault_of(0, StreamFault::Flags(0x1004))));
+    assert!(rt; answer_of(&rt, large, &ram) == (flags, false));
+    let bits = (0, Err(fault_of(0, StreamFault::PageBits)));
+    assert!(rt; answer_of(&rt, large.with_frame(Frame::Machine), &machine) == (bits, false));
+}
+
+// Where a text is closed, with allocation `nth` refused.
+fn run_of_closed_at(rt: &(impl AllocGlobal + Abort), frame: Frame, text: &[u8], nth: u64) -> Run {
+    let heap = TestHeap::new(rt.alloc());
+    heap.refuse(nth);
+    let answer = single_closed_at(&heap, settings(frame), text);
+    let run = run_of(rt, answer.is_ok(), heap.is_waiting());
+    if let Ok(found) = answer {
+        assert!(rt; found == Some(closed_at(frame)));
+    }
+    run
+}
+
+// Each allocation is refused in turn. One refusal leaves the answer: that of a smaller block for
+// the list of three records.
+#[test]
+fn where_it_is_closed(rt: HostRuntime) {
+    for frame in FRAMES {
+        let text = followed(&rt, frame);
+        let mut runs = (0u64, 0u64);
+        for nth in 1..1000u64 {
+            match run_of_closed_at(&rt, frame, &text, nth) {
+                Run::Refused => runs.0 = runs.0.saturating_add(1),
+                Run::Survived => runs.1 = runs.1.saturating_add(1),
+                Run::Whole => break,
+            }
+        }
+        assert!(rt; runs.0 > 1 && runs.1 == 1);
+    }
+}
+
+// A stream that is cut or has a fault is closed nowhere. A machine's has no end byte; RAM's has
+// one.
+#[test]
+fn closed_nowhere(rt: HostRuntime) {
+    for frame in FRAMES {
+        let text = followed(&rt, frame);
+        let len = closed_at(frame) as usize;
+        let cut = text.get(..len.saturating_sub(1)).expect(&rt, "a front");
+        assert!(rt; single_closed_at(rt.alloc(), settings(frame), cut) == Ok(None));
+        let whole = text.get(..len).expect(&rt, "a stream");
+        let found = single_closed_at(rt.alloc(), settings(frame), whole);
+        assert!(rt; found == Ok(Some(len as u64)));
+    }
+    let machine = followed(&rt, Frame::Machine);
+    assert!(rt; single_closed_at(rt.alloc(), settings(Frame::Ram), &machine) == Ok(None));
+    let ram = two_rounds(&rt);
+    let found = single_closed_at(rt.alloc(), settings(Frame::Machine), &ram);
+    assert!(rt; found == Ok(Some(4265)));
+}
+
+// What a loader tells after `fed` bytes of a text that is closed at `closed_at`.
+fn is_told(told: Option<u64>, fed: u64, closed_at: u64) -> bool {
+    match told {
+        Some(found) => fed >= closed_at && found == closed_at,
+        None => fed < closed_at,
+    }
+}
+
+// Feeds a loader a text in pieces of `len` bytes.
+fn assert_fed(rt: &(impl AllocGlobal + Abort), frame: Frame, len: usize) {
+    let text = followed(rt, frame);
+    let mut loader = SingleLoader::new_in(rt.alloc(), settings(frame));
+    assert!(rt; loader.closed_at().is_none());
+    for piece in text.chunks(len.max(1)) {
+        assert!(rt; !loader.ended() && loader.fed() <= MAX_TOTAL);
+        assert!(rt; piece.len() as u64 <= MAX_TOTAL);
+        assert!(rt; loader.feed(piece) == Ok(()));
+        assert!(rt; is_told(loader.closed_at(), loader.fed(), closed_at(frame)));
+        assert!(rt; loader.verdict().is_ok() == loader.closed_at().is_some());
+    }
+    loader.end();
+    assert!(rt; loader.closed_at() == Some(closed_at(frame)));
+    assert_two_rounds(rt, &loader.finish());
+}
+
+// Feeds a load into a memory of other bytes a text in pieces of `len` bytes.
+fn assert_fed_in_place(rt: &(impl AllocGlobal + Abort), frame: Frame, len: usize) {
+    let text = followed(rt, frame);
+    let memory = zeroed(rt.alloc(), &BLOCKS).expect(rt, "a memory");
+    let made = InPlaceLoader::new_in(rt.alloc(), memory, settings(frame));
+    let mut loader = made.ok().expect(rt, "a loader");
+    for piece in text.chunks(len.max(1)) {
+        assert!(rt; !loader.ended() && loader.fed() <= MAX_TOTAL);
+        assert!(rt; piece.len() as u64 <= MAX_TOTAL);
+        assert!(rt; loader.feed(piece) == Ok(()));
+        assert!(rt; is_told(loader.closed_at(), loader.fed(), closed_at(frame)));
+    }
+    assert!(rt; (loader.rounds(), loader.verdict()) == (4, Ok(())));
+    assert_memory(rt, loader.memory());
+}
+
+fn assert_memory<A: Allocator>(rt: &impl Abort, memory: &Memory<A>) {
+    assert!(rt; has_byte(memory, at(0, 1), 0, 7));
+    assert!(rt; is_full(memory, at(0, 0), 0) && is_full(memory, at(1, 64), 0));
+}
+
+#[test]
+fn fed_in_pieces(rt: HostRuntime) {
+    for frame in FRAMES {
+        for len in [1usize, 7, 100, 4096, 10_000] {
+            assert_fed(&rt, frame, len);
+            assert_fed_in_place(&rt, frame, len);
+        }
+    }
+}
+
+// Feeds a piece after refused allocations, each of which changed nothing. How many there were.
+fn feed_refused<A: Allocator + Copy>(
+    rt: &impl Abort,
+    heap: &TestHeap,
+    state: &mut InPlaceState<A>,
+    memory: &mut Memory,
+    piece: &[u8],
+) -> u64 {
+    for nth in 1..100u64 {
+        assert!(rt; !state.ended() && state.fed() <= MAX_TOTAL);
+        assert!(rt; piece.len() as u64 <= MAX_TOTAL);
+        let stood = (state.fed(), state.closed_at());
+        heap.refuse(nth);
+        let run = state.feed(memory, piece);
+        heap.refuse(0);
+        if run.is_ok() {
+            return nth - 1;
+        }
+        assert!(rt; run == Err(InPlaceFault::NoMemory));
+        assert!(rt; (state.fed(), state.closed_at()) == stood);
+    }
+    panic!(rt; "each run had a refusal");
+}
+
+// A load in place, which needs memory for a copy of the table, and for sections. `new_in` takes the
+// page size from the table: that of the settings doesn't count.
+#[test]
+fn refused_in_place(rt: HostRuntime) {
+    for frame in FRAMES {
+        let heap = TestHeap::new(rt.alloc());
+        let text = followed(&rt, frame);
+        let mut memory = zeroed(rt.alloc(), &BLOCKS).expect(&rt, "a memory");
+        let given = LoadSettings::new(PAGE_SIZE_8K, MAX_TOTAL).with_frame(frame);
+        heap.refuse(1);
+        assert!(rt; InPlaceState::new_in(&heap, memory.table(), given).is_err());
+        heap.refuse(0);
+        let made = InPlaceState::new_in(&heap, memory.table(), given);
+        let mut state = made.expect(&rt, "a load");
+        let mut refused = 0u64;
+        for piece in text.chunks(100) {
+            refused = refused.saturating_add(feed_refused(
+                &rt,
+                &heap,
+                &mut state,
+                &mut memory,
+                piece,
+            ));
+            assert!(rt; is_told(state.closed_at(), state.fed(), closed_at(frame)));
+        }
+        assert!(rt; refused > 2 && (state.rounds(), state.verdict()) == (4, Ok(())));
+        assert_memory(&rt, &memory);
+    }
+}

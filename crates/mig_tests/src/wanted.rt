@@ -1,0 +1,127 @@
+//! A stream read by what it wants next. Where it wants a page that page comes next, whole, so that a
+//! caller can read it straight to where it belongs. The pages are those of the whole stream.
+
+use crate::building::two_rounds_in;
+use crate::pauses::pause_of;
+use mig_mem::{MAX_TOTAL, PAGE_SIZE_4K, Place};
+use mig_stream::{
+    Frame, Given, Mode, Pause, RecordReader, StreamReader, StreamRound, StreamState, Wanted,
+};
+use std::alloc::{AllocGlobal, Allocator};
+use std::process::Abort;
+
+// Places of pages with bytes, in order, and these bytes one after another.
+#[derive(Drop)]
+struct Pages {
+    places: Vec<Place>,
+    bytes: Vec<u8>,
+}
+
+impl Pages {
+    fn new(rt: &impl AllocGlobal) -> Pages {
+        Pages {
+            places: Vec::new(rt.alloc()),
+            bytes: Vec::new(rt.alloc()),
+        }
+    }
+
+    fn push(&mut self, rt: &impl Abort, place: Place, content: &[u8]) {
+        assert!(rt; self.places.push(place).is_ok());
+        assert!(rt; self.bytes.extend_from_slice(content).is_ok());
+    }
+
+    fn push_round<A: Allocator>(&mut self, rt: &impl Abort, round: &StreamRound<A>) {
+        for i in 0..round.len() {
+            if let Some(content) = round.content(i) {
+                self.push(rt, round.place(i), content);
+            }
+        }
+    }
+}
+
+// The pages with bytes that a reader of the whole stream keeps.
+fn pages_of(rt: &(impl AllocGlobal + Abort), frame: Frame, stream: &[u8]) -> Pages {
+    let mode = Mode::Single;
+    let reader = StreamReader::of_text_in(rt.alloc(), frame, mode, PAGE_SIZE_4K, MAX_TOTAL, stream);
+    let mut reader = reader.expect(rt, "a reader");
+    let mut pages = Pages::new(rt);
+    for _ in 0..4 {
+        match reader.take_round() {
+            Ok(Some(round)) => pages.push_round(rt, &round),
+            _ => panic!(rt; "no section"),
+        }
+    }
+    pages
+}
+
+// Reads to the end of a piece, and notes the pages of its records that have bytes.
+fn read_to_end<A: Allocator + Copy>(
+    rt: &impl Abort,
+    reader: &mut RecordReader<'_, A>,
+    pages: &mut Pages,
+) -> StreamState {
+    for _ in 0..1000u64 {
+        match reader.read_on() {
+            Ok(Given::End(state)) => return state,
+            Ok(Given::Records | Given::Section) => pages.push_round(rt, reader.given()),
+            Err(_) => panic!(rt; "no memory"),
+        }
+    }
+    panic!(rt; "the stream never ends");
+}
+
+// How many bytes are wanted: of a page all that it has.
+fn len_wanted(rt: &impl Abort, wanted: Wanted) -> usize {
+    match wanted {
+        Wanted::Page(_) => 4096,
+        Wanted::Bytes(len) => {
+            assert!(rt; len > 0);
+            len
+        }
+    }
+}
+
+// Whether a page came last, exactly where one was wanted.
+fn is_as_wanted(pages: &Pages, before: usize, wanted: Wanted) -> bool {
+    match wanted {
+        Wanted::Page(place) => pages.places.get(before) == Some(&place),
+        Wanted::Bytes(_) => pages.places.len() == before,
+    }
+}
+
+// Reads a stream by what it wants, and returns its pages, and how many bytes were read up to where
+// it is closed.
+fn read_wanted(rt: &(impl AllocGlobal + Abort), frame: Frame, stream: &[u8]) -> (Pages, usize) {
+    let mut pages = Pages::new(rt);
+    let mut pause = Pause::new_in(rt.alloc(), frame, PAGE_SIZE_4K, MAX_TOTAL);
+    let mut rest = stream;
+    for _ in 0..10_000u64 {
+        let wanted = pause.wanted();
+        let before = pages.places.len();
+        let parts = rest.split_at_checked(len_wanted(rt, wanted));
+        let (piece, left) = parts.expect(rt, "bytes");
+        rest = left;
+        let mut reader = pause.resume(piece);
+        let state = read_to_end(rt, &mut reader, &mut pages);
+        assert!(rt; is_as_wanted(&pages, before, wanted));
+        if state == StreamState::Closed {
+            assert!(rt; reader.behind() == Some(&[]));
+            return (pages, stream.len().saturating_sub(rest.len()));
+        }
+        pause = pause_of(rt, reader).expect(rt, "a pause");
+    }
+    panic!(rt; "the stream never ends");
+}
+
+#[test]
+fn pages_as_they_are_wanted(rt: HostRuntime) {
+    for frame in [Frame::Ram, Frame::Machine] {
+        let (stream, behind) = two_rounds_in(&rt, frame);
+        let whole = pages_of(&rt, frame, &stream);
+        let (pages, read) = read_wanted(&rt, frame, &stream);
+        assert!(rt; !whole.places.is_empty());
+        assert!(rt; pages.places.as_slice() == whole.places.as_slice());
+        assert!(rt; pages.bytes.as_slice() == whole.bytes.as_slice());
+        assert!(rt; stream.get(read..) == Some(behind));
+    }
+}
