@@ -1,27 +1,52 @@
 /*
  * zimgasol.h: senders and loaders of guest memory, in two layouts of QEMU's live migration.
  *
- * The RAM section of the migration stream (stream version 3, RAM section version 4) is written and read whole, page by page and in pieces of
- * any length; texts of several channels (multifd, uncompressed) are read in pieces by source. docs/FORMATS.md has all bytes.
+ * The RAM section of the migration stream (stream version 3, RAM section version 4) is written and
+ * read whole, page by page and in pieces of any length. Streams of several channels (multifd,
+ * uncompressed) are read in pieces by source. docs/FORMATS.md has all bytes, and docs/C.md one life
+ * of each handle.
  *
- * What a call does is proved of the library behind this header, for any bytes that it is fed. That holds where its caller keeps to these rules,
- * which nothing checks:
+ * What a call does is proved of the library behind this header, for any bytes that it is fed. That
+ * holds where its caller keeps to these rules, which nothing checks:
  *
- *  - A handle is all zeros before its `_new`, and from then on as the last call left it. It is never copied and never written to.
- *    Each call but `_new` is handed a handle whose `_new` answered ZIMGASOL_DONE and that wasn't freed since; `_new` one that is all zeros,
- *    which it is again after `_free`, and after a `_new` that was refused.
- *  - One call at a time works on a handle. A handle may pass to another thread, if a lock, the
- *    start or the join of a thread, or a sequentially consistent atomic orders the calls before and
- *    after. Calls on different handles may run at once. No call is made from a signal handler.
- *  - A buffer is valid for its length, and nobody writes to it while the call runs; two buffers of one call don't overlap. A pointer is never
- *    null, also where the length is 0.
- *  - `malloc`, `realloc` and `free` are one allocator.
+ *  - Handles. A handle is all zeros before its `_new`, and from then on as the last call left it.
+ *    It is never written to and never copied; it may be moved, where the old place isn't used any
+ *    more. `_new` gets one that is empty, which is one of zeros, or as `_free` or a refused `_new`
+ *    left it. `_free` gets any handle of its kind, and does nothing to an empty one. Each other
+ *    call gets one whose `_new` returned ZIMGASOL_DONE and that wasn't freed since.
+ *  - Threads. One call at a time works on a handle. A handle may pass to another thread, if a lock,
+ *    the start or the join of a thread, or a sequentially consistent atomic orders the calls before
+ *    and after. Calls on different handles may run at once, but the table that a `_new` is passed
+ *    counts as its handle too. Each call that takes a handle writes to it, also where it only
+ *    reports something, so no handle is passed as `const`.
+ *  - Signals and forks. No call is made from a signal handler, nor in the child of a `fork` of a
+ *    process with threads.
+ *  - Buffers. A buffer is valid for its length, and nobody writes to it while the call runs; two
+ *    buffers of one call don't overlap. A pointer is never null, also where the length is 0.
+ *  - Memory. `malloc`, `realloc` and `free` are one allocator, and each block is aligned to every
+ *    power of two up to 16 that divides its size.
  *
- * No call keeps a pointer to a caller's buffer, and no buffer of the library is handed out: what was loaded is copied out page by page, or put
- * into blocks that the caller hands to each call.
+ * No call keeps a pointer to a caller's buffer, and no buffer of the library is handed out. What
+ * was loaded is copied out page by page, or into blocks that the caller passes to each call.
  *
- * A call that may be refused answers a status: ZIMGASOL_DONE, the number of a fault (docs/FAULTS.md: 1 to 63), or one of the numbers from 100
- * on below. Where it answers anything but ZIMGASOL_DONE it has changed nothing, where nothing else is said.
+ * The library calls `malloc`, `realloc`, `free` and the functions of <string.h> that move and
+ * compare bytes, and nothing else. So no call starts a thread, waits, reads or writes a file, or
+ * prints, and none sets `errno` but by `malloc` and `realloc`. Proofs don't count the stack: as
+ * with any C function, the system stops a thread that has too little. The library is for x86-64
+ * alone, 64 bits, and is built for processors with x86-64-v2 (SSE4.2), which it doesn't check.
+ *
+ * A call that may be refused returns a status: ZIMGASOL_DONE, the number of a fault (1 to 63, see
+ * docs/FAULTS.md), or one of the numbers from 100 on. After anything but ZIMGASOL_DONE nothing has
+ * changed, where nothing else is said.
+ *
+ * Pages that are written meanwhile. The bytes that a call is passed may not change while it runs,
+ * since what it promises is said of those bytes. So a page of a guest that runs on is copied to a
+ * buffer of the caller's own first, and that copy is passed. The copy may be torn: it holds some
+ * bytes of before a write and some of after. This does no harm where each write after the start of
+ * the copy marks the page as dirty: the page is sent again in a later round, and the last round is
+ * sent with the guest stopped. What the copy itself may read while it is written is the caller's
+ * affair: C calls a plain read then a race, and `memcpy` from memory that a vCPU writes is what
+ * hypervisors do.
  */
 #ifndef ZIMGASOL_H
 #define ZIMGASOL_H
@@ -29,29 +54,165 @@
 #include <stdbool.h>
 #include <stddef.h>
 #include <stdint.h>
+#include <stdio.h>
+
+/* The version of this header (CHANGELOG.md), and its number: 10000 * major + 100 * minor +
+ * patch. */
+#define ZIMGASOL_VERSION "0.3.0"
+#define ZIMGASOL_VERSION_NUMBER 300
+
+/* What stands before each call. A program may define it itself, before it includes the header. */
+#ifndef ZIMGASOL_API
+#if defined(__GNUC__)
+#define ZIMGASOL_API __attribute__((visibility("default")))
+#else
+#define ZIMGASOL_API
+#endif
+#endif
 
 #ifdef __cplusplus
 extern "C" {
+#define ZIMGASOL_ASSERT(holds, words) static_assert(holds, words)
+#else
+#define ZIMGASOL_ASSERT(holds, words) _Static_assert(holds, words)
 #endif
 
-/* The version that this header is of (CHANGELOG.md). */
-#define ZIMGASOL_VERSION "0.2.0"
+ZIMGASOL_ASSERT(sizeof(void *) == 8 && sizeof(size_t) == 8, "zimgasol is for 64 bits only");
 
-enum {
+/* What a call returns, and what a load ended with. */
+typedef enum zimgasol_status {
     ZIMGASOL_DONE = 0,
-    /* a table is refused (zimgasol_table_new) */
+
+    /* ---- a table (zimgasol_table_new) */
+    /* there is no block */
     ZIMGASOL_NO_BLOCKS = 1,
+    /* there are more than 256 blocks */
     ZIMGASOL_TOO_MANY_BLOCKS = 2,
+    /* a block's id isn't 1 to 255 bytes of 0x20 to 0x7E */
     ZIMGASOL_ID = 3,
+    /* an earlier block has the id */
     ZIMGASOL_ID_TWICE = 4,
+    /* a block has no page */
     ZIMGASOL_NO_PAGES = 5,
+    /* all blocks together have more than 2^40 bytes */
     ZIMGASOL_TOO_LARGE = 6,
-    /* 11 to 34: the stream's faults, 35 to 45: a channel's, 51 to 59: those of channels and rounds beside one another */
+
+    /* ---- a stream, of one channel or the main one */
+    /* it doesn't begin with QEVM */
+    ZIMGASOL_STREAM_MAGIC = 11,
+    /* its version isn't 3 */
+    ZIMGASOL_STREAM_VERSION = 12,
+    /* an unexpected section type */
+    ZIMGASOL_STREAM_SECTION_TYPE = 13,
+    /* a section's name isn't ram */
+    ZIMGASOL_STREAM_SECTION_NAME = 14,
+    /* a section's instance isn't 0 */
+    ZIMGASOL_STREAM_INSTANCE = 15,
+    /* a section's version isn't 4 */
+    ZIMGASOL_STREAM_RAM_VERSION = 16,
+    /* a section's id isn't that of START */
+    ZIMGASOL_STREAM_SECTION_ID = 17,
+    /* a footer isn't 0x7E with the section id of START */
+    ZIMGASOL_STREAM_FOOTER = 18,
+    /* the configuration's name is longer than 1,024 bytes */
+    ZIMGASOL_STREAM_CONFIG_LENGTH = 19,
+    /* the size list's total is 0, or above the limit */
+    ZIMGASOL_STREAM_TOTAL = 20,
+    /* an entry's id isn't 1 to 255 bytes of 0x20 to 0x7E */
+    ZIMGASOL_STREAM_ID = 21,
+    /* an earlier entry has the id */
+    ZIMGASOL_STREAM_ID_TWICE = 22,
+    /* an entry's length is 0, or no multiple of the page size */
+    ZIMGASOL_STREAM_LENGTH = 23,
+    /* the size list has more than 256 entries */
+    ZIMGASOL_STREAM_TOO_MANY_BLOCKS = 24,
+    /* the entries' lengths pass the total */
+    ZIMGASOL_STREAM_SIZE_SUM = 25,
+    /* the first record of START isn't a size list, or one stands elsewhere */
+    ZIMGASOL_STREAM_SIZE_PLACE = 26,
+    /* a record has other flags than those accepted: first */
+    ZIMGASOL_STREAM_FLAGS = 27,
+    /* a page record names no block, and none was named before */
+    ZIMGASOL_STREAM_NO_BLOCK = 28,
+    /* a page record names a block that the table hasn't */
+    ZIMGASOL_STREAM_UNKNOWN_BLOCK = 29,
+    /* an offset isn't in its block, or isn't 0 where it has to be */
+    ZIMGASOL_STREAM_OFFSET_OUT = 30,
+    /* the byte of a zero page isn't 0: first */
+    ZIMGASOL_STREAM_FILL = 31,
+    /* a FLUSH stands in a single stream */
+    ZIMGASOL_STREAM_FLUSH = 32,
+    /* the main stream ends after a page record that no FLUSH follows */
+    ZIMGASOL_STREAM_TAIL = 33,
+    /* the stream was over before its end byte */
+    ZIMGASOL_STREAM_TRUNCATED = 34,
+
+    /* ---- a channel */
+    /* the hello doesn't begin with MULTIFD_MAGIC */
+    ZIMGASOL_CHANNEL_HELLO_MAGIC = 35,
+    /* the hello's version isn't MULTIFD_VERSION */
+    ZIMGASOL_CHANNEL_HELLO_VERSION = 36,
+    /* the hello is of another UUID */
+    ZIMGASOL_CHANNEL_HELLO_UUID = 37,
+    /* the hello's id isn't below the number of channels */
+    ZIMGASOL_CHANNEL_HELLO_ID = 38,
+    /* a packet doesn't begin with MULTIFD_MAGIC */
+    ZIMGASOL_CHANNEL_PACKET_MAGIC = 39,
+    /* a packet's version isn't MULTIFD_VERSION */
+    ZIMGASOL_CHANNEL_PACKET_VERSION = 40,
+    /* a packet has flags beside MULTIFD_FLAG_SYNC: first */
+    ZIMGASOL_CHANNEL_PACKET_FLAGS = 41,
+    /* a packet has more pages than a packet may have */
+    ZIMGASOL_CHANNEL_PAGE_COUNT = 42,
+    /* next_packet_size isn't that of the normal pages */
+    ZIMGASOL_CHANNEL_PACKET_SIZE = 43,
+    /* the channel ends inside the hello or a packet */
+    ZIMGASOL_CHANNEL_TRUNCATED = 44,
+    /* the channel ends after a packet without SYNC */
+    ZIMGASOL_CHANNEL_UNSYNCED = 45,
+
+    /* ---- a machine's stream */
+    /* a subsection of the configuration isn't known, or its version */
+    ZIMGASOL_MACHINE_SUBSECTION = 46,
+    /* a capability changes the layout of RAM's section */
+    ZIMGASOL_MACHINE_CAPABILITY = 47,
+    /* the configuration's page bits don't match the page size */
+    ZIMGASOL_MACHINE_PAGE_BITS = 48,
+    /* a COMMAND that isn't one that is passed over */
+    ZIMGASOL_MACHINE_COMMAND = 49,
+
+    /* ---- channels beside one another, and a round of them */
+    /* a hello names an earlier channel's id */
+    ZIMGASOL_HELLO_TWICE = 51,
+    /* a channel goes on where the main stream is over */
+    ZIMGASOL_EXTRA = 52,
+    /* a channel is over where the main stream goes on */
+    ZIMGASOL_SHORT = 53,
+    /* packet first is of an earlier round */
+    ZIMGASOL_ROUND_FOREIGN = 54,
+    /* packet first comes twice */
+    ZIMGASOL_ROUND_DOUBLED = 55,
+    /* packet first is missing */
+    ZIMGASOL_ROUND_MISSING = 56,
+    /* packet first names a block that the table hasn't */
+    ZIMGASOL_ROUND_UNKNOWN_BLOCK = 57,
+    /* offset second of packet first is of no page of its block */
+    ZIMGASOL_ROUND_OFFSET = 58,
+    /* page second of block first comes twice */
+    ZIMGASOL_ROUND_DOUBLE_PAGE = 59,
+
+    /* ---- */
+    /* an allocation was refused. What stands after it each call says */
+    ZIMGASOL_NO_MEMORY = 60,
+    /* a sender of no channel, or of more than 255. No call of this header returns it */
+    ZIMGASOL_CHANNELS = 61,
+    /* a batch limit of 0, or above the pages of a packet. No call of this header returns it */
+    ZIMGASOL_BATCH_LIMIT = 62,
     /* a load into blocks: the stream's table isn't that of the blocks */
     ZIMGASOL_OTHER_TABLE = 63,
-    /* an allocation was refused: there is no memory */
-    ZIMGASOL_NO_MEMORY = 60,
-    /* the load goes on: more of a text is needed. No fault */
+
+    /* ---- a call, and how a load stands */
+    /* the load goes on: more of a source is needed. No fault */
     ZIMGASOL_RUNNING = 100,
     /* a page size other than 4096 and 8192 */
     ZIMGASOL_BAD_PAGE_SIZE = 101,
@@ -61,28 +222,46 @@ enum {
     ZIMGASOL_BAD_CHANNELS = 103,
     /* no such source */
     ZIMGASOL_BAD_SOURCE = 104,
-    /* the text is over: it was ended before */
+    /* the source is over: it was ended before */
     ZIMGASOL_IS_OVER = 105,
-    /* the text would have 2^63 bytes or more (a source of a session: 2^64) */
+    /* the stream would have 2^63 bytes or more (a source of a session: 2^64) */
     ZIMGASOL_TOO_LONG = 106,
     /* no such block or page, or no memory yet */
     ZIMGASOL_NO_PAGE = 107,
     /* a buffer of another length than is needed */
     ZIMGASOL_BAD_LENGTH = 108,
-    /* a call out of turn: a round is open, or none is, or the stream is ended; or no page of the block is due */
+    /* a call out of turn: a round is open, or none is, or the stream is ended; or no page of the
+     * block is due */
     ZIMGASOL_OUT_OF_TURN = 109,
     /* more pages than a packet has: 128 of 4096 bytes, 64 of 8192 */
     ZIMGASOL_TOO_MANY_PAGES = 110,
-    /* the piece was taken, and no memory was found for the guest: zimgasol_loader_settle tries again, and so does the next piece */
+    /* the piece was taken, and no memory was found for the guest: zimgasol_loader_settle tries
+     * again, and so does the next piece */
     ZIMGASOL_WAITS = 111,
     /* pages that came are due: they are to be put into a block (zimgasol_in_place_put). No fault */
-    ZIMGASOL_IS_DUE = 112
-};
+    ZIMGASOL_IS_DUE = 112,
+    /* a frame that isn't one */
+    ZIMGASOL_BAD_FRAME = 113
+} zimgasol_status;
 
-/* Where a fault or a piece is: the main stream (or the only one), channel j from 0 on, or, of a fault alone, no one text. */
+ZIMGASOL_ASSERT(sizeof(zimgasol_status) == sizeof(uint32_t), "an enum has the size of an int");
+
+/* Where a fault or a piece is: the main stream (or the only one), channel j from 0 on, or, of a
+ * fault alone, no one source. */
 #define ZIMGASOL_MAIN 0
 #define ZIMGASOL_CHANNEL(j) (1 + (j))
 #define ZIMGASOL_ROUND UINT64_MAX
+
+/* What a stream is read as. RAM: RAM's section alone, up to the end byte after its END, as the
+ * senders of this library write it. MACHINE: a whole machine's stream, as QEMU writes it, up to the
+ * footer of RAM's END; COMMANDs and subsections that leave RAM alone are passed over, and the
+ * sections of devices that follow aren't read (the _closed_at calls say where they begin). */
+typedef enum zimgasol_frame {
+    ZIMGASOL_FRAME_RAM = 0,
+    ZIMGASOL_FRAME_MACHINE = 1
+} zimgasol_frame;
+
+ZIMGASOL_ASSERT(sizeof(zimgasol_frame) == sizeof(uint32_t), "an enum has the size of an int");
 
 /* A RAM block: its id, which a byte 0 ends, as in QEMU's idstr, and how many pages it has. */
 typedef struct zimgasol_block {
@@ -90,185 +269,326 @@ typedef struct zimgasol_block {
     uint64_t pages;
 } zimgasol_block;
 
-/* Where a load ended, and why: the fault's number, how many rounds (of one stream: sections) were counted before it, its source, and what the
- * fault carries: flags (27, 41), a byte (31), a packet's number (54 to 58, with the number of an offset at 58), or a block and a page (59). */
+/* Where a load ended, and why: the fault's number, how many rounds (of one stream: sections) were
+ * counted before it, its source, and what the fault carries: flags (27, 41), a byte (31), a
+ * packet's number (54 to 58, with the number of an offset at 58), or a block and a page (59).
+ * `reserved` has zeros, as room for what may come. */
 typedef struct zimgasol_fault {
     uint64_t round;
     uint64_t source;
     uint32_t number;
     uint64_t first;
     uint64_t second;
+    uint64_t reserved[3];
 } zimgasol_fault;
 
-/* The handles. */
-typedef struct zimgasol_table { void *at; } zimgasol_table;
-typedef struct zimgasol_loader { void *at; } zimgasol_loader;
-typedef struct zimgasol_in_place { void *at; } zimgasol_in_place;
-typedef struct zimgasol_session { void *at; } zimgasol_session;
-typedef struct zimgasol_sender { void *at; } zimgasol_sender;
+/* A text of the library's own, which lasts: its bytes, of which the last one is 0. */
+typedef struct zimgasol_text {
+    const uint8_t *bytes;
+    size_t bytes_len;
+} zimgasol_text;
+
+/* The handles. `full` is 0 where a handle is empty. Its other values are the library's. */
+typedef struct zimgasol_table { void *at; uint64_t full; } zimgasol_table;
+typedef struct zimgasol_loader { void *at; uint64_t full; } zimgasol_loader;
+typedef struct zimgasol_in_place { void *at; uint64_t full; } zimgasol_in_place;
+typedef struct zimgasol_session { void *at; uint64_t full; } zimgasol_session;
+typedef struct zimgasol_sender { void *at; uint64_t full; } zimgasol_sender;
+
+/* ---- versions and texts */
+
+/* Returns the version's number, the ZIMGASOL_VERSION_NUMBER of the header that the library came
+ * with. */
+ZIMGASOL_API uint32_t zimgasol_version(void);
+
+/* Reports the text of a status in *out, which is a text before, as below. */
+ZIMGASOL_API void zimgasol_read_status_text(uint32_t status, zimgasol_text *out);
+
+/* Returns a few words on a status, for logs; `unknown status` of a number that is none. */
+static inline const char *zimgasol_status_text(uint32_t status) {
+    zimgasol_text text = {(const uint8_t *)"", 1};
+    zimgasol_read_status_text(status, &text);
+    return (const char *)text.bytes;
+}
+
+/* Writes what a fault is, what it carries and where it is, to `out` as `snprintf` does, and returns
+ * what that returns. It is C of this header, of which nothing is proved. */
+static inline int zimgasol_fault_text(const zimgasol_fault *fault, char *out, size_t len) {
+    char carried[64] = "", source[32] = "";
+    unsigned long long first = fault->first, second = fault->second;
+    switch (fault->number) {
+    case ZIMGASOL_STREAM_FLAGS:
+    case ZIMGASOL_STREAM_FILL:
+    case ZIMGASOL_CHANNEL_PACKET_FLAGS:
+        snprintf(carried, sizeof carried, " 0x%llx", first);
+        break;
+    case ZIMGASOL_ROUND_FOREIGN:
+    case ZIMGASOL_ROUND_DOUBLED:
+    case ZIMGASOL_ROUND_MISSING:
+    case ZIMGASOL_ROUND_UNKNOWN_BLOCK:
+        snprintf(carried, sizeof carried, " (packet %llu)", first);
+        break;
+    case ZIMGASOL_ROUND_OFFSET:
+        snprintf(carried, sizeof carried, " (packet %llu, offset %llu)", first, second);
+        break;
+    case ZIMGASOL_ROUND_DOUBLE_PAGE:
+        snprintf(carried, sizeof carried, " (block %llu, page %llu)", first, second);
+        break;
+    default:
+        break;
+    }
+    if (fault->source != ZIMGASOL_MAIN && fault->source != ZIMGASOL_ROUND)
+        snprintf(source, sizeof source, ", channel %llu", (unsigned long long)fault->source - 1);
+    return snprintf(out, len, "%u, %s%s%s, after %llu rounds", (unsigned)fault->number,
+        zimgasol_status_text(fault->number), carried, source, (unsigned long long)fault->round);
+}
 
 /* ---- a table: the page size of a guest, and its RAM blocks in their order */
 
-/* Makes a table of `count` blocks. Answers DONE, BAD_PAGE_SIZE, NO_MEMORY, or the first thing that is wrong with the blocks, 1 to 6; with 3, 4
- * and 5 *entry is the number of the block, from 0, and with 1, 2, 6 and NO_MEMORY it is 0; else it stays. The blocks stay the caller's. */
-uint32_t zimgasol_table_new(zimgasol_table *table, uint64_t page_size, const zimgasol_block *blocks, size_t count, size_t *entry);
+/* Makes a table of `count` blocks. Returns DONE, BAD_PAGE_SIZE, NO_MEMORY, or the first thing that
+ * is wrong with the blocks, 1 to 6. With 3, 4 and 5 *entry is the number of the block, from 0; with
+ * 1, 2, 6 and NO_MEMORY it is 0; else it stays. The blocks stay the caller's. */
+ZIMGASOL_API zimgasol_status zimgasol_table_new(zimgasol_table *table, uint64_t page_size,
+    const zimgasol_block *blocks, size_t count, size_t *entry);
 
 /* Frees it. Senders and loads that were made of it keep their own copy. */
-void zimgasol_table_free(zimgasol_table *table);
+ZIMGASOL_API void zimgasol_table_free(zimgasol_table *table);
 
 /* ---- a loader of one stream, which is fed in pieces and loads into memory of its own */
 
-/* Makes a loader of a stream with pages of this size. A stream whose blocks have more than `limit` bytes together is refused (fault 20): `limit`
- * is how much one guest is to get. Answers DONE, BAD_PAGE_SIZE, BAD_LIMIT or NO_MEMORY. */
-uint32_t zimgasol_loader_new(zimgasol_loader *loader, uint64_t page_size, uint64_t limit);
+/* Makes a loader of a stream with pages of this size, which is read in this frame. A stream whose
+ * blocks have more than `limit` bytes together is refused (fault 20): `limit` is how much one guest
+ * is to get. Returns DONE, BAD_PAGE_SIZE, BAD_LIMIT, BAD_FRAME or NO_MEMORY. */
+ZIMGASOL_API zimgasol_status zimgasol_loader_new(zimgasol_loader *loader, uint64_t page_size,
+    uint64_t limit, zimgasol_frame frame);
 
-/* Takes the next piece of the stream, of any length, and puts the sections that it makes whole into the memory. The piece may go afterwards.
- * Answers DONE; NO_MEMORY, where nothing has changed and the piece can be fed again; WAITS, where it was taken, and sections wait for memory of
- * the guest, which the next piece and zimgasol_loader_settle ask for again; IS_OVER after zimgasol_loader_end; TOO_LONG. Behind the end byte, or a
- * fault of the stream's own (11 to 33), its bytes are only counted, and NO_MEMORY doesn't come. A verdict of 34 says only that more is needed. */
-uint32_t zimgasol_loader_feed(zimgasol_loader *loader, const uint8_t *piece, size_t len);
+/* Takes the next piece of the stream, of any length, and puts the sections that it makes whole into
+ * the memory. The piece may go afterwards. Returns DONE; NO_MEMORY, where nothing has changed and
+ * the piece can be fed again; WAITS, where it was taken, and sections wait for memory of the guest,
+ * which the next piece and zimgasol_loader_settle ask for again; IS_OVER after zimgasol_loader_end;
+ * TOO_LONG. After the end byte, or a fault of the stream's own (11 to 33), its bytes are only
+ * counted, and NO_MEMORY doesn't come. */
+ZIMGASOL_API zimgasol_status zimgasol_loader_feed(zimgasol_loader *loader, const uint8_t *piece,
+    size_t len);
 
-/* Puts the sections that wait for a refused allocation into the memory. Answers DONE, also where none waits, or NO_MEMORY. */
-uint32_t zimgasol_loader_settle(zimgasol_loader *loader);
+/* Puts the sections that wait for a refused allocation into the memory. Returns DONE, also where
+ * none waits, or NO_MEMORY, where they go on waiting. */
+ZIMGASOL_API zimgasol_status zimgasol_loader_settle(zimgasol_loader *loader);
 
 /* The stream is over: no piece is fed from now on. */
-void zimgasol_loader_end(zimgasol_loader *loader);
+ZIMGASOL_API void zimgasol_loader_end(zimgasol_loader *loader);
 
-/* The verdict on the stream so far, as if it were over: DONE where its end byte was read, else the number of its first fault, which is 34
- * where it is whole so far; NO_MEMORY where sections wait. *found has the same number, with where it is. */
-uint32_t zimgasol_loader_verdict(zimgasol_loader *loader, zimgasol_fault *found);
+/* Reports the verdict on the stream so far: DONE where its end byte was read; RUNNING where it is
+ * whole so far, and STREAM_TRUNCATED (34) in its place after zimgasol_loader_end; else the number
+ * of its first fault; NO_MEMORY where sections wait. *found has the same number, with where it
+ * is. */
+ZIMGASOL_API zimgasol_status zimgasol_loader_verdict(zimgasol_loader *loader,
+    zimgasol_fault *found);
 
-/* How many sections are in the memory. START and END count, too. */
-uint64_t zimgasol_loader_rounds(zimgasol_loader *loader);
+/* Returns how many sections are in the memory. START and END count, too. */
+ZIMGASOL_API uint64_t zimgasol_loader_rounds(zimgasol_loader *loader);
 
-/* How many blocks the guest has: 0 where its memory isn't there yet. */
-size_t zimgasol_loader_blocks(zimgasol_loader *loader);
+/* Returns how many bytes were fed. */
+ZIMGASOL_API uint64_t zimgasol_loader_fed(zimgasol_loader *loader);
 
-/* Tells the id and the pages of block i. Answers DONE or NO_PAGE. */
-uint32_t zimgasol_loader_block(zimgasol_loader *loader, size_t i, zimgasol_block *out);
+/* Reports in *at how many of the bytes fed the stream has: those up to its end byte. The bytes fed
+ * after them are the caller's. Returns DONE, or RUNNING where the stream isn't closed, and *at
+ * stays. */
+ZIMGASOL_API zimgasol_status zimgasol_loader_closed_at(zimgasol_loader *loader, uint64_t *at);
 
-/* Copies a page of a block to `out`, whose length `len` is the page size. Answers DONE, NO_PAGE or BAD_LENGTH. */
-uint32_t zimgasol_loader_page(zimgasol_loader *loader, size_t block, uint64_t number, uint8_t *out, size_t len);
+/* Returns how many blocks the guest has: 0 where its memory isn't there yet. */
+ZIMGASOL_API size_t zimgasol_loader_blocks(zimgasol_loader *loader);
+
+/* Reports the id and the pages of block i. Returns DONE or NO_PAGE. */
+ZIMGASOL_API zimgasol_status zimgasol_loader_block(zimgasol_loader *loader, size_t i,
+    zimgasol_block *out);
+
+/* Copies a page of a block to `out`, whose length `len` is the page size. Returns DONE, NO_PAGE or
+ * BAD_LENGTH. */
+ZIMGASOL_API zimgasol_status zimgasol_loader_page(zimgasol_loader *loader, size_t block,
+    uint64_t number, uint8_t *out, size_t len);
 
 /* Frees it, with the memory that it loaded. */
-void zimgasol_loader_free(zimgasol_loader *loader);
+ZIMGASOL_API void zimgasol_loader_free(zimgasol_loader *loader);
 
-/* ---- a load of one stream into the caller's own blocks, as the memory of a machine that is to run the guest
+/* ---- a load of one stream into the caller's own blocks, as the memory of a machine that is to run
+ *      the guest
  *
- * The caller has a buffer for each block of a table, with the block's pages one after another. The load is fed in pieces, and keeps the pages of
- * the sections that are whole: those of the first one are due until they are put, and then those of the next. So each piece is followed by
+ * The caller has a buffer for each block of a table, with the block's pages one after another. The
+ * load is fed in pieces, and keeps the pages of the sections that are whole: those of the first one
+ * are due until they are put, and then those of the next. So each piece is followed by
  *
  *     while (zimgasol_in_place_next(&load, &block) == ZIMGASOL_IS_DUE)
- *         if (zimgasol_in_place_put(&load, block, buffers[block], lengths[block]) != ZIMGASOL_DONE) return 1;
+ *         if (zimgasol_in_place_put(&load, block, buffers[block], lengths[block]) != ZIMGASOL_DONE)
+ *             return 1;
  *
- * and where no page is due the blocks have all whole sections, on top of what they held at first, and nothing else of the stream. That holds where
- * each block's bytes are handed in as the call before left them; into other bytes the same pages are written. Blocks share no byte with each
- * other, and nobody reads or writes one while a call has it: the guest doesn't run yet. A page is copied twice, as it comes and into its block. One
- * that the stream tells as zeros is compared, and isn't written where the block has zeros already, so that fresh pages of private anonymous memory
+ * and where no page is due the blocks have all whole sections, on top of what they held at first,
+ * and nothing else of the stream. That holds where each block's bytes are passed as the call before
+ * left them; into other bytes the same pages are written. Blocks share no byte with each other, and
+ * nobody reads or writes one while a call has it: the guest doesn't run yet. A page is copied
+ * twice, as it comes and into its block. One that the stream declares as zeros is compared, and
+ * isn't written where the block has zeros already, so that fresh pages of private anonymous memory
  * take none of the system's.
  *
- * The stream is to have the table's blocks, the same in the same order: of another one no page is due, and the verdict is OTHER_TABLE. */
+ * The stream is to have the table's blocks, the same in the same order: of another one no page is
+ * due, and the verdict is OTHER_TABLE. */
 
-/* Makes a load into blocks of a table, of which it keeps a copy. A stream whose blocks have more than `limit` bytes together is refused (fault 20),
- * so it is to be at least what the table's have, which nothing checks. Answers DONE, BAD_LIMIT or NO_MEMORY. */
-uint32_t zimgasol_in_place_new(zimgasol_in_place *in_place, zimgasol_table *table, uint64_t limit);
+/* Makes a load into blocks of a table, of which it keeps a copy. Its stream is read in this frame.
+ * Returns DONE, BAD_FRAME or NO_MEMORY. */
+ZIMGASOL_API zimgasol_status zimgasol_in_place_new(zimgasol_in_place *in_place,
+    zimgasol_table *table, zimgasol_frame frame);
 
-/* Takes the next piece of the stream, of any length, also where pages are due: the sections that it makes whole wait behind theirs. Each
- * piece that is fed meanwhile takes memory until they are put. The piece may go afterwards. Answers DONE, also behind the end byte or a fault of the
- * stream's own (11 to 33), where bytes are only counted; NO_MEMORY, where nothing has changed and the piece can be fed again; IS_OVER after
- * zimgasol_in_place_end; TOO_LONG. A stream of another table is read on and kept in part, so there is no use in feeding it any more. */
-uint32_t zimgasol_in_place_feed(zimgasol_in_place *in_place, const uint8_t *piece, size_t len);
+/* Takes the next piece of the stream, of any length, also where pages are due: the sections that it
+ * makes whole wait behind theirs. Each piece that is fed meanwhile takes memory until they are put.
+ * The piece may go afterwards. Returns DONE, also after the end byte or a fault of the stream's own
+ * (11 to 33), where bytes are only counted; NO_MEMORY, where nothing has changed and the piece can
+ * be fed again; IS_OVER after zimgasol_in_place_end; TOO_LONG. A stream of another table is read on
+ * and kept in part, so there is no use in feeding it any more. */
+ZIMGASOL_API zimgasol_status zimgasol_in_place_feed(zimgasol_in_place *in_place,
+    const uint8_t *piece, size_t len);
 
-/* Answers IS_DUE where pages are due, and then *block is the number of the block that the first ones are of; DONE where none is, and *block stays. */
-uint32_t zimgasol_in_place_next(zimgasol_in_place *in_place, size_t *block);
+/* Returns IS_DUE where pages are due, and then *block is the number of the block that the first
+ * ones are of; DONE where none is, and *block stays. */
+ZIMGASOL_API zimgasol_status zimgasol_in_place_next(zimgasol_in_place *in_place, size_t *block);
 
-/* Writes the pages of one section that are due first, as long as they are of this block, into its bytes, whose length `len` is its pages' together;
- * the other bytes stay. Then they aren't due any more. More may be due then, of this block too, so it is called until zimgasol_in_place_next tells
- * that none is. Answers DONE; NO_PAGE, where there is no such block; OUT_OF_TURN, where no page is due or the first one is of another block; or
- * BAD_LENGTH. It takes no memory. */
-uint32_t zimgasol_in_place_put(zimgasol_in_place *in_place, size_t block, uint8_t *bytes, size_t len);
+/* Writes the pages of one section that are due first, as long as they are of this block, into its
+ * bytes, whose length `len` is its pages' together; the other bytes stay. Then they aren't due any
+ * more. More may be due then, of this block too, so it is called until zimgasol_in_place_next
+ * reports that none is. Returns DONE; NO_PAGE, where there is no such block; OUT_OF_TURN, where no
+ * page is due or the first one is of another block; or BAD_LENGTH. It takes no memory. */
+ZIMGASOL_API zimgasol_status zimgasol_in_place_put(zimgasol_in_place *in_place, size_t block,
+    uint8_t *bytes, size_t len);
 
-/* The stream is over: no piece is fed from now on. Pages that are due can still be put. Once more changes nothing. */
-void zimgasol_in_place_end(zimgasol_in_place *in_place);
+/* The stream is over: no piece is fed from now on. Pages that are due can still be put. Once more
+ * changes nothing. */
+ZIMGASOL_API void zimgasol_in_place_end(zimgasol_in_place *in_place);
 
-/* The verdict on the stream so far, as if it were over, whether zimgasol_in_place_end was called or not: DONE where its end byte was read, else the
- * number of its first fault, which is 34 where it is whole so far; IS_DUE while pages are due. *found has the same number, with where it is: all
- * zeros with DONE, and with IS_DUE the round that zimgasol_in_place_rounds answers. */
-uint32_t zimgasol_in_place_verdict(zimgasol_in_place *in_place, zimgasol_fault *found);
+/* Reports the verdict on the stream so far: DONE where its end byte was read; RUNNING where it is
+ * whole so far, and STREAM_TRUNCATED (34) in its place after zimgasol_in_place_end; else the number
+ * of its first fault; IS_DUE while pages are due. *found has the same number, with where it is: all
+ * zeros with DONE, and with RUNNING and IS_DUE the round that zimgasol_in_place_rounds returns. */
+ZIMGASOL_API zimgasol_status zimgasol_in_place_verdict(zimgasol_in_place *in_place,
+    zimgasol_fault *found);
 
-/* How many sections are whole in the blocks. START and END count, too. */
-uint64_t zimgasol_in_place_rounds(zimgasol_in_place *in_place);
-
-/* Frees it, with the pages that are due. The blocks stay the caller's. */
-void zimgasol_in_place_free(zimgasol_in_place *in_place);
-
-/* ---- a load of several channels: a main stream and its channels, which are fed in pieces and in any order */
-
-/* Makes a session of 1 to 255 channels under a UUID of 16 bytes. Answers DONE, BAD_PAGE_SIZE, BAD_LIMIT, BAD_CHANNELS, BAD_LENGTH (of the UUID)
- * or NO_MEMORY. */
-uint32_t zimgasol_session_new(zimgasol_session *session, uint64_t page_size, const uint8_t *uuid, size_t uuid_len, size_t channels, uint64_t limit);
-
-/* Takes the next piece of a source, ZIMGASOL_MAIN or ZIMGASOL_CHANNEL(j), and puts the rounds that all sources have whole into the memory.
- * Answers DONE, also where the load is over and bytes are only counted; NO_MEMORY, and then the session has failed with it for good, with the
- * memory of the rounds counted; BAD_SOURCE, IS_OVER or TOO_LONG. */
-uint32_t zimgasol_session_feed(zimgasol_session *session, size_t source, const uint8_t *piece, size_t len);
-
-/* The text of a source is over. Answers DONE or BAD_SOURCE. */
-uint32_t zimgasol_session_end(zimgasol_session *session, size_t source);
-
-/* How the load stands on the texts so far: DONE, RUNNING, or the number of the fault of the first round that doesn't pass. *found has the same
- * number, with where it is. An answer other than RUNNING stays, whatever is fed. */
-uint32_t zimgasol_session_verdict(zimgasol_session *session, zimgasol_fault *found);
+/* Returns how many sections are whole in the blocks. START and END count, too. */
+ZIMGASOL_API uint64_t zimgasol_in_place_rounds(zimgasol_in_place *in_place);
 
 /* As those of a loader. */
-uint64_t zimgasol_session_rounds(zimgasol_session *session);
-size_t zimgasol_session_blocks(zimgasol_session *session);
-uint32_t zimgasol_session_block(zimgasol_session *session, size_t i, zimgasol_block *out);
-uint32_t zimgasol_session_page(zimgasol_session *session, size_t block, uint64_t number, uint8_t *out, size_t len);
+ZIMGASOL_API uint64_t zimgasol_in_place_fed(zimgasol_in_place *in_place);
+ZIMGASOL_API zimgasol_status zimgasol_in_place_closed_at(zimgasol_in_place *in_place,
+    uint64_t *at);
+
+/* Frees it, with the pages that are due. The blocks stay the caller's. */
+ZIMGASOL_API void zimgasol_in_place_free(zimgasol_in_place *in_place);
+
+/* ---- a load of several channels: a main stream and its channels, which are fed in pieces and in
+ *      any order */
+
+/* Makes a session of 1 to 255 channels under a UUID of 16 bytes. Its main stream is read in this
+ * frame. Returns DONE, BAD_PAGE_SIZE, BAD_LIMIT, BAD_CHANNELS, BAD_LENGTH (of the UUID), BAD_FRAME
+ * or NO_MEMORY. */
+ZIMGASOL_API zimgasol_status zimgasol_session_new(zimgasol_session *session, uint64_t page_size,
+    const uint8_t *uuid, size_t uuid_len, size_t channels, uint64_t limit, zimgasol_frame frame);
+
+/* Takes the next piece of a source, ZIMGASOL_MAIN or ZIMGASOL_CHANNEL(j), and puts the rounds that
+ * all sources have whole into the memory. Returns DONE, also where the load is over and bytes are
+ * only counted; NO_MEMORY, and then the session has failed with it for good, with the memory of the
+ * rounds counted; BAD_SOURCE, IS_OVER or TOO_LONG. */
+ZIMGASOL_API zimgasol_status zimgasol_session_feed(zimgasol_session *session, size_t source,
+    const uint8_t *piece, size_t len);
+
+/* A source is over. Returns DONE or BAD_SOURCE. */
+ZIMGASOL_API zimgasol_status zimgasol_session_end(zimgasol_session *session, size_t source);
+
+/* Reports how the load stands on what came so far: DONE, RUNNING, or the number of the fault of the
+ * first round that doesn't pass. *found has the same number, with where it is. A verdict other than
+ * RUNNING stays, whatever is fed. */
+ZIMGASOL_API zimgasol_status zimgasol_session_verdict(zimgasol_session *session,
+    zimgasol_fault *found);
+
+/* Returns how many bytes of a source were fed: 0 where there is no such source. */
+ZIMGASOL_API uint64_t zimgasol_session_fed(zimgasol_session *session, size_t source);
+
+/* As those of a loader. */
+ZIMGASOL_API uint64_t zimgasol_session_rounds(zimgasol_session *session);
+ZIMGASOL_API size_t zimgasol_session_blocks(zimgasol_session *session);
+ZIMGASOL_API zimgasol_status zimgasol_session_block(zimgasol_session *session, size_t i,
+    zimgasol_block *out);
+ZIMGASOL_API zimgasol_status zimgasol_session_page(zimgasol_session *session, size_t block,
+    uint64_t number, uint8_t *out, size_t len);
 
 /* Frees it, with the memory that it loaded. */
-void zimgasol_session_free(zimgasol_session *session);
+ZIMGASOL_API void zimgasol_session_free(zimgasol_session *session);
 
-/* ---- a sender of one stream, whose rounds are put page by page, as they are read of a guest that runs on */
+/* ---- a sender of one stream, whose rounds are put page by page, as they are read of a guest that
+ *      runs on
+ *
+ * The pages of a round wait in memory until it is ended and drained, so a round of few pages takes
+ * little: 64 to 256 pages a round cost the least time and memory. */
 
-/* Makes a sender of a table, of which it keeps a copy. Answers DONE or NO_MEMORY. */
-uint32_t zimgasol_sender_new(zimgasol_sender *sender, zimgasol_table *table);
+/* Makes a sender of a table, of which it keeps a copy. Returns DONE or NO_MEMORY. */
+ZIMGASOL_API zimgasol_status zimgasol_sender_new(zimgasol_sender *sender, zimgasol_table *table);
 
-/* Begins a round. Answers DONE, NO_MEMORY, or OUT_OF_TURN where one is open or the stream is ended. */
-uint32_t zimgasol_sender_begin_round(zimgasol_sender *sender);
+/* Begins a round. Returns DONE, NO_MEMORY, or OUT_OF_TURN where one is open or the stream is
+ * ended. */
+ZIMGASOL_API zimgasol_status zimgasol_sender_begin_round(zimgasol_sender *sender);
 
-/* Sends a page of a block, of `len` bytes, the page size. Pages come in any order; of several at one place the last one counts. Answers DONE,
- * NO_MEMORY, NO_PAGE, BAD_LENGTH, or OUT_OF_TURN where no round is open. */
-uint32_t zimgasol_sender_put_page(zimgasol_sender *sender, size_t block, uint64_t number, const uint8_t *bytes, size_t len);
+/* Sends a page of a block, of `len` bytes, the page size. Pages come in any order; of several at
+ * one place the last one counts. Returns DONE, NO_MEMORY (the round is open as before, without the
+ * page), NO_PAGE, BAD_LENGTH, or OUT_OF_TURN where no round is open. */
+ZIMGASOL_API zimgasol_status zimgasol_sender_put_page(zimgasol_sender *sender, size_t block,
+    uint64_t number, const uint8_t *bytes, size_t len);
 
-/* Ends the round, which becomes a section of the stream. Answers DONE, NO_MEMORY (the round is open as before) or OUT_OF_TURN. */
-uint32_t zimgasol_sender_end_round(zimgasol_sender *sender);
+/* Ends the round, which becomes a section of the stream. Returns DONE, NO_MEMORY (the round is open
+ * as before) or OUT_OF_TURN. */
+ZIMGASOL_API zimgasol_status zimgasol_sender_end_round(zimgasol_sender *sender);
 
-/* Leaves the round out, with all its pages. Answers DONE or OUT_OF_TURN. */
-uint32_t zimgasol_sender_cancel_round(zimgasol_sender *sender);
+/* Leaves the round out, with all its pages. Returns DONE or OUT_OF_TURN. */
+ZIMGASOL_API zimgasol_status zimgasol_sender_cancel_round(zimgasol_sender *sender);
 
-/* Ends the stream. What waits of it is still to be drained. Answers DONE, NO_MEMORY, or OUT_OF_TURN where a round is open or it is ended. */
-uint32_t zimgasol_sender_finish(zimgasol_sender *sender);
+/* Ends the stream. What waits of it is still to be drained. Returns DONE, NO_MEMORY, or OUT_OF_TURN
+ * where a round is open or it is ended. */
+ZIMGASOL_API zimgasol_status zimgasol_sender_finish(zimgasol_sender *sender);
 
-/* Copies the next bytes of the stream to `out`, at most `len`, and answers how many: 0 where none waits. What it gives, piece after piece, is
- * the stream: all of it, where it answers 0 to a buffer with room after zimgasol_sender_finish. A round's bytes come once it is ended; while
- * one is open it may answer 0 though bytes of the rounds before wait, which come once that one is ended or cancelled. */
-size_t zimgasol_sender_drain(zimgasol_sender *sender, uint8_t *out, size_t len);
+/* Copies the next bytes of the stream to `out`, at most `len`, and returns how many: 0 where none
+ * waits. What it gives, piece after piece, is the stream. Where it returns 0 to a buffer with room,
+ * all was given: between two rounds the opening section and all rounds that were ended, and after
+ * zimgasol_sender_finish the whole stream. While a round is open it may return 0 though bytes of
+ * the rounds before wait, which come once that one is ended or cancelled. */
+ZIMGASOL_API size_t zimgasol_sender_drain(zimgasol_sender *sender, uint8_t *out, size_t len);
+
+/* The two halves of zimgasol_sender_drain, for an output that may take fewer bytes than it is
+ * offered, as a socket that doesn't block. _peek copies the next bytes to `out` and returns how
+ * many, as _drain does, but they go on waiting: the next call gives the same again. _skip lets the
+ * first `len` of those go, or all where there are fewer, and returns how many. It comes after a
+ * _peek, since it gets no bytes from the stream itself. */
+ZIMGASOL_API size_t zimgasol_sender_peek(zimgasol_sender *sender, uint8_t *out, size_t len);
+ZIMGASOL_API size_t zimgasol_sender_skip(zimgasol_sender *sender, size_t len);
+
+/* Returns how many bytes a _peek gives to a buffer with room for all: 0 exactly where none waits.
+ * More may follow once these have gone. */
+ZIMGASOL_API size_t zimgasol_sender_waiting(zimgasol_sender *sender);
 
 /* Frees it, with what wasn't drained. */
-void zimgasol_sender_free(zimgasol_sender *sender);
+ZIMGASOL_API void zimgasol_sender_free(zimgasol_sender *sender);
 
 /* ---- hellos and packets of channels, written into the caller's buffers */
 
-/* Writes the hello of channel `id`, of a UUID of 16 bytes, into a buffer of 64. Answers DONE or BAD_LENGTH. */
-uint32_t zimgasol_hello(const uint8_t *uuid, size_t uuid_len, uint8_t id, uint8_t *out, size_t len);
+/* Writes the hello of channel `id`, of a UUID of 16 bytes, into a buffer of 64. Returns DONE or
+ * BAD_LENGTH. */
+ZIMGASOL_API zimgasol_status zimgasol_hello(const uint8_t *uuid, size_t uuid_len, uint8_t id,
+    uint8_t *out, size_t len);
 
-/* Writes one packet to the front of `out`: of a block's id, which has no byte 0 (a reader takes it up to the first one), of the offsets in bytes of its normal pages with their contents
- * one behind the other, and of the offsets of its pages of zeros. Answers DONE, BAD_PAGE_SIZE, TOO_MANY_PAGES, NO_MEMORY, or BAD_LENGTH: of the
- * contents (the normal pages' together), of the id (at most 255), or of `out`. With DONE, and where `out` alone is too short, *written is how many
- * bytes the packet has; else it stays. */
-uint32_t zimgasol_put_packet(uint64_t page_size, uint64_t number, bool sync, const uint8_t *id, size_t id_len, const uint64_t *normal, size_t normal_len,
-    const uint8_t *contents, size_t contents_len, const uint64_t *zero, size_t zero_len, uint8_t *out, size_t len, size_t *written);
+/* Writes one packet to the front of `out`: of a block's id, which has no byte 0 (a reader takes it
+ * up to the first one), of the offsets in bytes of its normal pages with their contents one behind
+ * the other, and of the offsets of its pages of zeros. It checks neither id nor offsets nor number.
+ * Returns DONE, BAD_PAGE_SIZE, TOO_MANY_PAGES, NO_MEMORY, or BAD_LENGTH: of the contents (the
+ * normal pages' together), of the id (at most 255), or of `out`. With DONE, and where `out` alone
+ * is too short, *written is how many bytes the packet has; else it stays. */
+ZIMGASOL_API zimgasol_status zimgasol_put_packet(uint64_t page_size, uint64_t number, bool sync,
+    const uint8_t *id, size_t id_len, const uint64_t *normal, size_t normal_len,
+    const uint8_t *contents, size_t contents_len, const uint64_t *zero, size_t zero_len,
+    uint8_t *out, size_t len, size_t *written);
 
 #ifdef __cplusplus
 }

@@ -89,7 +89,7 @@ static uint32_t begin(zimgasol_in_place *load, const machine *m, uint64_t page_s
     size_t entry = 0;
     uint32_t status = zimgasol_table_new(&table, page_size, m->blocks, m->count, &entry);
     if (status != ZIMGASOL_DONE) return status;
-    status = zimgasol_in_place_new(load, &table, 1ULL << 40);
+    status = zimgasol_in_place_new(load, &table, ZIMGASOL_FRAME_RAM);
     zimgasol_table_free(&table);
     return status;
 }

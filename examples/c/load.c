@@ -1,17 +1,21 @@
 /* Loads a stream from standard input, as it comes, and prints what came of it.
  *
- *   load [-p PAGE_SIZE] [-l LIMIT] [-c BYTES] [-o FILE]
+ *   load [-p PAGE_SIZE] [-l LIMIT] [-c BYTES] [-o FILE] [-f machine]
  *
- * Pages have 4096 bytes where -p says nothing else, the guest may have 2^30 bytes, and the stream is fed in pieces of 65536: -c sets another
- * length. -o writes the memory to a file, block after block. It prints `single BYTES sections S`, with status 0, or `fault N round R` with
- * status 1; or why it can't begin or go on, with status 3, which is also that of an output or a file that can't be written.
+ * Pages have 4096 bytes where -p says nothing else, the guest may have 2^30 bytes, and the stream is
+ * fed in pieces of 65536: -c sets another length. -o writes the memory to a file, block after block.
+ * With `-f machine` it reads a whole machine's stream, as QEMU writes it, up to the end of RAM.
+ * It prints `single BYTES sections S`, with status 0, or `fault N round R` with status 1, and then
+ * what the fault is to standard error; or why it can't begin or go on, with status 3, which is also
+ * that of an output or a file that can't be written.
  */
 #include "zimgasol.h"
 #include <stdio.h>
 #include <stdlib.h>
 #include <string.h>
 
-/* Feeds all of standard input. Answers how many bytes that were, or -1 where it can't be read or there is no memory. */
+/* Feeds all of standard input. Returns how many bytes that were, or -1 where it can't be read or
+ * there is no memory. */
 static long long feed_input(zimgasol_loader *loader, size_t cut) {
     uint8_t *piece = malloc(cut);
     long long total = 0;
@@ -23,7 +27,7 @@ static long long feed_input(zimgasol_loader *loader, size_t cut) {
     while ((len = fread(piece, 1, cut, stdin)) > 0) {
         uint32_t status = zimgasol_loader_feed(loader, piece, len);
         if (status != ZIMGASOL_DONE) {
-            fprintf(stderr, "a piece was refused: %u\n", status);
+            fprintf(stderr, "a piece was refused: %s\n", zimgasol_status_text(status));
             free(piece);
             return -1;
         }
@@ -74,26 +78,34 @@ int main(int count, char **words) {
     uint64_t page_size = 4096, limit = 1 << 30;
     size_t cut = 65536;
     const char *output = NULL;
+    zimgasol_frame frame = ZIMGASOL_FRAME_RAM;
     for (int i = 1; i + 1 < count; i += 2) {
         if (strcmp(words[i], "-p") == 0) page_size = strtoull(words[i + 1], NULL, 10);
         else if (strcmp(words[i], "-l") == 0) limit = strtoull(words[i + 1], NULL, 10);
         else if (strcmp(words[i], "-c") == 0) cut = strtoull(words[i + 1], NULL, 10);
         else if (strcmp(words[i], "-o") == 0) output = words[i + 1];
+        else if (strcmp(words[i], "-f") == 0 && strcmp(words[i + 1], "machine") == 0)
+            frame = ZIMGASOL_FRAME_MACHINE;
     }
 
     zimgasol_loader loader = {0};
     zimgasol_fault fault;
-    uint32_t status = cut == 0 ? ZIMGASOL_BAD_LENGTH : zimgasol_loader_new(&loader, page_size, limit);
+    uint32_t status = ZIMGASOL_BAD_LENGTH;
+    if (cut > 0) status = zimgasol_loader_new(&loader, page_size, limit, frame);
     if (status != ZIMGASOL_DONE) {
-        fprintf(stderr, "no loader: %u\n", status);
+        fprintf(stderr, "no loader: %s\n", zimgasol_status_text(status));
         return 3;
     }
     long long bytes = feed_input(&loader, cut);
     status = bytes < 0 ? 3 : 0;
     int is_loaded = bytes >= 0 && zimgasol_loader_verdict(&loader, &fault) == ZIMGASOL_DONE;
     if (is_loaded) {
-        printf("single %lld sections %llu\n", bytes, (unsigned long long)zimgasol_loader_rounds(&loader));
+        unsigned long long sections = zimgasol_loader_rounds(&loader);
+        printf("single %lld sections %llu\n", bytes, sections);
     } else if (bytes >= 0) {
+        char text[128];
+        zimgasol_fault_text(&fault, text, sizeof text);
+        fprintf(stderr, "%s\n", text);
         printf("fault %u round %llu\n", fault.number, (unsigned long long)fault.round);
         status = 1;
     }

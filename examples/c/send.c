@@ -2,9 +2,10 @@
  *
  *   send [-p PAGE_SIZE] [-b ID] [-n PAGES] FILE
  *
- * The guest has one block, `pc.ram` where -b says nothing else, of as many pages as the file has; the last one is filled up with zeros. A round
- * has at most 256 pages, or as many as -n says: each is a section of the stream, and is drained before the next begins. Status 3 where the
- * file can't be read, the output fails or there is no memory.
+ * The guest has one block, `pc.ram` where -b says nothing else, of as many pages as the file has;
+ * the last one is filled up with zeros. A round has at most 256 pages, or as many as -n says: each
+ * is a section of the stream, and is drained before the next begins. Status 3 where the file can't
+ * be read, also in its midst, the output fails or there is no memory.
  */
 #include "zimgasol.h"
 #include <stdio.h>
@@ -20,30 +21,47 @@ static int drain(zimgasol_sender *sender) {
     return 1;
 }
 
-/* Reads one page; what the file lacks of it is zeros. */
-static void read_page(FILE *file, uint8_t *page, size_t page_size) {
-    size_t len = fread(page, 1, page_size, file);
-    memset(page + len, 0, page_size - len);
+/* What is sent: a file of `len` bytes, in pages of this size, through a buffer for one page. */
+typedef struct source {
+    FILE *file;
+    uint64_t len;
+    size_t page_size;
+    uint8_t *page;
+} source;
+
+/* Reads page `number`; what the last one lacks is zeros. A file that gives less than its length, or
+ * an error, is no page. */
+static int read_page(const source *from, uint64_t number) {
+    uint64_t left = from->len - number * from->page_size;
+    size_t len = left < from->page_size ? (size_t)left : from->page_size;
+    if (fread(from->page, 1, len, from->file) != len) {
+        perror("the file can't be read to its end");
+        return 0;
+    }
+    memset(from->page + len, 0, from->page_size - len);
+    return 1;
 }
 
 /* Sends a round of the file's next pages. */
-static int send_round(zimgasol_sender *sender, FILE *file, uint8_t *page, size_t page_size, uint64_t from, uint64_t to) {
+static int send_round(zimgasol_sender *sender, const source *from, uint64_t first, uint64_t end) {
     if (zimgasol_sender_begin_round(sender) != ZIMGASOL_DONE) return 0;
-    for (uint64_t number = from; number < to; number++) {
-        read_page(file, page, page_size);
-        if (zimgasol_sender_put_page(sender, 0, number, page, page_size) != ZIMGASOL_DONE) return 0;
+    for (uint64_t number = first; number < end; number++) {
+        if (!read_page(from, number)) return 0;
+        zimgasol_status status =
+            zimgasol_sender_put_page(sender, 0, number, from->page, from->page_size);
+        if (status != ZIMGASOL_DONE) return 0;
     }
     return zimgasol_sender_end_round(sender) == ZIMGASOL_DONE && drain(sender);
 }
 
-static int send_all(zimgasol_sender *sender, FILE *file, size_t page_size, uint64_t pages, uint64_t most) {
-    uint8_t *page = malloc(page_size);
-    int done = page != NULL;
-    for (uint64_t from = 0; done && from < pages; from += most) {
-        uint64_t to = pages - from < most ? pages : from + most;
-        done = send_round(sender, file, page, page_size, from, to);
+static int send_all(zimgasol_sender *sender, source *from, uint64_t pages, uint64_t most) {
+    from->page = malloc(from->page_size);
+    int done = from->page != NULL;
+    for (uint64_t first = 0; done && first < pages; first += most) {
+        uint64_t end = pages - first < most ? pages : first + most;
+        done = send_round(sender, from, first, end);
     }
-    free(page);
+    free(from->page);
     return done && zimgasol_sender_finish(sender) == ZIMGASOL_DONE && drain(sender);
 }
 
@@ -54,19 +72,21 @@ static int send_file(FILE *file, size_t page_size, const char *id, uint64_t most
     rewind(file);
 
     zimgasol_block block = {.pages = ((uint64_t)len + page_size - 1) / page_size};
+    /* an id without a byte 0 is too long, and the table says so */
     memcpy(block.id, id, strlen(id) < sizeof block.id ? strlen(id) : sizeof block.id);
     zimgasol_table table = {0};
     zimgasol_sender sender = {0};
     size_t entry = 0;
-    uint32_t status = zimgasol_table_new(&table, page_size, &block, 1, &entry);
+    zimgasol_status status = zimgasol_table_new(&table, page_size, &block, 1, &entry);
     if (status != ZIMGASOL_DONE) {
-        fprintf(stderr, "no table: %u\n", status);
+        fprintf(stderr, "no table: %d\n", (int)status);
         return 3;
     }
     status = zimgasol_sender_new(&sender, &table);
     zimgasol_table_free(&table);
     if (status != ZIMGASOL_DONE) return 3;
-    int done = send_all(&sender, file, page_size, block.pages, most);
+    source from = {.file = file, .len = (uint64_t)len, .page_size = page_size};
+    int done = send_all(&sender, &from, block.pages, most);
     zimgasol_sender_free(&sender);
     return done && fflush(stdout) == 0 ? 0 : 3;
 }

@@ -25,13 +25,14 @@ use Rattle.mig_stream.specs.Reader.{IsSettled, HasRound, waiting}
 use Rattle.mig_stream.specs.Round.{RoundOfRecords, record_at}
 use Rattle.mig_assemble.specs.Target.{FitsTable, pages_of_round}
 use Rattle.mig_assemble.proofs.Putting.{put_none, put_after, put_page_more}
-use Rattle.mig_single_load.specs.Settings.{for_table, ram_settings}
+use Rattle.mig_single_load.specs.Settings.{for_table}
+use Rattle.mig_stream.specs.declared.item.Frame.{Frame}
 use Rattle.mig_single_load.specs.declared.settings.LoadSettings.{LoadSettings}
 use Rattle.mig_single_load.specs.InPlace.{settings_of, IsOfOwnTable}
 use Rattle.mig_single_load.specs.InPlaceState.{InPlaceState, first_sections, FedWith, LoadsWith}
 use Rattle.mig_single_load.proofs.Sections.{same_reading}
 use Rattle.mig_single_load.proofs.InPlaceStates.{fed_with, round_longer, sections_longer}
-use Rattle.mig_c.specs.InPlace.{held_load, whole_rounds, EndsSection, LacksPart, LacksDue, Holds, is_of, front_of, behind, with_content, with_pages, Begins, FeedsInPlace, Puts, EndsInPlace, records_pages, due_pages, AreDue, IsInBlock}
+use Rattle.mig_c.specs.InPlace.{held_load, whole_rounds, EndsSection, LacksPart, LacksDue, Holds, is_of, front_of, behind, with_content, with_pages, settings_into, Begins, FeedsInPlace, Puts, EndsInPlace, records_pages, due_pages, AreDue, IsInBlock}
 
 -- ---- a page is written
 
@@ -326,14 +327,14 @@ holds_of given first s table due text ended blocks same fit lacks = record {
   lacks = subst (λ (t : RamTable). LacksDue (lent_image t blocks) given first s due text ended) (sym same) lacks;
 }
 
-pub begins : (table : RamTable) (limit : ℕ) (s : InPlaceState) → s.table ≡ table → ((first : Image) → IsImage first → first.table ≡ table → LoadsWith first (ram_settings table.page_size limit) first s [] false)
-    → Begins table limit (held_load s [])
-begins table limit s same loads = record {
+pub begins : (table : RamTable) (frame : Frame) (s : InPlaceState) → s.table ≡ table → ((first : Image) → IsImage first → first.table ≡ table → LoadsWith first (settings_into table frame) first s [] false)
+    → Begins table frame (held_load s [])
+begins table frame s same loads = record {
   same_table = same;
   holds = λ blocks fit.
       let first : Image = lent_image table blocks in
       let is : IsImage first = lent_is_image table blocks fit in
-      holds_of (ram_settings table.page_size limit) first s table [] [] false blocks same fit (lacks_none first (ram_settings table.page_size limit) first s [] false is (loads first is refl));
+      holds_of (settings_into table frame) first s table [] [] false blocks same fit (lacks_none first (settings_into table frame) first s [] false is (loads first is refl));
 }
 
 pub feeds : (s read new : InPlaceState) (due now : List Page) (piece : List ℕ) → IsFalse s.reader.ended

@@ -1,13 +1,15 @@
 -- A sender's steps.
-use Rattle.std.proofs.Common.{◌≡◌, ◌≤◌, ◌<◌, ◌+◌, ◌++◌, ◌∙◌, ℕ, List, ◌∷◌, [], refl, sym, ap, subst, length, take, drop, arith}
+use Rattle.std.proofs.Common.{◌≡◌, ◌≤◌, ◌<◌, ◌+◌, ◌++◌, ◌∙◌, ℕ, List, ◌∷◌, [], refl, sym, ap, subst, length, map, min, take, drop, arith}
 use Rattle.std.proofs.lemmas.List.{take-append-drop, drop-drop, drop_all, append-nil, append_assoc, nil_from_length}
+use Rattle.mig_mem.specs.RamTable.{RamTable}
 use Rattle.mig_mem.specs.Image.{Page}
 use Rattle.mig_stream.specs.Writer.{Writer, PartSoFar, HasPut}
+use Rattle.mig_stream.specs.Written.{RoundPart, written_so_far}
 use Rattle.mig_send.specs.Sending.{HasSentDrained}
 use Rattle.mig_c.specs.declared.sender.Sender.{Sender}
 use Rattle.mig_c.specs.declared.sender.Sending.{Sending}
 use Rattle.mig_c.specs.declared.sender.Sending.TheVariants.{Idle, Round}
-use Rattle.mig_c.specs.Sending.{waiting, HasSentRounds, HasPutPages, IsIdle, IsEnded, EndsRound, Drains, Refills, Hands}
+use Rattle.mig_c.specs.Sending.{waiting, text_so_far, HasSentRounds, HasPutPages, IsIdle, IsEnded, EndsRound, Drains, Refills, Hands, Skips}
 
 -- the round follows those sent before
 pub ends_round : (part : PartSoFar) (w : Writer) → w.table ≡ part.before.table
@@ -28,13 +30,19 @@ none_waits given s le = ap (λ (l : List ℕ). given ++ l) (drop_all s.given s.d
 
 -- what the writer drains is what waits
 pub refills_idle : (old new : Sender) (w v : Writer) → old.state ≡ Idle w → new.state ≡ Idle v → length old.drained.items ≤ old.given → v.table ≡ w.table
+    → ((drained : List ℕ) (rounds : List (List Page)) → HasSentDrained drained w rounds → drained ++ waiting new ≡ written_so_far w.table (map RoundPart rounds))
     → ((drained : List ℕ) (rounds : List (List Page)) → HasSentDrained drained w rounds → HasSentDrained (drained ++ waiting new) v rounds)
     → Refills old new
-refills_idle old new w v was is le same drains = record {
+refills_idle old new w v was is le same all drains = record {
   keeps = λ table given rounds sent.
       let before : HasSentRounds table given rounds (Idle w) = subst (λ (s : Sending). HasSentRounds table given rounds s) was
       (subst (λ (l : List ℕ). HasSentRounds table l rounds old.state) (none_waits given old le) sent) in
       subst (λ (s : Sending). HasSentRounds table (given ++ waiting new) rounds s) (sym is) (same ∙ before.0, drains given rounds before.1);
+  written = λ _ none table given rounds sent.
+      let before : HasSentRounds table given rounds (Idle w) = subst (λ (s : Sending). HasSentRounds table given rounds s) was
+      (subst (λ (l : List ℕ). HasSentRounds table l rounds old.state) (none_waits given old le) sent) in
+      sym (append-nil given) ∙ ap (λ (l : List ℕ). given ++ l) (sym none) ∙ all given rounds before.1
+      ∙ ap (λ (t : RamTable). text_so_far t rounds) before.0;
   keeps_open = λ pages put. absurd (subst (λ (s : Sending). HasPutPages pages s) was put);
   idle = λ _. subst (λ (s : Sending). IsIdle s) (sym is) tt;
   ended = λ e. absurd (subst (λ (s : Sending). IsEnded s) was e);
@@ -68,5 +76,24 @@ drains count out old mid new refills hands = record {
   keeps_open = λ pages put. subst (λ (s : Sending). HasPutPages pages s) (sym hands.same_state) (refills.keeps_open pages put);
   idle = λ i. subst (λ (s : Sending). IsIdle s) (sym hands.same_state) (refills.idle i);
   ended = λ e. subst (λ (s : Sending). IsEnded s) (sym hands.same_state) (refills.ended e);
+  written = λ i zero room. refills.written i (hands.none zero room);
   all = λ e zero room. refills.all e (hands.none zero room);
 }
+
+-- those that are skipped stand before those that still wait
+pub skips : (len count : ℕ) (old new : Sender) → count ≡ min len (length (waiting old)) → new.state ≡ old.state → new.drained.items ≡ old.drained.items
+    → new.given ≡ old.given + count → Skips len count old new
+skips len count old new counts state drained given =
+    let still : waiting new ≡ drop count (waiting old) =
+    ap (λ (l : List ℕ). drop new.given l) drained ∙ ap (λ (n : ℕ). drop n old.drained.items) given ∙ sym (drop-drop count old.given old.drained.items) in
+    record {
+      counts = counts;
+      still = still;
+      same_state = state;
+      hands = λ table handed rounds sent.
+          subst (λ (s : Sending). HasSentRounds table ((handed ++ take count (waiting old)) ++ waiting new) rounds s) (sym state)
+          (subst (λ (l : List ℕ). HasSentRounds table l rounds old.state)
+          (ap (λ (l : List ℕ). handed ++ l) (sym (take-append-drop count (waiting old)))
+          ∙ sym (append_assoc handed (take count (waiting old)) (drop count (waiting old)))
+          ∙ ap (λ (l : List ℕ). (handed ++ take count (waiting old)) ++ l) (sym still)) sent);
+    }

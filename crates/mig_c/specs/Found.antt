@@ -1,5 +1,5 @@
 -- A load's fault as C sees it.
-use Rattle.std.specs.Prelude.{ℕ, ◌+◌, ◌-◌, ◌^◌, min, Result, Ok, Err, ⊤}
+use Rattle.std.specs.Prelude.{if◌then◌else◌, ℕ, Bool, List, [], ◌∷◌, ◌+◌, ◌-◌, ◌^◌, ◌==◌, min, Result, Ok, Err, ⊤}
 use Rattle.mig_stream.specs.declared.fault.StreamFault.{StreamFault}
 use Rattle.mig_stream.specs.declared.fault.StreamFault.TheVariants as stream
 use Rattle.mig_packet.specs.declared.fault.ChannelFault.TheVariants as channel
@@ -14,7 +14,7 @@ use Rattle.mig_single_load.specs.declared.fault.Origin.TheVariants as origin
 use Rattle.mig_answer.specs.declared.verdict.Verdict.{Verdict}
 use Rattle.mig_answer.specs.declared.verdict.Verdict.TheVariants as verdict
 use Rattle.mig_c.specs.declared.fault.FoundFault.{FoundFault}
-use Rattle.mig_c.specs.Status.{done, running, is_due}
+use Rattle.mig_c.specs.Status.{done, running, stream_truncated, is_due}
 
 -- where it was found: 0 is the main stream, 1 + j channel j, and the largest number the round, which is in no one text
 abbrev pub source_number : Origin → ℕ
@@ -43,6 +43,10 @@ carried (fault.Channel (channel.PacketFlags flags)) = (flags, 0)
 carried (fault.Round f) = carried_of_round f
 carried _ = (0, 0)
 
+-- room in a fault for what may come
+abbrev pub no_words : List ℕ
+no_words = 0 ∷ 0 ∷ 0 ∷ []
+
 -- C sees this of a fault,
 abbrev pub found_of : LoadFault → FoundFault
 found_of f = record {
@@ -51,25 +55,30 @@ found_of f = record {
   number = fault_number f.fault;
   first = (carried f.fault).0;
   second = (carried f.fault).1;
+  reserved = no_words;
 }
 
 -- this where there is none,
 abbrev pub no_fault : FoundFault
-no_fault = record { round = 0; source = 0; number = done; first = 0; second = 0 }
+no_fault = record { round = 0; source = 0; number = done; first = 0; second = 0; reserved = no_words }
 
 -- this where the load goes on, behind so many rounds,
 abbrev pub goes_on : ℕ → FoundFault
-goes_on rounds = record { round = rounds; source = 0; number = running; first = 0; second = 0 }
+goes_on rounds = record { round = rounds; source = 0; number = running; first = 0; second = 0; reserved = no_words }
 
 -- and this where pages of the next round are due.
 abbrev pub has_due : ℕ → FoundFault
-has_due rounds = record { round = rounds; source = 0; number = is_due; first = 0; second = 0 }
+has_due rounds = record { round = rounds; source = 0; number = is_due; first = 0; second = 0; reserved = no_words }
 
--- what C sees of the verdict on one stream, and of that on several channels
-abbrev pub seen_of : Result ⊤ LoadFault → FoundFault
-seen_of (Ok x) = no_fault
-seen_of (Err f) = found_of f
+-- What C sees of the verdict on one stream, which may be over: where it isn't and is whole so far, more of it is needed.
+abbrev pub so_far : Bool → FoundFault → FoundFault
+so_far ended f = if ended then f else if f.number == stream_truncated then goes_on f.round else f
 
+abbrev pub seen_so_far : Bool → Result ⊤ LoadFault → FoundFault
+seen_so_far ended (Ok x) = no_fault
+seen_so_far ended (Err f) = so_far ended (found_of f)
+
+-- what C sees of the verdict on several channels
 abbrev pub seen_of_verdict : ℕ → Verdict → FoundFault
 seen_of_verdict rounds verdict.Done = no_fault
 seen_of_verdict rounds verdict.Running = goes_on rounds

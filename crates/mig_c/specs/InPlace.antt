@@ -7,18 +7,19 @@ use Rattle.mig_mem.specs.Image.{Page, Image}
 use Rattle.mig_mem.specs.Round.{with_round, with_rounds}
 use Rattle.mig_mem.specs.Lent.{FitTable, lent_image, bytes_of_block}
 use Rattle.mig_stream.specs.PageRecord.{PageRecord, page_of}
+use Rattle.mig_stream.specs.declared.item.Frame.{Frame}
 use Rattle.mig_stream.specs.Reading.{StreamReading, IsReading}
-use Rattle.mig_stream.specs.Reader.{IsSettled, HasRound, waiting}
+use Rattle.mig_stream.specs.Reader.{IsSettled, HasClosedAt, HasRound, waiting}
 use Rattle.mig_stream.specs.Round.{RoundOfRecords}
 use Rattle.mig_assemble.specs.Target.{FitsTable, pages_of_round}
-use Rattle.mig_single_load.specs.Settings.{ram_settings}
 use Rattle.mig_single_load.specs.declared.settings.LoadSettings.{LoadSettings}
 use Rattle.mig_single_load.specs.declared.fault.LoadFault.{LoadFault}
 use Rattle.mig_single_load.specs.InPlace.{settings_of, IsOfOwnTable, HasVerdictOnto}
-use Rattle.mig_single_load.specs.InPlaceState.{InPlaceState, first_sections, FedWith, LoadsWith}
+use Rattle.mig_single_load.specs.InPlaceState.{InPlaceState, first_sections, FedWith, LoadsWith, WhereFed}
 use Rattle.mig_c.specs.declared.fault.FoundFault.{FoundFault}
-use Rattle.mig_c.specs.Status.{IsOneOf, done, no_memory, is_over, too_long, bad_limit, bad_length, no_page, out_of_turn, is_due}
-use Rattle.mig_c.specs.Found.{seen_of, has_due}
+use Rattle.mig_c.specs.Status.{IsOneOf, done, running, no_memory, is_over, too_long, bad_length, no_page, out_of_turn, is_due, bad_frame}
+use Rattle.mig_c.specs.Frames.{frame_of, load_settings}
+use Rattle.mig_c.specs.Found.{seen_so_far, has_due}
 
 -- what it keeps: its state, and of the section that was taken last the pages that are due, which are still to be put
 pub record HeldLoad : Type 0 where
@@ -88,22 +89,28 @@ with_pages size bytes pages = fold (λ bytes x. with_content size bytes x.place.
 
 -- ---- the calls
 
--- With any blocks that fit this table it was fed nothing yet.
-pub record Begins (table : RamTable) (limit : ℕ) (l : HeldLoad) : Type 0 where
+-- The settings of a load into blocks of this table. The limit of its stream is the largest one: what the table has is known, and another table
+-- is refused.
+abbrev pub settings_into : RamTable → Frame → LoadSettings
+settings_into table frame = load_settings table.page_size (2 ^ 40) frame
+
+-- With any blocks that fit this table it was fed nothing yet, of a stream that is read in this frame.
+pub record Begins (table : RamTable) (frame : Frame) (l : HeldLoad) : Type 0 where
   pub same_table : l.state.table ≡ table
-  pub holds : (blocks : List (List ℕ)) → FitTable table blocks → Holds (ram_settings table.page_size limit) (lent_image table blocks) l [] false blocks
+  pub holds : (blocks : List (List ℕ)) → FitTable table blocks → Holds (settings_into table frame) (lent_image table blocks) l [] false blocks
 
-abbrev pub Opens : Option RamTable → ℕ → Option HeldLoad → Type 0
-Opens None limit made = ⊤
-Opens (Some table) limit None = ⊥
-Opens (Some table) limit (Some l) = Begins table limit l
+abbrev pub Opens : Option RamTable → Option Frame → Option HeldLoad → Type 0
+Opens None frame made = ⊤
+Opens (Some table) None made = ⊥
+Opens (Some table) (Some frame) None = ⊥
+Opens (Some table) (Some frame) (Some l) = Begins table frame l
 
--- What `new` does, with a table.
-pub record OpensInPlace (table : Option RamTable) (limit status : ℕ) (made : Option HeldLoad) : Type 0 where
-  pub is_named : IsOneOf (done ∷ no_memory ∷ bad_limit ∷ []) status
-  pub opens : status ≡ done → Opens table limit made
-  pub above : status ≡ bad_limit → 2 ^ 40 < limit
-  pub within : status ≢ bad_limit → limit ≤ 2 ^ 40
+-- What `new` does, with a table and the number of a frame.
+pub record OpensInPlace (table : Option RamTable) (frame : ℕ) (status : ℕ) (made : Option HeldLoad) : Type 0 where
+  pub is_named : IsOneOf (done ∷ no_memory ∷ bad_frame ∷ []) status
+  pub opens : status ≡ done → Opens table (frame_of frame) made
+  pub no_frame : status ≡ bad_frame → frame_of frame ≡ None
+  pub has_frame : status ≢ bad_frame → frame_of frame ≢ None
 
 -- What `feed` does: pages that were due before it stay due. Behind the end byte, or a fault of the stream's form, no memory is wanted.
 pub record FeedsInPlace (piece : List ℕ) (status : ℕ) (old new : HeldLoad) : Type 0 where
@@ -159,10 +166,10 @@ pub record EndsInPlace (old new : HeldLoad) : Type 0 where
   pub holds : (given : LoadSettings) (first : Image) (text : List ℕ) (ended : Bool) (blocks : List (List ℕ)) → Holds given first old text ended blocks
       → Holds given first new text true blocks
 
--- C sees the verdict on the text so far, as if it were over; or that pages are due.
+-- C sees the verdict on the text so far; where it isn't over and is whole so far, that more of it is needed; or that pages are due.
 pub record TellsVerdict (found : FoundFault) (l : HeldLoad) : Type 0 where
   pub told : l.due ≡ [] → (given : LoadSettings) (first : Image) (text : List ℕ) (ended : Bool) (blocks : List (List ℕ)) → Holds given first l text ended blocks
-      → (verdict : Result ⊤ LoadFault) × HasVerdictOnto given first text verdict × (found ≡ seen_of verdict)
+      → (verdict : Result ⊤ LoadFault) × HasVerdictOnto given first text verdict × (found ≡ seen_so_far l.state.reader.ended verdict)
   pub waits : l.due ≢ [] → found ≡ has_due (whole_rounds l.state.rounds l.due)
 
 -- ---- the inside: a section of which pages are due
@@ -188,3 +195,10 @@ pub record AreDue (table : RamTable) (section : RoundOfRecords) : Type 0 where
 -- A record of a block is of a page in its bytes.
 abbrev pub IsInBlock : ℕ → ℕ → ℕ → PageRecord → Type 0
 IsInBlock size b len r = r.place.block ≡ b → r.place.page * size + size ≤ len
+
+-- C sees how many of the bytes that were fed the stream has, once it is closed; before that the number stays.
+pub record TellsClosedAt (status before after : ℕ) (l : HeldLoad) : Type 0 where
+  pub is_named : IsOneOf (done ∷ running ∷ []) status
+  pub closed : status ≡ done → WhereFed l.state (λ memory given first text ended. HasClosedAt (settings_of first given) text (Some after))
+  pub not_closed : status ≡ running → WhereFed l.state (λ memory given first text ended. HasClosedAt (settings_of first given) text None)
+  pub same : status ≢ done → after ≡ before

@@ -3,7 +3,9 @@ pub mod Status
 pub mod Kinds
 pub mod Blocks
 pub mod Tables
+pub mod Texts
 pub mod Found
+pub mod Frames
 pub mod Reading
 pub mod Loading
 pub mod InPlace

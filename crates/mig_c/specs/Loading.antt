@@ -1,32 +1,36 @@
 -- What the calls of a loader do, by their status.
 use Rattle.std.specs.Prelude.{◌≡◌, ◌≢◌, ◌≤◌, ◌<◌, ◌+◌, ◌^◌, ◌++◌, ℕ, Bool, true, false, List, [], ◌∷◌, length, Option, None, Some, IsTrue, IsFalse, Result, ⊤}
-use Rattle.mig_single_load.specs.Settings.{single_of, ram_settings}
+use Rattle.mig_single_load.specs.Settings.{single_of}
 use Rattle.mig_single_load.specs.declared.settings.LoadSettings.{LoadSettings}
 use Rattle.mig_single_load.specs.declared.fault.LoadFault.{LoadFault}
 use Rattle.mig_single_load.specs.Loader.{Loader, Loads, HasAllSections, Waits, Judges}
 use Rattle.mig_mem.specs.PageSize.{IsPageSize}
-use Rattle.mig_stream.specs.Reader.{IsSettled}
+use Rattle.mig_stream.specs.Reader.{IsSettled, HasClosedAt}
 use Rattle.mig_c.specs.declared.fault.FoundFault.{FoundFault}
-use Rattle.mig_c.specs.Status.{IsOneOf, done, waits, no_memory, is_over, too_long, bad_page_size, bad_limit}
-use Rattle.mig_c.specs.Found.{seen_of}
+use Rattle.mig_c.specs.Status.{IsOneOf, done, running, waits, no_memory, is_over, too_long, bad_page_size, bad_limit, bad_frame}
+use Rattle.mig_c.specs.Frames.{frame_of, asked_settings}
+use Rattle.mig_c.specs.Found.{seen_so_far}
 
 -- fed nothing yet
-pub record IsFresh (page_size limit : ℕ) (l : Loader) : Type 0 where
-  pub loads : Loads (ram_settings page_size limit) l [] false
-  pub has_sections : HasAllSections (ram_settings page_size limit) l []
+pub record IsFresh (given : LoadSettings) (l : Loader) : Type 0 where
+  pub loads : Loads given l [] false
+  pub has_sections : HasAllSections given l []
 
-abbrev pub Opens : ℕ → ℕ → Option Loader → Type 0
-Opens page_size limit None = ⊥
-Opens page_size limit (Some l) = IsFresh page_size limit l
+abbrev pub Opens : Option LoadSettings → Option Loader → Type 0
+Opens None made = ⊥
+Opens (Some given) None = ⊥
+Opens (Some given) (Some l) = IsFresh given l
 
 -- What `new` does: the first thing that is wrong with what it is given is told.
-pub record OpensLoader (page_size limit : ℕ) (status : ℕ) (made : Option Loader) : Type 0 where
-  pub is_named : IsOneOf (done ∷ no_memory ∷ bad_page_size ∷ bad_limit ∷ []) status
-  pub opens : status ≡ done → Opens page_size limit made
+pub record OpensLoader (page_size limit frame : ℕ) (status : ℕ) (made : Option Loader) : Type 0 where
+  pub is_named : IsOneOf (done ∷ no_memory ∷ bad_page_size ∷ bad_limit ∷ bad_frame ∷ []) status
+  pub opens : status ≡ done → Opens (asked_settings page_size limit frame) made
   pub foreign_size : status ≡ bad_page_size → IsPageSize page_size → ⊥
   pub has_size : status ≢ bad_page_size → IsPageSize page_size
   pub above : status ≡ bad_limit → 2 ^ 40 < limit
   pub within : status ≢ bad_page_size → status ≢ bad_limit → limit ≤ 2 ^ 40
+  pub no_frame : status ≡ bad_frame → frame_of frame ≡ None
+  pub has_frame : status ≢ bad_page_size → status ≢ bad_limit → status ≢ bad_frame → frame_of frame ≢ None
 
 -- the piece was taken
 abbrev pub TakesPiece : List ℕ → Loader → Loader → Type 0
@@ -64,7 +68,14 @@ pub record Settles (status : ℕ) (old new : Loader) : Type 0 where
 abbrev pub Ends : Loader → Loader → Type 0
 Ends old new = new ≡ record old { reader = record old.reader { ended = true } }
 
--- C sees the verdict on the text so far, as if it were over
+-- C sees the verdict on the text so far; where it isn't over and is whole so far, that more of it is needed
 abbrev pub TellsVerdict : FoundFault → Loader → Type 0
 TellsVerdict found l = (given : LoadSettings) (text : List ℕ) (ended : Bool) → Loads given l text ended
-    → (verdict : Result ⊤ LoadFault) × Judges given l text verdict × (found ≡ seen_of verdict)
+    → (verdict : Result ⊤ LoadFault) × Judges given l text verdict × (found ≡ seen_so_far l.reader.ended verdict)
+
+-- C sees how many of the bytes that were fed the stream has, once it is closed; before that the number stays.
+pub record TellsClosedAt (status before after : ℕ) (l : Loader) : Type 0 where
+  pub is_named : IsOneOf (done ∷ running ∷ []) status
+  pub closed : status ≡ done → (given : LoadSettings) (text : List ℕ) (ended : Bool) → Loads given l text ended → HasClosedAt (single_of given) text (Some after)
+  pub not_closed : status ≡ running → (given : LoadSettings) (text : List ℕ) (ended : Bool) → Loads given l text ended → HasClosedAt (single_of given) text None
+  pub same : status ≢ done → after ≡ before

@@ -1,10 +1,10 @@
 -- A sender of C: the stream that it writes, and the bytes that were handed out.
-use Rattle.std.specs.Prelude.{◌≡◌, ◌≢◌, ◌≤◌, ◌<◌, ◌++◌, ℕ, List, [], ◌∷◌, drop, take, length, Option, None, Some, ⊤}
+use Rattle.std.specs.Prelude.{◌≡◌, ◌≢◌, ◌≤◌, ◌<◌, ◌++◌, ℕ, List, [], ◌∷◌, drop, map, min, take, length, Option, None, Some, ⊤}
 use Rattle.mig_mem.specs.RamTable.{RamTable}
 use Rattle.mig_mem.specs.declared.place.Place.{Place}
 use Rattle.mig_mem.specs.Place.{IsPlace}
 use Rattle.mig_mem.specs.Image.{Page}
-use Rattle.mig_stream.specs.Written.{single}
+use Rattle.mig_stream.specs.Written.{RoundPart, single, written_so_far}
 use Rattle.mig_stream.specs.Writer.{PartSoFar, HasPut}
 use Rattle.mig_send.specs.Sending.{HasSentDrained}
 use Rattle.mig_c.specs.declared.sender.Sender.{Sender}
@@ -132,14 +132,20 @@ pub record Finishes (status : ℕ) (old new : Sending) : Type 0 where
   pub wrong : status ≡ out_of_turn → IsIdle old → ⊥
   pub in_turn : status ≢ out_of_turn → IsIdle old
 
--- What `drain` does: it hands out the next bytes, as many as it says, at the front of a buffer. Where it has none of a stream that is ended,
--- all of it was handed out. A round that is open stays open, with its pages.
+-- all that is written of these rounds, behind the opening section
+abbrev pub text_so_far : RamTable → List (List Page) → List ℕ
+text_so_far table rounds = written_so_far table (map RoundPart rounds)
+
+-- What `drain` does: it hands out the next bytes, as many as it says, at the front of a buffer. Where it has none between two rounds, all that
+-- was written so far was handed out; of a stream that is ended, all of it. A round that is open stays open, with its pages.
 pub record Drains (count : ℕ) (out : List ℕ) (old new : Sender) : Type 0 where
   pub fits : count ≤ length out
   pub hands : (table : RamTable) (given : List ℕ) (rounds : List (List Page)) → Sends table given rounds old → Sends table (given ++ take count out) rounds new
   pub keeps_open : (pages : List Page) → HasPutPages pages old.state → HasPutPages pages new.state
   pub idle : IsIdle old.state → IsIdle new.state
   pub ended : IsEnded old.state → IsEnded new.state
+  pub written : IsIdle old.state → count ≡ 0 → 0 < length out → (table : RamTable) (given : List ℕ) (rounds : List (List Page)) → Sends table given rounds old
+      → given ≡ text_so_far table rounds
   pub all : IsEnded old.state → count ≡ 0 → 0 < length out → (table : RamTable) (given : List ℕ) (rounds : List (List Page)) → Sends table given rounds old
       → given ≡ single table rounds
 
@@ -151,6 +157,8 @@ pub record Refills (old new : Sender) : Type 0 where
   pub keeps_open : (pages : List Page) → HasPutPages pages old.state → HasPutPages pages new.state
   pub idle : IsIdle old.state → IsIdle new.state
   pub ended : IsEnded old.state → IsEnded new.state
+  pub written : IsIdle old.state → waiting new ≡ [] → (table : RamTable) (given : List ℕ) (rounds : List (List Page)) → Sends table given rounds old
+      → given ≡ text_so_far table rounds
   pub all : IsEnded old.state → waiting new ≡ [] → (table : RamTable) (given : List ℕ) (rounds : List (List Page)) → Sends table given rounds old
       → given ≡ single table rounds
 
@@ -160,3 +168,27 @@ pub record Hands (count : ℕ) (out : List ℕ) (old new : Sender) : Type 0 wher
   pub has_front : take count out ++ waiting new ≡ waiting old
   pub same_state : new.state ≡ old.state
   pub none : count ≡ 0 → 0 < length out → waiting old ≡ []
+
+-- ---- the same in two calls, for a caller whose output may take fewer bytes than it is offered
+
+-- The first bytes that wait are copied to the front of a buffer, as many as there is room for. They still wait.
+pub record Shows (count : ℕ) (out : List ℕ) (s : Sender) : Type 0 where
+  pub fits : count ≤ length out
+  pub within : count ≤ length (waiting s)
+  pub has_front : take count out ≡ take count (waiting s)
+  pub none : count ≡ 0 → 0 < length out → waiting s ≡ []
+
+abbrev pub Peeks : ℕ → List ℕ → Sender → Sender → Type 0
+Peeks count out old new = Refills old new × Shows count out new
+
+-- What `waiting` tells: how many bytes there are to hand out, until more is written.
+abbrev pub Counts : ℕ → Sender → Sender → Type 0
+Counts count old new = Refills old new × (count ≡ length (waiting new))
+
+-- The first bytes that wait count as handed out, so many of them, or all.
+pub record Skips (len count : ℕ) (old new : Sender) : Type 0 where
+  pub counts : count ≡ min len (length (waiting old))
+  pub still : waiting new ≡ drop count (waiting old)
+  pub same_state : new.state ≡ old.state
+  pub hands : (table : RamTable) (given : List ℕ) (rounds : List (List Page)) → Sends table given rounds old
+      → Sends table (given ++ take count (waiting old)) rounds new

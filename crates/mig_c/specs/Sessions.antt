@@ -2,23 +2,25 @@
 use Rattle.std.specs.Prelude.{◌≡◌, ◌≢◌, ◌⊎◌, ◌≤◌, ◌<◌, ◌+◌, ◌-◌, ◌^◌, ℕ, List, [], ◌∷◌, length, IsTrue, IsFalse, if◌then◌else◌, ◌==◌, Option, None, Some}
 use Rattle.mig_session.specs.declared.source.Source.{Source}
 use Rattle.mig_session.specs.declared.source.Source.TheVariants as source
-use Rattle.mig_single_load.specs.Settings.{ram_settings}
+use Rattle.mig_single_load.specs.declared.settings.LoadSettings.{LoadSettings}
 use Rattle.mig_answer.specs.declared.verdict.Verdict.TheVariants.{Running}
 use Rattle.mig_answer.specs.Texts.{no_texts}
 use Rattle.mig_session.specs.Session.{LoadSession, StandsFor, HasSource, count_of, feed_step, end_step, answer_in, StepsOn, RunsOut, StillLacks}
 use Rattle.mig_session.specs.Advancing.{failed_without_memory}
 use Rattle.mig_mem.specs.PageSize.{IsPageSize}
-use Rattle.mig_c.specs.Status.{IsOneOf, done, no_memory, bad_page_size, bad_limit, bad_channels, bad_source, is_over, too_long, bad_length}
+use Rattle.mig_c.specs.Status.{IsOneOf, done, no_memory, bad_page_size, bad_limit, bad_channels, bad_source, is_over, too_long, bad_length, bad_frame}
+use Rattle.mig_c.specs.Frames.{frame_of, asked_settings}
 
 -- a session that was fed nothing
-abbrev pub Opens : ℕ → List ℕ → ℕ → ℕ → Option LoadSession → Type 0
-Opens page_size uuid channels limit None = ⊥
-Opens page_size uuid channels limit (Some s) = StandsFor (ram_settings page_size limit) uuid (no_texts channels) s
+abbrev pub Opens : Option LoadSettings → List ℕ → ℕ → Option LoadSession → Type 0
+Opens None uuid channels made = ⊥
+Opens (Some given) uuid channels None = ⊥
+Opens (Some given) uuid channels (Some s) = StandsFor given uuid (no_texts channels) s
 
 -- What `new` does: the first thing that is wrong with what it is given is told.
-pub record OpensSession (page_size : ℕ) (uuid : List ℕ) (channels limit : ℕ) (status : ℕ) (made : Option LoadSession) : Type 0 where
-  pub is_named : IsOneOf (done ∷ no_memory ∷ bad_page_size ∷ bad_limit ∷ bad_channels ∷ bad_length ∷ []) status
-  pub opens : status ≡ done → Opens page_size uuid channels limit made
+pub record OpensSession (page_size : ℕ) (uuid : List ℕ) (channels limit frame : ℕ) (status : ℕ) (made : Option LoadSession) : Type 0 where
+  pub is_named : IsOneOf (done ∷ no_memory ∷ bad_page_size ∷ bad_limit ∷ bad_channels ∷ bad_length ∷ bad_frame ∷ []) status
+  pub opens : status ≡ done → Opens (asked_settings page_size limit frame) uuid channels made
   pub foreign_size : status ≡ bad_page_size → IsPageSize page_size → ⊥
   pub has_size : status ≢ bad_page_size → IsPageSize page_size
   pub above : status ≡ bad_limit → 2 ^ 40 < limit
@@ -27,6 +29,8 @@ pub record OpensSession (page_size : ℕ) (uuid : List ℕ) (channels limit : �
   pub numbered : status ≢ bad_page_size → status ≢ bad_limit → status ≢ bad_channels → (1 ≤ channels) × (channels ≤ 255)
   pub short : status ≡ bad_length → length uuid ≢ 16
   pub is_uuid : status ≢ bad_page_size → status ≢ bad_limit → status ≢ bad_channels → status ≢ bad_length → length uuid ≡ 16
+  pub no_frame : status ≡ bad_frame → frame_of frame ≡ None
+  pub has_frame : status ≢ bad_page_size → status ≢ bad_limit → status ≢ bad_channels → status ≢ bad_length → status ≢ bad_frame → frame_of frame ≢ None
 
 -- What `feed` does to a source.
 pub record FeedsSource (from : Source) (piece : List ℕ) (status : ℕ) (old new : LoadSession) : Type 0 where
@@ -51,6 +55,11 @@ pub record EndsSource (from : Source) (status : ℕ) (old new : LoadSession) : T
   pub same : status ≢ done → new ≡ old
   pub foreign : status ≡ bad_source → HasSource old.counts from → ⊥
   pub has_source : status ≢ bad_source → HasSource old.counts from
+
+-- how many bytes of a source were fed: 0 where there is no such source
+pub record TellsFed (from : Source) (fed : ℕ) (s : LoadSession) : Type 0 where
+  pub counted : HasSource s.counts from → fed ≡ (count_of s.counts from).fed
+  pub foreign : (HasSource s.counts from → ⊥) → fed ≡ 0
 
 -- the source of a number: 0 is the main stream, 1 + j channel j
 abbrev pub source_of : ℕ → Source

@@ -14,6 +14,10 @@ no_memory = 60
 abbrev pub running : ℕ
 running = 100
 
+-- the number of the fault of a stream that is over before its end byte (`Truncated`)
+abbrev pub stream_truncated : ℕ
+stream_truncated = 34
+
 -- ---- a call that isn't to be made so, which changes nothing
 
 -- a page size other than 4096 and 8192
@@ -63,6 +67,10 @@ waits = 111
 -- pages that came are to be put: no fault
 abbrev pub is_due : ℕ
 is_due = 112
+
+-- a frame that isn't one
+abbrev pub bad_frame : ℕ
+bad_frame = 113
 
 -- ----
 

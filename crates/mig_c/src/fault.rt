@@ -1,9 +1,9 @@
 //! A load's fault as C sees it.
 
 ghost use Rattle.std.specs.Prelude.{◌≡◌};
-ghost use Rattle.mig_c.specs.Found.{source_number, carried_of_stream, carried_of_round, carried, found_of, no_fault, seen_of, goes_on, has_due};
+ghost use Rattle.mig_c.specs.Found.{source_number, carried_of_stream, carried_of_round, carried, found_of, no_fault, so_far, seen_so_far, goes_on, has_due};
 
-use crate::status::{IS_DUE, RUNNING};
+use crate::status::{IS_DUE, RUNNING, STREAM_TRUNCATED};
 use mig_assemble::RoundFault;
 use mig_packet::ChannelFault;
 use mig_single_load::{Fault, LoadFault, Origin};
@@ -23,6 +23,8 @@ pub struct FoundFault {
     pub first: u64,
     /// And beside it: the number of an offset, or of a page.
     pub second: u64,
+    /// Zeros, as room for what may come.
+    pub reserved: [u64; 3],
 }
 
 // What stands where there is no fault.
@@ -32,6 +34,7 @@ const NONE: FoundFault = FoundFault {
     number: 0,
     first: 0,
     second: 0,
+    reserved: [0; 3],
 };
 
 fn source_number(origin: Origin) -> u64
@@ -93,6 +96,7 @@ pub(crate) fn found(fault: LoadFault) -> FoundFault
         number: u32::from(fault.fault.number()),
         first,
         second,
+        ..NONE
     }
 }
 
@@ -103,13 +107,23 @@ pub(crate) fn none() -> FoundFault
     NONE
 }
 
-/// The verdict on one stream as C sees it.
-pub(crate) fn of_verdict(verdict: Result<(), LoadFault>) -> FoundFault
-    ensures { result ≡ seen_of verdict }
+// A fault of a stream that may go on: where it is whole so far there is none.
+fn so_far(fault: FoundFault, ended: bool) -> FoundFault
+    ensures { result ≡ so_far ended fault }
+{
+    if !ended && fault.number == STREAM_TRUNCATED {
+        return running(fault.round);
+    }
+    fault
+}
+
+/// The verdict on one stream as C sees it, and whether the stream is over.
+pub(crate) fn of_verdict(verdict: Result<(), LoadFault>, ended: bool) -> FoundFault
+    ensures { result ≡ seen_so_far ended verdict }
 {
     match verdict {
         Ok(()) => none(),
-        Err(fault) => found(fault),
+        Err(fault) => so_far(found(fault), ended),
     }
 }
 

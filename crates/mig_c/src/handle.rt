@@ -3,7 +3,7 @@
 //! A pointer to a type that owns memory doesn't cross to C, and neither does a type parameter. So all kinds of objects are one type
 //! (`object`), and a handle is a pointer to bytes of which its ghost field knows what they are.
 
-ghost use Rattle.std.specs.Prelude.{◌≡◌, Option, None, Some, IsSome};
+ghost use Rattle.std.specs.Prelude.{◌≡◌, ◌↔◌, Option, None, Some, IsSome};
 ghost use Rattle.mig_c.specs.declared.object.Object.{Object};
 
 use crate::loose::Loose;
@@ -97,6 +97,9 @@ impl Handle {
 pub struct TableHandle {
     /// What is behind it.
     pub handle: Handle,
+    /// 0 where nothing is behind it, else 1.
+    pub full: u64,
+    ghost says: { full ≡ 0 ↔ handle.value ≡ None },
 }
 
 /// A loader of one stream, or none.
@@ -105,6 +108,9 @@ pub struct TableHandle {
 pub struct LoaderHandle {
     /// What is behind it.
     pub handle: Handle,
+    /// 0 where nothing is behind it, else 1.
+    pub full: u64,
+    ghost says: { full ≡ 0 ↔ handle.value ≡ None },
 }
 
 /// A load of one stream into blocks of C, or none.
@@ -113,6 +119,9 @@ pub struct LoaderHandle {
 pub struct InPlaceHandle {
     /// What is behind it.
     pub handle: Handle,
+    /// 0 where nothing is behind it, else 1.
+    pub full: u64,
+    ghost says: { full ≡ 0 ↔ handle.value ≡ None },
 }
 
 /// A load of several channels, or none.
@@ -121,6 +130,9 @@ pub struct InPlaceHandle {
 pub struct SessionHandle {
     /// What is behind it.
     pub handle: Handle,
+    /// 0 where nothing is behind it, else 1.
+    pub full: u64,
+    ghost says: { full ≡ 0 ↔ handle.value ≡ None },
 }
 
 /// A sender of one stream, or none.
@@ -129,6 +141,9 @@ pub struct SessionHandle {
 pub struct SenderHandle {
     /// What is behind it.
     pub handle: Handle,
+    /// 0 where nothing is behind it, else 1.
+    pub full: u64,
+    ghost says: { full ≡ 0 ↔ handle.value ≡ None },
 }
 
 // Asks the prover, wherever it is called, for the proof that values of the type may go to another

@@ -8,15 +8,17 @@ ghost use Rattle.mig_stream.specs.Reader.{waiting};
 ghost use Rattle.mig_assemble.specs.Target.{pages_of_round};
 ghost use Rattle.mig_single_load.specs.declared.settings.LoadSettings.{LoadSettings};
 ghost use Rattle.mig_single_load.specs.InPlaceState.{FedWith};
-ghost use Rattle.mig_c.specs.InPlace.{held_load, whole_rounds, due_block, due_pages, AreDue, LacksPart, LacksDue, Begins, FeedsInPlace, TellsNext, Answers, Puts, PutsBlock, EndsInPlace, TellsVerdict};
+ghost use Rattle.mig_c.specs.InPlace.{held_load, whole_rounds, due_block, due_pages, AreDue, LacksPart, LacksDue, Begins, FeedsInPlace, TellsNext, Answers, Puts, PutsBlock, EndsInPlace, TellsVerdict, TellsClosedAt};
 
 use crate::fault::{FoundFault, due, of_verdict};
 use crate::putting::DueSection;
 use crate::status::{
-    BAD_LENGTH, DONE, IS_DUE, IS_OVER, NO_MEMORY, NO_PAGE, OUT_OF_TURN, ROOM, TOO_LONG,
+    BAD_LENGTH, DONE, IS_DUE, IS_OVER, MAX_LIMIT, NO_MEMORY, NO_PAGE, OUT_OF_TURN, ROOM, RUNNING,
+    TOO_LONG,
 };
 use mig_mem::{NoMemory, Table};
-use mig_single_load::InPlaceState;
+use mig_single_load::{InPlaceState, LoadSettings};
+use mig_stream::Frame;
 use std::alloc::Global;
 use std::marker::Model;
 
@@ -115,16 +117,21 @@ fn put_due(
 }
 
 impl HeldLoad {
-    /// A load that was fed nothing, into blocks of this table, of which it keeps a copy.
+    /// Creates a load that was fed nothing, into blocks of `table`, of which it keeps a copy. Its
+    /// stream is read in `frame`.
     pub(crate) fn new(
         alloc: Global,
         table: &Table<Global>,
-        limit: u64,
+        frame: Frame,
     ) -> Result<HeldLoad, NoMemory>
-        requires { limit ≤ 2 ^ 40 }
-        ensures { IfOk result (λ l. Begins table.now limit l) }
+        ensures { IfOk result (λ l. Begins table.now frame l) }
     {
-        let state = InPlaceState::new(alloc, table, limit)?;
+        let settings = LoadSettings {
+            page_size: table.page_size(),
+            limit: MAX_LIMIT,
+            frame,
+        };
+        let state = InPlaceState::new_in(alloc, table, settings)?;
         Ok(HeldLoad { state, due: None })
     }
 
@@ -180,13 +187,33 @@ impl HeldLoad {
         self.state.end();
     }
 
-    /// The verdict on the text so far, as if it were over here; or that pages are due.
+    /// The verdict on the text so far, or that pages are due.
     pub(crate) fn fault(&self) -> FoundFault
         ensures { TellsVerdict result self.now }
     {
         match &self.due {
             Some(_section) => due(self.rounds()),
-            None => of_verdict(self.state.verdict()),
+            None => of_verdict(self.state.verdict(), self.state.ended()),
+        }
+    }
+
+    /// Returns how many bytes were fed.
+    pub(crate) fn fed(&self) -> u64
+        ensures { result ≡ self.now.state.reader.fed }
+    {
+        self.state.fed()
+    }
+
+    /// Reports how many of the bytes fed the stream has, once it is closed.
+    pub(crate) fn closed_at(&self, at: &mut u64) -> u32
+        ensures { TellsClosedAt result at.old at.new self.now }
+    {
+        match self.state.closed_at() {
+            Some(count) => {
+                *at = count;
+                DONE
+            }
+            None => RUNNING,
         }
     }
 

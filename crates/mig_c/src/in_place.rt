@@ -3,59 +3,61 @@
 ghost use Rattle.std.specs.Prelude.{◌≡◌, ◌≢◌, ◌≤◌, ◌^◌, IsSome, IfOk, None, Some};
 ghost use Rattle.mig_c.specs.Status.{done};
 ghost use Rattle.mig_c.specs.Kinds.{table_in, in_place_in, Turns, Tells};
-ghost use Rattle.mig_c.specs.InPlace.{whole_rounds, Opens, OpensInPlace, FeedsInPlace, TellsNext, PutsBlock, EndsInPlace, TellsVerdict};
+ghost use Rattle.mig_c.specs.InPlace.{whole_rounds, Opens, OpensInPlace, FeedsInPlace, TellsNext, PutsBlock, EndsInPlace, TellsVerdict, TellsClosedAt};
 
 use crate::fault::FoundFault;
+use crate::frame::frame_of;
 use crate::handle::{Handle, InPlaceHandle, TableHandle};
 use crate::held::HeldLoad;
 use crate::object::Object;
-use crate::status::{BAD_LIMIT, DONE, MAX_LIMIT, NO_MEMORY};
+use crate::status::{BAD_FRAME, DONE, NO_MEMORY};
 use mig_mem::{NoMemory, Table};
+use mig_stream::Frame;
 use std::alloc::Global;
 
 // A load in a box.
-fn made(alloc: Global, table: &Table<Global>, limit: u64) -> Result<Box<Object>, NoMemory>
-    requires { limit ≤ 2 ^ 40 }
-    ensures { IfOk result (λ object. Opens (Some table.now) limit (in_place_in (Some object.value))) }
+fn made(alloc: Global, table: &Table<Global>, frame: Frame) -> Result<Box<Object>, NoMemory>
+    ensures { IfOk result (λ object. Opens (Some table.now) (Some frame) (in_place_in (Some object.value))) }
 {
-    let load = HeldLoad::new(alloc, table, limit)?;
+    let load = HeldLoad::new(alloc, table, frame)?;
     Ok(Box::new(alloc, Object::InPlace(load))?)
 }
 
-fn made_of(alloc: Global, table: &Object, limit: u64) -> Result<Box<Object>, NoMemory>
-    requires table { IsSome (table_in (Some table.now)) }
-    requires limit { limit ≤ 2 ^ 40 }
-    ensures { IfOk result (λ object. Opens (table_in (Some table.now)) limit (in_place_in (Some object.value))) }
+fn made_of(alloc: Global, table: &Object, frame: Frame) -> Result<Box<Object>, NoMemory>
+    requires { IsSome (table_in (Some table.now)) }
+    ensures { IfOk result (λ object. Opens (table_in (Some table.now)) (Some frame) (in_place_in (Some object.value))) }
 {
     match table {
-        Object::Table(table) => made(alloc, table, limit),
+        Object::Table(table) => made(alloc, table, frame),
         _ => unreachable!(),
     }
 }
 
-/// Makes a load that was fed nothing, into blocks of a table, of which it keeps a copy.
+/// Makes a load that was fed nothing, into blocks of a table, of which it keeps a copy. Its stream
+/// is read in a frame.
 #[unsafe(no_mangle)]
 pub extern "C" fn zimgasol_in_place_new(
     alloc: Global,
     in_place: &mut InPlaceHandle,
     table: &mut TableHandle,
-    limit: u64,
+    frame: u32,
 ) -> u32
     requires none { in_place.old.handle.value ≡ None }
     requires table { IsSome (table_in table.old.handle.value) }
-    ensures opens { OpensInPlace (table_in table.old.handle.value) limit result (in_place_in in_place.new.handle.value) }
+    ensures opens { OpensInPlace (table_in table.old.handle.value) frame result (in_place_in in_place.new.handle.value) }
     ensures none { result ≢ done → in_place.new.handle.value ≡ None }
     ensures table { table.new.handle.value ≡ table.old.handle.value }
 {
-    if limit > MAX_LIMIT {
-        return BAD_LIMIT;
-    }
+    let Some(frame) = frame_of(frame) else {
+        return BAD_FRAME;
+    };
     let object = table.handle.take().into_box(alloc);
-    let made = made_of(alloc, &object, limit);
+    let made = made_of(alloc, &object, frame);
     table.handle = Handle::of(object);
     match made {
         Ok(object) => {
             in_place.handle = Handle::of(object);
+            in_place.full = 1;
             DONE
         }
         Err(NoMemory) => NO_MEMORY,
@@ -173,7 +175,7 @@ fn fault(object: &Object) -> FoundFault
     }
 }
 
-/// The verdict on the text so far, as if it were over here; or that pages are to be put.
+/// The verdict on the text so far, or that more is needed, or that pages are to be put.
 #[unsafe(no_mangle)]
 pub extern "C" fn zimgasol_in_place_verdict(
     alloc: Global,
@@ -215,11 +217,63 @@ pub extern "C" fn zimgasol_in_place_rounds(alloc: Global, in_place: &mut InPlace
     number
 }
 
-/// Frees a load. Pages that are to be put are lost.
+fn fed(object: &Object) -> u64
+    requires { IsSome (in_place_in (Some object.now)) }
+    ensures { Tells (λ l. result ≡ l.state.reader.fed) (in_place_in (Some object.now)) }
+{
+    match object {
+        Object::InPlace(load) => load.fed(),
+        _ => unreachable!(),
+    }
+}
+
+/// Returns how many bytes were fed.
+#[unsafe(no_mangle)]
+pub extern "C" fn zimgasol_in_place_fed(alloc: Global, in_place: &mut InPlaceHandle) -> u64
+    requires in_place { IsSome (in_place_in in_place.old.handle.value) }
+    ensures same { in_place.new.handle.value ≡ in_place.old.handle.value }
+    ensures fed { Tells (λ l. result ≡ l.state.reader.fed) (in_place_in in_place.old.handle.value) }
+{
+    let object = in_place.handle.take().into_box(alloc);
+    let number = fed(&object);
+    in_place.handle = Handle::of(object);
+    number
+}
+
+fn closed_at(object: &Object, at: &mut u64) -> u32
+    requires { IsSome (in_place_in (Some object.now)) }
+    ensures { Tells (TellsClosedAt result at.old at.new) (in_place_in (Some object.now)) }
+{
+    match object {
+        Object::InPlace(load) => load.closed_at(at),
+        _ => unreachable!(),
+    }
+}
+
+/// Reports how many of the bytes fed the stream has, once it is closed.
+#[unsafe(no_mangle)]
+pub extern "C" fn zimgasol_in_place_closed_at(
+    alloc: Global,
+    in_place: &mut InPlaceHandle,
+    at: &mut u64,
+) -> u32
+    requires in_place { IsSome (in_place_in in_place.old.handle.value) }
+    ensures same { in_place.new.handle.value ≡ in_place.old.handle.value }
+    ensures tells { Tells (TellsClosedAt result at.old at.new) (in_place_in in_place.old.handle.value) }
+{
+    let object = in_place.handle.take().into_box(alloc);
+    let status = closed_at(&object, at);
+    in_place.handle = Handle::of(object);
+    status
+}
+
+/// Frees a load. Pages that are to be put are lost. A handle without one stays as it is.
 #[unsafe(no_mangle)]
 pub extern "C" fn zimgasol_in_place_free(alloc: Global, in_place: &mut InPlaceHandle)
-    requires in_place { IsSome (in_place_in in_place.old.handle.value) }
     ensures none { in_place.new.handle.value ≡ None }
 {
-    let _object = in_place.handle.take().into_box(alloc);
+    if in_place.full != 0 {
+        let _object = in_place.handle.take().into_box(alloc);
+        in_place.full = 0;
+    }
 }

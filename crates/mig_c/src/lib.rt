@@ -10,6 +10,7 @@
 
 mod block;
 mod fault;
+mod frame;
 mod handle;
 mod held;
 mod in_place;
@@ -24,3 +25,4 @@ mod session;
 mod sources;
 mod status;
 mod table;
+mod text;

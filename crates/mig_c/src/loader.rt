@@ -6,40 +6,43 @@ ghost use Rattle.mig_single_load.specs.Loader.{memory_of, sections_loaded};
 ghost use Rattle.mig_c.specs.Status.{done};
 ghost use Rattle.mig_c.specs.Kinds.{loader_in, Turns, Tells};
 ghost use Rattle.mig_c.specs.Reading.{GivesPage, GivesBlock, place_at, block_count};
-ghost use Rattle.mig_c.specs.Loading.{IsFresh, Opens, Feeds, Settles, Ends, TellsVerdict, OpensLoader};
+ghost use Rattle.mig_c.specs.Loading.{IsFresh, Opens, Feeds, Settles, Ends, TellsVerdict, TellsClosedAt, OpensLoader};
 
 use crate::block::NamedBlock;
-use crate::fault::{FoundFault, found, none};
+use crate::fault::{FoundFault, of_verdict};
+use crate::frame::frame_of;
 use crate::handle::{Handle, LoaderHandle};
 use crate::object::Object;
 use crate::reading;
 use crate::status::{
-    BAD_LIMIT, BAD_PAGE_SIZE, DONE, IS_OVER, MAX_LIMIT, NO_MEMORY, ROOM, TOO_LONG, WAITS,
+    BAD_FRAME, BAD_LIMIT, BAD_PAGE_SIZE, DONE, IS_OVER, MAX_LIMIT, NO_MEMORY, ROOM, RUNNING,
+    TOO_LONG, WAITS,
 };
 use mig_mem::{NoMemory, is_page_size};
-use mig_single_load::{FeedFault, SingleLoader};
+use mig_single_load::{FeedFault, LoadSettings, SingleLoader};
 use std::alloc::Global;
 
 // A loader in a box.
-fn made(alloc: Global, page_size: u64, limit: u64) -> Result<Box<Object>, NoMemory>
-    requires page_size { IsPageSize page_size }
-    requires limit { limit ≤ 2 ^ 40 }
-    ensures { IfOk result (λ object. Opens page_size limit (loader_in (Some object.value))) }
+fn made(alloc: Global, settings: LoadSettings) -> Result<Box<Object>, NoMemory>
+    requires page_size { IsPageSize settings.page_size }
+    requires limit { settings.limit ≤ 2 ^ 40 }
+    ensures { IfOk result (λ object. Opens (Some settings) (loader_in (Some object.value))) }
 {
-    let loader = SingleLoader::new(alloc, page_size, limit);
+    let loader = SingleLoader::new_in(alloc, settings);
     Ok(Box::new(alloc, Object::Loader(loader))?)
 }
 
-/// Makes a loader that was fed nothing.
+/// Makes a loader that was fed nothing, of a stream that is read in a frame.
 #[unsafe(no_mangle)]
 pub extern "C" fn zimgasol_loader_new(
     alloc: Global,
     loader: &mut LoaderHandle,
     page_size: u64,
     limit: u64,
+    frame: u32,
 ) -> u32
     requires none { loader.old.handle.value ≡ None }
-    ensures opens { OpensLoader page_size limit result (loader_in loader.new.handle.value) }
+    ensures opens { OpensLoader page_size limit frame result (loader_in loader.new.handle.value) }
     ensures none { result ≢ done → loader.new.handle.value ≡ None }
 {
     if !is_page_size(page_size) {
@@ -48,9 +51,18 @@ pub extern "C" fn zimgasol_loader_new(
     if limit > MAX_LIMIT {
         return BAD_LIMIT;
     }
-    match made(alloc, page_size, limit) {
+    let Some(frame) = frame_of(frame) else {
+        return BAD_FRAME;
+    };
+    let settings = LoadSettings {
+        page_size,
+        limit,
+        frame,
+    };
+    match made(alloc, settings) {
         Ok(object) => {
             loader.handle = Handle::of(object);
+            loader.full = 1;
             DONE
         }
         Err(NoMemory) => NO_MEMORY,
@@ -154,10 +166,7 @@ pub extern "C" fn zimgasol_loader_end(alloc: Global, loader: &mut LoaderHandle)
 fn fault_of(loader: &SingleLoader<Global>) -> FoundFault
     ensures { TellsVerdict result loader.now }
 {
-    match loader.verdict() {
-        Ok(()) => none(),
-        Err(fault) => found(fault),
-    }
+    of_verdict(loader.verdict(), loader.ended())
 }
 
 fn fault(object: &Object) -> FoundFault
@@ -170,7 +179,7 @@ fn fault(object: &Object) -> FoundFault
     }
 }
 
-/// The verdict on the text so far, as if it were over here.
+/// The verdict on the text so far; where it isn't over and is whole so far, that more is needed.
 #[unsafe(no_mangle)]
 pub extern "C" fn zimgasol_loader_verdict(
     alloc: Global,
@@ -210,6 +219,68 @@ pub extern "C" fn zimgasol_loader_rounds(alloc: Global, loader: &mut LoaderHandl
     let number = rounds(&object);
     loader.handle = Handle::of(object);
     number
+}
+
+fn fed(object: &Object) -> u64
+    requires { IsSome (loader_in (Some object.now)) }
+    ensures { Tells (λ l. result ≡ l.reader.fed) (loader_in (Some object.now)) }
+{
+    match object {
+        Object::Loader(loader) => loader.fed(),
+        _ => unreachable!(),
+    }
+}
+
+/// Returns how many bytes were fed.
+#[unsafe(no_mangle)]
+pub extern "C" fn zimgasol_loader_fed(alloc: Global, loader: &mut LoaderHandle) -> u64
+    requires loader { IsSome (loader_in loader.old.handle.value) }
+    ensures same { loader.new.handle.value ≡ loader.old.handle.value }
+    ensures fed { Tells (λ l. result ≡ l.reader.fed) (loader_in loader.old.handle.value) }
+{
+    let object = loader.handle.take().into_box(alloc);
+    let number = fed(&object);
+    loader.handle = Handle::of(object);
+    number
+}
+
+fn loader_closed_at(loader: &SingleLoader<Global>, at: &mut u64) -> u32
+    ensures { TellsClosedAt result at.old at.new loader.now }
+{
+    match loader.closed_at() {
+        Some(count) => {
+            *at = count;
+            DONE
+        }
+        None => RUNNING,
+    }
+}
+
+fn closed_at(object: &Object, at: &mut u64) -> u32
+    requires { IsSome (loader_in (Some object.now)) }
+    ensures { Tells (TellsClosedAt result at.old at.new) (loader_in (Some object.now)) }
+{
+    match object {
+        Object::Loader(loader) => loader_closed_at(loader, at),
+        _ => unreachable!(),
+    }
+}
+
+/// Reports how many of the bytes fed the stream has, once it is closed.
+#[unsafe(no_mangle)]
+pub extern "C" fn zimgasol_loader_closed_at(
+    alloc: Global,
+    loader: &mut LoaderHandle,
+    at: &mut u64,
+) -> u32
+    requires loader { IsSome (loader_in loader.old.handle.value) }
+    ensures same { loader.new.handle.value ≡ loader.old.handle.value }
+    ensures tells { Tells (TellsClosedAt result at.old at.new) (loader_in loader.old.handle.value) }
+{
+    let object = loader.handle.take().into_box(alloc);
+    let status = closed_at(&object, at);
+    loader.handle = Handle::of(object);
+    status
 }
 
 fn page(object: &Object, block: usize, page: u64, out: &mut [u8]) -> u32
@@ -292,11 +363,13 @@ pub extern "C" fn zimgasol_loader_block(
     status
 }
 
-/// Frees a loader.
+/// Frees a loader. A handle without one stays as it is.
 #[unsafe(no_mangle)]
 pub extern "C" fn zimgasol_loader_free(alloc: Global, loader: &mut LoaderHandle)
-    requires loader { IsSome (loader_in loader.old.handle.value) }
     ensures none { loader.new.handle.value ≡ None }
 {
-    let _object = loader.handle.take().into_box(alloc);
+    if loader.full != 0 {
+        let _object = loader.handle.take().into_box(alloc);
+        loader.full = 0;
+    }
 }

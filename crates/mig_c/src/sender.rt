@@ -4,7 +4,7 @@ ghost use Rattle.std.specs.Prelude.{◌∷◌, [], ◌≡◌, ◌≢◌, ◌<◌
 ghost use Rattle.mig_c.specs.Status.{IsOneOf, done, no_memory};
 ghost use Rattle.mig_c.specs.Kinds.{table_in, sender_in, Turns};
 ghost use Rattle.mig_c.specs.Reading.{place_at};
-ghost use Rattle.mig_c.specs.Sending.{Starts, Begins, Puts, EndsRound, Cancels, Finishes, Changes, Adds, Drains, Refills, Hands};
+ghost use Rattle.mig_c.specs.Sending.{Starts, Begins, Puts, EndsRound, Cancels, Finishes, Changes, Adds, Drains, Refills, Hands, Peeks, Counts, Skips};
 
 use crate::handle::{Handle, SenderHandle, TableHandle};
 use crate::object::Object;
@@ -78,6 +78,7 @@ pub extern "C" fn zimgasol_sender_new(
     match made {
         Ok(object) => {
             sender.handle = Handle::of(object);
+            sender.full = 1;
             DONE
         }
         Err(NoMemory) => NO_MEMORY,
@@ -386,11 +387,109 @@ pub extern "C" fn zimgasol_sender_drain(
     count
 }
 
-/// Frees a sender.
+fn peek_sender(sender: &mut Sender, out: &mut [u8]) -> usize
+    ensures { Peeks result out.new sender.old sender.new }
+{
+    refill(sender);
+    copy_front(behind(&sender.drained, sender.given), out)
+}
+
+fn peek(object: &mut Object, out: &mut [u8]) -> usize
+    requires { IsSome (sender_in (Some object.old)) }
+    ensures { Turns (Peeks result out.new) (sender_in (Some object.old)) (sender_in (Some object.new)) }
+{
+    match object {
+        Object::Sender(sender) => peek_sender(sender, out),
+        _ => unreachable!(),
+    }
+}
+
+/// Copies the next bytes of the stream out, which go on waiting, and returns how many.
+#[unsafe(no_mangle)]
+pub extern "C" fn zimgasol_sender_peek(
+    alloc: Global,
+    sender: &mut SenderHandle,
+    out: &mut [u8],
+) -> usize
+    requires sender { IsSome (sender_in sender.old.handle.value) }
+    ensures peeks { Turns (Peeks result out.new) (sender_in sender.old.handle.value) (sender_in sender.new.handle.value) }
+{
+    let mut object = sender.handle.take().into_box(alloc);
+    let count = peek(&mut object, out);
+    sender.handle = Handle::of(object);
+    count
+}
+
+fn skip_sender(sender: &mut Sender, len: usize) -> usize
+    ensures { Skips len result sender.old sender.new }
+{
+    let skipped = behind(&sender.drained, sender.given).len().min(len);
+    sender.given += skipped;
+    skipped
+}
+
+fn skip(object: &mut Object, len: usize) -> usize
+    requires { IsSome (sender_in (Some object.old)) }
+    ensures { Turns (Skips len result) (sender_in (Some object.old)) (sender_in (Some object.new)) }
+{
+    match object {
+        Object::Sender(sender) => skip_sender(sender, len),
+        _ => unreachable!(),
+    }
+}
+
+/// Counts the first bytes that wait as handed out, and returns how many: `len` of them, or all.
+#[unsafe(no_mangle)]
+pub extern "C" fn zimgasol_sender_skip(
+    alloc: Global,
+    sender: &mut SenderHandle,
+    len: usize,
+) -> usize
+    requires sender { IsSome (sender_in sender.old.handle.value) }
+    ensures skips { Turns (Skips len result) (sender_in sender.old.handle.value) (sender_in sender.new.handle.value) }
+{
+    let mut object = sender.handle.take().into_box(alloc);
+    let count = skip(&mut object, len);
+    sender.handle = Handle::of(object);
+    count
+}
+
+fn count_waiting(sender: &mut Sender) -> usize
+    ensures { Counts result sender.old sender.new }
+{
+    refill(sender);
+    behind(&sender.drained, sender.given).len()
+}
+
+fn waiting(object: &mut Object) -> usize
+    requires { IsSome (sender_in (Some object.old)) }
+    ensures { Turns (Counts result) (sender_in (Some object.old)) (sender_in (Some object.new)) }
+{
+    match object {
+        Object::Sender(sender) => count_waiting(sender),
+        _ => unreachable!(),
+    }
+}
+
+/// Returns how many bytes of the stream wait to be handed out.
+#[unsafe(no_mangle)]
+pub extern "C" fn zimgasol_sender_waiting(alloc: Global, sender: &mut SenderHandle) -> usize
+    requires sender { IsSome (sender_in sender.old.handle.value) }
+    ensures counts { Turns (Counts result) (sender_in sender.old.handle.value) (sender_in sender.new.handle.value) }
+{
+    let mut object = sender.handle.take().into_box(alloc);
+    let count = waiting(&mut object);
+    sender.handle = Handle::of(object);
+    count
+}
+
+/// Frees a sender. A handle without one stays as it is.
 #[unsafe(no_mangle)]
 pub extern "C" fn zimgasol_sender_free(alloc: Global, sender: &mut SenderHandle)
-    requires sender { IsSome (sender_in sender.old.handle.value) }
     ensures none { sender.new.handle.value ≡ None }
 {
-    let _object = sender.handle.take().into_box(alloc);
+    if sender.full != 0 {
+        let _object = sender.handle.take().into_box(alloc);
+        sender.full = 0;
+    }
 }

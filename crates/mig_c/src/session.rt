@@ -7,41 +7,43 @@ ghost use Rattle.mig_c.specs.Status.{done};
 ghost use Rattle.mig_c.specs.Kinds.{session_in, Turns, Tells};
 ghost use Rattle.mig_c.specs.Found.{seen_of_verdict};
 ghost use Rattle.mig_c.specs.Reading.{GivesPage, GivesBlock, place_at, block_count};
-ghost use Rattle.mig_c.specs.Sessions.{Opens, OpensSession, FeedsSource, EndsSource, source_of};
+ghost use Rattle.mig_c.specs.Sessions.{Opens, OpensSession, FeedsSource, EndsSource, source_of, TellsFed};
 
 use crate::block::NamedBlock;
 use crate::fault::{FoundFault, found, none, running};
+use crate::frame::frame_of;
 use crate::handle::{Handle, SessionHandle};
 use crate::object::Object;
 use crate::reading;
-use crate::sources::{end_source, feed_source, source_of};
+use crate::sources::{end_source, fed_of, feed_source, source_of};
 use crate::status::{
-    BAD_CHANNELS, BAD_LENGTH, BAD_LIMIT, BAD_PAGE_SIZE, DONE, MAX_LIMIT, NO_MEMORY,
+    BAD_CHANNELS, BAD_FRAME, BAD_LENGTH, BAD_LIMIT, BAD_PAGE_SIZE, DONE, MAX_LIMIT, NO_MEMORY,
 };
 use mig_answer::Verdict;
 use mig_mem::{NoMemory, is_page_size};
 use mig_session::{Session, Source};
+use mig_single_load::LoadSettings;
 use std::alloc::Global;
 use uuid::Uuid;
 
 // A session in a box.
 fn made(
     alloc: Global,
-    page_size: u64,
+    settings: LoadSettings,
     uuid: &Uuid,
     channels: usize,
-    limit: u64,
 ) -> Result<Box<Object>, NoMemory>
-    requires page_size { IsPageSize page_size }
+    requires page_size { IsPageSize settings.page_size }
     requires channels { (1 ≤ channels) × (channels ≤ 255) }
-    requires limit { limit ≤ 2 ^ 40 }
-    ensures { IfOk result (λ object. Opens page_size uuid.now channels limit (session_in (Some object.value))) }
+    requires limit { settings.limit ≤ 2 ^ 40 }
+    ensures { IfOk result (λ object. Opens (Some settings) uuid.now channels (session_in (Some object.value))) }
 {
-    let session = Session::new(alloc, page_size, uuid, channels, limit)?;
+    let session = Session::new_in(alloc, settings, uuid, channels)?;
     Ok(Box::new(alloc, Object::Session(session))?)
 }
 
-/// Makes a session that was fed nothing, of so many channels under a UUID of 16 bytes.
+/// Makes a session that was fed nothing, of so many channels under a UUID of 16 bytes. Its main
+/// stream is read in a frame.
 #[unsafe(no_mangle)]
 pub extern "C" fn zimgasol_session_new(
     alloc: Global,
@@ -50,9 +52,10 @@ pub extern "C" fn zimgasol_session_new(
     uuid: &[u8],
     channels: usize,
     limit: u64,
+    frame: u32,
 ) -> u32
     requires none { session.old.handle.value ≡ None }
-    ensures opens { OpensSession page_size uuid.now channels limit result (session_in session.new.handle.value) }
+    ensures opens { OpensSession page_size uuid.now channels limit frame result (session_in session.new.handle.value) }
     ensures none { result ≢ done → session.new.handle.value ≡ None }
 {
     if !is_page_size(page_size) {
@@ -67,9 +70,18 @@ pub extern "C" fn zimgasol_session_new(
     let Ok(uuid) = Uuid::from_slice(uuid) else {
         return BAD_LENGTH;
     };
-    match made(alloc, page_size, &uuid, channels, limit) {
+    let Some(frame) = frame_of(frame) else {
+        return BAD_FRAME;
+    };
+    let settings = LoadSettings {
+        page_size,
+        limit,
+        frame,
+    };
+    match made(alloc, settings, &uuid, channels) {
         Ok(object) => {
             session.handle = Handle::of(object);
+            session.full = 1;
             DONE
         }
         Err(NoMemory) => NO_MEMORY,
@@ -127,6 +139,33 @@ pub extern "C" fn zimgasol_session_end(
     let status = end(&mut object, source_of(source));
     session.handle = Handle::of(object);
     status
+}
+
+fn fed(object: &Object, source: Source) -> u64
+    requires { IsSome (session_in (Some object.now)) }
+    ensures { Tells (TellsFed source result) (session_in (Some object.now)) }
+{
+    match object {
+        Object::Session(session) => fed_of(session, source),
+        _ => unreachable!(),
+    }
+}
+
+/// Returns how many bytes of a source were fed: 0 where there is no such source.
+#[unsafe(no_mangle)]
+pub extern "C" fn zimgasol_session_fed(
+    alloc: Global,
+    session: &mut SessionHandle,
+    source: usize,
+) -> u64
+    requires session { IsSome (session_in session.old.handle.value) }
+    ensures same { session.new.handle.value ≡ session.old.handle.value }
+    ensures fed { Tells (TellsFed (source_of source) result) (session_in session.old.handle.value) }
+{
+    let object = session.handle.take().into_box(alloc);
+    let number = fed(&object, source_of(source));
+    session.handle = Handle::of(object);
+    number
 }
 
 fn verdict_of(session: &Session<Global>) -> FoundFault
@@ -271,11 +310,13 @@ pub extern "C" fn zimgasol_session_block(
     status
 }
 
-/// Frees a session.
+/// Frees a session. A handle without one stays as it is.
 #[unsafe(no_mangle)]
 pub extern "C" fn zimgasol_session_free(alloc: Global, session: &mut SessionHandle)
-    requires session { IsSome (session_in session.old.handle.value) }
     ensures none { session.new.handle.value ≡ None }
 {
-    let _object = session.handle.take().into_box(alloc);
+    if session.full != 0 {
+        let _object = session.handle.take().into_box(alloc);
+        session.full = 0;
+    }
 }

@@ -2,7 +2,7 @@
 
 ghost use Rattle.std.specs.Prelude.{◌≡◌, ◌↔◌, IsTrue};
 ghost use Rattle.mig_session.specs.Session.{HasSource};
-ghost use Rattle.mig_c.specs.Sessions.{FeedsSource, EndsSource, source_of};
+ghost use Rattle.mig_c.specs.Sessions.{FeedsSource, EndsSource, TellsFed, source_of};
 
 use crate::status::{BAD_SOURCE, DONE, IS_OVER, NO_MEMORY, TOO_LONG};
 use mig_mem::NoMemory;
@@ -45,6 +45,17 @@ pub(crate) fn feed_source(session: &mut Session<Global>, source: Source, piece: 
     match session.feed(source, piece) {
         Ok(()) => DONE,
         Err(NoMemory) => NO_MEMORY,
+    }
+}
+
+/// Returns how many bytes of a source were fed.
+pub(crate) fn fed_of(session: &Session<Global>, source: Source) -> u64
+    ensures { TellsFed source result session.now }
+{
+    if has_source(session, source) {
+        session.fed(source)
+    } else {
+        0
     }
 }
 

@@ -9,6 +9,9 @@ pub(crate) const NO_MEMORY: u32 = 60;
 /// The load goes on: more of a text is needed.
 pub(crate) const RUNNING: u32 = 100;
 
+/// The number of the fault of a stream that is over before its end byte.
+pub(crate) const STREAM_TRUNCATED: u32 = 34;
+
 /// A page size other than 4096 and 8192.
 pub(crate) const BAD_PAGE_SIZE: u32 = 101;
 
@@ -44,6 +47,9 @@ pub(crate) const WAITS: u32 = 111;
 
 /// Pages that came are to be put.
 pub(crate) const IS_DUE: u32 = 112;
+
+/// A frame that isn't one.
+pub(crate) const BAD_FRAME: u32 = 113;
 
 /// The most bytes that a guest's blocks may have together.
 pub(crate) const MAX_LIMIT: u64 = 1 << 40;

@@ -59,6 +59,7 @@ pub extern "C" fn zimgasol_table_new(
     match made(alloc, page_size, blocks) {
         Ok(object) => {
             table.handle = Handle::of(object);
+            table.full = 1;
             DONE
         }
         Err(fault) => {
@@ -68,11 +69,13 @@ pub extern "C" fn zimgasol_table_new(
     }
 }
 
-/// Frees a table.
+/// Frees a table. A handle without one stays as it is.
 #[unsafe(no_mangle)]
 pub extern "C" fn zimgasol_table_free(alloc: Global, table: &mut TableHandle)
-    requires table { IsSome (table_in table.old.handle.value) }
     ensures none { table.new.handle.value ≡ None }
 {
-    let _object = table.handle.take().into_box(alloc);
+    if table.full != 0 {
+        let _object = table.handle.take().into_box(alloc);
+        table.full = 0;
+    }
 }

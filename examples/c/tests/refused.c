@@ -54,7 +54,20 @@ static void fill(uint8_t first, uint8_t other) {
 
 static void drain(zimgasol_sender *sender) {
     size_t len;
-    while ((len = zimgasol_sender_drain(sender, text + text_len, 1000)) > 0) {
+    /* a call of drain, and one of its two halves, by turns */
+    for (int turn = 0;; turn++) {
+        size_t waits = zimgasol_sender_waiting(sender);
+        if (turn % 2 == 0) {
+            len = zimgasol_sender_drain(sender, text + text_len, 1000);
+        } else {
+            len = zimgasol_sender_peek(sender, text + text_len, 1000);
+            WANT(zimgasol_sender_peek(sender, text + text_len, 1000) == len);
+            WANT(zimgasol_sender_waiting(sender) == waits);
+            len -= len > 1;
+            WANT(zimgasol_sender_skip(sender, len) == len);
+        }
+        WANT(zimgasol_sender_waiting(sender) == waits - len);
+        if (len == 0) break;
         text_len += len;
         WANT(text_len + 1000 < MOST);
     }
@@ -76,7 +89,9 @@ static void send(void) {
         AGAIN(zimgasol_sender_put_page(&sender, 1, (uint64_t)(round & 1), page, PAGE));
         if (round == 1) AGAIN(zimgasol_sender_cancel_round(&sender));
         else AGAIN(zimgasol_sender_end_round(&sender));
+        /* between two rounds the bytes of those that were ended are there */
         if (round == 0) drain(&sender);
+        if (round == 0) WANT(text_len > PAGE);
     }
     AGAIN(zimgasol_sender_finish(&sender));
     drain(&sender);
@@ -87,7 +102,7 @@ static void send(void) {
 static void load(size_t cut) {
     zimgasol_loader loader = {0};
     zimgasol_fault fault;
-    AGAIN(zimgasol_loader_new(&loader, PAGE, 1 << 20));
+    AGAIN(zimgasol_loader_new(&loader, PAGE, 1 << 20, ZIMGASOL_FRAME_RAM));
     for (size_t at = 0; at < text_len; at += cut) {
         size_t len = text_len - at < cut ? text_len - at : cut;
         uint32_t status = zimgasol_loader_feed(&loader, text + at, len);
@@ -98,7 +113,16 @@ static void load(size_t cut) {
             status = zimgasol_loader_settle(&loader);
         }
         WANT(status == ZIMGASOL_DONE);
+        if (at == 0 && len < text_len)
+        {
+            uint64_t none = 7;
+            WANT(zimgasol_loader_verdict(&loader, &fault) == ZIMGASOL_RUNNING && fault.number == ZIMGASOL_RUNNING);
+            WANT(zimgasol_loader_closed_at(&loader, &none) == ZIMGASOL_RUNNING && none == 7);
+        }
     }
+    uint64_t closed = 7;
+    WANT(zimgasol_loader_fed(&loader) == text_len);
+    WANT(zimgasol_loader_closed_at(&loader, &closed) == ZIMGASOL_DONE && closed == text_len);
     zimgasol_loader_end(&loader);
     WANT(zimgasol_loader_feed(&loader, text, 1) == ZIMGASOL_IS_OVER);
     WANT(zimgasol_loader_verdict(&loader, &fault) == ZIMGASOL_DONE && fault.number == 0);
@@ -127,8 +151,7 @@ static void make_in_place(zimgasol_in_place *load) {
     zimgasol_table table = {0};
     size_t entry;
     AGAIN(zimgasol_table_new(&table, PAGE, blocks, 2, &entry));
-    WANT(zimgasol_in_place_new(load, &table, (1ull << 40) + 1) == ZIMGASOL_BAD_LIMIT && load->at == NULL);
-    AGAIN(zimgasol_in_place_new(load, &table, 1 << 20));
+    AGAIN(zimgasol_in_place_new(load, &table, ZIMGASOL_FRAME_RAM));
     zimgasol_table_free(&table);
     memset(first_block, 0xEE, sizeof first_block);
     memset(second_block, 0xEE, sizeof second_block);
@@ -229,13 +252,13 @@ static void load_several(size_t cut) {
     static const uint8_t uuid[16] = {1, 2, 3};
     zimgasol_session session = {0};
     zimgasol_fault fault;
-    AGAIN(zimgasol_session_new(&session, PAGE, uuid, 16, 1, 1 << 20));
+    AGAIN(zimgasol_session_new(&session, PAGE, uuid, 16, 1, 1 << 20, ZIMGASOL_FRAME_RAM));
     WANT(zimgasol_session_verdict(&session, &fault) == ZIMGASOL_RUNNING);
     uint32_t found = feed_session(&session, cut);
     if (found == ZIMGASOL_NO_MEMORY) {
         WANT(refusals == 1 && zimgasol_session_verdict(&session, &fault) == ZIMGASOL_NO_MEMORY && fault.source == ZIMGASOL_ROUND);
         zimgasol_session_free(&session);
-        AGAIN(zimgasol_session_new(&session, PAGE, uuid, 16, 1, 1 << 20));
+        AGAIN(zimgasol_session_new(&session, PAGE, uuid, 16, 1, 1 << 20, ZIMGASOL_FRAME_RAM));
         found = feed_session(&session, cut);
     }
     WANT(found == ZIMGASOL_DONE && zimgasol_session_verdict(&session, &fault) == ZIMGASOL_DONE && fault.number == 0);
@@ -265,9 +288,9 @@ static void misuse(void) {
     WANT(zimgasol_table_new(&table, PAGE, blocks, 1, &entry) == ZIMGASOL_TOO_LARGE);
     memset(blocks[0].id, 'b', 256);
     WANT(zimgasol_table_new(&table, PAGE, blocks, 1, &entry) == ZIMGASOL_ID && entry == 0 && table.at == NULL);
-    WANT(zimgasol_loader_new(&loader, PAGE, (1ull << 40) + 1) == ZIMGASOL_BAD_LIMIT && zimgasol_loader_new(&loader, 1, 1) == ZIMGASOL_BAD_PAGE_SIZE);
-    WANT(zimgasol_session_new(&session, PAGE, uuid, 16, 0, 1) == ZIMGASOL_BAD_CHANNELS && zimgasol_session_new(&session, PAGE, uuid, 16, 256, 1) == ZIMGASOL_BAD_CHANNELS);
-    WANT(zimgasol_session_new(&session, PAGE, uuid, 15, 1, 1) == ZIMGASOL_BAD_LENGTH && session.at == NULL);
+    WANT(zimgasol_loader_new(&loader, PAGE, (1ull << 40) + 1, ZIMGASOL_FRAME_RAM) == ZIMGASOL_BAD_LIMIT && zimgasol_loader_new(&loader, 1, 1, ZIMGASOL_FRAME_RAM) == ZIMGASOL_BAD_PAGE_SIZE && zimgasol_loader_new(&loader, PAGE, 1, (zimgasol_frame)2) == ZIMGASOL_BAD_FRAME);
+    WANT(zimgasol_session_new(&session, PAGE, uuid, 16, 0, 1, ZIMGASOL_FRAME_RAM) == ZIMGASOL_BAD_CHANNELS && zimgasol_session_new(&session, PAGE, uuid, 16, 256, 1, ZIMGASOL_FRAME_RAM) == ZIMGASOL_BAD_CHANNELS);
+    WANT(zimgasol_session_new(&session, PAGE, uuid, 15, 1, 1, ZIMGASOL_FRAME_RAM) == ZIMGASOL_BAD_LENGTH && session.at == NULL);
     WANT(zimgasol_table_new(&table, PAGE, blocks + 1, 1, &entry) == ZIMGASOL_DONE && zimgasol_sender_new(&sender, &table) == ZIMGASOL_DONE);
     WANT(zimgasol_sender_put_page(&sender, 0, 0, page, PAGE) == ZIMGASOL_OUT_OF_TURN && zimgasol_sender_end_round(&sender) == ZIMGASOL_OUT_OF_TURN);
     WANT(zimgasol_sender_cancel_round(&sender) == ZIMGASOL_OUT_OF_TURN && zimgasol_sender_begin_round(&sender) == ZIMGASOL_DONE);
@@ -275,7 +298,10 @@ static void misuse(void) {
     WANT(zimgasol_sender_put_page(&sender, 0, 1, page, PAGE) == ZIMGASOL_NO_PAGE && zimgasol_sender_put_page(&sender, 0, 0, page, 1) == ZIMGASOL_BAD_LENGTH);
     zimgasol_sender_free(&sender);
     zimgasol_table_free(&table);
-    WANT(table.at == NULL && sender.at == NULL);
+    /* once more does nothing */
+    zimgasol_sender_free(&sender);
+    zimgasol_table_free(&table);
+    WANT(table.at == NULL && sender.at == NULL && table.full == 0 && sender.full == 0);
 }
 
 int main(int count, char **words) {

@@ -1,0 +1,10 @@
+use Rattle.std.proofs.Common.{◌≡◌, ◌∙◌, List, ℕ, ap, length, drop}
+use Rattle.mig_c.specs.Sending.{waiting}
+use Rattle.mig_c.proofs.sender.count_waiting.Goals as goal
+
+pub returns : goal.returns
+returns c =
+    let mid = c.refill.new.sender in
+    let here : c.behind.result.now ≡ waiting mid =
+    c.behind.ensures ∙ ap (λ (l : List ℕ). drop mid.given l) c.deref.ensures.value in
+    (c.refill.ensures, ap (λ (l : List ℕ). length l) here)

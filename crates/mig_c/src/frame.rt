@@ -1,0 +1,23 @@
+//! What a stream is read as, by its number for C.
+
+ghost use Rattle.std.specs.Prelude.{◌≡◌};
+ghost use Rattle.mig_c.specs.Frames.{frame_of};
+
+use mig_stream::Frame;
+
+/// RAM's sections alone.
+pub(crate) const FRAME_RAM: u32 = 0;
+
+/// A machine's stream.
+pub(crate) const FRAME_MACHINE: u32 = 1;
+
+/// Returns the frame of a number, if it is one.
+pub(crate) fn frame_of(number: u32) -> Option<Frame>
+    ensures { result ≡ frame_of number }
+{
+    match number {
+        FRAME_RAM => Some(Frame::Ram),
+        FRAME_MACHINE => Some(Frame::Machine),
+        _ => None,
+    }
+}
