@@ -1,2 +1,1 @@
-mod FileNames
-mod Printable
+mod Sent

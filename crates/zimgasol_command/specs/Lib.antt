@@ -1,3 +1,1 @@
--- Text that steers no terminal, and the names of files.
-pub mod Shown
-pub mod Naming
+pub mod Differing

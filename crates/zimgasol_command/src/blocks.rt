@@ -1,5 +1,7 @@
 //! The blocks of a stream, with how many page records each has.
 
+ghost use Rattle.std.specs.Prelude.{◌≡◌, ◌+◌, ◌-◌, ◌<◌, ◌^◌};
+
 use mig_mem::{Place, Table};
 use std::alloc::{AllocError, Global};
 
@@ -16,6 +18,13 @@ impl PageCounts {
     /// None.
     pub(crate) const NONE: PageCounts = PageCounts { pages: 0, zeros: 0 };
 
+    /// Returns how many records the block has.
+    pub(crate) fn records(self) -> u64
+        ensures { self.pages + self.zeros < 2 ^ 64 → result ≡ self.pages + self.zeros }
+    {
+        self.pages.saturating_add(self.zeros)
+    }
+
     // Counts one record more.
     fn with(self, is_zero: bool) -> PageCounts {
         if is_zero {
@@ -29,6 +38,14 @@ impl PageCounts {
             ..self
         }
     }
+}
+
+/// Returns how many pages of a block have no record at least, where it has so many pages and
+/// records. A page may have several records.
+pub(crate) fn pages_without(pages: u64, records: u64) -> u64
+    ensures { result ≡ pages - records }
+{
+    pages.saturating_sub(records)
 }
 
 /// The table of a stream, and the page records of its blocks, in its order.
@@ -67,5 +84,26 @@ impl Blocks {
             return 0;
         }
         self.table.pages(block) * self.table.page_size()
+    }
+
+    /// Returns how many pages a block has.
+    pub(crate) fn pages(&self, block: usize) -> u64 {
+        if block >= self.table.len() {
+            return 0;
+        }
+        self.table.pages(block)
+    }
+
+    /// Returns how many page records a block has.
+    pub(crate) fn records(&self, block: usize) -> u64 {
+        match self.counts.get(block) {
+            Some(counts) => counts.records(),
+            None => 0,
+        }
+    }
+
+    /// Returns how many pages of a block have no record at least.
+    pub(crate) fn missing(&self, block: usize) -> u64 {
+        pages_without(self.pages(block), self.records(block))
     }
 }

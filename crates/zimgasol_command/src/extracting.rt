@@ -3,12 +3,13 @@
 //! Pages are written to their places as they come. A file has its last name only when the stream is
 //! whole, the file is complete and on its disk.
 
+use crate::folder::LIST_NAME;
 use crate::input::{piece_buffer, read_piece};
-use crate::naming::{file_name, path_in};
 use crate::place::fault_of;
 use crate::running::read_stream;
-use crate::showing::{id_text, shown};
 use crate::sink::PageSink;
+use crate::survey::Survey;
+use crate::target::{PARTIAL, create, is_free, rename, sync, unwritten};
 use crate::trouble::Trouble;
 use crate::verifying::put_judgement;
 use crate::words::ExtractWords;
@@ -17,17 +18,13 @@ use mig_zero::is_zero;
 use serde_json::{Value, json};
 use sha2::{Digest, Sha256};
 use std::alloc::{AllocGlobal, Global};
-use std::fs::{File, Files, OpenFile};
+use std::fs::{Files, OpenFile};
 use std::io::{self, ErrorKind, Read, Seek, SeekFrom, Write};
+use std::rt::Clock;
+use zimgasol_names::{file_name, id_text, path_in, shown};
 
 /// How many bytes of pages that follow one another are written at once.
 const RUN_LEN: usize = 262_144;
-
-/// The name of the list of blocks.
-const LIST_NAME: &str = "blocks.json";
-
-/// What the name of a file that isn't complete ends with.
-const PARTIAL: &str = ".partial";
 
 // A file that a block is written into.
 #[derive(Drop)]
@@ -60,6 +57,10 @@ struct Extraction<H: Files> {
     block: Option<String>,
     // whether files that are there already are replaced
     replace: bool,
+    // whether the list has each file's digest
+    digest: bool,
+    // whether a file is on its disk before it gets its name
+    durable: bool,
     // whether the folder was made
     made: bool,
     page_size: u64,
@@ -84,6 +85,8 @@ impl<H: Files> Extraction<H> {
             folder,
             block,
             replace: words.replace,
+            digest: words.digest,
+            durable: words.durable,
             made: false,
             page_size: words.stream.page_size.bytes(),
             files: Vec::new(alloc),
@@ -111,10 +114,7 @@ impl<H: Files> Extraction<H> {
 
     // Refuses a path that is there already, unless it may be replaced.
     fn is_free(&self, rt: &H, path: &str) -> Result<(), Trouble> {
-        if !self.replace && rt.symlink_metadata(path).is_ok() {
-            return Err(Trouble::Exists(String::from_str(self.alloc, path)?));
-        }
-        Ok(())
+        is_free(rt, self.alloc, path, self.replace)
     }
 
     // Opens the file of a block.
@@ -127,7 +127,7 @@ impl<H: Files> Extraction<H> {
         let path = path_in(self.alloc, &self.folder, &name, "")?;
         let partial_path = path_in(self.alloc, &self.folder, &name, PARTIAL)?;
         self.is_free(rt, &path)?;
-        let file = self.create(rt, &partial_path)?;
+        let file = create(rt, self.alloc, &partial_path)?;
         self.files.push(BlockFile {
             block,
             id: id.to_vec(self.alloc)?,
@@ -139,20 +139,6 @@ impl<H: Files> Extraction<H> {
             digest: None,
         })?;
         Ok(())
-    }
-
-    // Makes a file anew.
-    fn create(&self, rt: &H, path: &str) -> Result<H::File, Trouble> {
-        let _left = rt.remove_file(path);
-        match File::options()
-            .read(true)
-            .write(true)
-            .create_new(true)
-            .open(rt, path)
-        {
-            Ok(file) => Ok(file),
-            Err(error) => Err(unwritten(self.alloc, path, error)),
-        }
     }
 
     // Returns the place of a block's file in the list.
@@ -206,8 +192,10 @@ impl<H: Files> Extraction<H> {
     fn complete(&mut self, rt: &H) -> Result<(), Trouble> {
         self.write_run()?;
         let mut buffer = piece_buffer(self.alloc)?;
+        let digest = self.digest;
+        let durable = self.durable;
         for file in &mut self.files {
-            match complete_file(file, &mut buffer) {
+            match complete_file(file, durable, digest, &mut buffer) {
                 Ok(()) => {}
                 Err(Trouble::Unread(error)) => {
                     return Err(unwritten(self.alloc, &file.partial_path, error));
@@ -222,23 +210,18 @@ impl<H: Files> Extraction<H> {
     // Gives all files their names, the list last.
     fn rename_all(&self, rt: &H) -> Result<(), Trouble> {
         for file in &self.files {
-            if let Err(error) = rt.rename(&file.partial_path, &file.path) {
-                return Err(unwritten(self.alloc, &file.path, error));
-            }
+            rename(rt, self.alloc, &file.partial_path, &file.path)?;
         }
         let path = path_in(self.alloc, &self.folder, LIST_NAME, "")?;
         let partial_path = path_in(self.alloc, &self.folder, LIST_NAME, PARTIAL)?;
-        match rt.rename(&partial_path, &path) {
-            Ok(()) => Ok(()),
-            Err(error) => Err(unwritten(self.alloc, &path, error)),
-        }
+        rename(rt, self.alloc, &partial_path, &path)
     }
 
     // Writes the list of blocks.
     fn write_list(&self, rt: &H) -> Result<(), Trouble> {
         let text = self.list()?.to_string_pretty(self.alloc)?;
         let partial_path = path_in(self.alloc, &self.folder, LIST_NAME, PARTIAL)?;
-        let mut file = self.create(rt, &partial_path)?;
+        let mut file = create(rt, self.alloc, &partial_path)?;
         match write_text(&mut file, text.as_bytes()) {
             Ok(()) => Ok(()),
             Err(error) => Err(unwritten(self.alloc, &partial_path, error)),
@@ -248,14 +231,7 @@ impl<H: Files> Extraction<H> {
     fn list(&self) -> Result<Value, Trouble> {
         let mut list = Vec::new(self.alloc);
         for file in &self.files {
-            let id = id_text(self.alloc, &file.id)?;
-            let digest = hex_digest(self.alloc, &file.digest)?;
-            list.push(json!(in self.alloc; {
-                "id": &id,
-                "file": &file.name,
-                "bytes": file.len,
-                "sha256": &digest
-            })?)?;
+            list.push(block_value(self.alloc, file)?)?;
         }
         let list = Value::Array(list);
         Ok(json!(in self.alloc; {"page_size": self.page_size, "blocks": list})?)
@@ -273,6 +249,21 @@ impl<H: Files> Extraction<H> {
             let _left = rt.remove_dir(&self.folder);
         }
     }
+}
+
+// Returns what the list says of a block's file.
+fn block_value<F: Drop>(alloc: Global, file: &BlockFile<F>) -> Result<Value, Trouble> {
+    let id = id_text(alloc, &file.id)?;
+    let Some(digest) = &file.digest else {
+        return Ok(json!(in alloc; {"id": &id, "file": &file.name, "bytes": file.len})?);
+    };
+    let digest = hex_digest(alloc, digest)?;
+    Ok(json!(in alloc; {
+        "id": &id,
+        "file": &file.name,
+        "bytes": file.len,
+        "sha256": &digest
+    })?)
 }
 
 // Returns whether a block is to be extracted.
@@ -337,13 +328,6 @@ impl<H: Files> Extraction<H> {
     }
 }
 
-fn unwritten(alloc: Global, path: &str, error: io::Error) -> Trouble {
-    match shown(alloc, path.as_bytes()) {
-        Ok(path) => Trouble::Unwritten(path, error),
-        Err(_) => Trouble::NoMemory,
-    }
-}
-
 fn write_at<F: Write + Seek>(file: &mut F, at: u64, bytes: &[u8]) -> io::Result<()> {
     file.seek(SeekFrom::Start(at))?;
     file.write_all(bytes)
@@ -352,27 +336,31 @@ fn write_at<F: Write + Seek>(file: &mut F, at: u64, bytes: &[u8]) -> io::Result<
 fn write_text<F: Write + OpenFile>(file: &mut F, bytes: &[u8]) -> io::Result<()> {
     file.write_all(bytes)?;
     file.write_all(b"\n")?;
-    file.flush()?;
-    file.sync_all()
+    sync(file)
 }
 
-// Gives a file its length, has it on its disk, and reads it for its digest.
+// Gives a file its length, and, if that is wanted, has it on its disk and reads it for its digest.
 fn complete_file<F: Read + Write + Seek + OpenFile + Drop>(
     file: &mut BlockFile<F>,
+    durable: bool,
+    digest: bool,
     buffer: &mut [u8],
 ) -> Result<(), Trouble> {
     let len = file.len;
-    if let Err(error) = on_disk(&mut file.file, len) {
+    if let Err(error) = with_len(&mut file.file, len, durable) {
         return Err(Trouble::Unread(error));
     }
-    file.digest = Some(digest_of(&mut file.file, buffer)?);
+    if digest {
+        file.digest = Some(digest_of(&mut file.file, buffer)?);
+    }
     Ok(())
 }
 
-fn on_disk<F: Write + Seek + OpenFile>(file: &mut F, len: u64) -> io::Result<()> {
+fn with_len<F: Write + Seek + OpenFile>(file: &mut F, len: u64, durable: bool) -> io::Result<()> {
     file.set_len(len)?;
-    file.flush()?;
-    file.sync_all()?;
+    if durable {
+        sync(file)?;
+    }
     file.seek(SeekFrom::Start(0))?;
     Ok(())
 }
@@ -390,28 +378,23 @@ fn digest_of<F: Read>(file: &mut F, buffer: &mut [u8]) -> Result<[u8; 32], Troub
     Ok(hasher.finalize())
 }
 
-fn hex_digest(alloc: Global, digest: &Option<[u8; 32]>) -> Result<String, Trouble> {
+fn hex_digest(alloc: Global, digest: &[u8; 32]) -> Result<String, Trouble> {
     let mut text = String::new(alloc);
-    if let Some(bytes) = digest {
-        for byte in bytes {
-            write!(text, "{byte:02x}")?;
-        }
+    for byte in digest {
+        write!(text, "{byte:02x}")?;
     }
     Ok(text)
 }
 
-/// Extracts the memory of a stream. Returns whether the stream is whole; where it isn't, no file
-/// stays.
-pub(crate) fn extract<H: AllocGlobal + Files, R: Read, W: Write, E: Write>(
+/// Extracts the memory of a stream. Returns what was read; where it isn't whole, no file stays.
+pub(crate) fn extract_survey<H: AllocGlobal + Files + Clock, R: Read, E: Write>(
     rt: &H,
     words: &ExtractWords<'_>,
     input: &mut R,
-    output: &mut W,
     errors: &mut E,
-) -> Result<bool, Trouble> {
-    let alloc = rt.alloc();
-    let mut extraction = Extraction::<H>::new(alloc, words)?;
-    let survey = match read_stream(rt, &words.stream, input, &mut extraction) {
+) -> Result<Survey, Trouble> {
+    let mut extraction = Extraction::<H>::new(rt.alloc(), words)?;
+    let survey = match read_stream(rt, &words.stream, input, &mut extraction, errors) {
         Ok(survey) => survey,
         Err(trouble) => {
             extraction.remove(rt);
@@ -424,6 +407,19 @@ pub(crate) fn extract<H: AllocGlobal + Files, R: Read, W: Write, E: Write>(
         extraction.remove(rt);
         return Err(trouble);
     }
+    Ok(survey)
+}
+
+/// Extracts the memory of a stream, and prints its judgement. Returns whether the stream is whole.
+pub(crate) fn extract<H: AllocGlobal + Files + Clock, R: Read, W: Write, E: Write>(
+    rt: &H,
+    words: &ExtractWords<'_>,
+    input: &mut R,
+    output: &mut W,
+    errors: &mut E,
+) -> Result<bool, Trouble> {
+    let survey = extract_survey(rt, words, input, errors)?;
+    let alloc = rt.alloc();
     let name = shown(alloc, words.stream.file.as_bytes())?;
-    put_judgement(output, errors, &name, &survey).map_err(Trouble::Output)
+    put_judgement(alloc, output, errors, &name, &survey, words.stream.talk)
 }

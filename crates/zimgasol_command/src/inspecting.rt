@@ -1,14 +1,14 @@
 //! `inspect`: what a stream has, in lines or as JSON.
 
 use crate::between::{Note, Noted};
-use crate::place::{fault_of, kind_name};
-use crate::showing::{id_text, shown};
+use crate::place::{block_at, fault_of, kind_name};
 use crate::survey::Survey;
 use crate::trouble::Trouble;
 use crate::verifying::end_name;
 use serde_json::{Value, json};
 use std::alloc::{AllocError, Global};
 use std::io::{self, Write};
+use zimgasol_names::{id_text, shown};
 
 // ---- lines
 
@@ -198,7 +198,8 @@ fn blocks_value(alloc: Global, survey: &Survey) -> Result<Value, AllocError> {
                 "id": &id,
                 "bytes": blocks.len(block),
                 "pages": counts.pages,
-                "zero_pages": counts.zeros
+                "zero_pages": counts.zeros,
+                "pages_without_record": blocks.missing(block)
             })?)?;
         }
     }
@@ -216,14 +217,23 @@ fn fault_value(alloc: Global, survey: &Survey) -> Result<Value, AllocError> {
         Some(kind) => kind_name(kind),
         None => "none",
     };
+    let block = block_value(alloc, survey)?;
     json!(in alloc; {
         "number": fault.number(),
         "name": &name,
         "text": &text,
         "byte": place.byte,
         "whole_sections": place.sections,
-        "section": kind
+        "section": kind,
+        "block": block
     })
+}
+
+fn block_value(alloc: Global, survey: &Survey) -> Result<Value, AllocError> {
+    match block_at(alloc, survey)? {
+        Some(id) => json!(in alloc; &id),
+        None => Ok(Value::Null),
+    }
 }
 
 fn libvirt_value(alloc: Global, survey: &Survey) -> Result<Value, AllocError> {

@@ -9,21 +9,30 @@
 
 mod advice;
 mod between;
+mod block_words;
 mod blocks;
+mod comparing;
+mod differing;
 mod extracting;
+mod folder;
+mod heads;
 mod input;
 mod inspecting;
 mod libvirt;
-mod naming;
+mod missing;
+mod opened;
+mod pages;
 mod place;
+mod plan;
 mod running;
-mod showing;
+mod saving;
+mod send;
 mod sink;
 mod survey;
+mod target;
 mod trouble;
 mod verifying;
+mod watch;
 mod words;
 
-pub use naming::{file_name, names_are_distinct, names_are_plain};
 pub use running::run;
-pub use showing::shown;

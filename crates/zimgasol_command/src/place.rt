@@ -3,6 +3,8 @@
 use crate::between::SectionKind;
 use crate::survey::Survey;
 use mig_stream::{StreamFault, StreamState};
+use std::alloc::{AllocError, Global};
+use zimgasol_names::shown;
 
 /// A fault of a stream, with its place in the file.
 #[derive(Clone, Copy)]
@@ -38,6 +40,33 @@ fn kind_at(survey: &Survey) -> Option<SectionKind> {
     match survey.between.open {
         Some((kind, at)) if at < survey.valid => Some(kind),
         _ => None,
+    }
+}
+
+// Returns the id of the block of the last page record, as it is shown.
+fn last_id(alloc: Global, survey: &Survey) -> Result<Option<String>, AllocError> {
+    let Some(place) = survey.last else {
+        return Ok(None);
+    };
+    let Some(blocks) = &survey.blocks else {
+        return Ok(None);
+    };
+    if place.block >= blocks.table.len() {
+        return Ok(None);
+    }
+    Ok(Some(shown(alloc, blocks.table.id(place.block))?))
+}
+
+/// Returns the id of the block at a fault, as it is shown: that which the item with the fault names,
+/// or else that of the last page record. None outside the sections that have page records.
+pub(crate) fn block_at(alloc: Global, survey: &Survey) -> Result<Option<String>, AllocError> {
+    match kind_at(survey) {
+        Some(SectionKind::Part | SectionKind::End) => {}
+        _ => return Ok(None),
+    }
+    match survey.head.id() {
+        Some(id) => Ok(Some(shown(alloc, id)?)),
+        None => last_id(alloc, survey),
     }
 }
 

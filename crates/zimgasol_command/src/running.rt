@@ -2,21 +2,24 @@
 
 ghost use Rattle.std.specs.Prelude.{◌≤◌};
 
+use crate::comparing::compare;
 use crate::extracting::extract;
 use crate::input::piece_buffer;
 use crate::inspecting::{put_json, put_lines};
-use crate::place::fault_of;
-use crate::showing::shown;
+use crate::saving::save;
 use crate::sink::{NoSink, PageSink};
 use crate::survey::Survey;
-use crate::trouble::Trouble;
-use crate::verifying::{put_fault, put_judgement};
+use crate::trouble::{Trouble, Unfit};
+use crate::verifying::{put_judgement, put_wrongs};
+use crate::watch::Watch;
 use crate::words::{Request, StreamWords, asked};
 use clap::Error;
 use clap::error::ErrorKind;
 use std::alloc::{AllocGlobal, Global};
-use std::fs::{File, Files};
+use std::fs::{File, Files, OpenFile};
 use std::io::{self, Read, Write};
+use std::rt::Clock;
+use zimgasol_names::shown;
 
 /// The statuses that the program ends with.
 const WELL: u8 = 0;
@@ -29,7 +32,7 @@ const FAILED: u8 = 3;
 
 /// Runs the program: does what the words ask for, and returns the status. The words are those after
 /// the program's name.
-pub fn run<H: AllocGlobal + Files, R: Read, W: Write, E: Write>(
+pub fn run<H: AllocGlobal + Files + Clock, R: Read, W: Write, E: Write>(
     rt: &H,
     words: &[String],
     input: &mut R,
@@ -63,7 +66,7 @@ fn said<W: Write, E: Write>(output: &mut W, errors: &mut E, error: &Error) -> u8
 }
 
 // Does what is asked for, and returns the status.
-fn done<H: AllocGlobal + Files, R: Read, W: Write, E: Write>(
+fn done<H: AllocGlobal + Files + Clock, R: Read, W: Write, E: Write>(
     rt: &H,
     request: &Request<'_>,
     input: &mut R,
@@ -79,6 +82,8 @@ fn done<H: AllocGlobal + Files, R: Read, W: Write, E: Write>(
             inspect(rt, words, *json, input, output, errors),
         ),
         Request::Extract(words) => (words.stream.file, extract(rt, words, input, output, errors)),
+        Request::Save(words) => (words.file, save(rt, words, output, errors)),
+        Request::Compare(words) => (words.second.file, compare(rt, words, input, output, errors)),
     };
     match status {
         Ok(true) => WELL,
@@ -95,7 +100,20 @@ fn trouble_status(trouble: &Trouble) -> u8
     ensures { result ≤ 3 }
 {
     match trouble {
-        Trouble::Libvirt(_) | Trouble::NoBlock(_) => REFUSED,
+        Trouble::Libvirt(_) | Trouble::Refused(_, _) | Trouble::NoBlock(_) => REFUSED,
+        Trouble::TooLarge => REFUSED,
+        Trouble::Unfit(_, why) => unfit_status(*why),
+        Trouble::Words(_, _) => WORDS,
+        _ => FAILED,
+    }
+}
+
+// Returns the status that goes with a file that isn't what is needed.
+fn unfit_status(why: Unfit) -> u8
+    ensures { result ≤ 3 }
+{
+    match why {
+        Unfit::Pages(_, _) | Unfit::Empty | Unfit::NoBlock | Unfit::OtherLen(_, _) => REFUSED,
         _ => FAILED,
     }
 }
@@ -119,49 +137,93 @@ fn put_trouble<E: Write>(errors: &mut E, name: &str, trouble: &Trouble) -> io::R
         Trouble::NoMemory => writeln!(errors, "zimgasol: no memory"),
         Trouble::Unread(error) => writeln!(errors, "{name}: {error}"),
         Trouble::Output(error) => writeln!(errors, "zimgasol: the output: {error}"),
-        Trouble::Unwritten(name, error) => writeln!(errors, "{name}: {error}"),
+        Trouble::OfFile(name, error) => writeln!(errors, "{name}: {error}"),
         Trouble::Exists(name) => {
             writeln!(errors, "{name}: is there already; `--replace` replaces it")
         }
+        Trouble::Unfit(name, why) => put_unfit(errors, name, *why),
+        Trouble::TooLarge => writeln!(
+            errors,
+            "zimgasol: the blocks have more than 2^40 bytes together"
+        ),
+        Trouble::Words(words, why) => writeln!(errors, "zimgasol: {words}: {why}"),
+        Trouble::Refused(name, why) => writeln!(errors, "{name}: {why}"),
         Trouble::NoBlock(id) => writeln!(errors, "{name}: has no block \"{id}\""),
         Trouble::Libvirt(why) => writeln!(errors, "{name}: {why}"),
     }
 }
 
+// Writes the line of a file that isn't what is needed.
+fn put_unfit<E: Write>(errors: &mut E, name: &str, why: Unfit) -> io::Result<()> {
+    match why {
+        Unfit::Pages(len, size) => writeln!(
+            errors,
+            "{name}: has {len} bytes, which is no multiple of the page size {size} (`--page`)"
+        ),
+        Unfit::Empty => writeln!(
+            errors,
+            "{name}: has no bytes, and a block has at least a page"
+        ),
+        Unfit::OtherRun => writeln!(
+            errors,
+            "{name}: is there already: another `compare` runs, or was killed; then remove it"
+        ),
+        Unfit::NoFile => writeln!(errors, "{name}: is no plain file, and isn't replaced"),
+        Unfit::Changed => writeln!(errors, "{name}: its length changed while it was read"),
+        Unfit::NoList => writeln!(errors, "{name}: is no list of blocks that `extract` wrote"),
+        Unfit::NoBlock => writeln!(errors, "{name}: isn't in the folder of `--since`"),
+        Unfit::OtherLen(len, other) => writeln!(
+            errors,
+            "{name}: has {len} bytes, and in the folder of `--since` {other}"
+        ),
+        Unfit::OtherPages(size, other) => writeln!(
+            errors,
+            "{name}: has pages of {size} bytes, and the other one of {other}"
+        ),
+    }
+}
+
 /// Reads a stream, from its file or from the standard input, and passes its pages to `sink`.
-pub(crate) fn read_stream<H: AllocGlobal + Files, R: Read, S: PageSink<H>>(
+pub(crate) fn read_stream<H: AllocGlobal + Files + Clock, R: Read, S: PageSink<H>, E: Write>(
     rt: &H,
     words: &StreamWords<'_>,
     input: &mut R,
     sink: &mut S,
+    errors: &mut E,
 ) -> Result<Survey, Trouble> {
     let alloc = rt.alloc();
     let mut buffer = piece_buffer(alloc)?;
-    let mut survey = Survey::new(alloc, words.frame, words.page_size);
+    let watch = Watch::new(rt, alloc, words.talk, words.file)?;
+    let mut survey = Survey::new(alloc, words, watch);
     if words.file == "-" {
-        survey.read(rt, input, &mut buffer, sink)?;
+        survey.read(rt, input, &mut buffer, sink, errors)?;
         return Ok(survey);
     }
     match File::open(rt, words.file) {
-        Ok(mut file) => survey.read(rt, &mut file, &mut buffer, sink)?,
+        Ok(mut file) => {
+            if let Ok(metadata) = file.metadata() {
+                survey.expect_file(&metadata);
+            }
+            survey.read(rt, &mut file, &mut buffer, sink, errors)?;
+        }
         Err(error) => return Err(Trouble::Unread(error)),
     }
     Ok(survey)
 }
 
-fn verify<H: AllocGlobal + Files, R: Read, W: Write, E: Write>(
+fn verify<H: AllocGlobal + Files + Clock, R: Read, W: Write, E: Write>(
     rt: &H,
     words: &StreamWords<'_>,
     input: &mut R,
     output: &mut W,
     errors: &mut E,
 ) -> Result<bool, Trouble> {
-    let survey = read_stream(rt, words, input, &mut NoSink)?;
+    let survey = read_stream(rt, words, input, &mut NoSink, errors)?;
     let name = shown(rt.alloc(), words.file.as_bytes())?;
-    put_judgement(output, errors, &name, &survey).map_err(Trouble::Output)
+    put_judgement(rt.alloc(), output, errors, &name, &survey, words.talk)
 }
 
-fn inspect<H: AllocGlobal + Files, R: Read, W: Write, E: Write>(
+fn inspect<H: AllocGlobal + Files + Clock, R: Read, W: Write, E: Write>(
     rt: &H,
     words: &StreamWords<'_>,
     json: bool,
@@ -169,7 +231,7 @@ fn inspect<H: AllocGlobal + Files, R: Read, W: Write, E: Write>(
     output: &mut W,
     errors: &mut E,
 ) -> Result<bool, Trouble> {
-    let survey = read_stream(rt, words, input, &mut NoSink)?;
+    let survey = read_stream(rt, words, input, &mut NoSink, errors)?;
     let alloc = rt.alloc();
     let name = shown(alloc, words.file.as_bytes())?;
     if json {
@@ -177,11 +239,5 @@ fn inspect<H: AllocGlobal + Files, R: Read, W: Write, E: Write>(
     } else {
         put_lines(alloc, output, &name, &survey)?;
     }
-    match fault_of(&survey) {
-        Some(place) => {
-            put_fault(errors, &name, &place).map_err(Trouble::Output)?;
-            Ok(false)
-        }
-        None => Ok(true),
-    }
+    put_wrongs(alloc, errors, &name, &survey)
 }

@@ -6,16 +6,19 @@ ghost use Rattle.mig_stream.specs.Giving.{HasNoneLeft};
 
 use crate::between::Between;
 use crate::blocks::Blocks;
+use crate::heads::Head;
 use crate::input::read_piece;
 use crate::libvirt::{LibvirtHeader, header_of};
 use crate::sink::PageSink;
 use crate::trouble::Trouble;
-use crate::words::PageSize;
+use crate::watch::Watch;
+use crate::words::StreamWords;
 use mig_mem::{MAX_TOTAL, Place};
 use mig_stream::{Frame, Given, Pause, RecordReader, StreamState};
 use std::alloc::{AllocGlobal, Global};
-use std::fs::Files;
-use std::io::Read;
+use std::fs::{Files, Metadata};
+use std::io::{Read, Write};
+use std::rt::Clock;
 
 /// What a stream was read to have.
 #[derive(Drop)]
@@ -33,12 +36,16 @@ pub(crate) struct Survey {
     pub last: Option<Place>,
     /// What stands between the sections.
     pub between: Between,
+    /// The item that isn't whole, or has the fault.
+    pub head: Head,
     /// How the stream stands.
     pub state: StreamState,
     /// How many bytes of the stream are whole items without a fault.
     pub valid: u64,
     /// How many bytes the input has, with libvirt's header and what follows the stream.
     pub len: u64,
+    /// How far the reading is.
+    pub watch: Watch,
     // where the stream is read on; None once it isn't
     pause: Option<Pause>,
     // how many bytes of the stream have come
@@ -47,20 +54,22 @@ pub(crate) struct Survey {
 
 impl Survey {
     /// Creates one of a stream that wasn't read yet.
-    pub(crate) fn new(alloc: Global, frame: Frame, page_size: PageSize) -> Survey {
-        let page_size = page_size.bytes();
+    pub(crate) fn new(alloc: Global, words: &StreamWords<'_>, watch: Watch) -> Survey {
+        let page_size = words.page_size.bytes();
         Survey {
-            frame,
+            frame: words.frame,
             page_size,
             libvirt: None,
             blocks: None,
             sections: 0,
             last: None,
             between: Between::new(alloc),
+            head: Head::new(alloc),
             state: StreamState::Reading,
             valid: 0,
             len: 0,
-            pause: Some(Pause::new_in(alloc, frame, page_size, MAX_TOTAL)),
+            watch,
+            pause: Some(Pause::new_in(alloc, words.frame, page_size, MAX_TOTAL)),
             fed: 0,
         }
     }
@@ -73,13 +82,21 @@ impl Survey {
         }
     }
 
+    /// Notes the file that the stream is read from.
+    pub(crate) fn expect_file(&mut self, metadata: &Metadata) {
+        if metadata.is_file() {
+            self.watch.expect_total(metadata.len());
+        }
+    }
+
     /// Reads an input to its end, and passes the pages of its stream to `sink`.
-    pub(crate) fn read<H: AllocGlobal + Files, R: Read, S: PageSink<H>>(
+    pub(crate) fn read<H: AllocGlobal + Files + Clock, R: Read, S: PageSink<H>, E: Write>(
         &mut self,
         rt: &H,
         input: &mut R,
         buffer: &mut [u8],
         sink: &mut S,
+        errors: &mut E,
     ) -> Result<(), Trouble> {
         let mut len = read_piece(input, buffer)?;
         self.libvirt = header_of(&buffer[..len])?;
@@ -92,6 +109,7 @@ impl Survey {
             let skipped = skip.min(len as u64);
             skip -= skipped;
             self.feed(rt, &buffer[skipped as usize..len], sink)?;
+            self.watch.show(rt, errors, self.len);
             len = read_piece(input, buffer)?;
         }
         Ok(())
@@ -113,6 +131,7 @@ impl Survey {
         let mut reader = pause.resume(piece);
         let found = self.take_records(rt, &mut reader, piece, start, sink)?;
         self.valid = reader.valid_up_to();
+        self.head.look(piece, start, self.valid)?;
         self.state = found;
         if let StreamState::Reading = found {
             self.pause = Some(reader.pause()?);

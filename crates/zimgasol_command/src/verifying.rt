@@ -1,18 +1,30 @@
 //! `verify`: whether a stream is whole, in one line.
 
 use crate::advice::advice;
-use crate::place::{FaultPlace, fault_of, kind_name};
+use crate::missing::put_missing;
+use crate::place::{FaultPlace, block_at, fault_of, kind_name};
 use crate::survey::Survey;
+use crate::trouble::Trouble;
+use crate::words::Talk;
 use mig_stream::Frame;
+use std::alloc::Global;
 use std::io::{self, Write};
 
 // Writes where a fault is, beside its byte.
-fn put_section<W: Write>(output: &mut W, place: &FaultPlace) -> io::Result<()> {
+fn put_section<W: Write>(
+    output: &mut W,
+    place: &FaultPlace,
+    block: &Option<String>,
+) -> io::Result<()> {
     let section = place.sections.saturating_add(1);
     match place.kind {
         Some(kind) => {
             let name = kind_name(kind);
-            write!(output, "section {section}, {name}")
+            write!(output, "section {section}, {name}")?;
+            match block {
+                Some(id) => write!(output, ", block \"{id}\""),
+                None => Ok(()),
+            }
         }
         None if place.sections == 0 => write!(output, "before section 1"),
         None => {
@@ -27,11 +39,12 @@ pub(crate) fn put_fault<W: Write>(
     output: &mut W,
     name: &str,
     place: &FaultPlace,
+    block: &Option<String>,
 ) -> io::Result<()> {
     let byte = place.byte;
     let fault = place.fault;
     write!(output, "{name}: byte {byte} (")?;
-    put_section(output, place)?;
+    put_section(output, place, block)?;
     write!(output, "): fault {fault}")?;
     if let Some(advice) = advice(fault) {
         write!(output, "; {advice}")?;
@@ -62,22 +75,39 @@ pub(crate) fn end_name(frame: Frame) -> &'static str {
     }
 }
 
-/// Writes the judgement of a stream: to `output` that it is whole, or to `errors` its fault. Returns
-/// whether it is whole.
+/// Writes what is wrong with a stream to `errors`: its fault, or the blocks without records of all
+/// their pages. Returns whether it is whole.
+pub(crate) fn put_wrongs<E: Write>(
+    alloc: Global,
+    errors: &mut E,
+    name: &str,
+    survey: &Survey,
+) -> Result<bool, Trouble> {
+    match fault_of(survey) {
+        Some(place) => {
+            let block = block_at(alloc, survey)?;
+            put_fault(errors, name, &place, &block).map_err(Trouble::Output)?;
+            Ok(false)
+        }
+        None => {
+            put_missing(alloc, errors, name, survey)?;
+            Ok(true)
+        }
+    }
+}
+
+/// Writes the judgement of a stream: to `output` that it is whole, if that is wanted, and to `errors`
+/// what is wrong with it. Returns whether it is whole.
 pub(crate) fn put_judgement<W: Write, E: Write>(
+    alloc: Global,
     output: &mut W,
     errors: &mut E,
     name: &str,
     survey: &Survey,
-) -> io::Result<bool> {
-    match fault_of(survey) {
-        Some(place) => {
-            put_fault(errors, name, &place)?;
-            Ok(false)
-        }
-        None => {
-            put_whole(output, name, survey)?;
-            Ok(true)
-        }
+    talk: Talk,
+) -> Result<bool, Trouble> {
+    if fault_of(survey).is_none() && !talk.quiet {
+        put_whole(output, name, survey).map_err(Trouble::Output)?;
     }
+    put_wrongs(alloc, errors, name, survey)
 }

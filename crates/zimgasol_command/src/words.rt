@@ -9,7 +9,7 @@ use mig_stream::Frame;
 use std::alloc::{AllocError, Global};
 
 /// The program's version (CHANGELOG.md).
-const VERSION: &str = "0.2.0";
+const VERSION: &str = "0.3.0";
 
 /// The size of the guest's pages.
 #[derive(Clone, Copy, Debug, PartialEq, Eq)]
@@ -30,6 +30,15 @@ impl PageSize {
     }
 }
 
+/// What is printed beside the answer.
+#[derive(Clone, Copy)]
+pub(crate) struct Talk {
+    /// Whether a line a second says how far the reading is.
+    pub progress: bool,
+    /// Whether the line of success is left out.
+    pub quiet: bool,
+}
+
 /// A stream that is to be read.
 #[derive(Clone, Copy)]
 pub(crate) struct StreamWords<'a> {
@@ -37,6 +46,7 @@ pub(crate) struct StreamWords<'a> {
     pub file: &'a str,
     pub page_size: PageSize,
     pub frame: Frame,
+    pub talk: Talk,
 }
 
 /// What `extract` is to do.
@@ -49,15 +59,47 @@ pub(crate) struct ExtractWords<'a> {
     pub block: Option<&'a str>,
     /// Whether files that are there already are replaced.
     pub replace: bool,
+    /// Whether the list has each file's SHA-256.
+    pub digest: bool,
+    /// Whether a file is on its disk before it gets its name.
+    pub durable: bool,
+}
+
+/// What `save` is to do.
+#[derive(Drop)]
+pub(crate) struct SaveWords<'a> {
+    /// The words `ID=FILE`.
+    pub blocks: Vec<&'a str>,
+    /// The file that the stream goes into; `-` is the standard output.
+    pub file: &'a str,
+    pub page_size: PageSize,
+    pub frame: Frame,
+    /// The machine's name.
+    pub machine: Option<&'a str>,
+    /// The folder that `extract` made, of which the pages that differ are saved.
+    pub since: Option<&'a str>,
+    /// Whether a file that is there already is replaced.
+    pub replace: bool,
+    pub talk: Talk,
+}
+
+/// What `compare` is to do.
+#[derive(Clone, Copy)]
+pub(crate) struct CompareWords<'a> {
+    /// Each is a stream, or a folder that `extract` made.
+    pub first: StreamWords<'a>,
+    pub second: StreamWords<'a>,
 }
 
 /// What the words ask for.
-#[derive(Clone, Copy)]
+#[derive(Drop)]
 pub(crate) enum Request<'a> {
     Verify(StreamWords<'a>),
     /// Text, or JSON.
     Inspect(StreamWords<'a>, bool),
     Extract(ExtractWords<'a>),
+    Save(SaveWords<'a>),
+    Compare(CompareWords<'a>),
 }
 
 // ---- the command line as it is declared
@@ -66,6 +108,22 @@ fn file_arg<'a>(alloc: Global) -> Arg<'a> {
     Arg::new(alloc, "FILE").required(true).help(
         "The file with the stream: of QEMU's `migrate file:`, or of `virsh save`; - for the standard input",
     )
+}
+
+fn quiet_flag<'a>(alloc: Global) -> Arg<'a> {
+    flag(alloc, "quiet", "Prints no line where all is well")
+}
+
+fn progress_flag<'a>(alloc: Global) -> Arg<'a> {
+    flag(
+        alloc,
+        "progress",
+        "Prints once a second to the error output how far it is",
+    )
+}
+
+fn replace_flag<'a>(alloc: Global) -> Arg<'a> {
+    flag(alloc, "replace", "Replaces files that are there already")
 }
 
 fn page_option<'a>(alloc: Global) -> Arg<'a> {
@@ -103,7 +161,17 @@ fn stream_command<'a>(
         .about(about)
         .arg(file_arg(alloc))?
         .arg(page_option(alloc))?
-        .arg(frame_option(alloc))
+        .arg(frame_option(alloc))?
+        .arg(progress_flag(alloc))
+}
+
+fn verify_command<'a>(alloc: Global) -> Result<Command<'a>, AllocError> {
+    stream_command(
+        alloc,
+        "verify",
+        "Tells whether a saved guest is whole, or where it has a fault",
+    )?
+    .arg(quiet_flag(alloc))
 }
 
 fn extract_command<'a>(alloc: Global) -> Result<Command<'a>, AllocError> {
@@ -123,11 +191,78 @@ fn extract_command<'a>(alloc: Global) -> Result<Command<'a>, AllocError> {
             .value_name("ID")
             .help("Extracts this block alone"),
     )?
+    .arg(replace_flag(alloc))?
+    .arg(quiet_flag(alloc))?
     .arg(flag(
         alloc,
-        "replace",
-        "Replaces files that are in the folder already",
+        "no-digest",
+        "Leaves each file's SHA-256 out of blocks.json, which takes most of the time",
     ))
+}
+
+// The options of `save` that say which blocks there are, and what is left out.
+fn save_sources<'a>(alloc: Global) -> Result<Command<'a>, AllocError> {
+    Command::new(alloc, "save")
+        .about("Makes a stream of files with the memory of blocks, as a backup of a guest")
+        .arg(
+            Arg::new(alloc, "block")
+                .long("block")
+                .value_name("ID=FILE")
+                .action(ArgAction::Append)
+                .required(true)
+                .help("A block's id, and the file with its memory; once for each block"),
+        )?
+        .arg(
+            Arg::new(alloc, "since")
+                .long("since")
+                .value_name("DIR")
+                .help("Saves only the pages that differ from a folder that `extract` made"),
+        )
+}
+
+fn save_command<'a>(alloc: Global) -> Result<Command<'a>, AllocError> {
+    save_sources(alloc)?
+        .arg(
+            Arg::new(alloc, "OUT").required(true).help(
+                "The file that the stream goes into; - for the standard output",
+            ),
+        )?
+        .arg(page_option(alloc))?
+        .arg(
+            Arg::new(alloc, "frame")
+                .long("frame")
+                .value_name("FRAME")
+                .value_parser(ValueParser::from(["ram", "machine"].as_slice()))
+                .help(
+                    "What the stream is: RAM's sections alone, or a machine's, without its devices [default: ram]",
+                ),
+        )?
+        .arg(
+            Arg::new(alloc, "machine")
+                .long("machine")
+                .value_name("NAME")
+                .help("The machine's name, in a machine's stream: QEMU refuses another machine's"),
+        )?
+        .arg(replace_flag(alloc))?
+        .arg(quiet_flag(alloc))?
+        .arg(progress_flag(alloc))
+}
+
+fn compared_arg<'a>(alloc: Global, name: &'a str) -> Arg<'a> {
+    Arg::new(alloc, name).required(true).help(
+        "A file with a stream, - for the standard input, or a folder that `extract` made",
+    )
+}
+
+fn compare_command<'a>(alloc: Global) -> Result<Command<'a>, AllocError> {
+    Command::new(alloc, "compare")
+        .about("Lists the pages in which the memory of two streams or folders differs")
+        .arg(compared_arg(alloc, "A"))?
+        .arg(compared_arg(alloc, "B"))?
+        .arg(page_option(alloc))?
+        .arg(frame_option(alloc))?
+        .arg(quiet_flag(alloc))?
+        .arg(progress_flag(alloc))
 }
 
 fn program<'a>(alloc: Global) -> Result<Command<'a>, AllocError> {
@@ -137,20 +272,18 @@ fn program<'a>(alloc: Global) -> Result<Command<'a>, AllocError> {
         .no_binary_name(true)
         .version(VERSION)
         .about(
-            "Looks into guests that QEMU or libvirt saved in a file, verifies them, and takes their memory out",
+            "Looks into guests that QEMU or libvirt saved in a file, verifies them, takes their memory out, and saves it",
         )
         .after_help(
-            "Exit status: 0 well; 1 the stream is refused; 2 the words are wrong; 3 a file can't be read or written.",
+            "Exit status: 0 well; 1 refused, or different; 2 the words are wrong; 3 a file can't be read or written.",
         )
         .arg_required_else_help(true)
         .subcommand_required(true)
-        .subcommand(stream_command(
-            alloc,
-            "verify",
-            "Tells whether a saved guest is whole, or where it has a fault",
-        )?)?
+        .subcommand(verify_command(alloc)?)?
         .subcommand(stream_command(alloc, "inspect", "Lists what a saved guest has")?.arg(json)?)?
-        .subcommand(extract_command(alloc)?)
+        .subcommand(extract_command(alloc)?)?
+        .subcommand(save_command(alloc)?)?
+        .subcommand(compare_command(alloc)?)
 }
 
 // ---- what was read
@@ -169,33 +302,73 @@ fn frame_in<'a>(matches: &ArgMatches<'a>) -> Frame {
     }
 }
 
-fn stream_in<'a>(matches: &ArgMatches<'a>) -> StreamWords<'a> {
-    StreamWords {
-        file: matches.get_str("FILE").unwrap_or("-"),
-        page_size: page_size_in(matches),
-        frame: frame_in(matches),
+fn talk_in(matches: &ArgMatches<'_>) -> Talk {
+    Talk {
+        progress: matches.get_flag("progress"),
+        quiet: matches.get_flag("quiet"),
     }
 }
 
-fn request_in<'a>(name: &str, matches: &ArgMatches<'a>) -> Request<'a> {
-    let stream = stream_in(matches);
-    match name {
-        "extract" => Request::Extract(ExtractWords {
-            stream,
-            folder: matches.get_str("DIR").unwrap_or("."),
-            block: matches.get_str("block"),
-            replace: matches.get_flag("replace"),
-        }),
-        "inspect" => Request::Inspect(stream, matches.get_flag("json")),
-        _ => Request::Verify(stream),
+// The stream that an argument names.
+fn stream_in<'a>(matches: &ArgMatches<'a>, argument: &str) -> StreamWords<'a> {
+    StreamWords {
+        file: matches.get_str(argument).unwrap_or("-"),
+        page_size: page_size_in(matches),
+        frame: frame_in(matches),
+        talk: talk_in(matches),
     }
+}
+
+fn extract_in<'a>(matches: &ArgMatches<'a>) -> ExtractWords<'a> {
+    ExtractWords {
+        stream: stream_in(matches, "FILE"),
+        folder: matches.get_str("DIR").unwrap_or("."),
+        block: matches.get_str("block"),
+        replace: matches.get_flag("replace"),
+        digest: !matches.get_flag("no-digest"),
+        durable: true,
+    }
+}
+
+fn save_in<'a>(alloc: Global, matches: &ArgMatches<'a>) -> Result<SaveWords<'a>, AllocError> {
+    let frame = match matches.get_str("frame") {
+        Some("machine") => Frame::Machine,
+        _ => Frame::Ram,
+    };
+    Ok(SaveWords {
+        blocks: matches.get_strs("block").unwrap_or(&[]).to_vec(alloc)?,
+        file: matches.get_str("OUT").unwrap_or("-"),
+        page_size: page_size_in(matches),
+        frame,
+        machine: matches.get_str("machine"),
+        since: matches.get_str("since"),
+        replace: matches.get_flag("replace"),
+        talk: talk_in(matches),
+    })
+}
+
+fn request_in<'a>(
+    alloc: Global,
+    name: &str,
+    matches: &ArgMatches<'a>,
+) -> Result<Request<'a>, AllocError> {
+    Ok(match name {
+        "extract" => Request::Extract(extract_in(matches)),
+        "save" => Request::Save(save_in(alloc, matches)?),
+        "compare" => Request::Compare(CompareWords {
+            first: stream_in(matches, "A"),
+            second: stream_in(matches, "B"),
+        }),
+        "inspect" => Request::Inspect(stream_in(matches, "FILE"), matches.get_flag("json")),
+        _ => Request::Verify(stream_in(matches, "FILE")),
+    })
 }
 
 /// Returns what the words ask for; or what is printed instead, which is also help and version.
 pub(crate) fn asked<'a>(alloc: Global, words: &'a [String]) -> Result<Request<'a>, Error> {
     let matches = program(alloc)?.try_get_matches_from(words)?;
     match matches.subcommand() {
-        Some((name, matches)) => Ok(request_in(name, matches)),
+        Some((name, matches)) => Ok(request_in(alloc, name, matches)?),
         None => Err(Error::from(AllocError)),
     }
 }

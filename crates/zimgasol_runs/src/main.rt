@@ -1,21 +1,21 @@
-//! The examples of docs/ZIMGASOL.md as a stored run: it reads their commands from the input, runs
-//! each as `run` of `zimgasol_command` does, and prints each with what it prints.
+//! The examples of docs/ZIMGASOL.md and more cases as a stored run: it reads their commands from the
+//! input, runs each as `run` of `zimgasol_command` does, and prints each with what it prints.
 //!
 //! A command is `zimgasol` with its words and maybe `< FILE`, or what stands around it: `cat FILE`,
-//! `head -c N FILE > FILE` and `echo $?`. It is no part of the product.
+//! `cat FILE FILE > FILE`, `head -c N FILE > FILE` and `echo $?`. It is no part of the product.
 #![tactic(auto)]
 
 use std::alloc::{AllocGlobal, Global};
 use std::fs::{self, File};
 use std::io::{self, Write};
-use std::rt::Files;
+use std::rt::{Clock, Files};
 use zimgasol_command::run;
 
-/// The folder that the examples extract into.
-const FOLDER: &str = "memory";
+/// The folders that the examples extract into.
+const FOLDERS: [&str; 4] = ["memory", "again", "bare", "six"];
 
 // Runs `zimgasol`, on a file as its input where there is one, and prints what it prints.
-fn run_program<H: AllocGlobal + Files, W: Write>(
+fn run_program<H: AllocGlobal + Files + Clock, W: Write>(
     rt: &H,
     alloc: Global,
     out: &mut W,
@@ -62,8 +62,20 @@ fn copy_head<H: AllocGlobal + Files>(rt: &H, line: &str) -> io::Result<()> {
     fs::write(rt, to, head)
 }
 
+// Puts two files one after the other: `cat FIRST SECOND > TO`.
+fn join_files<H: AllocGlobal + Files>(rt: &H, line: &str) -> io::Result<()> {
+    let mut words = line.split(' ').skip(1);
+    let first = words.next().unwrap_or("");
+    let second = words.next().unwrap_or("");
+    let to = words.nth(1).unwrap_or("");
+    let mut bytes = fs::read(rt, first)?;
+    let more = fs::read(rt, second)?;
+    bytes.extend_from_slice(&more)?;
+    fs::write(rt, to, bytes.as_slice())
+}
+
 // Does what a line says. Returns the status.
-fn play<H: AllocGlobal + Files, W: Write>(
+fn play<H: AllocGlobal + Files + Clock, W: Write>(
     rt: &H,
     alloc: Global,
     out: &mut W,
@@ -73,6 +85,10 @@ fn play<H: AllocGlobal + Files, W: Write>(
     writeln!(out, "$ {line}")?;
     if line == "echo $?" {
         writeln!(out, "{status}")?;
+        return Ok(0);
+    }
+    if line.starts_with("cat ") && line.contains('>') {
+        join_files(rt, line)?;
         return Ok(0);
     }
     if let Some(name) = line.strip_prefix("cat ") {
@@ -89,7 +105,7 @@ fn play<H: AllocGlobal + Files, W: Write>(
     run_program(rt, alloc, out, &words, given)
 }
 
-fn play_all<H: AllocGlobal + Files, W: Write>(
+fn play_all<H: AllocGlobal + Files + Clock, W: Write>(
     rt: &H,
     alloc: Global,
     out: &mut W,
@@ -103,7 +119,9 @@ fn play_all<H: AllocGlobal + Files, W: Write>(
 }
 
 fn main(rt: HostRuntime) -> io::Result<()> {
-    let _left = fs::remove_dir_all(&rt, FOLDER);
+    for folder in FOLDERS {
+        let _left = fs::remove_dir_all(&rt, folder);
+    }
     let text = io::read_to_string(rt.alloc(), rt.stdin())?;
     let mut out = io::writer(&rt);
     play_all(&rt, rt.alloc(), &mut out, text.as_str())?;

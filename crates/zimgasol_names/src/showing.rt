@@ -1,8 +1,8 @@
 //! Bytes that a stream or a file brings, as text that steers no terminal.
 
-ghost use Rattle.std.specs.Prelude.{◌≡◌, IfOk, All, string_bytes};
+ghost use Rattle.std.specs.Prelude.{◌≡◌, IfOk, All, string_bytes, IsAscii};
 ghost use Rattle.percent_encoding.specs.Percent.{percent_encode as encoded};
-ghost use Rattle.zimgasol_command.specs.Shown.{IsPrintable};
+ghost use Rattle.zimgasol_names.specs.Shown.{IsPrintable};
 
 use percent_encoding::{AsciiSet, CONTROLS, ascii_set, percent_encode};
 use std::alloc::{AllocError, Global};
@@ -23,8 +23,14 @@ pub fn shown(alloc: Global, bytes: &[u8]) -> Result<String, AllocError>
     Ok(text)
 }
 
-/// Returns a block's id as text. Ids that a stream is read with are printable, so the text is the id.
-pub(crate) fn id_text(alloc: Global, id: &[u8]) -> Result<String, AllocError> {
+/// Returns a block's id as text. Ids that a stream is read with are ASCII, so the text is the id.
+///
+/// # Errors
+///
+/// `AllocError`: an allocation was refused.
+pub fn id_text(alloc: Global, id: &[u8]) -> Result<String, AllocError>
+    ensures { IfOk result (λ text. IsAscii id.now → string_bytes text ≡ id.now) }
+{
     match str::from_utf8(id) {
         Ok(text) => String::from_str(alloc, text),
         Err(_) => shown(alloc, id),

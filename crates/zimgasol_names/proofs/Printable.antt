@@ -1,12 +1,12 @@
 -- What is shown of bytes.
-use Rattle.std.proofs.Common.{◌≡◌, ℕ, ◌<◌, ◌≤◌, true, false, ltb, eqb, Bool, ◌||◌, List, All, sym, refl, ap, subst, ◌∙◌, ⊎_elim, arith}
+use Rattle.std.proofs.Common.{◌≡◌, ℕ, ◌<◌, ◌≤◌, false, ltb, eqb, Bool, ◌||◌, List, All, sym, refl, ap, subst, ◌∙◌, ⊎_elim, arith}
 use Rattle.std.proofs.lemmas.Bool.{agree_below_at, both_ways, cases_Bool, ltb-true, ltb-false}
 use Rattle.percent_encoding.specs.AsciiSet.{contains, should_percent_encode}
 use Rattle.percent_encoding.specs.Percent.{percent_encode}
 use Rattle.percent_encoding.proofs.AsciiSetLemmas.{ascii_from_kept, outside_from_kept}
 use Rattle.percent_encoding.proofs.PercentLemmas.{All-percent_encode, IsEscapeByte}
-use Rattle.zimgasol_command.specs.declared.showing.TheConstants.{HIDDEN}
-use Rattle.zimgasol_command.specs.Shown.{IsPrintable}
+use Rattle.zimgasol_names.specs.declared.showing.TheConstants.{HIDDEN}
+use Rattle.zimgasol_names.specs.Shown.{IsPrintable}
 
 -- what is hidden of ASCII
 abbrev is_hidden : ℕ → Bool

@@ -10,8 +10,8 @@ use Rattle.percent_encoding.specs.AsciiSet.{contains, should_percent_encode}
 use Rattle.percent_encoding.specs.Percent.{percent_encode, percent_encode_byte, percent_decode}
 use Rattle.percent_encoding.proofs.AsciiSetLemmas.{outside_from_kept}
 use Rattle.percent_encoding.proofs.PercentLemmas.{IsEscapeByte, All-percent_encode, All-percent_encode_byte, percent_encode_escaped, percent_encode_kept, round_trip}
-use Rattle.zimgasol_command.specs.declared.naming.TheConstants.{ESCAPED, ESCAPED_WITH_DOTS, MOST_LEN}
-use Rattle.zimgasol_command.specs.Naming.{escaped_in, stem_of, name_of, IsId, IsPlainName}
+use Rattle.zimgasol_names.specs.declared.naming.TheConstants.{ESCAPED, ESCAPED_WITH_DOTS, MOST_LEN}
+use Rattle.zimgasol_names.specs.Naming.{escaped_in, stem_of, name_of, IsId, IsPlainName}
 
 -- ---- what is escaped
 

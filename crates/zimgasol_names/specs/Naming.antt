@@ -1,8 +1,8 @@
 -- The names of the files that blocks are extracted into.
-use Rattle.std.specs.Prelude.{ℕ, ◌≡◌, ◌≢◌, ◌≤◌, ◌<◌, ◌^◌, ◌==◌, if◌then◌else◌, leb, All, List, [], ◌∷◌, ◌++◌, length, get_or, codes, decimal}
+use Rattle.std.specs.Prelude.{ℕ, ◌≢◌, ◌<◌, ◌^◌, ◌==◌, if◌then◌else◌, leb, All, List, ◌++◌, length, get_or, codes, decimal}
 use Rattle.percent_encoding.specs.Percent.{percent_encode}
 use Rattle.percent_encoding.specs.declared.ascii_set.AsciiSet.{AsciiSet}
-use Rattle.zimgasol_command.specs.declared.naming.TheConstants.{ESCAPED, ESCAPED_WITH_DOTS, MOST_LEN}
+use Rattle.zimgasol_names.specs.declared.naming.TheConstants.{ESCAPED, ESCAPED_WITH_DOTS, MOST_LEN}
 
 -- the characters that are escaped in an id: the dots too where it begins with one
 abbrev pub escaped_in : List ℕ → AsciiSet

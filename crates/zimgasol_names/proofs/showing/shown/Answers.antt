@@ -1,5 +1,5 @@
-use Rattle.zimgasol_command.proofs.Printable.{shown_is_printable}
-use Rattle.zimgasol_command.proofs.showing.shown.Goals as goal
+use Rattle.zimgasol_names.proofs.Printable.{shown_is_printable}
+use Rattle.zimgasol_names.proofs.showing.shown.Goals as goal
 
 pub returns-clause-printable : goal.returns-clause-printable
 returns-clause-printable c =

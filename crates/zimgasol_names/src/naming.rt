@@ -2,7 +2,7 @@
 
 ghost use Rattle.std.specs.Prelude.{◌≡◌, ◌<◌, ◌++◌, ◌^◌, length, IfOk, string_bytes, codes};
 ghost use Rattle.percent_encoding.specs.Percent.{percent_encode as encoded};
-ghost use Rattle.zimgasol_command.specs.Naming.{escaped_in, name_of, NamesArePlain, NamesAreDistinct};
+ghost use Rattle.zimgasol_names.specs.Naming.{escaped_in, name_of, NamesArePlain, NamesAreDistinct};
 
 use percent_encoding::{AsciiSet, NON_ALPHANUMERIC, ascii_set, percent_encode};
 use std::alloc::{AllocError, Global};
@@ -69,12 +69,7 @@ pub fn names_are_distinct()
 {}
 
 /// Returns the path of a name in a folder, with something after the name.
-pub(crate) fn path_in(
-    alloc: Global,
-    folder: &str,
-    name: &str,
-    after: &str,
-) -> Result<String, AllocError>
+pub fn path_in(alloc: Global, folder: &str, name: &str, after: &str) -> Result<String, AllocError>
     ensures { IfOk result (λ path. string_bytes path ≡ folder.now ++ codes "/" ++ name.now ++ after.now) }
 {
     let mut path = String::new(alloc);

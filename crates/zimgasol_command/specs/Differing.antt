@@ -1,0 +1,46 @@
+-- The pages of a piece that differ from what stood at their places before, and what `save` sends of them.
+use Rattle.std.specs.Prelude.{ℕ, zero, suc, ◌≡◌, ◌+◌, ◌*◌, ◌≤◌, ◌⊎◌, List, [], ◌∷◌, ◌++◌, length, slice_range, Option, IfSome}
+use Rattle.std.specs.Option.{option_copied}
+use Rattle.mig_mem.specs.Image.{Page}
+use Rattle.zimgasol_command.specs.declared.pages.Pages.{Pages}
+
+-- the bytes have this page, from 0, whole
+abbrev pub HasPage : ℕ → List ℕ → ℕ → Type 0
+HasPage size bytes page = page * size + size ≤ length bytes
+
+-- its bytes
+abbrev pub page_of : ℕ → List ℕ → ℕ → List ℕ
+page_of size bytes page = slice_range bytes (page * size) (page * size + size)
+
+-- it stood there before with the same bytes
+pub record IsSamePage (size : ℕ) (bytes old : List ℕ) (page : ℕ) : Type 0 where
+  pub was_there : HasPage size old page
+  pub same : page_of size old page ≡ page_of size bytes page
+
+-- A piece of a block: pages of this size that follow one another, and what stood at their places before.
+pub record Piece : Type 0 where
+  pub size : ℕ
+  pub bytes : List ℕ
+  pub before : Option (List ℕ)
+
+-- what these pages are
+abbrev pub piece_of : Pages → Piece
+piece_of pages = record { size = pages.page_size; bytes = pages.bytes.now; before = option_copied pages.before }
+
+-- a page of it is there, and didn't stand there before
+pub record Differs (piece : Piece) (page : ℕ) : Type 0 where
+  pub is_there : HasPage piece.size piece.bytes page
+  pub is_new : IfSome piece.before (λ old. ¬ IsSamePage piece.size piece.bytes old page)
+
+-- the page as it is sent, of a piece whose first page is the page `first` of the block
+abbrev pub page_sent : ℕ → ℕ → Piece → ℕ → Page
+page_sent block first piece page = record {
+  place = record { block = block; page = first + page };
+  content = page_of piece.size piece.bytes page;
+}
+
+-- These are sent of the first n pages: those that differ, ascending.
+unfoldable pub AreSent : ℕ → ℕ → Piece → ℕ → List Page → Type 0
+AreSent block first piece zero pages = pages ≡ []
+AreSent block first piece (suc n) pages = (rest : List Page) × AreSent block first piece n rest
+    × ((Differs piece n × (pages ≡ rest ++ page_sent block first piece n ∷ [])) ⊎ ((Differs piece n → ⊥) × (pages ≡ rest)))

@@ -1,0 +1,22 @@
+//! The words `ID=FILE` of `save`.
+
+ghost use Rattle.std.specs.Prelude.{◌≡◌, ◌==◌, ◌↔◌, length, IfSome, IsNone};
+ghost use Rattle.std.specs.List.{before_first, after_first, position_or_len};
+
+/// A block that is saved: its id, and the file with its memory.
+#[derive(Clone, Copy, Debug, PartialEq, Eq)]
+pub(crate) struct BlockWord<'a> {
+    pub id: &'a str,
+    pub file: &'a str,
+}
+
+/// Returns what a word says: the id is before its first `=` (61), the file's name is after it. None
+/// where it has no `=`.
+pub(crate) fn block_word<'a>(word: &'a str) -> Option<BlockWord<'a>>
+    ensures id { IfSome result (λ b. b.id.now ≡ before_first (λ c. c == 61) word.entry.now) }
+    ensures file { IfSome result (λ b. b.file.now ≡ after_first (λ c. c == 61) word.entry.now) }
+    ensures none { IsNone result ↔ (position_or_len (λ c. c == 61) word.entry.now ≡ length word.entry.now) }
+{
+    let (id, file) = word.split_once('=')?;
+    Some(BlockWord { id, file })
+}

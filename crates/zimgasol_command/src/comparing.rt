@@ -1,0 +1,344 @@
+//! `compare`: the pages in which the memory of two streams, or folders that `extract` made, differs.
+//!
+//! A stream may name a page several times, so its memory is known only at its end: a stream is
+//! extracted into a folder beside the second operand, and then two folders are compared.
+
+use crate::differing::Differing;
+use crate::extracting::extract_survey;
+use crate::folder::{Folder, FolderBlock, read_folder};
+use crate::opened::{open, unfit};
+use crate::pages::{PIECE_PAGES, Pages, Reading};
+use crate::target::unwritten;
+use crate::trouble::{Trouble, Unfit};
+use crate::verifying::put_wrongs;
+use crate::words::{CompareWords, ExtractWords, StreamWords};
+use std::alloc::{AllocError, AllocGlobal, Global};
+use std::fs::Files;
+use std::io::{self, ErrorKind, Read, Write};
+use std::rt::Clock;
+use zimgasol_names::{path_in, shown};
+
+/// The name of the folder that streams are extracted into.
+const TEMPORARY_NAME: &str = ".zimgasol-compare.partial";
+
+// The folder that streams are extracted into.
+#[derive(Drop)]
+struct Temporary {
+    alloc: Global,
+    path: String,
+    // whether it was made
+    made: bool,
+}
+
+// Returns the path of the temporary folder: beside what has this path.
+fn temporary_path(alloc: Global, path: &str) -> Result<String, AllocError> {
+    match path.trim_end_matches('/').rsplit_once('/') {
+        Some((folder, _)) => path_in(alloc, folder, TEMPORARY_NAME, ""),
+        None => String::from_str(alloc, TEMPORARY_NAME),
+    }
+}
+
+impl Temporary {
+    // Makes the folder, where it wasn't made yet.
+    fn make<H: Files>(&mut self, rt: &H) -> Result<(), Trouble> {
+        if self.made {
+            return Ok(());
+        }
+        match rt.create_dir(&self.path) {
+            Ok(()) => {
+                self.made = true;
+                Ok(())
+            }
+            Err(error) if error.kind() == ErrorKind::AlreadyExists => {
+                Err(unfit(self.alloc, &self.path, Unfit::OtherRun))
+            }
+            Err(error) => Err(unwritten(self.alloc, &self.path, error)),
+        }
+    }
+
+    // Removes the folder with what it has.
+    fn remove<H: Files>(&self, rt: &H) -> Result<(), Trouble> {
+        if !self.made {
+            return Ok(());
+        }
+        match rt.remove_dir_all(self.alloc, &self.path) {
+            Ok(()) => Ok(()),
+            Err(error) => Err(unwritten(self.alloc, &self.path, error)),
+        }
+    }
+}
+
+// Returns the trouble of reading a stream, with the stream's name.
+fn of_stream(alloc: Global, name: &str, trouble: Trouble) -> Trouble {
+    match trouble {
+        Trouble::Unread(error) => unwritten(alloc, name, error),
+        Trouble::Libvirt(why) => match shown(alloc, name.as_bytes()) {
+            Ok(name) => Trouble::Refused(name, why),
+            Err(_) => Trouble::NoMemory,
+        },
+        trouble => trouble,
+    }
+}
+
+// Extracts a stream into the temporary folder, under a name of its own. Returns what its list says;
+// None where the stream has a fault, which is written to `errors`.
+fn extracted<'a, H: AllocGlobal + Files + Clock, R: Read, E: Write>(
+    rt: &H,
+    words: &StreamWords<'a>,
+    path: &'a str,
+    input: &mut R,
+    errors: &mut E,
+) -> Result<Option<Folder>, Trouble> {
+    let alloc = rt.alloc();
+    let extract = ExtractWords {
+        stream: *words,
+        folder: path,
+        block: None,
+        replace: false,
+        digest: false,
+        durable: false,
+    };
+    let survey = match extract_survey(rt, &extract, input, errors) {
+        Ok(survey) => survey,
+        Err(trouble) => return Err(of_stream(alloc, words.file, trouble)),
+    };
+    let name = shown(alloc, words.file.as_bytes())?;
+    if !put_wrongs(alloc, errors, &name, &survey)? {
+        return Ok(None);
+    }
+    Ok(Some(read_folder(rt, path)?))
+}
+
+// Returns what the list of an operand says, which is extracted where it is a stream. None where that
+// has a fault.
+fn operand<H: AllocGlobal + Files + Clock, R: Read, E: Write>(
+    rt: &H,
+    words: &StreamWords<'_>,
+    temporary: &mut Temporary,
+    name: &str,
+    input: &mut R,
+    errors: &mut E,
+) -> Result<Option<Folder>, Trouble> {
+    if words.file != "-"
+        && let Ok(metadata) = rt.metadata(words.file)
+        && metadata.is_dir()
+    {
+        return Ok(Some(read_folder(rt, words.file)?));
+    }
+    temporary.make(rt)?;
+    let path = path_in(temporary.alloc, &temporary.path, name, "")?;
+    extracted(rt, words, &path, input, errors)
+}
+
+// Adds the pages that differ, of which the first is the page `first`.
+fn add_differing(
+    differing: &mut Differing,
+    first: u64,
+    pages: &Pages<'_>,
+) -> Result<(), AllocError> {
+    if pages.are_same() {
+        return Ok(());
+    }
+    for page in 0..PIECE_PAGES {
+        if pages.differing(page).is_some() {
+            differing.add(first.saturating_add(page as u64))?;
+        }
+    }
+    Ok(())
+}
+
+// Returns the pages in which two blocks of one length differ.
+fn differing_pages<H: AllocGlobal + Files>(
+    rt: &H,
+    a: &FolderBlock,
+    b: &FolderBlock,
+    page_size: u64,
+) -> Result<Differing, Trouble> {
+    let alloc = rt.alloc();
+    let file = open(rt, alloc, &b.path)?;
+    let before = open(rt, alloc, &a.path)?;
+    let mut reading = Reading::new(alloc, file, Some(before), page_size.min(8192) as usize)?;
+    let mut differing = Differing::new(alloc);
+    let mut first = 0u64;
+    for _ in 0..u64::MAX {
+        if !reading.read_on()? {
+            break;
+        }
+        let pages = reading.pages();
+        add_differing(&mut differing, first, &pages)?;
+        first = first.saturating_add(pages.count());
+    }
+    if first.saturating_mul(page_size) != b.len {
+        return Err(reading.changed());
+    }
+    Ok(differing)
+}
+
+// Two folders that are compared, with the names that they have in messages.
+#[derive(Clone, Copy)]
+struct Comparing<'a> {
+    alloc: Global,
+    a: &'a Folder,
+    a_name: &'a str,
+    b: &'a Folder,
+    b_name: &'a str,
+}
+
+fn output_failed(error: io::Error) -> Trouble {
+    Trouble::Output(error)
+}
+
+impl Comparing<'_> {
+    // Compares a block of both. Returns whether it is the same.
+    fn compare_block<H: AllocGlobal + Files, W: Write>(
+        &self,
+        rt: &H,
+        output: &mut W,
+        a: &FolderBlock,
+        b: &FolderBlock,
+    ) -> Result<bool, Trouble> {
+        let id = shown(self.alloc, a.id.as_bytes())?;
+        if a.len != b.len {
+            let a_len = a.len;
+            let b_len = b.len;
+            let a_name = self.a_name;
+            let b_name = self.b_name;
+            writeln!(
+                output,
+                "block \"{id}\": {a_len} bytes in {a_name}, {b_len} in {b_name}"
+            )
+            .map_err(output_failed)?;
+            return Ok(false);
+        }
+        let differing = differing_pages(rt, a, b, self.a.page_size)?;
+        if differing.count == 0 {
+            return Ok(true);
+        }
+        let count = differing.count;
+        let pages = a.len / self.a.page_size.max(1);
+        write!(output, "block \"{id}\": {count} of {pages} pages differ: ").map_err(output_failed)?;
+        differing.put(output).map_err(output_failed)?;
+        writeln!(output).map_err(output_failed)?;
+        Ok(false)
+    }
+
+    // Writes the line of a block that only one has.
+    fn put_only<W: Write>(&self, output: &mut W, id: &str, name: &str) -> Result<(), Trouble> {
+        let id = shown(self.alloc, id.as_bytes())?;
+        writeln!(output, "block \"{id}\": only in {name}").map_err(output_failed)
+    }
+
+    // Compares all blocks. Returns whether the memory is the same.
+    fn compare<H: AllocGlobal + Files, W: Write>(
+        &self,
+        rt: &H,
+        output: &mut W,
+    ) -> Result<bool, Trouble> {
+        let mut is_same = true;
+        for block in &self.a.blocks {
+            match self.b.find(&block.id).and_then(|i| self.b.blocks.get(i)) {
+                Some(other) => {
+                    if !self.compare_block(rt, output, block, other)? {
+                        is_same = false;
+                    }
+                }
+                None => {
+                    self.put_only(output, &block.id, self.a_name)?;
+                    is_same = false;
+                }
+            }
+        }
+        for block in &self.b.blocks {
+            if self.a.find(&block.id).is_none() {
+                self.put_only(output, &block.id, self.b_name)?;
+                is_same = false;
+            }
+        }
+        Ok(is_same)
+    }
+
+    // Writes the line of memory that is the same.
+    fn put_same<W: Write>(&self, output: &mut W) -> Result<(), Trouble> {
+        let a_name = self.a_name;
+        let b_name = self.b_name;
+        let blocks = self.a.blocks.len();
+        let total = self.a.total();
+        writeln!(
+            output,
+            "{a_name} and {b_name}: the same: blocks {blocks}, memory {total} bytes"
+        )
+        .map_err(output_failed)
+    }
+}
+
+// Compares what was read of both. Returns whether the memory is the same.
+fn compare_folders<H: AllocGlobal + Files, W: Write>(
+    rt: &H,
+    words: &CompareWords<'_>,
+    a: &Folder,
+    b: &Folder,
+    output: &mut W,
+) -> Result<bool, Trouble> {
+    let alloc = rt.alloc();
+    if a.page_size != b.page_size {
+        let why = Unfit::OtherPages(b.page_size, a.page_size);
+        return Err(unfit(alloc, words.second.file, why));
+    }
+    let a_name = shown(alloc, words.first.file.as_bytes())?;
+    let b_name = shown(alloc, words.second.file.as_bytes())?;
+    let comparing = Comparing {
+        alloc,
+        a,
+        a_name: &a_name,
+        b,
+        b_name: &b_name,
+    };
+    let is_same = comparing.compare(rt, output)?;
+    if is_same && !words.first.talk.quiet {
+        comparing.put_same(output)?;
+    }
+    Ok(is_same)
+}
+
+// Reads both, and compares them. Returns whether both are whole and the memory is the same.
+fn compare_in<H: AllocGlobal + Files + Clock, R: Read, W: Write, E: Write>(
+    rt: &H,
+    words: &CompareWords<'_>,
+    temporary: &mut Temporary,
+    input: &mut R,
+    output: &mut W,
+    errors: &mut E,
+) -> Result<bool, Trouble> {
+    let Some(a) = operand(rt, &words.first, temporary, "a", input, errors)? else {
+        return Ok(false);
+    };
+    let Some(b) = operand(rt, &words.second, temporary, "b", input, errors)? else {
+        return Ok(false);
+    };
+    compare_folders(rt, words, &a, &b, output)
+}
+
+/// Compares the memory of two streams or folders. Returns whether both are whole and it is the same.
+pub(crate) fn compare<H: AllocGlobal + Files + Clock, R: Read, W: Write, E: Write>(
+    rt: &H,
+    words: &CompareWords<'_>,
+    input: &mut R,
+    output: &mut W,
+    errors: &mut E,
+) -> Result<bool, Trouble> {
+    let alloc = rt.alloc();
+    if words.first.file == "-" && words.second.file == "-" {
+        let name = String::from_str(alloc, "compare - -")?;
+        return Err(Trouble::Words(name, "only one of the two can be the standard input"));
+    }
+    let mut temporary = Temporary {
+        alloc,
+        path: temporary_path(alloc, words.second.file)?,
+        made: false,
+    };
+    let compared = compare_in(rt, words, &mut temporary, input, output, errors);
+    let removed = temporary.remove(rt);
+    let is_same = compared?;
+    removed?;
+    Ok(is_same)
+}

@@ -1,0 +1,92 @@
+//! The pages of a block that differ, as ranges.
+
+ghost use Rattle.std.specs.Prelude.{◌≡◌, ◌+◌, ◌↔◌, ◌<◌, ◌≤◌, ◌^◌, IsSome, IfSome};
+
+use std::alloc::{AllocError, Global};
+use std::io::{self, Write};
+
+/// How many ranges of a block are listed.
+const MOST_RANGES: usize = 16;
+
+/// Pages that follow one another: from the first to the last one.
+#[derive(Clone, Copy, Debug, PartialEq, Eq)]
+pub(crate) struct PageRange {
+    pub first: u64,
+    pub last: u64,
+}
+
+impl PageRange {
+    /// Returns the range with a page more at its end; None where the page doesn't follow it.
+    pub(crate) fn with(self, page: u64) -> Option<PageRange>
+        ensures follows { IsSome result ↔ (self.last + 1 ≡ page) }
+        ensures value { IfSome result (λ range. range ≡ record { first = self.first; last = page }) }
+    {
+        if self.last < page && page - self.last == 1 {
+            return Some(PageRange {
+                first: self.first,
+                last: page,
+            });
+        }
+        None
+    }
+}
+
+/// The pages of a block that differ.
+#[derive(Drop)]
+pub(crate) struct Differing {
+    /// How many they are.
+    pub count: u64,
+    /// The first ranges of them.
+    pub ranges: Vec<PageRange>,
+    /// Whether there are more ranges.
+    pub has_more: bool,
+}
+
+impl Differing {
+    /// Creates none.
+    pub(crate) fn new(alloc: Global) -> Differing {
+        Differing {
+            count: 0,
+            ranges: Vec::new(alloc),
+            has_more: false,
+        }
+    }
+
+    /// Adds a page after all that were added.
+    pub(crate) fn add(&mut self, page: u64) -> Result<(), AllocError> {
+        self.count = self.count.saturating_add(1);
+        if let Some(last) = self.ranges.last_mut()
+            && let Some(longer) = last.with(page)
+        {
+            *last = longer;
+            return Ok(());
+        }
+        if self.ranges.len() < MOST_RANGES {
+            self.ranges.push(PageRange {
+                first: page,
+                last: page,
+            })?;
+        } else {
+            self.has_more = true;
+        }
+        Ok(())
+    }
+
+    /// Writes the ranges.
+    pub(crate) fn put<W: Write>(&self, output: &mut W) -> io::Result<()> {
+        let mut before = "";
+        for range in &self.ranges {
+            let first = range.first;
+            let last = range.last;
+            write!(output, "{before}{first}")?;
+            if first != last {
+                write!(output, "-{last}")?;
+            }
+            before = ", ";
+        }
+        if self.has_more {
+            write!(output, ", ..")?;
+        }
+        Ok(())
+    }
+}

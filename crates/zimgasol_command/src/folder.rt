@@ -1,0 +1,112 @@
+//! A folder that `extract` made: its list of blocks.
+
+use crate::opened::{open, unfit};
+use crate::trouble::{Trouble, Unfit};
+use serde_json::Value;
+use std::alloc::{AllocError, AllocGlobal, Global};
+use std::fs::Files;
+use std::str;
+use zimgasol_names::path_in;
+
+/// The name of the list of blocks.
+pub(crate) const LIST_NAME: &str = "blocks.json";
+
+/// How many bytes of a list are read. A list of 256 blocks with the longest ids has fewer.
+const MOST_LIST_LEN: usize = 1_048_576;
+
+/// A block of the folder.
+#[derive(Drop)]
+pub(crate) struct FolderBlock {
+    pub id: String,
+    /// The path of its file.
+    pub path: String,
+    /// How many bytes the block has.
+    pub len: u64,
+}
+
+/// What the list of a folder says.
+#[derive(Drop)]
+pub(crate) struct Folder {
+    pub page_size: u64,
+    pub blocks: Vec<FolderBlock>,
+}
+
+impl Folder {
+    /// Returns the number of the block with an id.
+    pub(crate) fn find(&self, id: &str) -> Option<usize> {
+        self.blocks.iter().position(|block| block.id.as_str() == id)
+    }
+
+    /// Returns how many bytes all blocks have.
+    pub(crate) fn total(&self) -> u64 {
+        let mut total = 0u64;
+        for block in &self.blocks {
+            total = total.saturating_add(block.len);
+        }
+        total
+    }
+}
+
+// Returns what an entry of the list says. None where it is none that `extract` writes; also where the
+// file lies outside the folder.
+fn block_in(alloc: Global, folder: &str, entry: &Value) -> Result<Option<FolderBlock>, AllocError> {
+    let Some(id) = entry.get("id").and_then(Value::as_str) else {
+        return Ok(None);
+    };
+    let Some(file) = entry.get("file").and_then(Value::as_str) else {
+        return Ok(None);
+    };
+    let Some(len) = entry.get("bytes").and_then(Value::as_u64) else {
+        return Ok(None);
+    };
+    if file.contains('/') {
+        return Ok(None);
+    }
+    Ok(Some(FolderBlock {
+        id: String::from_str(alloc, id)?,
+        path: path_in(alloc, folder, file, "")?,
+        len,
+    }))
+}
+
+// Returns what a list says. None where it is none that `extract` writes.
+fn folder_in(alloc: Global, folder: &str, list: &Value) -> Result<Option<Folder>, AllocError> {
+    let Some(page_size) = list.get("page_size").and_then(Value::as_u64) else {
+        return Ok(None);
+    };
+    let Some(entries) = list.get("blocks").and_then(Value::as_array) else {
+        return Ok(None);
+    };
+    let mut blocks = Vec::new(alloc);
+    for entry in entries {
+        match block_in(alloc, folder, entry)? {
+            Some(block) => blocks.push(block)?,
+            None => return Ok(None),
+        }
+    }
+    Ok(Some(Folder { page_size, blocks }))
+}
+
+// Returns what the bytes of a list say. None where they are none that `extract` writes.
+fn folder_of(alloc: Global, folder: &str, bytes: &[u8]) -> Result<Option<Folder>, AllocError> {
+    let Ok(text) = str::from_utf8(bytes) else {
+        return Ok(None);
+    };
+    match Value::from_str(alloc, text) {
+        Ok(list) => folder_in(alloc, folder, &list),
+        Err(_) => Ok(None),
+    }
+}
+
+/// Reads the list of a folder.
+pub(crate) fn read_folder<H: AllocGlobal + Files>(rt: &H, folder: &str) -> Result<Folder, Trouble> {
+    let alloc = rt.alloc();
+    let path = path_in(alloc, folder, LIST_NAME, "")?;
+    let mut buffer = vec![in alloc; 0u8; MOST_LIST_LEN]?;
+    let mut file = open(rt, alloc, &path)?;
+    let len = file.read(&mut buffer)?;
+    match folder_of(alloc, folder, &buffer[..len])? {
+        Some(folder) => Ok(folder),
+        None => Err(unfit(alloc, &path, Unfit::NoList)),
+    }
+}

@@ -1,0 +1,92 @@
+//! The note of a whole stream in which a block has fewer page records than pages.
+//!
+//! A main stream of QEMU 7.2 whose pages went over multifd's channels reads as whole, and has no
+//! records of those pages. A stream of the changes since another one has few records too.
+
+use crate::blocks::Blocks;
+use crate::place::fault_of;
+use crate::survey::Survey;
+use crate::trouble::Trouble;
+use mig_stream::Frame;
+use std::alloc::Global;
+use std::io::Write;
+use zimgasol_names::shown;
+
+/// How many blocks have a line of their own.
+const MOST_LINES: u64 = 4;
+
+// Returns where the other pages may be.
+fn whereabouts(frame: Frame) -> &'static str {
+    match frame {
+        Frame::Machine => "the others may have gone over multifd's channels",
+        Frame::Ram => "it may be the changes since another stream",
+    }
+}
+
+// Writes the line of a block.
+fn put_block<E: Write>(
+    alloc: Global,
+    errors: &mut E,
+    name: &str,
+    blocks: &Blocks,
+    block: usize,
+    others: &str,
+) -> Result<(), Trouble> {
+    if block >= blocks.table.len() {
+        return Ok(());
+    }
+    let id = shown(alloc, blocks.table.id(block))?;
+    let pages = blocks.pages(block);
+    let records = blocks.records(block);
+    writeln!(
+        errors,
+        "{name}: note: block \"{id}\" has records of at most {records} of its {pages} pages; {others}"
+    )
+    .map_err(Trouble::Output)
+}
+
+// Writes the lines of the first blocks. Returns how many blocks there are.
+fn put_blocks<E: Write>(
+    alloc: Global,
+    errors: &mut E,
+    name: &str,
+    blocks: &Blocks,
+    others: &str,
+) -> Result<u64, Trouble> {
+    let mut count = 0u64;
+    for block in 0..blocks.table.len() {
+        if blocks.missing(block) != 0 {
+            if count < MOST_LINES {
+                put_block(alloc, errors, name, blocks, block, others)?;
+            }
+            count = count.saturating_add(1);
+        }
+    }
+    Ok(count)
+}
+
+/// Writes a line for each block of a whole stream that has fewer records than pages, and after the
+/// first four of them how many more there are.
+pub(crate) fn put_missing<E: Write>(
+    alloc: Global,
+    errors: &mut E,
+    name: &str,
+    survey: &Survey,
+) -> Result<(), Trouble> {
+    if fault_of(survey).is_some() {
+        return Ok(());
+    }
+    let Some(blocks) = &survey.blocks else {
+        return Ok(());
+    };
+    let count = put_blocks(alloc, errors, name, blocks, whereabouts(survey.frame))?;
+    if count <= MOST_LINES {
+        return Ok(());
+    }
+    let more = count - MOST_LINES;
+    writeln!(
+        errors,
+        "{name}: note: {more} more blocks have fewer records than pages"
+    )
+    .map_err(Trouble::Output)
+}

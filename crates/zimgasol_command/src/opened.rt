@@ -1,0 +1,70 @@
+//! A file that is read, with its name for messages.
+
+ghost use Rattle.std.specs.Prelude.{◌≡◌, ◌≤◌, length, IfOk};
+
+use crate::input::read_piece;
+use crate::target::unwritten;
+use crate::trouble::{Trouble, Unfit};
+use std::alloc::Global;
+use std::fs::{File, Files, OpenFile};
+use std::io::Read;
+use zimgasol_names::shown;
+
+/// A file that is read.
+#[derive(Drop)]
+pub(crate) struct Opened<F: Drop> {
+    alloc: Global,
+    path: String,
+    file: F,
+}
+
+/// Opens a file to read it.
+pub(crate) fn open<H: Files>(
+    rt: &H,
+    alloc: Global,
+    path: &str,
+) -> Result<Opened<H::File>, Trouble> {
+    match File::open(rt, path) {
+        Ok(file) => Ok(Opened {
+            alloc,
+            path: String::from_str(alloc, path)?,
+            file,
+        }),
+        Err(error) => Err(unwritten(alloc, path, error)),
+    }
+}
+
+/// Returns the trouble of a file or a folder that isn't what is needed.
+pub(crate) fn unfit(alloc: Global, path: &str, why: Unfit) -> Trouble {
+    match shown(alloc, path.as_bytes()) {
+        Ok(path) => Trouble::Unfit(path, why),
+        Err(_) => Trouble::NoMemory,
+    }
+}
+
+impl<F: Read + OpenFile + Drop> Opened<F> {
+    /// Reads until the buffer is full or the file is over. Returns how many bytes it read.
+    pub(crate) fn read(&mut self, buffer: &mut [u8]) -> Result<usize, Trouble>
+        ensures len { length buffer.new ≡ length buffer.old }
+        ensures count { IfOk result (λ n. n ≤ length buffer.old) }
+    {
+        match read_piece(&mut self.file, buffer) {
+            Ok(len) => Ok(len),
+            Err(Trouble::Unread(error)) => Err(unwritten(self.alloc, &self.path, error)),
+            Err(trouble) => Err(trouble),
+        }
+    }
+
+    /// Returns how many bytes the file has.
+    pub(crate) fn len(&self) -> Result<u64, Trouble> {
+        match self.file.metadata() {
+            Ok(metadata) => Ok(metadata.len()),
+            Err(error) => Err(unwritten(self.alloc, &self.path, error)),
+        }
+    }
+
+    /// Returns the trouble of a file that isn't what is needed.
+    pub(crate) fn unfit(&self, why: Unfit) -> Trouble {
+        unfit(self.alloc, &self.path, why)
+    }
+}

@@ -1,0 +1,219 @@
+//! `save`: a single stream made of files with the memory of blocks.
+//!
+//! Each file is read some pages at a time, and each piece is sent as a section of its own, so that
+//! nothing keeps a guest.
+
+use crate::opened::open;
+use crate::pages::Reading;
+use crate::plan::{Plan, Source, plan_of};
+use crate::send::Sending;
+use crate::target::{PARTIAL, create, is_free, rename, sync, unwritten};
+use crate::trouble::{Trouble, Unfit};
+use crate::watch::Watch;
+use crate::words::SaveWords;
+use std::alloc::{AllocGlobal, Global};
+use std::fs::{Files, OpenFile};
+use std::io::{self, Write};
+use std::rt::Clock;
+use zimgasol_names::shown;
+
+// What was saved.
+#[derive(Clone, Copy)]
+struct Saved {
+    pages: u64,
+    bytes: u64,
+}
+
+// Opens the files of a block.
+fn reading_of<H: AllocGlobal + Files>(
+    rt: &H,
+    source: &Source<'_>,
+    page_size: u64,
+) -> Result<Reading<H::File>, Trouble> {
+    let alloc = rt.alloc();
+    let file = open(rt, alloc, source.word.file)?;
+    let before = match &source.before {
+        Some(path) => Some(open(rt, alloc, path)?),
+        None => None,
+    };
+    Reading::new(alloc, file, before, page_size.min(8192) as usize)
+}
+
+// Where a block is being sent.
+#[derive(Clone, Copy)]
+struct Part<'a> {
+    block: usize,
+    pages: u64,
+    // how many bytes the blocks before it have
+    before: u64,
+    source: &'a Source<'a>,
+}
+
+// Sends a block.
+fn send_block<H: AllocGlobal + Files + Clock, W: Write, E: Write>(
+    rt: &H,
+    part: &Part<'_>,
+    page_size: u64,
+    sending: Sending,
+    out: &mut W,
+    watch: &mut Watch,
+    errors: &mut E,
+) -> Result<Sending, Trouble> {
+    let mut reading = reading_of(rt, part.source, page_size)?;
+    let mut sending = sending;
+    let mut first = 0u64;
+    for _ in 0..u64::MAX {
+        if !reading.read_on()? {
+            break;
+        }
+        let pages = reading.pages();
+        match sending.send(out, part.block, first, &pages)? {
+            Some(sent) => sending = sent,
+            None => return Err(reading.changed()),
+        }
+        first = first.saturating_add(pages.count());
+        let done = part.before.saturating_add(first.saturating_mul(page_size));
+        watch.show(rt, errors, done);
+    }
+    if first != part.pages {
+        return Err(reading.changed());
+    }
+    Ok(sending)
+}
+
+// Sends all blocks.
+fn send_blocks<H: AllocGlobal + Files + Clock, W: Write, E: Write>(
+    rt: &H,
+    plan: &Plan<'_>,
+    sending: Sending,
+    out: &mut W,
+    watch: &mut Watch,
+    errors: &mut E,
+) -> Result<Sending, Trouble> {
+    let page_size = plan.table.page_size();
+    let mut sending = sending;
+    let mut before = 0u64;
+    for (block, source) in plan.sources.iter().enumerate() {
+        let part = Part {
+            block,
+            pages: source.len / page_size.max(1),
+            before,
+            source,
+        };
+        sending = send_block(rt, &part, page_size, sending, out, watch, errors)?;
+        before = before.saturating_add(source.len);
+    }
+    Ok(sending)
+}
+
+// Writes the stream.
+fn write_stream<H: AllocGlobal + Files + Clock, W: Write, E: Write>(
+    rt: &H,
+    words: &SaveWords<'_>,
+    plan: &Plan<'_>,
+    out: &mut W,
+    errors: &mut E,
+) -> Result<Saved, Trouble> {
+    let alloc = rt.alloc();
+    let mut watch = Watch::new(rt, alloc, words.talk, words.file)?;
+    watch.expect_total(plan.total());
+    let sending = Sending::begin(alloc, out, &plan.table, words.machine)?;
+    let sending = send_blocks(rt, plan, sending, out, &mut watch, errors)?;
+    let (pages, bytes) = sending.finish(out, words.frame)?;
+    Ok(Saved { pages, bytes })
+}
+
+// Writes the stream into a file, and has it on its disk.
+fn write_file<H: AllocGlobal + Files + Clock, E: Write>(
+    rt: &H,
+    words: &SaveWords<'_>,
+    plan: &Plan<'_>,
+    partial: &str,
+    errors: &mut E,
+) -> Result<Saved, Trouble> {
+    let alloc = rt.alloc();
+    let mut file = create(rt, alloc, partial)?;
+    let saved = match write_stream(rt, words, plan, &mut file, errors) {
+        Ok(saved) => saved,
+        Err(Trouble::Output(error)) => return Err(unwritten(alloc, partial, error)),
+        Err(trouble) => return Err(trouble),
+    };
+    match sync(&mut file) {
+        Ok(()) => Ok(saved),
+        Err(error) => Err(unwritten(alloc, partial, error)),
+    }
+}
+
+// Saves into a file, which gets its name when it is complete; where it doesn't come to that, no file
+// stays.
+fn save_file<H: AllocGlobal + Files + Clock, E: Write>(
+    rt: &H,
+    words: &SaveWords<'_>,
+    plan: &Plan<'_>,
+    errors: &mut E,
+) -> Result<Saved, Trouble> {
+    let alloc = rt.alloc();
+    is_free(rt, alloc, words.file, words.replace)?;
+    let partial = format!(in alloc; "{}{PARTIAL}", words.file)?;
+    let saved = match write_file(rt, words, plan, &partial, errors) {
+        Ok(saved) => saved,
+        Err(trouble) => {
+            let _left = rt.remove_file(&partial);
+            return Err(trouble);
+        }
+    };
+    if let Err(trouble) = rename(rt, alloc, &partial, words.file) {
+        let _left = rt.remove_file(&partial);
+        return Err(trouble);
+    }
+    Ok(saved)
+}
+
+// Writes the line of what was saved.
+fn put_saved<W: Write>(
+    alloc: Global,
+    output: &mut W,
+    words: &SaveWords<'_>,
+    plan: &Plan<'_>,
+    saved: Saved,
+) -> Result<(), Trouble> {
+    let name = shown(alloc, words.file.as_bytes())?;
+    let blocks = plan.sources.len();
+    let total = plan.total();
+    let pages = saved.pages;
+    let bytes = saved.bytes;
+    match writeln!(
+        output,
+        "{name}: saved: blocks {blocks}, memory {total} bytes, pages {pages}, stream {bytes} bytes"
+    ) {
+        Ok(()) => Ok(()),
+        Err(error) => Err(Trouble::Output(error)),
+    }
+}
+
+fn flush<W: Write>(output: &mut W) -> Result<(), Trouble> {
+    match output.flush() {
+        Ok(()) => Ok(()),
+        Err(error) => Err(Trouble::Output(error)),
+    }
+}
+
+/// Saves the memory of the blocks as a stream. Returns true: where it isn't saved, there is an `Err`.
+pub(crate) fn save<H: AllocGlobal + Files + Clock, W: Write, E: Write>(
+    rt: &H,
+    words: &SaveWords<'_>,
+    output: &mut W,
+    errors: &mut E,
+) -> Result<bool, Trouble> {
+    let plan = plan_of(rt, words)?;
+    if words.file == "-" {
+        let _saved = write_stream(rt, words, &plan, output, errors)?;
+        flush(output)?;
+        return Ok(true);
+    }
+    let saved = save_file(rt, words, &plan, errors)?;
+    if !words.talk.quiet {
+        put_saved(rt.alloc(), output, words, &plan, saved)?;
+    }
+    Ok(true)
+}

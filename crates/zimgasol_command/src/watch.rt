@@ -1,0 +1,103 @@
+//! `--progress`: how far a reading is, once a second.
+
+ghost use Rattle.std.specs.Prelude.{◌≡◌, ◌*◌, ◌/◌, ◌≤◌, ◌<◌};
+
+use crate::words::Talk;
+use std::alloc::{AllocError, Global};
+use std::io::{self, Write};
+use std::rt::Clock;
+use std::time::Instant;
+use zimgasol_names::shown;
+
+/// How far a reading is, and when that was printed last.
+#[derive(Drop)]
+pub(crate) struct Watch {
+    name: String,
+    // None where nothing is printed
+    started: Option<Instant>,
+    // how many bytes there are in all, where that is known
+    total: Option<u64>,
+    // the second in which a line was printed last
+    second: u64,
+}
+
+/// Returns how many of a hundred parts are done.
+pub(crate) fn share(done: u64, total: u64) -> u64
+    requires { 0 < total }
+    ensures { done ≤ total → result ≡ done * 100 / total }
+{
+    let done = u128::from(done.min(total));
+    (done * 100 / u128::from(total)) as u64
+}
+
+/// Returns how many MiB a second were done, rounded down.
+pub(crate) fn rate(done: u64, seconds: u64) -> u64
+    requires { 0 < seconds }
+    ensures { result ≡ done / 1048576 / seconds }
+{
+    done / 1_048_576 / seconds
+}
+
+impl Watch {
+    /// Creates one for a reading that begins now; `name` is what is read.
+    pub(crate) fn new<H: Clock>(
+        rt: &H,
+        alloc: Global,
+        talk: Talk,
+        name: &str,
+    ) -> Result<Watch, AllocError> {
+        let started = if talk.progress {
+            Instant::now(rt).ok()
+        } else {
+            None
+        };
+        Ok(Watch {
+            name: shown(alloc, name.as_bytes())?,
+            started,
+            total: None,
+            second: 0,
+        })
+    }
+
+    /// Says how many bytes there are in all.
+    pub(crate) fn expect_total(&mut self, total: u64) {
+        self.total = Some(total);
+    }
+
+    /// Prints how far the reading is, if the last line is of an earlier second.
+    pub(crate) fn show<H: Clock, E: Write>(&mut self, rt: &H, errors: &mut E, done: u64) {
+        let Some(started) = self.started else {
+            return;
+        };
+        let Ok(elapsed) = started.elapsed(rt) else {
+            return;
+        };
+        let second = elapsed.as_secs();
+        if second > self.second {
+            self.second = second;
+            let _ = put_progress(errors, &self.name, done, self.total, second);
+        }
+    }
+}
+
+/// Writes the line of a reading that took so many seconds so far.
+pub(crate) fn put_progress<E: Write>(
+    errors: &mut E,
+    name: &str,
+    done: u64,
+    total: Option<u64>,
+    seconds: u64,
+) -> io::Result<()> {
+    write!(errors, "{name}: {done} bytes")?;
+    if let Some(total) = total
+        && total != 0
+    {
+        let share = share(done, total);
+        write!(errors, ", {share} %")?;
+    }
+    if seconds != 0 {
+        let rate = rate(done, seconds);
+        write!(errors, ", {rate} MiB a second")?;
+    }
+    writeln!(errors)
+}

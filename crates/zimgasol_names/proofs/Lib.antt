@@ -1,0 +1,2 @@
+mod FileNames
+mod Printable
