@@ -5,7 +5,7 @@ WORDS ?=
 CRATES ?=
 PREFIX ?= /usr/local
 
-.PHONY: help run check build program lib install example header try documents test gate
+.PHONY: help run check build program lib install example header try promises documents site test gate
 
 help: ## at once | lists the targets
 	@echo "Times on 4 processors, from a fresh clone:"
@@ -26,10 +26,10 @@ program: ## half an hour and more | proves and builds zimgasol: crates/zimgasol_
 	@tools/prove.py zimgasol_cli "half an hour and more"
 	@echo "built: crates/zimgasol_cli/out/zimgasol_cli"
 
-lib: header ## half an hour and more | proves and builds the library for C: out/libzimgasol.a
+lib: header ## half an hour and more | proves and builds the library for C: out/libzimgasol.a, .so
 	@tools/lib.sh
 
-install: ## at once, after lib | puts library, header and .pc file below PREFIX=DIR
+install: ## at once, after lib | puts library, header, .pc file, licence and docs/C.md below PREFIX=DIR
 	@tools/install.sh "$(PREFIX)"
 
 example: lib ## a minute, after lib | builds and runs the C programs of examples/c
@@ -41,12 +41,21 @@ header: ## at once | compares include/zimgasol.h with the library's exports
 try: ## at once, after build | runs the built tool in a shell: docs/TOOL.md, pipes, closed streams
 	@tools/try_tool.py
 
-documents: header ## at once | compares header, case lists, examples and quotations with the code
+promises: ## at once | writes docs/contracts from the sources, and draws docs/proof.svg
+	@tools/promises.py
+	@tools/proof_map.py
+
+documents: header ## at once | compares header, case lists, contracts, examples and quotations with the code
 	@tools/case_lists.py --check
+	@tools/promises.py --check
+	@tools/proof_map.py --check
 	@tools/tool_page.py --check
 	@tools/zimgasol_page.py --check
 	@cmp crates/mig_tool/src/main.rt crates/mig_tool_words/src/main.rt
 	@tools/quotes.py
+
+site: ## at once | builds the documents as HTML into out/site, and checks their links
+	@tools/site.py
 
 test: ## some two hours | the gate: all proofs, planted bugs, tests and programs
 	@.ci/run

@@ -1,10 +1,12 @@
 #!/usr/bin/env python3
 """Builds the C programs of examples/c against out/libzimgasol.a, and runs them.
 
-The worked examples of crates/mig_rows/data (`load.txt` and `several.txt`) are asked of the library through C: each text that the library's own
+The worked examples of crates/mig_rows/data (`load.txt`, `several.txt` and `machine.txt`) are asked of the library through C: each text that the library's own
 program reads there is made here byte by byte or by the sender behind the header, fed in pieces of several lengths, and its answer has to be the
 one that stands beside it, every prefix and every fault of them; and so has that of a load into blocks of our own. Then the example programs send
-and load files of memory, and a program has each allocation refused in turn. All but the examples as data run under valgrind too, where it is there.
+and load files of memory, a guest is migrated while it runs, and a program has each allocation refused in turn. All but the examples as data run
+under valgrind too, where it is there, and the live migration with AddressSanitizer. The binding from Rust is built where rustc is there. The names
+that the archive has and wants are compared with what docs/C.md says.
 """
 
 import ctypes
@@ -29,9 +31,28 @@ CC = os.environ.get("CC", "cc")
 VALGRIND = ["valgrind", "-q", "--error-exitcode=99", "--leak-check=full", "--errors-for-leak-kinds=all"] if shutil.which("valgrind") else None
 
 
+# what the archive may want of the C library
+WANTED = {"malloc", "realloc", "free", "memcpy", "memmove", "memset", "memcmp", "bcmp"}
+
+
 def build(name, source, *flags):
     OUT.mkdir(parents=True, exist_ok=True)
     subprocess.run([CC, *FLAGS, *flags, "-o", OUT / name, TOP / source, LIBRARY], check=True)
+
+
+def symbols():
+    """The archive's global names: those of the header and no others; and what it wants of the C library."""
+    names = {"T": set(), "U": set()}
+    for line in subprocess.run(["nm", "--extern-only", LIBRARY], check=True, capture_output=True, text=True).stdout.splitlines():
+        *_, kind, name = [""] + line.split() if line.strip() else ["", "", ""]
+        if len(kind) == 1:
+            names.setdefault(kind, set()).add(name)
+    header = re.sub(r"/\*.*?\*/", "", (TOP / "include/zimgasol.h").read_text(), flags=re.S)
+    declared = set(re.findall(r"^ZIMGASOL_API \w+ (zimgasol_\w+)\(", header, re.M))
+    others = set().union(*(found for kind, found in names.items() if kind != "U")) - declared
+    if others or declared - names["T"] or names["U"] - WANTED:
+        sys.exit(f"names: {others} aren't the header's, {declared - names['T']} are missing, {names['U'] - WANTED} are wanted")
+    return f"{len(declared)} calls, no other global name; wanted: {', '.join(sorted(names['U']))}"
 
 
 class Block(ctypes.Structure):
@@ -39,17 +60,23 @@ class Block(ctypes.Structure):
 
 
 class Fault(ctypes.Structure):
-    _fields_ = [("round", ctypes.c_uint64), ("source", ctypes.c_uint64), ("number", ctypes.c_uint32), ("first", ctypes.c_uint64), ("second", ctypes.c_uint64)]
+    _fields_ = [("round", ctypes.c_uint64), ("source", ctypes.c_uint64), ("number", ctypes.c_uint32), ("first", ctypes.c_uint64), ("second", ctypes.c_uint64),
+                ("reserved", ctypes.c_uint64 * 3)]
+
+
+class Handle(ctypes.Structure):
+    _fields_ = [("at", ctypes.c_void_p), ("full", ctypes.c_uint64)]
+
+
+class Text(ctypes.Structure):
+    _fields_ = [("bytes", ctypes.c_char_p), ("bytes_len", ctypes.c_size_t)]
 
 
 class Library:
-    """The header's calls, on a shared library that is made of the archive for these runs alone."""
+    """The header's calls, of the shared library."""
 
     def __init__(self):
-        shared = OUT / "libzimgasol_check.so"
-        OUT.mkdir(parents=True, exist_ok=True)
-        subprocess.run([CC, "-shared", "-o", shared, "-Wl,-Bsymbolic", "-Wl,--whole-archive", LIBRARY, "-Wl,--no-whole-archive"], check=True)
-        self.calls = ctypes.CDLL(str(shared))
+        self.calls = ctypes.CDLL(str(TOP / "out/libzimgasol.so"))
         for name in ("sender_drain", "loader_blocks", "session_blocks"):
             getattr(self.calls, "zimgasol_" + name).restype = ctypes.c_size_t
         for name in ("loader_rounds", "in_place_rounds", "session_rounds"):
@@ -72,7 +99,7 @@ class Library:
             block.pages = pages
             for i, byte in enumerate(name):
                 block.id[i] = byte
-        table, entry = ctypes.c_void_p(), size(0)
+        table, entry = Handle(), size(0)
         self.done("table_new", ctypes.byref(table), u64(page_size), blocks, size(len(named)), ctypes.byref(entry))
         return table
 
@@ -134,7 +161,7 @@ class Texts:
     def sent(self, guest):
         """A single stream of the guest's rounds, by the sender."""
         library = self.library
-        table, sender, text = library.table(guest.page, guest.blocks), ctypes.c_void_p(), b""
+        table, sender, text = library.table(guest.page, guest.blocks), Handle(), b""
         library.done("sender_new", ctypes.byref(sender), ctypes.byref(table))
         buffer = ctypes.create_string_buffer(1000)
 
@@ -249,7 +276,7 @@ class Asked:
     """A load through the header: one stream, or a main stream and its channels."""
 
     def __init__(self, library, kind):
-        self.library, self.kind, self.handle = library, kind, ctypes.c_void_p()
+        self.library, self.kind, self.handle = library, kind, Handle()
 
     def call(self, name, *arguments):
         return self.library.call(f"{self.kind}_{name}", ctypes.byref(self.handle), *arguments)
@@ -297,19 +324,19 @@ def pieces(text, cut):
     return [text] if cut == 0 else [text[at:at + cut] for at in range(0, len(text), cut)]
 
 
-def load_single(library, page_size, limit, text, cut):
+def load_single(library, page_size, limit, frame, text, cut):
     asked = Asked(library, "loader")
-    asked.done("new", u64(page_size), u64(limit))
+    asked.done("new", u64(page_size), u64(limit), frame)
     for piece in pieces(text, cut):
         asked.done("feed", piece, size(len(piece)))
     asked.call("end")
     return asked.answer(page_size)
 
 
-def load_in_place(library, page_size, limit, named, text, cut):
+def load_in_place(library, page_size, named, frame, text, cut):
     """A load into blocks of our own, which are zeros at first: what is told of it."""
-    table, load, block, fault = library.table(page_size, named), ctypes.c_void_p(), size(0), Fault()
-    library.done("in_place_new", ctypes.byref(load), ctypes.byref(table), u64(limit))
+    table, load, block, fault = library.table(page_size, named), Handle(), size(0), Fault()
+    library.done("in_place_new", ctypes.byref(load), ctypes.byref(table), frame)
     library.call("table_free", ctypes.byref(table))
     buffers = [ctypes.create_string_buffer(pages * page_size) for pages, _ in named]
     for piece in pieces(text, cut):
@@ -326,9 +353,9 @@ def load_in_place(library, page_size, limit, named, text, cut):
     return f"{verdict_name(fault)}; rounds {rounds}; {memory_name(pages)}"
 
 
-def load_multi(library, page_size, limit, texts, cut):
+def load_multi(library, page_size, limit, frame, texts, cut):
     asked = Asked(library, "session")
-    asked.done("new", u64(page_size), bytes(16), size(16), size(len(texts) - 1), u64(limit))
+    asked.done("new", u64(page_size), bytes(16), size(16), size(len(texts) - 1), u64(limit), frame)
     for turn in itertools.zip_longest(*(pieces(text, cut) for text in reversed(texts))):
         for source, piece in zip(reversed(range(len(texts))), turn):
             if piece is not None:
@@ -341,6 +368,7 @@ def load_multi(library, page_size, limit, texts, cut):
 class Case:
     def __init__(self, texts):
         self.texts_made, self.guest, self.texts, self.limit, self.channels = texts, Guest(), [], LIMIT, 1
+        self.frame = 0
 
     def build(self, word, words):
         """Whether the line builds something that is known here."""
@@ -386,6 +414,9 @@ class Case:
             place, there = int(words[0]), hexadecimal(words[1:])
             text = self.texts[-1]
             self.texts[-1] = text[:place] + there + text[place + len(there):]
+        elif word == "insert":
+            place = int(words[0])
+            self.texts[-1] = self.texts[-1][:place] + hexadecimal(words[1:]) + self.texts[-1][place:]
         elif word == "cut":
             self.texts[-1] = self.texts[-1][:int(words[0])]
         elif word == "repeat":
@@ -394,6 +425,8 @@ class Case:
             self.texts[-1] = text[:last] + text[first:last] + text[last:]
         elif word == "limit":
             self.limit = int(words[0])
+        elif word == "machine":
+            self.frame = 1
         else:
             return False
         return True
@@ -415,12 +448,15 @@ class Rows:
     def single(self, name, question, case, text, cut, wanted):
         """A load of one stream, by a loader, into blocks like those that it brings, and into others."""
         page_size = case.guest.page
-        told, table = load_single(self.library, page_size, case.limit, text, cut)
+        told, table = load_single(self.library, page_size, case.limit, case.frame, text, cut)
         self.want(name, question, told, wanted)
-        into = load_in_place(self.library, page_size, case.limit, table or [(1, b"other")], text, cut)
+        if case.limit != LIMIT:
+            # a load in place has the table in place of a limit
+            return
+        into = load_in_place(self.library, page_size, table or [(1, b"other")], case.frame, text, cut)
         self.want(name, f"{question}, in place", into, wanted if table else re.sub("none$", "zeros", wanted))
         if table:
-            into = load_in_place(self.library, page_size, case.limit, table + [(1, b"other")], text, cut)
+            into = load_in_place(self.library, page_size, table + [(1, b"other")], case.frame, text, cut)
             self.want(name, f"{question}, in place of others", into, "fault 63 round 0 in main; rounds 0; zeros")
 
     def ask(self, name, case, question, wanted):
@@ -434,7 +470,7 @@ class Rows:
                 self.single(name, f"{question} in pieces of {cut}", case, text, cut, wanted)
         elif question == "load_multi":
             for cut in CUTS[:1] + CUTS[2:]:
-                self.want(name, f"{question} in pieces of {cut}", load_multi(self.library, case.guest.page, case.limit, case.texts, cut)[0], wanted)
+                self.want(name, f"{question} in pieces of {cut}", load_multi(self.library, case.guest.page, case.limit, case.frame, case.texts, cut)[0], wanted)
         elif question.startswith("each ") and question.endswith("load_single"):
             _, first, last, _ = question.split()
             for length in range(int(first), int(last) + 1):
@@ -526,6 +562,51 @@ def page_of_block(before):
     return 1
 
 
+def failing_read():
+    """A file whose third read fails: the stream isn't ended, and the status says so."""
+    memory_file("memory", 4096, 5)
+    stream = run(OUT / "send_failing", "-p", 4096, "-n", 1, OUT / "memory", status=3)
+    (OUT / "stream").write_bytes(stream)
+    with (OUT / "stream").open("rb") as file:
+        run(OUT / "load", stdin=file, wanted="fault 34 round 3", status=1)
+
+
+def live():
+    """A guest is migrated while it runs: plainly, with AddressSanitizer, and under valgrind."""
+    for words in (("-m", 16), ("-m", 3, "-n", 1), ("-m", 16, "-n", 100000)):
+        run(OUT / "live", *words, wanted="0 pages differ")
+    run(OUT / "live_asan", "-m", 4, wanted="0 pages differ")
+    if VALGRIND:
+        run(*VALGRIND, "--fair-sched=yes", OUT / "live", "-m", 1, wanted="0 pages differ")
+    subprocess.run([OUT / "live", "-m", "64", "-t"], check=True, stdout=subprocess.DEVNULL)
+
+
+def version_and_texts(library):
+    """The library has the header's version, and a text for each of its statuses and no other number up to 200."""
+    header = (TOP / "include/zimgasol.h").read_text()
+    if library.call("version") != int(re.search(r"VERSION_NUMBER (\d+)", header)[1]):
+        sys.exit("the library has another version than the header")
+    known = {int(number) for number in re.findall(r"^    ZIMGASOL_\w+ = (\d+)", header, re.M)}
+    texts = {}
+    for number in range(201):
+        text = Text(b"", 1)
+        library.call("read_status_text", ctypes.c_uint32(number), ctypes.byref(text))
+        texts[number] = ctypes.string_at(text.bytes, text.bytes_len)
+    if any((texts[n] != b"unknown status\0") != (n in known) or texts[n].count(b"\0") != 1 or not texts[n].endswith(b"\0") for n in texts):
+        sys.exit("a status without a text, or a text of none")
+    return f"a text for each of {len(known)} statuses"
+
+
+def from_rust():
+    """The binding from Rust, where its compiler is there."""
+    if not shutil.which("rustc"):
+        return "no rustc: the binding from Rust isn't built"
+    program = OUT / "from_rust"
+    words = ["rustc", "--edition", "2021", "-O", "-L", TOP / "out", "-l", "static=zimgasol", "-o", program]
+    subprocess.run([*words, TOP / "examples/c/from_rust.rs"], check=True)
+    return run(program).decode().strip()
+
+
 def stored_scenario(before, rows):
     """The stream of the tool's stored scenario, at several cuts, and what is left of it where it is hostile."""
     stream = OUT / "scenario"
@@ -558,9 +639,15 @@ def main():
     build("in_place", "examples/c/in_place.c")
     build("send", "examples/c/send.c")
     build("page", "examples/c/page.c")
+    build("live", "examples/c/live.c", "-pthread")
+    build("live_asan", "examples/c/live.c", "-pthread", "-fsanitize=address,undefined")
+    build("send_failing", "examples/c/send.c", TOP / "examples/c/tests/failing_read.c", "-Wl,--wrap=fread")
     build("refused", "examples/c/tests/refused.c", "-Wl,--wrap=malloc,--wrap=realloc,--wrap=free")
-    rows = Rows(Library())
-    for name in ("load.txt", "several.txt"):
+    print(symbols())
+    library = Library()
+    print(version_and_texts(library))
+    rows = Rows(library)
+    for name in ("load.txt", "several.txt", "machine.txt"):
         rows.run(DATA / name)
     print(f"worked examples through C: {rows.asked} asked, {rows.wrong} wrong, {rows.skipped} not of this header")
     for before in [[]] + ([VALGRIND] if VALGRIND else []):
@@ -569,6 +656,10 @@ def main():
         print(f"the stored scenario's stream, and three hostile ones: as the tool{under}")
         print(f"files of memory sent and loaded: {send_and_load(before)} as they were{under}")
         print(run(*before, OUT / "refused").decode().strip() + under)
+    failing_read()
+    live()
+    print("a guest migrated while it ran: no page differs")
+    print(from_rust())
     sys.exit(1 if rows.wrong else 0)
 
 

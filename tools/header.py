@@ -2,7 +2,8 @@
 """Whether include/zimgasol.h and the exports of crates/mig_c name the same functions, with the same arguments and results.
 
 Each export is written as C would declare it: a slice as a pointer and a length, a reference as a pointer, a `Global` as nothing. The names of
-arguments have to be the same, but for a slice's length. The structs that cross and the numbers of the statuses are compared too.
+arguments have to be the same, but for a slice's length. The structs that cross and the numbers of the statuses are compared too, and so are the
+numbers and names of faults, with their definitions.
 """
 
 import pathlib
@@ -19,9 +20,10 @@ STRUCTS = {
     "SenderHandle": "zimgasol_sender",
     "NamedBlock": "zimgasol_block",
     "FoundFault": "zimgasol_fault",
+    "StatusText": "zimgasol_text",
 }
 EXPORT = re.compile(r'pub (?:unsafe )?extern "C" fn (\w+)\s*\((.*?)\)\s*(?:->\s*([\w ]+?))?\s*(?=\n?\s*(?:requires|ensures|\{))', re.S)
-DECLARED = re.compile(r"^(void|uint32_t|uint64_t|size_t|bool) (zimgasol_\w+)\((.*?)\);", re.S | re.M)
+DECLARED = re.compile(r"^ZIMGASOL_API (void|zimgasol_status|uint32_t|uint64_t|size_t|bool) (zimgasol_\w+)\((.*?)\);", re.S | re.M)
 FIELD = re.compile(r"pub (\w+): ([^,]+),")
 
 
@@ -63,10 +65,13 @@ def declared():
     found = {}
     for result, name, arguments in DECLARED.findall(text):
         listed = []
-        for argument in arguments.split(","):
+        for argument in filter(None, arguments.strip().removeprefix("void").split(",")):
             kind, star, label = re.fullmatch(r"\s*((?:const )?\w+) (\*?)(\w+)\s*", argument).groups()
+            kind = kind.replace("zimgasol_frame", "uint32_t")
             listed.append((kind + (" *" if star else ""), label))
-        found[name] = (result, listed)
+        found[name] = (result.replace("zimgasol_status", "uint32_t"), listed)
+    if text.count("ZIMGASOL_API ") != len(found) + text.count("#define ZIMGASOL_API "):
+        sys.exit("zimgasol.h: a declaration that can't be read")
     return found
 
 
@@ -78,6 +83,16 @@ def same(ours, theirs):
     )
 
 
+def c_fields(label, kind):
+    """The fields that one of a struct is to C."""
+    array = re.fullmatch(r"\[(\w+); (\d+)\]", kind)
+    if array:
+        return [f"{c_type(array[1])} {label}[{array[2]}]"]
+    if kind == "&'static [u8]":
+        return [f"const uint8_t *{label}", f"size_t {label}_len"]
+    return [f"{c_type(kind)} {label}"]
+
+
 def struct_fields():
     """The fields of the structs that C sees, as both sides have them."""
     sources = "".join(path.read_text() for path in (TOP / "crates/mig_c/src").glob("*.rt"))
@@ -86,8 +101,7 @@ def struct_fields():
         if rust.endswith("Handle"):
             continue
         body = re.search(r"#\[repr\(C\)\]\s*(?:#\[[^]]*\]\s*)*pub struct %s \{(.*?)\n\}" % rust, sources, re.S)[1]
-        ours = [f"{c_type(array[1])} {label}[{array[2]}]" if (array := re.fullmatch(r"\[(\w+); (\d+)\]", kind)) else f"{c_type(kind)} {label}"
-                for label, kind in FIELD.findall(body)]
+        ours = [line for label, kind in FIELD.findall(body) for line in c_fields(label, kind)]
         theirs = [line.strip() for line in re.search(r"typedef struct %s \{(.*?)\}" % name, header, re.S)[1].split(";") if line.strip()]
         yield name, ours, theirs
 
@@ -99,6 +113,54 @@ def statuses():
     specs = dict(re.findall(r"^(\w+) = (\d+)$", (TOP / "crates/mig_c/specs/Status.antt").read_text(), re.M))
     for name in ours:
         yield name, ours[name], theirs.get(name), specs.get(name.lower())
+    for name, number in re.findall(r"const (\w+): u32 = (\d+);", (TOP / "crates/mig_c/src/frame.rt").read_text()):
+        yield name, number, theirs.get(name), number
+
+
+# where the numbers of faults are defined, and how the header's names of these begin
+FAULTS = [
+    ("mig_mem/specs/Refusal.antt", ""),
+    ("mig_stream/specs/FaultNumber.antt", "STREAM_"),
+    ("mig_packet/specs/FaultNumber.antt", "CHANNEL_"),
+    ("mig_assemble/specs/RoundFaultNumber.antt", "ROUND_"),
+    ("mig_single_load/specs/LoadFaultNumber.antt", ""),
+]
+
+
+def faults():
+    """The faults, with their numbers in the definitions and in the header."""
+    theirs = dict(re.findall(r"ZIMGASOL_(\w+) = (\d+)", (TOP / "include/zimgasol.h").read_text()))
+    for path, begin in FAULTS:
+        lines = re.findall(r"^fault_number \(?(?:\w+\.)?(\w+)[^=\n]*= (\d+)$", (TOP / "crates" / path).read_text(), re.M)
+        for name, number in lines:
+            number_begin = "MACHINE_" if 46 <= int(number) <= 49 else begin
+            name = number_begin + re.sub(r"(?<=[a-z])(?=[A-Z])", "_", name).upper()
+            yield name, number, theirs.get(name)
+
+
+def long_lines():
+    lines = (TOP / "include/zimgasol.h").read_text().splitlines()
+    return [i for i, line in enumerate(lines, 1) if len(line) > 100]
+
+
+def versions():
+    """What of the version isn't the same everywhere."""
+    header = (TOP / "include/zimgasol.h").read_text()
+    major, minor, patch = (int(part) for part in re.search(r'VERSION "(.*)"', header)[1].split("."))
+    number = 10000 * major + 100 * minor + patch
+    places = {
+        "the header's number": re.search(r"VERSION_NUMBER (\d+)", header)[1],
+        "src/text.rt": re.search(r"const VERSION: u32 = (\d+);", (TOP / "crates/mig_c/src/text.rt").read_text())[1],
+        "specs/Texts.antt": re.search(r"^version = (\d+)$", (TOP / "crates/mig_c/specs/Texts.antt").read_text(), re.M)[1],
+    }
+    return [f"version: {place} has {found}, not {number}" for place, found in places.items() if int(found) != number]
+
+
+def out_of_order():
+    """The header's statuses whose number isn't above the one before."""
+    header = (TOP / "include/zimgasol.h").read_text()
+    listed = re.findall(r"ZIMGASOL_(\w+) = (\d+)", re.search(r"typedef enum zimgasol_status \{(.*?)\n\}", header, re.S)[1])
+    return [b[0] for a, b in zip(listed, listed[1:]) if int(a[1]) >= int(b[1])]
 
 
 def main():
@@ -108,6 +170,10 @@ def main():
     wrong += [f"{name}: exported as {ours[name]}, declared as {theirs[name]}" for name in ours.keys() & theirs.keys() if not same(ours[name], theirs[name])]
     wrong += [f"struct {name}: {a} here, {b} in the header" for name, a, b in struct_fields() if a != b]
     wrong += [f"status {name}: {a}, {b} in the header, {c} in specs" for name, a, b, c in statuses() if not a == b == c]
+    wrong += versions()
+    wrong += [f"fault {name}: {a}, {b} in the header" for name, a, b in faults() if a != b]
+    wrong += [f"status {name} stands behind a larger one" for name in out_of_order()]
+    wrong += [f"line {i} of the header is longer than 100 characters" for i in long_lines()]
     for line in sorted(wrong):
         print(line)
     print(f"{len(ours)} exports, {len(theirs)} declared, {len(wrong)} differ")

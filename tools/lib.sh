@@ -1,15 +1,45 @@
 #!/bin/sh -e
-# Proves crates/mig_c and what it stands on, and builds out/libzimgasol.a: the library, with the heap's
-# three functions over malloc, realloc and free, so that it links with nothing but the C library.
+# Proves crates/mig_c and what it stands on, and builds the library for C:
+#
+#   out/libzimgasol.a           the archive: one object, whose only global names begin with zimgasol_
+#   out/libzimgasol.so.VERSION  the shared library, where a C compiler is there (CC, or else cc)
+#
+# Both want nothing but the C library. tools/lib.sh --only-link skips the proofs: it links what the
+# last build of mig_c left.
 cd "$(dirname "$0")/.."
 top=$PWD
-tools/prove.py mig_c "half an hour and more"
+version=$(sed -n 's/^#define ZIMGASOL_VERSION "\(.*\)"$/\1/p' include/zimgasol.h)
+built=${MIG_C_ARCHIVE:-crates/mig_c/out/libmig_c.a}
+case $built in /*) ;; *) built=$top/$built ;; esac
+for tool in ar ld objcopy nm; do
+    command -v $tool > /dev/null || { echo "lib.sh needs $tool, of binutils" >&2; exit 1; }
+done
+test "$1" = --only-link || tools/prove.py mig_c "half an hour and more"
 kit=$(dirname "$(rt doc)")
-rm -rf out/objects && mkdir -p out/objects
-cd out/objects
-ar x "$top/crates/mig_c/out/libmig_c.a"
-ar x "$kit/c/liblibc_c.a"
-rm -f ../libzimgasol.a
-ar rcs ../libzimgasol.a ./*.o
-cd .. && rm -rf objects
+
+# One object of all members, in which every other name than zimgasol_.. becomes local. The heap's
+# three functions, over malloc, realloc and free, are the kit's.
+rm -rf out/objects && mkdir -p out/objects/mig_c out/objects/libc_c
+(cd out/objects/mig_c && ar x "$built")
+(cd out/objects/libc_c && ar x "$kit/c/liblibc_c.a")
+ld -r -o out/objects/zimgasol.o out/objects/mig_c/*.o out/objects/libc_c/*.o
+objcopy --wildcard --keep-global-symbol='zimgasol_*' out/objects/zimgasol.o
+others=$(nm --defined-only --extern-only out/objects/zimgasol.o | awk '$3 !~ /^zimgasol_/ { print $3 }')
+test -z "$others" || { echo "global names that aren't the library's: $others" >&2; exit 1; }
+rm -f out/libzimgasol.a out/libzimgasol.so*
+ar rcsD out/libzimgasol.a out/objects/zimgasol.o
 echo "built: out/libzimgasol.a"
+
+# The shared library's name has the version's first number; before 1.0 a minor version may change
+# what callers see, so the second one stands in it too.
+if command -v "${CC:-cc}" > /dev/null; then
+    soname=libzimgasol.so.${version%.*}
+    "${CC:-cc}" -shared -Wl,-soname,"$soname" -Wl,-Bsymbolic -Wl,-z,relro,-z,now,-z,noexecstack \
+        -o "out/libzimgasol.so.$version" out/objects/zimgasol.o
+    ln -s "libzimgasol.so.$version" "out/$soname"
+    ln -s "libzimgasol.so.$version" out/libzimgasol.so
+    echo "built: out/libzimgasol.so.$version"
+else
+    echo "no C compiler (${CC:-cc}): no shared library"
+fi
+rm -rf out/objects

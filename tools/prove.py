@@ -9,7 +9,8 @@ lines are shown, and its status is returned.
 
 Each finds the crates below it built. Asked for CRATE alone, rt begins with a quick pass over all
 sources, also of functions that CRATE doesn't reach. For these it prints error[unsupported-theorem] at
-each of the 39 exports of mig_c, though no proof fails.
+each of the exports of mig_c, though no proof fails. A line comes for each crate that was proved,
+and each minute meanwhile.
 """
 import subprocess
 import sys
@@ -20,14 +21,26 @@ from crates import CRATES, TOP, below, is_program, uses
 LOG = TOP / "out" / "prove.log"
 
 
+def wait(name, step):
+    """Waits for a step, with a line each minute, and returns its status."""
+    minutes = 0
+    with step:
+        while True:
+            try:
+                return step.wait(timeout=60)
+            except subprocess.TimeoutExpired:
+                minutes += 1
+                print(f"  {name}: {minutes} min so far", flush=True)
+
+
 def prove(name, log):
     """Proves and builds a crate. A program runs on its stored input, and its output is shown."""
     crate = CRATES / name
     if not is_program(name):
         how = {"stdin": subprocess.DEVNULL, "stdout": log, "stderr": log}
-        return subprocess.run(["rt", "lib"], cwd=crate, **how).returncode
+        return wait(name, subprocess.Popen(["rt", "lib"], cwd=crate, **how))
     with open(crate / "stdin", "rb") as stdin:
-        return subprocess.run(["rt", "run"], cwd=crate, stdin=stdin, stderr=log).returncode
+        return wait(name, subprocess.Popen(["rt", "run"], cwd=crate, stdin=stdin, stderr=log))
 
 
 def failed(name, status, text):

@@ -1,7 +1,7 @@
 #!/usr/bin/env python3
-"""Whether what README.md and the documentation of `zimgasol` quote is still what stands in the code.
+"""Whether what the pages and the documentation of `zimgasol` quote is still what stands in the code.
 
-A block of code of README.md that follows a line `<!-- quoted from FILE -->` has to stand in that file word for word, line
+A block of code of a page that follows a line `<!-- quoted from FILE -->` has to stand in that file word for word, line
 after line, up to how far it is indented. So has each line of the example at the head of `crates/zimgasol/src/lib.rt`, but for
 its imports, in the file of the use that it shows.
 """
@@ -11,6 +11,7 @@ from pathlib import Path
 
 TOP = Path(__file__).resolve().parent.parent
 QUOTE = re.compile(r"^<!-- quoted from (\S+) -->\n+```(?:rust|c)\n(.*?)^```$", re.MULTILINE | re.DOTALL)
+PAGES = ("README.md", "docs/EMBEDDING.md")
 FACADE, SHOWN = "crates/zimgasol/src/lib.rt", "crates/mig_uses/src/first.rt"
 
 
@@ -32,15 +33,17 @@ def facade_quotes():
 
 
 def main():
-    readme = (TOP / "README.md").read_text()
-    quotes = QUOTE.findall(readme)
-    if len(quotes) != readme.count("<!-- quoted from "):
-        sys.exit("README.md has a mark of a quotation without a block of code behind it")
-    quotes += facade_quotes()
+    quotes = facade_quotes()
+    for name in PAGES:
+        page = (TOP / name).read_text()
+        found = QUOTE.findall(page)
+        if len(found) != page.count("<!-- quoted from "):
+            sys.exit(f"{name} has a mark of a quotation without a block of code after it")
+        quotes += found
     wrong = [file for file, quote in quotes if not stands_in(lines(quote), lines((TOP / file).read_text()))]
     if wrong:
         sys.exit(f"quoted, but doesn't stand there any more: {', '.join(wrong)}")
-    print(f"{len(quotes)} quotations of README.md and {FACADE} stand in the code")
+    print(f"{len(quotes)} quotations of {', '.join(PAGES)} and {FACADE} stand in the code")
 
 
 main()

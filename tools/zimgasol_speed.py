@@ -1,10 +1,11 @@
 #!/usr/bin/env python3
-"""Processor seconds and peak memory of the built program `zimgasol`, on a stream of a guest without zero pages.
+"""Processor seconds and peak memory of the built program `zimgasol`, by words, on two guests of each size.
 
     make program
     tools/zimgasol_speed.py [GIB ..]     # without sizes: 1 and 4
 
-The stream and what is extracted lie in /dev/shm. It takes twice the guest's size there.
+One guest has no page of zeros, the other one is sparse: one MiB of 16 has bytes. The stream, what is
+extracted and what is saved lie in /dev/shm. It takes three times the guest's size there.
 """
 import os
 import shutil
@@ -16,6 +17,7 @@ from pathlib import Path
 TOP = Path(__file__).resolve().parent.parent
 PROGRAM = TOP / "crates/zimgasol_cli/out/zimgasol_cli"
 STREAM, FOLDER = Path("/dev/shm/zimgasol_speed.sav"), Path("/dev/shm/zimgasol_speed")
+SAVED = Path("/dev/shm/zimgasol_speed_saved.sav")
 PAGE = 4096
 
 
@@ -23,8 +25,8 @@ def be(form, *numbers):
     return struct.pack(">" + form, *numbers)
 
 
-def write_stream(pages):
-    """Writes a machine's stream of one block: 4096 pages a section, none of them zeros."""
+def write_stream(pages, filled):
+    """Writes a machine's stream of one block: 4096 pages a section, of which so many of 16 MiB have bytes."""
     content = os.urandom(64 * PAGE)
     end = be("Q", 0x10) + b"\x7e" + be("I", 2)
     with STREAM.open("wb") as out:
@@ -34,35 +36,51 @@ def write_stream(pages):
         for page in range(pages):
             if page % 4096 == 0:
                 out.write(b"\x02" + be("I", 2))
-            head = be("Q", page * PAGE | 8) + b"\x02pc" if page == 0 else be("Q", page * PAGE | 0x28)
+            has_bytes = page // 256 % 16 < filled
+            flags = (0x08 if has_bytes else 0x02) | (0x20 if page else 0)
             at = page % 64 * PAGE
-            out.write(head + content[at:at + PAGE])
+            out.write(be("Q", page * PAGE | flags) + (b"" if page else b"\x02pc"))
+            out.write(content[at:at + PAGE] if has_bytes else b"\0")
             if page % 4096 == 4095 or page == pages - 1:
                 out.write(end)
         out.write(b"\x03" + be("I", 2) + end + b"\x00")
 
 
-def measure(word, *more):
-    run = subprocess.Popen([PROGRAM, word, STREAM, *more], stdout=subprocess.DEVNULL)
+def measure(name, *words):
+    run = subprocess.Popen([PROGRAM, *words], stdout=subprocess.DEVNULL)
     _, status, used = os.wait4(run.pid, 0)
     if status != 0:
-        sys.exit(f"{word}: status {os.WEXITSTATUS(status)}")
-    print(f"  {word:8} user {used.ru_utime:6.2f} s, system {used.ru_stime:6.2f} s, peak {used.ru_maxrss / 1024:.1f} MiB")
+        sys.exit(f"{name}: status {os.WEXITSTATUS(status)}")
+    print(f"  {name:20} user {used.ru_utime:6.2f} s, system {used.ru_stime:6.2f} s, peak {used.ru_maxrss / 1024:.1f} MiB")
+
+
+def measure_all():
+    measure("verify", "verify", STREAM)
+    measure("extract", "extract", STREAM, FOLDER)
+    measure("extract --no-digest", "extract", STREAM, FOLDER, "--replace", "--no-digest")
+    block = f"pc={FOLDER}/pc.bin"
+    measure("save", "save", "--block", block, "--frame", "machine", SAVED)
+    measure("compare", "compare", FOLDER, FOLDER)
+    measure("save --since", "save", "--block", block, "--since", FOLDER, "--replace", SAVED)
+
+
+def clean():
+    for file in (STREAM, SAVED):
+        file.unlink(missing_ok=True)
+    shutil.rmtree(FOLDER, ignore_errors=True)
 
 
 def main():
     if not PROGRAM.exists():
         sys.exit("zimgasol isn't built: make program")
     for gib in [int(word) for word in sys.argv[1:]] or [1, 4]:
-        print(f"{gib} GiB:")
-        try:
-            write_stream(gib * 2**30 // PAGE)
-            measure("verify")
-            shutil.rmtree(FOLDER, ignore_errors=True)
-            measure("extract", FOLDER)
-        finally:
-            STREAM.unlink(missing_ok=True)
-            shutil.rmtree(FOLDER, ignore_errors=True)
+        for name, filled in (("no page of zeros", 16), ("sparse", 1)):
+            print(f"{gib} GiB, {name}:")
+            try:
+                write_stream(gib * 2**30 // PAGE, filled)
+                measure_all()
+            finally:
+                clean()
 
 
 main()

@@ -1,0 +1,124 @@
+#!/usr/bin/env python3
+"""Builds out/site: README.md, the other documents and the contracts as HTML, by pandoc.
+
+A link to another document leads to its page, and one to another file of the repository to a copy.
+A document that is only named, as `docs/FORMATS.md`, becomes a link too. It fails where a link of
+the site leads to no page, no file or no heading.
+"""
+import os
+import re
+import shutil
+import subprocess
+import sys
+from html.parser import HTMLParser
+from pathlib import Path
+from string import Template
+
+TOP = Path(__file__).resolve().parent.parent
+SITE = TOP / "out" / "site"
+# The navigation, in this order. Documents that aren't named here follow under the last heading.
+GROUPS = {
+    "": "README",
+    "Use it": "docs/EMBEDDING docs/C docs/TOOL docs/ZIMGASOL docs/FAULTS docs/BENCHMARKS",
+    "Proof": "docs/PROMISES docs/CONTRACTS docs/FORMATS docs/EXAMPLES",
+    "The project": "docs/ARCHITECTURE docs/DECISIONS docs/TOOLCHAIN CONTRIBUTING", "More": ""}
+PAGE = Template((TOP / "tools" / "site.html").read_text())
+
+
+class Links(HTMLParser):
+    """The anchors of a page, and what it links to in the site."""
+
+    def __init__(self, text):
+        super().__init__()
+        self.ids, self.links = {""}, []
+        self.feed(text)
+
+    def handle_starttag(self, tag, attributes):
+        found = dict(attributes)
+        self.ids.add(found.get("id", ""))
+        links = [found[it] for it in ("href", "src") if found.get(it)]
+        self.links += [it for it in links if not re.match("[a-z]+:", it)]
+
+
+def path_of(page, seen_from):
+    """The way to a page from another one; README.md is the front page."""
+    file = "index.html" if page == "README" else f"{page}.html"
+    return os.path.relpath(file, os.path.dirname(seen_from))
+
+
+def linked(body, page, titles):
+    """The body with its links led to pages, and with links where documents are named."""
+
+    def mend(match):
+        path, anchor = re.fullmatch(r"([^#]*)(#?.*)", match[1]).groups()
+        file = os.path.normpath(os.path.join(os.path.dirname(page), path))
+        if file.endswith(".md") and file[:-3] in titles:
+            return f'<a href="{path_of(file[:-3], page)}{anchor}">{match[2]}</a>'
+        return match[2] if path and (TOP / file).is_dir() else match[0]  # a folder has no page
+
+    def name(match):
+        is_other = match[1] in titles and match[1] != page
+        return f'<a href="{path_of(match[1], page)}">{match[0]}</a>' if is_other else match[0]
+
+    body = re.sub(r'<a href="([^"]*)"[^>]*>(.*?)</a>', mend, body, flags=re.DOTALL)
+    parts = re.split(r"(<a .*?</a>|<h\d.*?</h\d>|<pre.*?</pre>)", body, flags=re.DOTALL)
+    parts[::2] = [re.sub(r"<code>([\w/]+)\.md</code>", name, it) for it in parts[::2]]
+    return "".join(parts)
+
+
+def navigation(page, titles):
+    """The list of all pages but those of crates, which docs/CONTRACTS.md lists."""
+    named = " ".join(GROUPS.values()).split()
+    rest = [it for it in titles if it not in named and "/contracts/" not in it]
+    parts = []
+    for heading, group in GROUPS.items():
+        pages = filter(titles.get, rest if heading == "More" else group.split())
+        rows = [f'<li><a href="{path_of(it, page)}"{" aria-current=page" * (it == page)}>'
+                f"{titles[it]}</a></li>" for it in pages]
+        parts.append(f"<h2>{heading}</h2>" * bool(heading and rows) + f"<ul>{''.join(rows)}</ul>")
+    return "".join(parts)
+
+
+def build(page, titles):
+    run = ["pandoc", "--from=gfm", "--to=html5", "--no-highlight", TOP / f"{page}.md"]
+    body = subprocess.run(run, check=True, capture_output=True, text=True).stdout
+    body = linked(body, page, titles)
+    body = re.sub(r"<table.*?</table>", r'<div class="wide">\g<0></div>', body, flags=re.DOTALL)
+    body = re.sub(r'<img src="([^"]*)"[^>]*>', r'<a class="drawing" href="\1">\g<0></a>', body)
+    style = os.path.relpath("site.css", os.path.dirname(page))
+    title = titles[page] if page == "README" else f"{titles[page]} · Zimgasol"
+    text = PAGE.substitute(title=title, style=style, body=body, nav=navigation(page, titles))
+    file = os.path.normpath(path_of(page, ""))
+    (SITE / file).parent.mkdir(parents=True, exist_ok=True)
+    (SITE / file).write_text(text)
+    return file, Links(text)
+
+
+def broken(built):
+    """Copies the files that pages link to, and returns the links that lead nowhere."""
+    for page, link in ((page, link) for page, found in built.items() for link in found.links):
+        path, _, anchor = link.partition("#")
+        file = os.path.normpath(os.path.join(os.path.dirname(page), path)) if path else page
+        if not (SITE / file).exists() and (TOP / file).is_file():
+            (SITE / file).parent.mkdir(parents=True, exist_ok=True)
+            shutil.copy(TOP / file, SITE / file)
+        if not (SITE / file).is_file() or file in built and anchor not in built[file].ids:
+            yield f"{page}: {link}"
+
+
+def main():
+    if not shutil.which("pandoc"):
+        sys.exit("pandoc isn't there: apt-get install -y pandoc")
+    files = [*TOP.glob("*.md"), *TOP.glob("docs/*.md"), *TOP.glob("docs/contracts/*.md")]
+    texts = {str(it.relative_to(TOP))[:-3]: it.read_text() for it in sorted(files)}
+    heading = re.compile(r"^# (.*)$", re.MULTILINE)
+    titles = {it: heading.search(text)[1].replace("`", "") for it, text in texts.items()}
+    shutil.rmtree(SITE, ignore_errors=True)
+    built = dict(build(page, titles) for page in titles)
+    shutil.copy(TOP / "tools" / "site.css", SITE)
+    wrong = list(broken(built))
+    print(f"{len(built)} pages in out/site, {sum(len(it.links) for it in built.values())} links")
+    sys.exit("\n".join(["These lead nowhere:", *wrong]) if wrong else 0)
+
+
+main()
