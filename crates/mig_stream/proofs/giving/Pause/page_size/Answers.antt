@@ -5,4 +5,5 @@ use Rattle.mig_stream.proofs.giving.Pause.page_size.Goals as goal
 
 pub returns-clause-given : goal.returns-clause-given
 returns-clause-given g c given text so_far at =
-    ap (λ (p : Paused). p.progress.page_size) c.self.view_is ∙ same_page_size given text so_far (giver_at c.args.self.now) at
+    c.page_size.ensures.value ∙ ap (λ p. p.progress.page_size) c.self-inside.view_is ∙ ap (λ (p : Paused). p.progress.page_size) c.self.view_is
+    ∙ same_page_size given text so_far (giver_at c.args.self.now) at
