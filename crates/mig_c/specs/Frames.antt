@@ -10,7 +10,7 @@ abbrev pub frame_of : ℕ → Option Frame
 frame_of number = if number == 0 then Some Ram else if number == 1 then Some Machine else None
 
 abbrev pub load_settings : ℕ → ℕ → Frame → LoadSettings
-load_settings page_size limit frame = record { page_size = page_size; limit = limit; frame = frame }
+load_settings page_size limit frame = record { page_size = page_size; limit = limit; frame = frame; waiting = None }
 
 -- the settings that C asks for, where there is such a frame
 abbrev pub asked_settings : ℕ → ℕ → ℕ → Option LoadSettings

@@ -130,6 +130,7 @@ impl HeldLoad {
             page_size: table.page_size(),
             limit: MAX_LIMIT,
             frame,
+            waiting: None,
         };
         let state = InPlaceState::new_in(alloc, table, settings)?;
         Ok(HeldLoad { state, due: None })

@@ -58,6 +58,7 @@ pub extern "C" fn zimgasol_loader_new(
         page_size,
         limit,
         frame,
+        waiting: None,
     };
     match made(alloc, settings) {
         Ok(object) => {

@@ -77,6 +77,7 @@ pub extern "C" fn zimgasol_session_new(
         page_size,
         limit,
         frame,
+        waiting: None,
     };
     match made(alloc, settings, &uuid, channels) {
         Ok(object) => {

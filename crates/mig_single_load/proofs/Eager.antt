@@ -367,7 +367,7 @@ stands_other given first text piece p m n so_far r t image at g whole differ =
 pub eager_first : (given : LoadSettings) (first : Image) (p : Paused) (table : RamTable) → IsTable first.table → IsImage first → first.table ≡ table → PausesAt (settings_for first.table given) [] none_given p
     → EagerlyLoads first given first (eager_load (Some p) (load_state.Stream Reading 0) table 0 0 false) [] false
 eager_first given first p table is image same at =
-    let begin : StreamProgress = start given.frame Single first.table.page_size given.limit in
+    let begin : StreamProgress = start given.frame Single first.table.page_size given.limit given.waiting in
     let reading : StreamReading = record { table = None; rounds = []; state = Reading } in
     let reads : Reads begin [] begin [] Reading = reads_short begin [] (omega arith) in
     let is_reading : IsReading (settings_of first given) [] reading = record { to = begin; rest = []; reads = reads; has_table = refl; has_rounds = refl } in
@@ -811,7 +811,7 @@ closed_by_sections given first text memory sections table image has v =
           let told : Ok _ ≡ verdict_of (length v.reading.rounds) v.reading.state = v.own (subst (λ (x : StreamReading). IsOfOwnTable first x) (sym same) own) in
           let closed : has.reading.state ≡ Closed = ap (λ (x : StreamReading). x.state) (sym same) ∙ ok_closed (length v.reading.rounds) v.reading.state told in
           let due : has.is_reading.to.due ≡ Nothing = subst (λ (s : StreamState). Ends has.is_reading.to has.is_reading.rest s) closed has.is_reading.reads.ends in
-          let none : has.is_reading.to.records ≡ [] = closed_is_empty given.frame Single first.table.page_size given.limit has.is_reading.reads.front has.is_reading.to refl has.is_reading.reads.leads due in (
+          let none : has.is_reading.to.records ≡ [] = closed_is_empty given.frame Single first.table.page_size given.limit given.waiting has.is_reading.reads.front has.is_reading.to refl has.is_reading.reads.leads due in (
             (has.own own).0
                 ∙ ap (λ (l : List PageRecord). with_round (with_round first before) (pages_on first l)) none
                 ∙ put_behind first before []

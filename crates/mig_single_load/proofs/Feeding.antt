@@ -99,7 +99,7 @@ loads_over given r s o text ended step loads = record {
 -- before the first piece
 pub none_yet : (given : LoadSettings) (r : Reader) → IsPageSize given.page_size → HasAllSections given (loader r None) []
 none_yet given r size =
-    let begin : StreamProgress = start given.frame Single given.page_size given.limit in
+    let begin : StreamProgress = start given.frame Single given.page_size given.limit given.waiting in
     let reading : StreamReading = record { table = None; rounds = []; state = Reading } in
     none_there given [] r size (reading, record { to = begin; rest = []; reads = reads_short begin [] (omega arith); has_table = refl; has_rounds = refl }, refl)
 

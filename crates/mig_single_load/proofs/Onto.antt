@@ -177,7 +177,7 @@ fed_over_some r s t step some = record {
 pub onto_nothing : (given : LoadSettings) (first : Image) (r : Reader) (t : LoadTarget) → IsTable first.table → IsImage first → Stands (settings_of first given) nothing_yet r → t ≡ target_over first
     → LoadsOnto given first (in_place r t) [] false
 onto_nothing given first r t table image stands is =
-    let begin : StreamProgress = start given.frame Single first.table.page_size given.limit in
+    let begin : StreamProgress = start given.frame Single first.table.page_size given.limit given.waiting in
     let reading : StreamReading = record { table = None; rounds = []; state = Reading } in
     rw is (record {
       is_table = table;

@@ -1,14 +1,14 @@
 -- What a caller passes to a load beside its texts, and what the readers of these have of it.
-use Rattle.std.specs.Prelude.{ℕ}
+use Rattle.std.specs.Prelude.{ℕ, None}
 use Rattle.mig_mem.specs.RamTable.{RamTable}
 use Rattle.mig_stream.specs.declared.item.Frame.TheVariants.{Ram}
 use Rattle.mig_stream.specs.declared.item.Mode.TheVariants.{Single, Main}
-use Rattle.mig_stream.specs.Reading.{Settings, settings, in_frame}
+use Rattle.mig_stream.specs.Reading.{Settings, settings, in_frame, with_waiting}
 use Rattle.mig_single_load.specs.declared.settings.LoadSettings.{LoadSettings}
 
 -- for a stream of RAM's sections alone
 abbrev pub ram_settings : ℕ → ℕ → LoadSettings
-ram_settings page_size limit = record { page_size = page_size; limit = limit; frame = Ram }
+ram_settings page_size limit = record { page_size = page_size; limit = limit; frame = Ram; waiting = None }
 
 -- for the stream of a guest whose table is known, which has its own page size
 abbrev pub for_table : RamTable → LoadSettings → LoadSettings
@@ -16,8 +16,8 @@ for_table table given = record given { page_size = table.page_size }
 
 -- the settings of the reader of a single stream
 abbrev pub single_of : LoadSettings → Settings
-single_of given = in_frame given.frame (settings Single given.page_size given.limit)
+single_of given = with_waiting given.waiting (in_frame given.frame (settings Single given.page_size given.limit))
 
 -- the settings of the reader of a main stream
 abbrev pub main_of : LoadSettings → Settings
-main_of given = in_frame given.frame (settings Main given.page_size given.limit)
+main_of given = with_waiting given.waiting (in_frame given.frame (settings Main given.page_size given.limit))

@@ -24,11 +24,12 @@ pub(crate) fn load_at_once<A: Allocator + Copy>(
     requires limit { settings.limit ≤ 2 ^ 40 }
     ensures { IfOk result (λ answer. IfSome answer (λ loaded. IsSingleAnswer settings text.now loaded)) }
 {
-    let mut reader = RecordReader::new_in(
+    let mut reader = RecordReader::new_within(
         alloc,
         settings.frame,
         settings.page_size,
         settings.limit,
+        settings.waiting,
         text,
     );
     let mut gave = reader.read_on()?;

@@ -219,7 +219,13 @@ impl<A: Allocator + Copy> EagerState<A> {
         let page_size = table.page_size();
         let table = table.copy_in(alloc)?;
         Ok(EagerState {
-            pause: Some(Pause::new_in(alloc, settings.frame, page_size, settings.limit)),
+            pause: Some(Pause::new_within(
+                alloc,
+                settings.frame,
+                page_size,
+                settings.limit,
+                settings.waiting,
+            )),
             state: LoadState::Stream(StreamState::Reading, 0),
             table,
             rounds: 0,

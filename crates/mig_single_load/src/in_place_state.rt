@@ -129,12 +129,13 @@ impl<A: Allocator + Copy> InPlaceState<A> {
         table.keeps_limits();
         let page_size = table.page_size();
         let table = table.copy_in(alloc)?;
-        let reader = StreamReader::new_in(
+        let reader = StreamReader::new_within(
             alloc,
             settings.frame,
             Mode::Single,
             page_size,
             settings.limit,
+            settings.waiting,
         );
         Ok(InPlaceState {
             reader,

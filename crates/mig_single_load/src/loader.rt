@@ -70,12 +70,13 @@ impl<A: Allocator + Copy> SingleLoader<A> {
     {
         SingleLoader {
             alloc,
-            reader: StreamReader::new_in(
+            reader: StreamReader::new_within(
                 alloc,
                 settings.frame,
                 Mode::Single,
                 settings.page_size,
                 settings.limit,
+                settings.waiting,
             ),
             target: None,
         }

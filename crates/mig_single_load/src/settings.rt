@@ -15,10 +15,15 @@ pub struct LoadSettings {
     pub limit: u64,
     /// What the stream is read as: RAM's sections alone, or a machine's stream.
     pub frame: Frame,
+    /// The most page records that a section of a single stream may have, or a round of a main
+    /// stream: so many wait until it is complete. One more is the fault `StreamFault::Waiting`.
+    /// `None` is any number. The packets of channels aren't counted.
+    pub waiting: Option<u64>,
 }
 
 impl LoadSettings {
-    /// Creates the settings for a stream of RAM's sections alone (`Frame::Ram`).
+    /// Creates the settings for a stream of RAM's sections alone (`Frame::Ram`), whose sections may
+    /// have any number of page records.
     pub fn new(page_size: u64, limit: u64) -> LoadSettings
         ensures { result ≡ ram_settings page_size limit }
     {
@@ -26,6 +31,7 @@ impl LoadSettings {
             page_size,
             limit,
             frame: Frame::Ram,
+            waiting: None,
         }
     }
 
@@ -34,5 +40,12 @@ impl LoadSettings {
         ensures { result ≡ record self { frame = frame } }
     {
         LoadSettings { frame, ..self }
+    }
+
+    /// Returns the settings with at most `waiting` page records in a section or a round.
+    pub fn with_waiting(self, waiting: Option<u64>) -> LoadSettings
+        ensures { result ≡ record self { waiting = waiting } }
+    {
+        LoadSettings { waiting, ..self }
     }
 }

@@ -1,6 +1,6 @@
 //! The loader of a single stream that is there whole: for the tool, and for callers that have such a text.
 
-ghost use Rattle.std.specs.Prelude.{◌≡◌, ◌≤◌, ◌^◌, ◌⊎◌, List, All, IfOk};
+ghost use Rattle.std.specs.Prelude.{◌≡◌, ◌≤◌, ◌^◌, ◌⊎◌, List, None, All, IfOk};
 ghost use Rattle.mig_mem.specs.PageSize.{IsPageSize};
 ghost use Rattle.mig_mem.specs.RamTable.{RamTable, IsTable};
 ghost use Rattle.mig_mem.specs.Image.{Page};
@@ -51,7 +51,7 @@ pub fn load_single<A: Allocator + Copy>(
 /// # Errors
 ///
 /// The verdict of what is returned is a fault of the stream (`Fault::Stream`, 11 to 34, in a
-/// machine's stream also 46 to 49), or `NoMemory`, if an allocation was refused. It is no other
+/// machine's stream also 46 to 49, and 64), or `NoMemory`, if an allocation was refused. It is no other
 /// `Fault`.
 pub fn load_single_in<A: Allocator + Copy>(
     alloc: A,
@@ -61,7 +61,7 @@ pub fn load_single_in<A: Allocator + Copy>(
     requires page_size { IsPageSize settings.page_size }
     requires limit { settings.limit ≤ 2 ^ 40 }
     ensures answer { IsSingleAnswer settings text.now result ⊎ IsSingleWithoutMemory settings text.now result }
-    ensures machine { (table : RamTable) (rounds : List (List Page)) → settings.frame ≡ Machine → table.page_size ≡ settings.page_size
+    ensures machine { (table : RamTable) (rounds : List (List Page)) → settings.frame ≡ Machine → settings.waiting ≡ None → table.page_size ≡ settings.page_size
         → IsMachineSent settings.limit table rounds text.now → (result ≡ loaded table rounds) ⊎ IsSingleWithoutMemory settings text.now result }
 {
     match load_at_once(alloc, settings, text) {
@@ -87,12 +87,13 @@ pub fn single_closed_at<A: Allocator + Copy>(
     requires limit { settings.limit ≤ 2 ^ 40 }
     ensures { IfOk result (HasClosedAt (single_of settings) text.now) }
 {
-    let reader = StreamReader::of_text_in(
+    let reader = StreamReader::of_text_within(
         alloc,
         settings.frame,
         Mode::Single,
         settings.page_size,
         settings.limit,
+        settings.waiting,
         text,
     )?;
     Ok(reader.closed_at())
@@ -115,12 +116,13 @@ pub fn single_valid_up_to<A: Allocator + Copy>(
     requires limit { settings.limit ≤ 2 ^ 40 }
     ensures { IfOk result (IsValidUpTo (single_of settings) text.now) }
 {
-    let reader = StreamReader::of_text_in(
+    let reader = StreamReader::of_text_within(
         alloc,
         settings.frame,
         Mode::Single,
         settings.page_size,
         settings.limit,
+        settings.waiting,
         text,
     )?;
     Ok(reader.valid_up_to())
@@ -132,12 +134,13 @@ fn load<A: Allocator + Copy>(alloc: A, settings: LoadSettings, text: &[u8]) -> L
     requires limit { settings.limit ≤ 2 ^ 40 }
     ensures { IsSingleAnswer settings text.now result ⊎ IsSingleWithoutMemory settings text.now result }
 {
-    let Ok(mut reader) = StreamReader::of_text_in(
+    let Ok(mut reader) = StreamReader::of_text_within(
         alloc,
         settings.frame,
         Mode::Single,
         settings.page_size,
         settings.limit,
+        settings.waiting,
         text,
     ) else {
         return without_memory();

@@ -1,16 +1,20 @@
 -- How far a stream has been read after lists of records, and after whole sections.
-use Rattle.std.proofs.Common.{true, false, ◌≡◌, ◌⊎◌, List, [], ◌∷◌, ◌++◌, Some}
+use Rattle.std.proofs.Common.{true, false, ◌≡◌, ◌⊎◌, ℕ, Option, List, [], ◌∷◌, ◌++◌, Some, None}
 use Rattle.std.specs.List.{AllByRecursion}
 use Rattle.mig_stream.specs.declared.item.Mode.{Mode}
 use Rattle.mig_stream.specs.declared.item.Due.TheVariants as due
 use Rattle.mig_stream.specs.PageRecord.{PageRecord}
 use Rattle.mig_stream.specs.Progress.{StreamProgress}
-use Rattle.mig_stream.specs.Items.{is_single, open_records, whole_rounds, end_section}
+use Rattle.mig_stream.specs.Items.{is_single, less_room, open_records, whole_rounds, end_section}
 use Rattle.mig_stream.specs.Text.{Record, PageOf, FlushMark, HasNoFlush, named_after}
+
+-- with any number of page records in the open round
+abbrev pub unlimited : StreamProgress → StreamProgress
+unlimited c = record c { waiting = None; room = None }
 
 -- after a page record
 abbrev pub after_page : StreamProgress → PageRecord → StreamProgress
-after_page c r = record c { due = due.RecordHead; named = Some r.place.block; records = c.records ++ r ∷ [] }
+after_page c r = record c { due = due.RecordHead; named = Some r.place.block; room = less_room c.room; records = c.records ++ r ∷ [] }
 
 -- the records of the round that isn't whole, and the whole rounds, after records
 abbrev pub records_after : List PageRecord → List Record → List PageRecord
@@ -23,8 +27,14 @@ rounds_after before rounds [] = rounds
 rounds_after before rounds (PageOf continued r ∷ rs) = rounds_after (before ++ r ∷ []) rounds rs
 rounds_after before rounds (FlushMark ∷ rs) = rounds_after [] (rounds ++ before ∷ []) rs
 
+-- the room for page records in the round that isn't whole, after records
+abbrev pub room_after : Option ℕ → Option ℕ → List Record → Option ℕ
+room_after waiting room [] = room
+room_after waiting room (PageOf continued r ∷ rs) = room_after waiting (less_room room) rs
+room_after waiting room (FlushMark ∷ rs) = room_after waiting waiting rs
+
 abbrev pub after_records : StreamProgress → List Record → StreamProgress
-after_records c rs = record c { named = named_after c.named rs; records = records_after c.records rs; rounds = rounds_after c.records c.rounds rs }
+after_records c rs = record c { named = named_after c.named rs; room = room_after c.waiting c.room rs; records = records_after c.records rs; rounds = rounds_after c.records c.rounds rs }
 
 -- after a section's records, EOS and footer
 abbrev pub after_body : StreamProgress → List Record → StreamProgress

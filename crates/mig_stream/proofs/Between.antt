@@ -92,7 +92,7 @@ all_empty c (item ∷ items) single e free =
     all_empty (after c item) items there (item_empty c c.due item single e e) free.2
 
 -- Behind the end byte no record waits.
-pub closed_is_empty : (frame : Frame) (m : Mode) (p limit : ℕ) (bytes : List ℕ) (to : StreamProgress) → m ≡ Single → Front (start frame m p limit) bytes to → to.due ≡ Nothing → to.records ≡ []
-closed_is_empty frame m p limit bytes to single f closed =
-    let last : StaysEmpty to = subst StaysEmpty (sym f.leads_to) (all_empty (start frame m p limit) f.items single refl f.are_faultless) in
+pub closed_is_empty : (frame : Frame) (m : Mode) (p limit : ℕ) (waiting : Option ℕ) (bytes : List ℕ) (to : StreamProgress) → m ≡ Single → Front (start frame m p limit waiting) bytes to → to.due ≡ Nothing → to.records ≡ []
+closed_is_empty frame m p limit waiting bytes to single f closed =
+    let last : StaysEmpty to = subst StaysEmpty (sym f.leads_to) (all_empty (start frame m p limit waiting) f.items single refl f.are_faultless) in
     subst (λ (d : Due). IsEmpty d to.records) closed last

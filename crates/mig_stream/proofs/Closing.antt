@@ -12,7 +12,7 @@ use Rattle.mig_stream.proofs.Later.{Reads-more}
 use Rattle.mig_stream.proofs.Unique.{one_reading}
 
 abbrev from : Settings → StreamProgress
-from given = start given.frame given.mode given.page_size given.limit
+from given = start given.frame given.mode given.page_size given.limit given.waiting
 
 -- a text that is read closed, with some bytes left, is closed by those before them
 pub closed_by : (given : Settings) (text : List ℕ) (to : StreamProgress) (rest : List ℕ) (n : ℕ) → Reads (from given) text to rest Closed → n + length rest ≡ length text → IsClosedAt given text n

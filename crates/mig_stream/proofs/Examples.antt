@@ -62,11 +62,11 @@ carried_on = refl
 
 -- START's head was read, and the limit on the table's total is one page of 4,096 bytes
 abbrev in_start : Mode → StreamProgress
-in_start mode = record (start Ram mode 4096 4096) { due = RecordHead; section_id = 1 }
+in_start mode = record (start Ram mode 4096 4096 None) { due = RecordHead; section_id = 1 }
 
 -- the head of a PART was read; the table has one page, and no block was named yet
 abbrev in_part : Mode → ℕ → StreamProgress
-in_part mode page_size = record (start Ram mode page_size (2 ^ 40)) {
+in_part mode page_size = record (start Ram mode page_size (2 ^ 40) None) {
   due = RecordHead;
   section = section.Part;
   section_id = 1;
@@ -132,7 +132,7 @@ end_behind_record = refl
 
 -- what a reader of a machine's stream is made with
 abbrev machine : Mode → StreamProgress
-machine mode = start Machine mode 4096 (2 ^ 40)
+machine mode = start Machine mode 4096 (2 ^ 40) None
 
 -- The text of one block of one page and no round, as QEMU writes it: SWITCHOVER_START stands before END, and no end byte behind its footer.
 abbrev empty_machine : List ℕ

@@ -179,7 +179,7 @@ reads_from from text some = read_on (suc (2 * length text + work from.due)) from
 -- Each text has exactly one reading.
 pub one_reading_law : HasOneReading
 one_reading_law = λ given text is.
-    let from : StreamProgress = start given.frame given.mode given.page_size given.limit in
+    let from : StreamProgress = start given.frame given.mode given.page_size given.limit given.waiting in
     let r = reads_from from text (page_size_some given.page_size is) in
     let reading : StreamReading = record { table = whole_table r.0; rounds = r.0.rounds; state = r.2 } in (
       reading,

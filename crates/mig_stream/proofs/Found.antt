@@ -71,9 +71,9 @@ pub record IsFound (frame : Frame) (mode : Mode) (page_size limit : ℕ) (to : S
   pub has_text : IsFramedText frame mode limit text table to.rounds
 
 -- Such a rest is a text.
-pub text_found : (frame : Frame) (mode : Mode) (page_size limit : ℕ) (to : StreamProgress) (text : List ℕ) → IsPageSize page_size → limit ≤ 2 ^ 40 → RestOfFile to (start frame mode page_size limit) text
+pub text_found : (frame : Frame) (mode : Mode) (page_size limit : ℕ) (waiting : Option ℕ) (to : StreamProgress) (text : List ℕ) → IsPageSize page_size → limit ≤ 2 ^ 40 → RestOfFile to (start frame mode page_size limit waiting) text
     → IsFound frame mode page_size limit to text
-text_found frame mode page_size limit to text size small file =
+text_found frame mode page_size limit waiting to text size small file =
     let opening = file.rest in
     let before = opening.rest in
     let begun = before.rest in
@@ -135,7 +135,7 @@ record IsReadAs (given : Settings) (bytes : List ℕ) (reading : StreamReading) 
 
 read_as : (given : Settings) (bytes : List ℕ) (reading : StreamReading) → IsPageSize given.page_size → given.limit ≤ 2 ^ 40 → All (λ byte. byte < 2 ^ 8) bytes → IsReading given bytes reading → reading.state ≡ Closed → IsReadAs given bytes reading
 read_as given bytes reading size small all is closed =
-    let from : StreamProgress = start given.frame given.mode given.page_size given.limit in
+    let from : StreamProgress = start given.frame given.mode given.page_size given.limit given.waiting in
     let reads = is.reads in
     let leads = reads.leads in
     let due : is.to.due ≡ Nothing = subst (λ (x : StreamState). Ends is.to is.rest x) closed reads.ends in
@@ -143,7 +143,7 @@ read_as given bytes reading size small all is closed =
     let front : IsBytes reads.front = bytes_of_front reads.front is.rest (subst IsBytes reads.has_text whole) in
     let left = items_back is.to from leads.items leads.are_faultless (subst IsBytes leads.has_bytes front) leads.leads_to due in
     let file : RestOfFile is.to from reads.front = subst (λ (x : List ℕ). RestOfFile is.to from x) (sym leads.has_bytes) (left refl) in
-    let found = text_found given.frame given.mode given.page_size given.limit is.to reads.front size small file in
+    let found = text_found given.frame given.mode given.page_size given.limit given.waiting is.to reads.front size small file in
     record {
       table = found.table;
       has_page_size = found.has_page_size;

@@ -14,7 +14,7 @@ use Rattle.mig_stream.specs.Fields.{be64}
 use Rattle.mig_stream.specs.Format.{flags_of}
 use Rattle.mig_stream.specs.Progress.{StreamProgress}
 use Rattle.mig_mem.specs.First.{first_of}
-use Rattle.mig_stream.specs.Items.{record_kind, has_page, is_single, head_faults, end_round, after_head}
+use Rattle.mig_stream.specs.Items.{record_kind, has_page, is_single, is_full, head_faults, end_round, after_head}
 use Rattle.mig_stream.proofs.FoundFields.{passed, kind_found}
 use Rattle.mig_stream.proofs.FoundPages.{RestOfBody, RestOfPage, named_back, continued_back}
 use Rattle.mig_stream.proofs.FoundSections.{at_head, end_back, flush_back, bare_head}
@@ -69,14 +69,15 @@ head_back to c flags page item bytes (Some SizeList) due head is free r =
     let small : page * c.page_size ≤ c.limit = ltb-false _ _ (or_parts (eqb page 0) (ltb c.limit (page * c.page_size)) t2.0).1 in
     ((λ none. list_back (Behind to) c page item bytes (kind_head c flags page item SizeList head is) small r), (λ used. absurd (unread c.left 0 t1.0 used)))
 head_back to c flags page item bytes (Some (Named f)) due head is free r =
-    let t1 = passed (is_none c.left) fault.SizePlace [] free in
+    let t1 = passed (is_none c.left) fault.SizePlace ((is_full c.room, fault.Waiting) ∷ []) free in
     behind_list to c (item ++ bytes) t1.0 (λ used. named_back (Behind to) c page item bytes f (kind_head c flags page item (Named f) head is) (r used))
 head_back to c flags page item bytes (Some (Continued f)) due head is free r =
     let out = not (has_page c.blocks c.named page) in
-    let t1 = passed (is_none c.left) fault.SizePlace ((is_none c.named, fault.NoBlock) ∷ (out, fault.OffsetOut) ∷ []) free in
-    let t2 = passed (is_none c.named) fault.NoBlock ((out, fault.OffsetOut) ∷ []) t1.1 in
-    let t3 = passed out fault.OffsetOut [] t2.1 in
-    let in_range : has_page c.blocks c.named page ≡ true = not-false (has_page c.blocks c.named page) t3.0 in
+    let t1 = passed (is_none c.left) fault.SizePlace ((is_full c.room, fault.Waiting) ∷ (is_none c.named, fault.NoBlock) ∷ (out, fault.OffsetOut) ∷ []) free in
+    let t2 = passed (is_full c.room) fault.Waiting ((is_none c.named, fault.NoBlock) ∷ (out, fault.OffsetOut) ∷ []) t1.1 in
+    let t3 = passed (is_none c.named) fault.NoBlock ((out, fault.OffsetOut) ∷ []) t2.1 in
+    let t4 = passed out fault.OffsetOut [] t3.1 in
+    let in_range : has_page c.blocks c.named page ≡ true = not-false (has_page c.blocks c.named page) t4.0 in
     behind_list to c (item ++ bytes) t1.0 (λ used. at_head (Behind to) c (item ++ bytes)
     (some_block_back (Behind to) c c.named page item bytes f (kind_head c flags page item (Continued f) head is) in_range (r used)))
 head_back to c flags page item bytes (Some EndOfSection) due head is free r =

@@ -24,7 +24,7 @@ use Rattle.mig_stream.specs.Fields.{be32_at}
 use Rattle.mig_stream.specs.Format.{end_byte, footer_type}
 use Rattle.mig_stream.specs.PageRecord.{PageRecord}
 use Rattle.mig_stream.specs.Progress.{StreamProgress, start, is_used_up, table_of, whole_table}
-use Rattle.mig_stream.specs.Items.{is_single, is_allowed, is_passed, closes, passed_by, after_type_byte, kind_faults, head_faults, faults, after_type, after_kind, after_head, end_round, open_records, whole_rounds, end_section, after_item, after}
+use Rattle.mig_stream.specs.Items.{is_single, less_room, is_allowed, is_passed, closes, passed_by, after_type_byte, kind_faults, head_faults, faults, after_type, after_kind, after_head, end_round, open_records, whole_rounds, end_section, after_item, after}
 use Rattle.mig_stream.specs.Reading.{Settings, AreFaultless, after_all, Front, Ends, Reads, StreamReading, IsReading}
 use Rattle.mig_stream.specs.Taking.{HasTakenTo}
 use Rattle.mig_stream.specs.Reader.{with_taken, IsUnfinished, HasTable}
@@ -100,8 +100,8 @@ records_more b (r ∷ rounds) records more = refl
 
 end_round-open : (b : List PageRecord) (c : StreamProgress) → end_round (with_open b c) ≡ with_open b (end_round c)
 end_round-open b c =
-    ap (λ (x : List PageRecord). record c { records = x; rounds = rounds_behind b c.rounds ++ records_behind b c.rounds c.records ∷ [] }) (records_pushed b c.rounds c.records)
-    ∙ ap (λ (x : List (List PageRecord)). record c { records = records_behind b (c.rounds ++ c.records ∷ []) []; rounds = x }) (rounds_push b c.rounds c.records)
+    ap (λ (x : List PageRecord). record c { room = c.waiting; records = x; rounds = rounds_behind b c.rounds ++ records_behind b c.rounds c.records ∷ [] }) (records_pushed b c.rounds c.records)
+    ∙ ap (λ (x : List (List PageRecord)). record c { room = c.waiting; records = records_behind b (c.rounds ++ c.records ∷ []) []; rounds = x }) (rounds_push b c.rounds c.records)
 
 after_kind-open : (b : List PageRecord) (c : StreamProgress) (k : RecordKind) (page : ℕ) → after_kind (with_open b c) k page ≡ with_open b (after_kind c k page)
 after_kind-open b c SizeList page = refl
@@ -128,8 +128,8 @@ after_type_byte-open b c before byte =
     ∙ sym (choice (with_open b) (is_passed c.frame before byte) (record c { due = Passed (passed_by before byte) }) (after_type c byte))
 
 with_record-open : (b : List PageRecord) (c : StreamProgress) (r : PageRecord)
-    → record (with_open b c) { due = RecordHead; records = records_behind b c.rounds c.records ++ r ∷ [] } ≡ with_open b (record c { due = RecordHead; records = c.records ++ r ∷ [] })
-with_record-open b c r = ap (λ (x : List PageRecord). record c { due = RecordHead; records = x; rounds = rounds_behind b c.rounds }) (records_more b c.rounds c.records (r ∷ []))
+    → record (with_open b c) { due = RecordHead; room = less_room c.room; records = records_behind b c.rounds c.records ++ r ∷ [] } ≡ with_open b (record c { due = RecordHead; room = less_room c.room; records = c.records ++ r ∷ [] })
+with_record-open b c r = ap (λ (x : List PageRecord). record c { due = RecordHead; room = less_room c.room; records = x; rounds = rounds_behind b c.rounds }) (records_more b c.rounds c.records (r ∷ []))
 
 footer_records : (b : List PageRecord) (m : Mode) (rounds : List (List PageRecord)) (records : List PageRecord)
     → open_records m (records_behind b rounds records) ≡ records_behind b (whole_rounds m rounds records) (open_records m records)
@@ -196,19 +196,19 @@ Ends-open b c rest (Bad f) single e = (e.0, e.1, e.2, record { is_due = e.3.is_d
 -- it is a single stream that is read
 reads_single : (given : Settings) (text : List ℕ) (so_far : GivenSoFar) (r : Giver) → Gives given text so_far r → r.progress.mode ≡ Single
 reads_single given text so_far r g =
-    (IsLater-front (start given.frame given.mode given.page_size given.limit) (all_read so_far r.progress) g.front g.leads).same_mode ∙ g.is_single
+    (IsLater-front (start given.frame given.mode given.page_size given.limit given.waiting) (all_read so_far r.progress) g.front g.leads).same_mode ∙ g.is_single
 
 pub same_page_size : (given : Settings) (text : List ℕ) (so_far : GivenSoFar) (r : Giver) → Gives given text so_far r → r.progress.page_size ≡ given.page_size
-same_page_size given text so_far r g = (IsLater-front (start given.frame given.mode given.page_size given.limit) (all_read so_far r.progress) g.front g.leads).same_page_size
+same_page_size given text so_far r g = (IsLater-front (start given.frame given.mode given.page_size given.limit given.waiting) (all_read so_far r.progress) g.front g.leads).same_page_size
 
-pub gives_first : (given : Settings) (text : List ℕ) (r : Giver) → given.mode ≡ Single → IsPageSize given.page_size → r.progress ≡ start given.frame given.mode given.page_size given.limit → r.rest ≡ text → r.found ≡ None
+pub gives_first : (given : Settings) (text : List ℕ) (r : Giver) → given.mode ≡ Single → IsPageSize given.page_size → r.progress ≡ start given.frame given.mode given.page_size given.limit given.waiting → r.rest ≡ text → r.found ≡ None
     → r.fed ≡ length text → Gives given text none_given r
 gives_first given text r single size progress rest found fed = record {
   is_single = single;
   is_page_size = size;
   front = [];
   has_text = sym rest;
-  leads = subst (λ (c : StreamProgress). Front (start given.frame given.mode given.page_size given.limit) [] (all_read none_given c)) (sym progress) (Front-none (start given.frame given.mode given.page_size given.limit));
+  leads = subst (λ (c : StreamProgress). Front (start given.frame given.mode given.page_size given.limit given.waiting) [] (all_read none_given c)) (sym progress) (Front-none (start given.frame given.mode given.page_size given.limit given.waiting));
   ends = subst (λ (o : Option StreamState). IfSome o (λ s. Ends (all_read none_given r.progress) r.rest s)) (sym found) tt;
   has_fed = λ _. fed;
 }
@@ -230,7 +230,7 @@ reads_behind given text so_far old new taken ends fed g =
       is_page_size = g.is_page_size;
       front = g.front ++ taken.0;
       has_text = g.has_text ∙ ap (λ (x : List ℕ). g.front ++ x) taken.1 ∙ sym (append_assoc g.front taken.0 new.rest);
-      leads = Front-append (start given.frame given.mode given.page_size given.limit) (all_read so_far old.progress) (all_read so_far new.progress) g.front taken.0 g.leads
+      leads = Front-append (start given.frame given.mode given.page_size given.limit given.waiting) (all_read so_far old.progress) (all_read so_far new.progress) g.front taken.0 g.leads
           (Front-taken so_far.sections o n taken.0 (Front-open so_far.open_section old.progress new.progress taken.0 single taken.2));
       ends = ends_each so_far.open_section so_far.sections new.progress new.rest new.found there ends;
       has_fed = λ few. fed ∙ g.has_fed few;
@@ -276,7 +276,7 @@ gives_same given text so_far then old new same rest found fed g = record {
   is_page_size = g.is_page_size;
   front = g.front;
   has_text = g.has_text ∙ ap (λ (x : List ℕ). g.front ++ x) (sym rest);
-  leads = subst (λ (c : StreamProgress). Front (start given.frame given.mode given.page_size given.limit) g.front c) same g.leads;
+  leads = subst (λ (c : StreamProgress). Front (start given.frame given.mode given.page_size given.limit given.waiting) g.front c) same g.leads;
   ends = subst (λ (o : Option StreamState). IfSome o (λ s. Ends (all_read then new.progress) new.rest s)) (sym found)
       (subst (λ (x : List ℕ). IfSome old.found (λ s. Ends (all_read then new.progress) x s)) (sym rest)
       (subst (λ (c : StreamProgress). IfSome old.found (λ s. Ends c old.rest s)) same g.ends));
@@ -299,7 +299,7 @@ gives_more given text so_far old new records are none is rest found fed g =
 
 -- what a reader was made with reads from there
 abbrev from : Settings → StreamProgress
-from given = start given.frame given.mode given.page_size given.limit
+from given = start given.frame given.mode given.page_size given.limit given.waiting
 
 -- The reading of the whole text goes on from here.
 record GoesTo (given : Settings) (text : List ℕ) (c : StreamProgress) : Type 0 where
@@ -374,7 +374,7 @@ all_places given text so_far r table g f =
     let whole : whole_table on.to ≡ Some table = ap whole_table same.0 ∙ sym (f.2 ∙ b.has_table) in
     let there = table_there (is_used_up on.to.left) (table_of on.to) table whole in
     let later = IsLater-front c on.to on.more on.leads in
-    placed_so_far given.frame given.mode given.page_size given.limit g.front c later.more_blocks table g.leads (ap (λ (t : RamTable). t.blocks) (sym there.1) ∙ later.has_blocks)
+    placed_so_far given.frame given.mode given.page_size given.limit given.waiting g.front c later.more_blocks table g.leads (ap (λ (t : RamTable). t.blocks) (sym there.1) ∙ later.has_blocks)
 
 -- those of the records behind others
 last_in : (table : RamTable) (before records : List PageRecord) → AreIn table (before ++ records) → AreIn table records
@@ -415,7 +415,7 @@ ends_so given text so_far r found none nothing is g =
       has_sections = ap (λ (x : List (List PageRecord)). so_far.sections ++ rounds_behind so_far.open_section x) none ∙ append-nil so_far.sections;
       has_state = refl;
       has_open = records;
-      has_none_open = λ closed. sym records ∙ closed_is_empty given.frame given.mode given.page_size given.limit g.front to g.is_single g.leads (subst (λ (s : StreamState). Ends to r.rest s) closed ends);
+      has_none_open = λ closed. sym records ∙ closed_is_empty given.frame given.mode given.page_size given.limit given.waiting g.front to g.is_single g.leads (subst (λ (s : StreamState). Ends to r.rest s) closed ends);
     }
 
 -- ---- between two pieces
@@ -430,10 +430,10 @@ unread_behind c pending rest (Some Reading) none closed ends = ends_unfinished c
 unread_behind c pending rest (Some Closed) none closed ends = closed refl
 unread_behind c pending rest (Some (Bad f)) none closed ends = tt
 
-pub pauses_first : (given : Settings) (p : Paused) → given.mode ≡ Single → IsPageSize given.page_size → p.progress ≡ start given.frame given.mode given.page_size given.limit → p.pending ≡ []
+pub pauses_first : (given : Settings) (p : Paused) → given.mode ≡ Single → IsPageSize given.page_size → p.progress ≡ start given.frame given.mode given.page_size given.limit given.waiting → p.pending ≡ []
     → p.fed ≡ 0 → PausesAt given [] none_given p
 pauses_first given p single size progress pending fed =
-    let c : StreamProgress = start given.frame given.mode given.page_size given.limit in
+    let c : StreamProgress = start given.frame given.mode given.page_size given.limit given.waiting in
     record {
       is_single = single;
       is_page_size = size;
@@ -467,7 +467,7 @@ resumed given text piece so_far p r progress rest found fed at = record {
   is_page_size = at.is_page_size;
   front = at.front;
   has_text = ap (λ (x : List ℕ). x ++ piece) at.has_text ∙ append_assoc at.front p.pending piece ∙ ap (λ (x : List ℕ). at.front ++ x) (sym rest);
-  leads = subst (λ (x : StreamProgress). Front (start given.frame given.mode given.page_size given.limit) at.front (all_read so_far x)) (sym progress) at.leads;
+  leads = subst (λ (x : StreamProgress). Front (start given.frame given.mode given.page_size given.limit given.waiting) at.front (all_read so_far x)) (sym progress) at.leads;
   ends = subst (λ (o : Option StreamState). IfSome o (λ s. Ends (all_read so_far r.progress) r.rest s)) (sym found) tt;
   has_fed = λ few. fed_more (length text) (length piece) (length (text ++ piece)) p.fed r.fed (length-append text piece) few at.has_fed fed;
 }
@@ -490,7 +490,7 @@ no_rounds before (r ∷ rounds) e = absurd cc
 -- Before the table nothing was given, and nothing waits.
 pub none_before_table : (given : Settings) (text : List ℕ) (so_far : GivenSoFar) (r : Giver) → Gives given text so_far r → whole_table r.progress ≡ None → (so_far.sections ≡ []) × (so_far.open_section ≡ [])
 none_before_table given text so_far r g none =
-    let both = none_first given.frame given.mode given.page_size given.limit g.front (all_read so_far r.progress) g.leads none in
+    let both = none_first given.frame given.mode given.page_size given.limit given.waiting g.front (all_read so_far r.progress) g.leads none in
     let sections = none_left so_far.sections (rounds_behind so_far.open_section r.progress.rounds) both.0 in
     let rounds : r.progress.rounds ≡ [] = no_rounds so_far.open_section r.progress.rounds sections.1 in
     let records : so_far.open_section ++ r.progress.records ≡ [] =
@@ -502,7 +502,7 @@ pub few_sections : (given : Settings) (text : List ℕ) (so_far : GivenSoFar) (r
 few_sections given text so_far r g =
     omega (
       arith,
-      few_front given.frame given.mode given.page_size given.limit g.front (all_read so_far r.progress) g.leads,
+      few_front given.frame given.mode given.page_size given.limit given.waiting g.front (all_read so_far r.progress) g.leads,
       length-append so_far.sections (rounds_behind so_far.open_section r.progress.rounds),
       ap (λ (x : List ℕ). length x) g.has_text,
       length-append g.front r.rest,

@@ -49,7 +49,7 @@ faults-taken g c (Passed passed) item = refl
 faults-taken g c Nothing item = refl
 
 end_round-taken : (g : List (List PageRecord)) (c : StreamProgress) → end_round (with_taken g c) ≡ with_taken g (end_round c)
-end_round-taken g c = ap (λ (r : List (List PageRecord)). record c { records = []; rounds = r }) (append_assoc g c.rounds (c.records ∷ []))
+end_round-taken g c = ap (λ (r : List (List PageRecord)). record c { room = c.waiting; records = []; rounds = r }) (append_assoc g c.rounds (c.records ∷ []))
 
 after_kind-taken : (g : List (List PageRecord)) (c : StreamProgress) (k : RecordKind) (page : ℕ) → after_kind (with_taken g c) k page ≡ with_taken g (after_kind c k page)
 after_kind-taken g c SizeList page = refl

@@ -227,22 +227,22 @@ the_table true t u e = let back : Some u ≡ Some t = sym e in cc
 the_table false t u e = absurd cc
 
 -- a front has few rounds
-pub few_front : (frame : Frame) (mode : Mode) (page_size limit : ℕ) (bytes : List ℕ) (c : StreamProgress) → Front (start frame mode page_size limit) bytes c → length c.rounds ≤ length bytes
-few_front frame mode page_size limit bytes c f =
-    let few : HasFew [] (length (concat f.items)) c = subst (HasFew [] (length (concat f.items))) (sym f.leads_to) (few_all (start frame mode page_size limit) f.items f.are_faultless) in
+pub few_front : (frame : Frame) (mode : Mode) (page_size limit : ℕ) (waiting : Option ℕ) (bytes : List ℕ) (c : StreamProgress) → Front (start frame mode page_size limit waiting) bytes c → length c.rounds ≤ length bytes
+few_front frame mode page_size limit waiting bytes c f =
+    let few : HasFew [] (length (concat f.items)) c = subst (HasFew [] (length (concat f.items))) (sym f.leads_to) (few_all (start frame mode page_size limit waiting) f.items f.are_faultless) in
     omega (arith, few, ap length f.has_bytes)
 
 -- and before its table neither a round nor a record
-pub none_first : (frame : Frame) (mode : Mode) (page_size limit : ℕ) (bytes : List ℕ) (c : StreamProgress) → Front (start frame mode page_size limit) bytes c → whole_table c ≡ None → (c.rounds ≡ []) × (c.records ≡ [])
-none_first frame mode page_size limit bytes c f none =
-    let waits : IsWaiting c = subst IsWaiting (sym f.leads_to) (waits_all (start frame mode page_size limit) f.items (λ open_. (refl, refl, tt)) f.are_faultless) in
+pub none_first : (frame : Frame) (mode : Mode) (page_size limit : ℕ) (waiting : Option ℕ) (bytes : List ℕ) (c : StreamProgress) → Front (start frame mode page_size limit waiting) bytes c → whole_table c ≡ None → (c.rounds ≡ []) × (c.records ≡ [])
+none_first frame mode page_size limit waiting bytes c f none =
+    let waits : IsWaiting c = subst IsWaiting (sym f.leads_to) (waits_all (start frame mode page_size limit waiting) f.items (λ open_. (refl, refl, tt)) f.are_faultless) in
     let both = waits (no_table (is_used_up c.left) (table_of c) none) in
     (both.0, both.1)
 
 -- A text has few rounds, none before its table, and the page size that was handed in.
 pub limits_law : ReadingsKeepLimits
 limits_law = λ given text reading size_is is.
-    let from : StreamProgress = start given.frame given.mode given.page_size given.limit in
+    let from : StreamProgress = start given.frame given.mode given.page_size given.limit given.waiting in
     let f : Front from is.reads.front is.to = is.reads.leads in
     let few : HasFew [] (length (concat f.items)) is.to = subst (HasFew [] (length (concat f.items))) (sym f.leads_to) (few_all from f.items f.are_faultless) in
     let waits : IsWaiting is.to = subst IsWaiting (sym f.leads_to) (waits_all from f.items (λ open_. (refl, refl, tt)) f.are_faultless) in

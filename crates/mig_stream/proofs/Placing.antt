@@ -1,5 +1,5 @@
 -- The places of the page records that are read: the table has them.
-use Rattle.std.proofs.Common.{◌≡◌, eqb, ℕ, ◌-◌, ◌<◌, false, not, nat_lt, ◌==◌, List, [], ◌∷◌, ◌++◌, length, get_or, Option, Some, None, All, sym, ap, subst, inl, inr, arith}
+use Rattle.std.proofs.Common.{◌≡◌, eqb, ℕ, Bool, ◌-◌, ◌<◌, false, not, nat_lt, ◌==◌, List, [], ◌∷◌, ◌++◌, length, get_or, Option, Some, None, All, sym, ap, subst, inl, inr, arith}
 use Rattle.std.specs.Prelude.{is_none, slice_index, ⊤}
 use Rattle.std.specs.Option.{unwrap_or}
 use Rattle.std.proofs.lemmas.List.{length-append, get_or_append_left, get_or_past}
@@ -22,12 +22,13 @@ use Rattle.mig_stream.specs.declared.item.Due.{Due}
 use Rattle.mig_stream.specs.declared.item.Due.TheVariants.{FileHeader, TypeByte, ConfigLength, ConfigName, StartHead, SectionHead, RecordHead, ListEntry, BlockName, Content, Footer, Passed, Nothing}
 use Rattle.mig_stream.specs.declared.item.RecordKind.{RecordKind}
 use Rattle.mig_stream.specs.declared.item.RecordKind.TheVariants.{SizeList, Named, Continued, EndOfSection, Flush}
+use Rattle.mig_stream.specs.declared.fault.StreamFault.{StreamFault}
 use Rattle.mig_stream.specs.declared.fault.StreamFault.TheVariants as fault
 use Rattle.mig_stream.specs.Fields.{be32_at}
 use Rattle.mig_stream.specs.PageRecord.{PageRecord}
 use Rattle.mig_stream.specs.Progress.{StreamProgress, start}
 use Rattle.mig_mem.specs.First.{first_of}
-use Rattle.mig_stream.specs.Items.{is_passed, closes, subsection_of, body_of, capabilities_due, behind_passed, behind_footer, after_type_byte, id_in, length_in, has_page, kind_faults, head_faults, faults, after_type, after_kind, after_head, open_records, whole_rounds, after_item, after}
+use Rattle.mig_stream.specs.Items.{is_passed, closes, subsection_of, body_of, capabilities_due, behind_passed, behind_footer, after_type_byte, id_in, length_in, has_page, is_full, kind_faults, head_faults, faults, after_type, after_kind, after_head, open_records, whole_rounds, after_item, after}
 use Rattle.mig_stream.specs.Reading.{AreFaultless, after_all, Front}
 use Rattle.mig_stream.proofs.Steps.{passed}
 
@@ -108,7 +109,9 @@ placed_kind : (c : StreamProgress) (k : RecordKind) (page : ℕ) → Placed c �
 placed_kind c SizeList page v d free = record { due = tt; records = v.records; rounds = v.rounds }
 placed_kind c (Named f) page v d free = record { due = tt; records = v.records; rounds = v.rounds }
 placed_kind c (Continued f) page v d free =
-    let one = passed (is_none c.left) fault.SizePlace ((is_none c.named, fault.NoBlock) ∷ (not (has_page c.blocks c.named page), fault.OffsetOut) ∷ []) free in
+    let others : List (Bool × StreamFault) = (is_none c.named, fault.NoBlock) ∷ (not (has_page c.blocks c.named page), fault.OffsetOut) ∷ [] in
+    let placed = passed (is_none c.left) fault.SizePlace ((is_full c.room, fault.Waiting) ∷ others) free in
+    let one = passed (is_full c.room) fault.Waiting others placed.1 in
     let two = passed (is_none c.named) fault.NoBlock ((not (has_page c.blocks c.named page), fault.OffsetOut) ∷ []) one.1 in
     let three = passed (not (has_page c.blocks c.named page)) fault.OffsetOut [] two.1 in
     record { due = judged c.blocks c.named page three.0; records = v.records; rounds = v.rounds }
@@ -156,11 +159,11 @@ placed_all c [] v free = v
 placed_all c (item ∷ items) v free = placed_all (after c item) items (placed_item c c.due item v v.due free.1) free.2
 
 -- Each page record that was read has its page in the blocks that were read by then, and in those behind them.
-pub placed_so_far : (frame : Frame) (m : Mode) (p limit : ℕ) (bytes : List ℕ) (to : StreamProgress) (more : List Block) (table : RamTable) → Front (start frame m p limit) bytes to → table.blocks ≡ to.blocks ++ more
+pub placed_so_far : (frame : Frame) (m : Mode) (p limit : ℕ) (waiting : Option ℕ) (bytes : List ℕ) (to : StreamProgress) (more : List Block) (table : RamTable) → Front (start frame m p limit waiting) bytes to → table.blocks ≡ to.blocks ++ more
     → All (λ rs. All (λ r. IsPlace table r.place) rs) to.rounds × All (λ r. IsPlace table r.place) to.records
-placed_so_far frame m p limit bytes to more table f same =
-    let first : Placed (start frame m p limit) = record { due = tt; records = All-nil (λ r. HasPage [] r.place); rounds = All-nil (AreIn []) } in
-    let last : Placed to = subst Placed (sym f.leads_to) (placed_all (start frame m p limit) f.items first f.are_faultless) in
+placed_so_far frame m p limit waiting bytes to more table f same =
+    let first : Placed (start frame m p limit waiting) = record { due = tt; records = All-nil (λ r. HasPage [] r.place); rounds = All-nil (AreIn []) } in
+    let last : Placed to = subst Placed (sym f.leads_to) (placed_all (start frame m p limit waiting) f.items first f.are_faultless) in
     let there : (place : Place) → HasPage to.blocks place → IsPlace table place =
     λ place has.
     let h : HasPage table.blocks place = subst (λ (b : List Block). HasPage b place) (sym same) (more_blocks to.blocks more place has) in
@@ -170,10 +173,10 @@ placed_so_far frame m p limit bytes to more table f same =
     )
 
 -- Each page record of a whole round has its page in the blocks that were read.
-pub placed_front : (frame : Frame) (m : Mode) (p limit : ℕ) (bytes : List ℕ) (to : StreamProgress) (table : RamTable) → Front (start frame m p limit) bytes to → table.blocks ≡ to.blocks → All (λ rs. All (λ r. IsPlace table r.place) rs) to.rounds
-placed_front frame m p limit bytes to table f same =
-    let first : Placed (start frame m p limit) = record { due = tt; records = All-nil (λ r. HasPage [] r.place); rounds = All-nil (AreIn []) } in
-    let last : Placed to = subst Placed (sym f.leads_to) (placed_all (start frame m p limit) f.items first f.are_faultless) in
+pub placed_front : (frame : Frame) (m : Mode) (p limit : ℕ) (waiting : Option ℕ) (bytes : List ℕ) (to : StreamProgress) (table : RamTable) → Front (start frame m p limit waiting) bytes to → table.blocks ≡ to.blocks → All (λ rs. All (λ r. IsPlace table r.place) rs) to.rounds
+placed_front frame m p limit waiting bytes to table f same =
+    let first : Placed (start frame m p limit waiting) = record { due = tt; records = All-nil (λ r. HasPage [] r.place); rounds = All-nil (AreIn []) } in
+    let last : Placed to = subst Placed (sym f.leads_to) (placed_all (start frame m p limit waiting) f.items first f.are_faultless) in
     λ i rs lt j r within.
     let h : HasPage table.blocks (get_or (get_or to.rounds i rs) j r).place = subst (λ (b : List Block). HasPage b (get_or (get_or to.rounds i rs) j r).place) (sym same) (last.rounds i rs lt j r within) in
     record { has_block = h.has_block; has_page = h.has_page }

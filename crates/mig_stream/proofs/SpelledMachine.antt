@@ -19,7 +19,7 @@ use Rattle.mig_stream.specs.Text.{Record, Follow, HasNoFlush, all_records, body,
 use Rattle.mig_stream.specs.Machine.{Command, command, IsCommand, Configuration, configured, IsConfiguration, PartOrCommand, PartOf, CommandOf, part_or_command, IsPartOrCommand, parts_of, IsMachineText}
 use Rattle.mig_stream.specs.Law.{closed}
 use Rattle.mig_stream.proofs.Fronts.{Front-none, Front-append}
-use Rattle.mig_stream.proofs.After.{after_records, after_body, records_behind, FlushesFit, HasNoTail}
+use Rattle.mig_stream.proofs.After.{unlimited, after_records, after_body, records_behind, FlushesFit, HasNoTail}
 use Rattle.mig_stream.proofs.SectionRounds.{rounds_read}
 use Rattle.mig_stream.proofs.SpelledItems.{type_front, section_front, header_front, configuration_front, start_front}
 use Rattle.mig_stream.proofs.SpelledRecords.{body_front}
@@ -78,36 +78,41 @@ no_tail_left Main records (inr e) = ap (λ (x : List PageRecord). not (length x 
 -- END, whose footer closes the text
 end_front_of : (c : StreamProgress) (records : List Record) → is_machine c.frame ≡ true → IsTable (table_of c) → c.section_id < 2 ^ 32 → is_none c.left ≡ false → is_single c.mode ≡ false ⊎ HasNoFlush records
     → Follow (table_of c) c.named records → HasNoTail c.mode (records_behind c.mode c.records (records ∷ []))
-    → Front (record c { due = TypeByte before.Footer }) (section (table_of c) sections.End c.section_id records) (at_end c (records ∷ []))
+    → Front (record (unlimited c) { due = TypeByte before.Footer }) (section (table_of c) sections.End c.section_id records) (at_end (unlimited c) (records ∷ []))
 end_front_of c records machine is small begun flushes follow none =
-    let d : StreamProgress = record c { section = sections.End } in
-    let whole : has_tail (is_machine c.frame) (after_records d records) ≡ false = ap (λ (x : Bool). has_tail x (after_records d records)) machine ∙ no_tail_left c.mode (after_records d records).records none in
-    let due : after_body d records ≡ at_end c (records ∷ []) = ap (λ (x : Bool). record (after_body d records) { due = cond x Nothing (TypeByte before.LastFooter) }) machine in
-    let there : Front (record d { due = RecordHead }) (body (table_of c) c.section_id records) (at_end c (records ∷ [])) =
-    subst (λ (x : StreamProgress). Front (record d { due = RecordHead }) (body (table_of c) c.section_id records) x) due (body_front d records is small begun flushes follow whole) in
-    Front-append _ _ _ _ _ (type_front c before.Footer (section_type sections.End) refl refl refl) (Front-append _ _ _ _ _ (section_front d small) there)
+    let u : StreamProgress = unlimited c in
+    let d : StreamProgress = record u { section = sections.End } in
+    let whole : has_tail (is_machine u.frame) (after_records d records) ≡ false = ap (λ (x : Bool). has_tail x (after_records d records)) machine ∙ no_tail_left u.mode (after_records d records).records none in
+    let due : after_body d records ≡ at_end u (records ∷ []) = ap (λ (x : Bool). record (after_body d records) { due = cond x Nothing (TypeByte before.LastFooter) }) machine in
+    let there : Front (record d { due = RecordHead }) (body (table_of u) u.section_id records) (at_end u (records ∷ [])) =
+    subst (λ (x : StreamProgress). Front (record d { due = RecordHead }) (body (table_of u) u.section_id records) x) due (body_front d records is small begun flushes follow whole) in
+    Front-append _ _ _ _ _ (type_front u before.Footer (section_type sections.End) refl refl refl) (Front-append _ _ _ _ _ (section_front d small) there)
 
 -- PARTs and COMMANDs, and END
 others_front : (c : StreamProgress) (others : List PartOrCommand) (last : List Record) → is_machine c.frame ≡ true → AllByRecursion IsPartOrCommand others → IsTable (table_of c) → c.section_id < 2 ^ 32 → is_none c.left ≡ false
     → FlushesFit c.mode (parts_of others ++ last ∷ []) → Follow (table_of c) c.named (all_records (parts_of others) ++ last) → HasNoTail c.mode (records_behind c.mode c.records (parts_of others ++ last ∷ []))
-    → Front (record c { due = TypeByte before.Footer }) (flat_map (part_or_command (table_of c) c.section_id) others ++ section (table_of c) sections.End c.section_id last) (at_end c (parts_of others ++ last ∷ []))
-others_front c [] last machine may is small begun flushes follow none = end_front_of c last machine is small begun (FlushesFit-first c.mode last [] flushes) follow none
+    → Front (record (unlimited c) { due = TypeByte before.Footer }) (flat_map (part_or_command (table_of c) c.section_id) others ++ section (table_of c) sections.End c.section_id last) (at_end (unlimited c) (parts_of others ++ last ∷ []))
+others_front c [] last machine may is small begun flushes follow none =
+    let u : StreamProgress = unlimited c in
+    end_front_of u last machine is small begun (FlushesFit-first u.mode last [] flushes) follow none
 others_front c (CommandOf x ∷ others) last machine may is small begun flushes follow none =
-    let end : List ℕ = section (table_of c) sections.End c.section_id last in
-    let bytes = append_assoc (command x) (flat_map (part_or_command (table_of c) c.section_id) others) end in
-    let there : StreamProgress = at_end c (parts_of others ++ last ∷ []) in
-    subst (λ (z : List ℕ). Front (record c { due = TypeByte before.Footer }) z there) (sym bytes)
-    (Front-append _ _ _ _ _ (command_front c before.Footer x machine refl may.0) (others_front c others last machine may.1 is small begun flushes follow none))
+    let u : StreamProgress = unlimited c in
+    let end : List ℕ = section (table_of u) sections.End u.section_id last in
+    let bytes = append_assoc (command x) (flat_map (part_or_command (table_of u) u.section_id) others) end in
+    let there : StreamProgress = at_end u (parts_of others ++ last ∷ []) in
+    subst (λ (z : List ℕ). Front (record u { due = TypeByte before.Footer }) z there) (sym bytes)
+    (Front-append _ _ _ _ _ (command_front u before.Footer x machine refl may.0) (others_front u others last machine may.1 is small begun flushes follow none))
 others_front c (PartOf records ∷ others) last machine may is small begun flushes follow none =
+    let u : StreamProgress = unlimited c in
     let more : List Record = all_records (parts_of others) ++ last in
     let all : all_records (records ∷ parts_of others) ++ last ≡ records ++ more = append_assoc records (all_records (parts_of others)) last in
-    let f : Follow (table_of c) c.named (records ++ more) = subst (Follow (table_of c) c.named) all follow in
-    let d : StreamProgress = after_body (record c { section = sections.Part }) records in
-    let end : List ℕ = section (table_of c) sections.End c.section_id last in
-    let one = part_front c records is small begun (FlushesFit-first c.mode records (parts_of others ++ last ∷ []) flushes) (Follow-first (table_of c) c.named records more f) in
-    let rest = others_front d others last machine may.1 is small begun (FlushesFit-rest c.mode records (parts_of others ++ last ∷ []) flushes) (Follow-rest (table_of c) c.named records more f) none in
-    let bytes = append_assoc (section (table_of c) sections.Part c.section_id records) (flat_map (part_or_command (table_of c) c.section_id) others) end in
-    subst (λ (z : List ℕ). Front (record c { due = TypeByte before.Footer }) z (at_end c ((records ∷ parts_of others) ++ last ∷ []))) (sym bytes) (Front-append _ _ _ _ _ one rest)
+    let f : Follow (table_of u) u.named (records ++ more) = subst (Follow (table_of u) u.named) all follow in
+    let d : StreamProgress = after_body (record u { section = sections.Part }) records in
+    let end : List ℕ = section (table_of u) sections.End u.section_id last in
+    let one = part_front u records is small begun (FlushesFit-first u.mode records (parts_of others ++ last ∷ []) flushes) (Follow-first (table_of u) u.named records more f) in
+    let rest = others_front d others last machine may.1 is small begun (FlushesFit-rest u.mode records (parts_of others ++ last ∷ []) flushes) (Follow-rest (table_of u) u.named records more f) none in
+    let bytes = append_assoc (section (table_of u) sections.Part u.section_id records) (flat_map (part_or_command (table_of u) u.section_id) others) end in
+    subst (λ (z : List ℕ). Front (record u { due = TypeByte before.Footer }) z (at_end u ((records ∷ parts_of others) ++ last ∷ []))) (sym bytes) (Front-append _ _ _ _ _ one rest)
 
 -- ---- the whole text
 
@@ -123,7 +128,7 @@ machine_is_read mode limit text rest table rounds is =
     let behind : List Record = all_records (parts_of is.others) ++ is.last in
     let told = rounds_read mode (is.first ∷ others) rounds is.has_rounds in
     let follow : Follow table None (is.first ++ behind) = subst (Follow table None) (append_assoc is.first (all_records (parts_of is.others)) is.last) is.follow in
-    let from : StreamProgress = start Machine mode table.page_size limit in
+    let from : StreamProgress = start Machine mode table.page_size limit None in
     let begun : StreamProgress = record from { due = RecordHead; section_id = is.id } in
     let listed : StreamProgress = record begun { left = Some 0; blocks = table.blocks } in
     let first : StreamProgress = after_body listed is.first in

@@ -23,7 +23,7 @@ use Rattle.mig_stream.specs.Items.{closes, has_tail, is_single, id_in, first_fau
 use Rattle.mig_stream.specs.Reading.{Front}
 use Rattle.mig_stream.specs.Text.{content_bytes, page_record, Fits, Record, PageOf, FlushMark, record_bytes, Follow, HasNoFlush, body}
 use Rattle.mig_stream.proofs.Fronts.{Front-none, Front-append}
-use Rattle.mig_stream.proofs.After.{after_page, after_records, after_body}
+use Rattle.mig_stream.proofs.After.{unlimited, after_page, after_records, after_body}
 use Rattle.mig_stream.proofs.SpelledItems.{item_front, page_size_large, flags_small, head_front, bare_front, footer_front}
 use Rattle.mig_stream.proofs.Tables.{finds_each}
 
@@ -59,48 +59,57 @@ name_front c filling b page found in_range =
 
 -- a whole page record, with CONTINUE or without
 page_front : (c : StreamProgress) (continued : Bool) (r : PageRecord) → IsTable (table_of c) → is_none c.left ≡ false → Fits (table_of c) c.named continued r
-    → Front (record c { due = RecordHead }) (page_record (table_of c) continued r) (after_page c r)
+    → Front (record (unlimited c) { due = RecordHead }) (page_record (table_of c) continued r) (after_page (unlimited c) r)
 page_front c false r is begun fits =
+    let u : StreamProgress = unlimited c in
     let b : ℕ = r.place.block in
     let page : ℕ = r.place.page in
     let filling : Filling = filling_of r.content in
-    let small = page_fits (table_of c) b page (Named filling) is fits.has_place.has_block fits.has_place.has_page in
-    let head = head_front c (Named filling) page is.has_page_size small (rw begun refl) in
-    let name = name_front c filling b page (finds_each (table_of c) is b fits.has_place.has_block) fits.has_place.has_page in
-    let content = content_front (record c { named = Some b }) r.place r.content fits.has_size in
+    let small = page_fits (table_of u) b page (Named filling) is fits.has_place.has_block fits.has_place.has_page in
+    let head = head_front u (Named filling) page is.has_page_size small (rw begun refl) in
+    let name = name_front u filling b page (finds_each (table_of u) is b fits.has_place.has_block) fits.has_place.has_page in
+    let content = content_front (record u { named = Some b }) r.place r.content fits.has_size in
     Front-append _ _ _ _ _ (Front-append _ _ _ _ _ head name) content
 page_front c true r is begun fits =
+    let u : StreamProgress = unlimited c in
     let b : ℕ = r.place.block in
     let page : ℕ = r.place.page in
     let filling : Filling = filling_of r.content in
-    let d : StreamProgress = record c { named = Some b } in
-    let small = page_fits (table_of c) b page (Continued filling) is fits.has_place.has_block fits.has_place.has_page in
-    let inside : ltb page (block c.blocks b).pages ≡ true = lt-ltb page (block c.blocks b).pages fits.has_place.has_page in
+    let d : StreamProgress = record u { named = Some b } in
+    let small = page_fits (table_of u) b page (Continued filling) is fits.has_place.has_block fits.has_place.has_page in
+    let inside : ltb page (block u.blocks b).pages ≡ true = lt-ltb page (block u.blocks b).pages fits.has_place.has_page in
     let head = head_front d (Continued filling) page is.has_page_size small (rw (begun, inside) refl) in
     let content = content_front d r.place r.content fits.has_size in
-    subst (λ (n : Option ℕ). Front (record c { due = RecordHead; named = n }) (page_record (table_of c) true r) (after_page c r)) (sym (fits.is_carried refl)) (Front-append _ _ _ _ _ head content)
+    subst (λ (n : Option ℕ). Front (record u { due = RecordHead; named = n }) (page_record (table_of u) true r) (after_page u r)) (sym (fits.is_carried refl)) (Front-append _ _ _ _ _ head content)
 
 -- ---- records one after the other
 
 -- page records and FLUSHes, as far as the mode has them
 records_front : (c : StreamProgress) (records : List Record) → IsTable (table_of c) → is_none c.left ≡ false → is_single c.mode ≡ false ⊎ HasNoFlush records → Follow (table_of c) c.named records
-    → Front (record c { due = RecordHead }) (flat_map (record_bytes (table_of c)) records) (record (after_records c records) { due = RecordHead })
-records_front c [] is begun flushes follow = Front-none (record c { due = RecordHead })
+    → Front (record (unlimited c) { due = RecordHead }) (flat_map (record_bytes (table_of c)) records) (record (after_records (unlimited c) records) { due = RecordHead })
+records_front c [] is begun flushes follow =
+    let u : StreamProgress = unlimited c in
+    Front-none (record u { due = RecordHead })
 records_front c (PageOf continued r ∷ records) is begun flushes follow =
-    let first = page_front c continued r is begun follow.0 in
-    let others = records_front (after_page c r) records is begun flushes follow.1 in
+    let u : StreamProgress = unlimited c in
+    let first = page_front u continued r is begun follow.0 in
+    let others = records_front (after_page u r) records is begun flushes follow.1 in
     Front-append _ _ _ _ _ first others
 records_front c (FlushMark ∷ records) is begun (inl main) follow =
-    let first = bare_front c Flush is.has_page_size (rw (begun, main) refl) in
-    let others = records_front (end_round c) records is begun (inl main) follow in
+    let u : StreamProgress = unlimited c in
+    let first = bare_front u Flush is.has_page_size (rw (begun, main) refl) in
+    let others = records_front (end_round u) records is begun (inl main) follow in
     Front-append _ _ _ _ _ first others
-records_front c (FlushMark ∷ records) is begun (inr none) follow = absurd none
+records_front c (FlushMark ∷ records) is begun (inr none) follow =
+    let u : StreamProgress = unlimited c in
+    absurd none
 
 -- a section's records, EOS and footer
 pub body_front : (c : StreamProgress) (records : List Record) → IsTable (table_of c) → c.section_id < 2 ^ 32 → is_none c.left ≡ false → is_single c.mode ≡ false ⊎ HasNoFlush records
-    → Follow (table_of c) c.named records → has_tail (closes c.frame c.section) (after_records c records) ≡ false
-    → Front (record c { due = RecordHead }) (body (table_of c) c.section_id records) (after_body c records)
+    → Follow (table_of c) c.named records → has_tail (closes c.frame c.section) (after_records (unlimited c) records) ≡ false
+    → Front (record (unlimited c) { due = RecordHead }) (body (table_of c) c.section_id records) (after_body (unlimited c) records)
 body_front c records is small begun flushes follow whole =
-    let d : StreamProgress = after_records c records in
+    let u : StreamProgress = unlimited c in
+    let d : StreamProgress = after_records u records in
     let end = Front-append _ _ _ _ _ (bare_front d EndOfSection is.has_page_size (rw begun refl)) (footer_front d small whole) in
-    Front-append _ _ _ _ _ (records_front c records is begun flushes follow) end
+    Front-append _ _ _ _ _ (records_front u records is begun flushes follow) end

@@ -26,7 +26,7 @@ use Rattle.mig_stream.proofs.SpelledSections.{FlushesFit-first, FlushesFit-rest,
 -- a front that is a whole text: it leads to the end of the stream, and tells this table and these rounds
 pub record IsReadWhole (mode : Mode) (limit : ℕ) (text : List ℕ) (table : RamTable) (rounds : List (List PageRecord)) : Type 0 where
   pub to : StreamProgress
-  pub leads : Front (start Ram mode table.page_size limit) text to
+  pub leads : Front (start Ram mode table.page_size limit None) text to
   pub is_closed : to.due ≡ Nothing
   pub has_table : whole_table to ≡ Some table
   pub has_rounds : to.rounds ≡ rounds
@@ -42,7 +42,7 @@ text_is_read mode limit text table rounds is =
     let behind : List Record = all_records is.parts ++ is.last in
     let told = rounds_read mode (is.first ∷ others) rounds is.has_rounds in
     let follow : Follow table None (is.first ++ behind) = subst (Follow table None) (append_assoc is.first (all_records is.parts) is.last) is.follow in
-    let from : StreamProgress = start Ram mode table.page_size limit in
+    let from : StreamProgress = start Ram mode table.page_size limit None in
     let begun : StreamProgress = record from { due = RecordHead; section_id = is.id } in
     let listed : StreamProgress = record begun { left = Some 0; blocks = table.blocks } in
     let first : StreamProgress = after_body listed is.first in
@@ -62,7 +62,7 @@ text_is_read mode limit text table rounds is =
 
 -- The reading of a text ends with it, whatever follows it.
 text_reads : (mode : Mode) (limit : ℕ) (text rest : List ℕ) (table : RamTable) (rounds : List (List PageRecord)) → (is : IsReadWhole mode limit text table rounds)
-    → Reads (start Ram mode table.page_size limit) (text ++ rest) is.to rest Closed
+    → Reads (start Ram mode table.page_size limit None) (text ++ rest) is.to rest Closed
 text_reads mode limit text rest table rounds is = record { front = text; has_text = refl; leads = is.leads; ends = is.is_closed }
 
 -- Whatever is spelled is read so.
@@ -81,10 +81,10 @@ spelled_law = λ mode limit text rest table rounds is_text.
 one_whole : (mode : Mode) (limit : ℕ) (a b x y : List ℕ) (s t : RamTable) (p q : List (List PageRecord)) → s.page_size ≡ t.page_size → IsReadWhole mode limit a s p → IsReadWhole mode limit b t q
     → a ++ x ≡ b ++ y → (a ≡ b) × (s ≡ t) × (p ≡ q)
 one_whole mode limit a b x y s t p q size f g e =
-    let from : StreamProgress = start Ram mode t.page_size limit in
-    let one : Reads (start Ram mode s.page_size limit) (a ++ x) f.to x Closed = text_reads mode limit a x s p f in
+    let from : StreamProgress = start Ram mode t.page_size limit None in
+    let one : Reads (start Ram mode s.page_size limit None) (a ++ x) f.to x Closed = text_reads mode limit a x s p f in
     let two : Reads from (b ++ y) g.to y Closed = text_reads mode limit b y t q g in
-    let here : Reads from (b ++ y) f.to x Closed = subst (λ (n : ℕ). Reads (start Ram mode n limit) (b ++ y) f.to x Closed) size (subst (λ (z : List ℕ). Reads (start Ram mode s.page_size limit) z f.to x Closed) e one) in
+    let here : Reads from (b ++ y) f.to x Closed = subst (λ (n : ℕ). Reads (start Ram mode n limit None) (b ++ y) f.to x Closed) size (subst (λ (z : List ℕ). Reads (start Ram mode s.page_size limit None) z f.to x Closed) e one) in
     let same = one_reading from (b ++ y) f.to g.to x y Closed Closed here two in
     let fronts : a ++ x ≡ b ++ x = e ∙ ap (λ (z : List ℕ). b ++ z) (sym same.1) in
     let tables : Some s ≡ Some t = sym f.has_table ∙ ap whole_table same.0 ∙ g.has_table in

@@ -20,9 +20,9 @@ use Rattle.mig_stream.proofs.Placing.{placed_front}
 
 -- before the first byte of a stream with these settings
 abbrev from : Settings → StreamProgress
-from given = start given.frame given.mode given.page_size given.limit
+from given = start given.frame given.mode given.page_size given.limit given.waiting
 
-pub stands_first : (given : Settings) (r : Reader) → r.progress ≡ start given.frame given.mode given.page_size given.limit → r.pending ≡ [] → r.found ≡ Reading → r.valid_up_to ≡ 0 → r.fed ≡ 0 → r.ended ≡ false
+pub stands_first : (given : Settings) (r : Reader) → r.progress ≡ start given.frame given.mode given.page_size given.limit given.waiting → r.pending ≡ [] → r.found ≡ Reading → r.valid_up_to ≡ 0 → r.fed ≡ 0 → r.ended ≡ false
     → Stands given nothing_yet r
 stands_first given r progress pending found valid fed ended = record {
   has_fed = fed;
@@ -175,7 +175,7 @@ places_in given text i round table h f =
     let same = one_reading (from given) text a.to b.to a.rest b.rest h.0.state f.0.state a.reads b.reads in
     let whole : whole_table a.to ≡ Some table = ap whole_table same.0 ∙ sym (f.2 ∙ b.has_table) in
     let blocks : table.blocks ≡ a.to.blocks = ap (λ (t : RamTable). t.blocks) (table_there (is_used_up a.to.left) (table_of a.to) table whole) in
-    let all : All (λ rs. All (λ x. IsPlace table x.place) rs) a.to.rounds = placed_front given.frame given.mode given.page_size given.limit a.reads.front a.to table a.reads.leads blocks in
+    let all : All (λ rs. All (λ x. IsPlace table x.place) rs) a.to.rounds = placed_front given.frame given.mode given.page_size given.limit given.waiting a.reads.front a.to table a.reads.leads blocks in
     subst (λ (rs : List PageRecord). All (λ x. IsPlace table x.place) rs) (ap (λ (x : List (List PageRecord)). get_or x i []) (sym a.has_rounds) ∙ h.3) (all i [] (omega (arith, h.2, ap length a.has_rounds)))
   where
     table_there : (b : Bool) (t u : RamTable) → then_some b t ≡ Some u → u ≡ t

@@ -51,28 +51,29 @@ record Step (old new : StreamProgress) : Type 0 where
   mode : new.mode ≡ old.mode
   page_size : new.page_size ≡ old.page_size
   limit : new.limit ≡ old.limit
+  waiting : new.waiting ≡ old.waiting
   change : Change old new
 
 no_change : (c : StreamProgress) → Step c c
-no_change c = record { frame = refl; mode = refl; page_size = refl; limit = refl; change = none refl refl refl }
+no_change c = record { frame = refl; mode = refl; page_size = refl; limit = refl; waiting = refl; change = none refl refl refl }
 
 type_step : (c : StreamProgress) (b : ℕ) → Step c (after_type c b)
 type_step c b =
-    cond_both (eqb b 7) _ _ (Step c) (λ _. record { frame = refl; mode = refl; page_size = refl; limit = refl; change = none refl refl refl }) (λ _.
-    cond_both (eqb b 1) _ _ (Step c) (λ _. record { frame = refl; mode = refl; page_size = refl; limit = refl; change = none refl refl refl }) (λ _.
-    cond_both (eqb b 2) _ _ (Step c) (λ _. record { frame = refl; mode = refl; page_size = refl; limit = refl; change = none refl refl refl }) (λ _.
-    cond_both (eqb b 3) _ _ (Step c) (λ _. record { frame = refl; mode = refl; page_size = refl; limit = refl; change = none refl refl refl }) (λ _.
-    record { frame = refl; mode = refl; page_size = refl; limit = refl; change = none refl refl refl }))))
+    cond_both (eqb b 7) _ _ (Step c) (λ _. record { frame = refl; mode = refl; page_size = refl; limit = refl; waiting = refl; change = none refl refl refl }) (λ _.
+    cond_both (eqb b 1) _ _ (Step c) (λ _. record { frame = refl; mode = refl; page_size = refl; limit = refl; waiting = refl; change = none refl refl refl }) (λ _.
+    cond_both (eqb b 2) _ _ (Step c) (λ _. record { frame = refl; mode = refl; page_size = refl; limit = refl; waiting = refl; change = none refl refl refl }) (λ _.
+    cond_both (eqb b 3) _ _ (Step c) (λ _. record { frame = refl; mode = refl; page_size = refl; limit = refl; waiting = refl; change = none refl refl refl }) (λ _.
+    record { frame = refl; mode = refl; page_size = refl; limit = refl; waiting = refl; change = none refl refl refl }))))
 
 type_byte_step : (c : StreamProgress) (before : Before) (b : ℕ) → Step c (after_type_byte c before b)
-type_byte_step c before b = cond_both (is_passed c.frame before b) _ _ (Step c) (λ _. record { frame = refl; mode = refl; page_size = refl; limit = refl; change = none refl refl refl }) (λ _. type_step c b)
+type_byte_step c before b = cond_both (is_passed c.frame before b) _ _ (Step c) (λ _. record { frame = refl; mode = refl; page_size = refl; limit = refl; waiting = refl; change = none refl refl refl }) (λ _. type_step c b)
 
 kind_step : (c : StreamProgress) (k : RecordKind) (page : ℕ) → Step c (after_kind c k page)
-kind_step c SizeList page = record { frame = refl; mode = refl; page_size = refl; limit = refl; change = none refl refl refl }
-kind_step c (Named f) page = record { frame = refl; mode = refl; page_size = refl; limit = refl; change = none refl refl refl }
-kind_step c (Continued f) page = record { frame = refl; mode = refl; page_size = refl; limit = refl; change = none refl refl refl }
-kind_step c EndOfSection page = record { frame = refl; mode = refl; page_size = refl; limit = refl; change = none refl refl refl }
-kind_step c Flush page = record { frame = refl; mode = refl; page_size = refl; limit = refl; change = whole refl refl }
+kind_step c SizeList page = record { frame = refl; mode = refl; page_size = refl; limit = refl; waiting = refl; change = none refl refl refl }
+kind_step c (Named f) page = record { frame = refl; mode = refl; page_size = refl; limit = refl; waiting = refl; change = none refl refl refl }
+kind_step c (Continued f) page = record { frame = refl; mode = refl; page_size = refl; limit = refl; waiting = refl; change = none refl refl refl }
+kind_step c EndOfSection page = record { frame = refl; mode = refl; page_size = refl; limit = refl; waiting = refl; change = none refl refl refl }
+kind_step c Flush page = record { frame = refl; mode = refl; page_size = refl; limit = refl; waiting = refl; change = whole refl refl }
 
 head_step : (c : StreamProgress) (k : Option RecordKind) (page : ℕ) → Step c (after_head c k page)
 head_step c None page = no_change c
@@ -83,19 +84,19 @@ footer_change c new Single b r s = whole b s
 footer_change c new Main b r s = none b s r
 
 item_step : (c : StreamProgress) (d : Due) (item : List ℕ) → Step c (after_item c d item)
-item_step c FileHeader item = record { frame = refl; mode = refl; page_size = refl; limit = refl; change = none refl refl refl }
+item_step c FileHeader item = record { frame = refl; mode = refl; page_size = refl; limit = refl; waiting = refl; change = none refl refl refl }
 item_step c (TypeByte b) item = type_byte_step c b (slice_index item 0)
-item_step c ConfigLength item = record { frame = refl; mode = refl; page_size = refl; limit = refl; change = none refl refl refl }
-item_step c (ConfigName n) item = record { frame = refl; mode = refl; page_size = refl; limit = refl; change = none refl refl refl }
-item_step c StartHead item = record { frame = refl; mode = refl; page_size = refl; limit = refl; change = none refl refl refl }
-item_step c SectionHead item = record { frame = refl; mode = refl; page_size = refl; limit = refl; change = none refl refl refl }
+item_step c ConfigLength item = record { frame = refl; mode = refl; page_size = refl; limit = refl; waiting = refl; change = none refl refl refl }
+item_step c (ConfigName n) item = record { frame = refl; mode = refl; page_size = refl; limit = refl; waiting = refl; change = none refl refl refl }
+item_step c StartHead item = record { frame = refl; mode = refl; page_size = refl; limit = refl; waiting = refl; change = none refl refl refl }
+item_step c SectionHead item = record { frame = refl; mode = refl; page_size = refl; limit = refl; waiting = refl; change = none refl refl refl }
 item_step c RecordHead item = head_step c _ _
-item_step c ListEntry item = record { frame = refl; mode = refl; page_size = refl; limit = refl; change = block _ refl refl refl }
-item_step c (BlockName f page) item = record { frame = refl; mode = refl; page_size = refl; limit = refl; change = none refl refl refl }
-item_step c (Content Zero place) item = record { frame = refl; mode = refl; page_size = refl; limit = refl; change = one _ refl refl refl }
-item_step c (Content Normal place) item = record { frame = refl; mode = refl; page_size = refl; limit = refl; change = one _ refl refl refl }
-item_step c Footer item = record { frame = refl; mode = refl; page_size = refl; limit = refl; change = footer_change c (end_section c) c.mode refl refl refl }
-item_step c (Passed passed) item = record { frame = refl; mode = refl; page_size = refl; limit = refl; change = none refl refl refl }
+item_step c ListEntry item = record { frame = refl; mode = refl; page_size = refl; limit = refl; waiting = refl; change = block _ refl refl refl }
+item_step c (BlockName f page) item = record { frame = refl; mode = refl; page_size = refl; limit = refl; waiting = refl; change = none refl refl refl }
+item_step c (Content Zero place) item = record { frame = refl; mode = refl; page_size = refl; limit = refl; waiting = refl; change = one _ refl refl refl }
+item_step c (Content Normal place) item = record { frame = refl; mode = refl; page_size = refl; limit = refl; waiting = refl; change = one _ refl refl refl }
+item_step c Footer item = record { frame = refl; mode = refl; page_size = refl; limit = refl; waiting = refl; change = footer_change c (end_section c) c.mode refl refl refl }
+item_step c (Passed passed) item = record { frame = refl; mode = refl; page_size = refl; limit = refl; waiting = refl; change = none refl refl refl }
 item_step c Nothing item = no_change c
 
 grown_by : (old mid new : StreamProgress) → Change mid new → HasGrown old mid → HasGrown old new
@@ -197,6 +198,7 @@ later_step old mid item l free =
       same_mode = s.mode ∙ l.same_mode;
       same_page_size = s.page_size ∙ l.same_page_size;
       same_limit = s.limit ∙ l.same_limit;
+      same_waiting = s.waiting ∙ l.same_waiting;
       more_blocks = l.more_blocks ++ b.0;
       has_blocks = b.1 ∙ ap (λ (x : List Block). x ++ b.0) l.has_blocks ∙ append_assoc old.blocks l.more_blocks b.0;
       has_grown = grown_by old mid new s.change l.has_grown;
@@ -211,7 +213,7 @@ later_all old mid [] l free = l
 later_all old mid (item ∷ items) l free = later_all old (after mid item) items (later_step old mid item l free.1) free.2
 
 later_self : (c : StreamProgress) → IsLater c c
-later_self c = record { same_frame = refl; same_mode = refl; same_page_size = refl; same_limit = refl; more_blocks = []; has_blocks = sym (append-nil c.blocks); has_grown = same_log c c refl refl; same_table = λ _. (refl, refl) }
+later_self c = record { same_frame = refl; same_mode = refl; same_page_size = refl; same_limit = refl; same_waiting = refl; more_blocks = []; has_blocks = sym (append-nil c.blocks); has_grown = same_log c c refl refl; same_table = λ _. (refl, refl) }
 
 -- A front leads to what is later.
 pub IsLater-front : (c d : StreamProgress) (bytes : List ℕ) → Front c bytes d → IsLater c d

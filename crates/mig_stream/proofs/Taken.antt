@@ -9,7 +9,7 @@ use Rattle.mig_stream.specs.declared.item.Due.TheVariants.{FileHeader, TypeByte,
 use Rattle.mig_stream.specs.declared.item.StreamState.TheVariants.{Reading}
 use Rattle.mig_stream.specs.PageRecord.{PageRecord, page_record}
 use Rattle.mig_stream.specs.Progress.{StreamProgress}
-use Rattle.mig_stream.specs.Items.{size, first_fault, with_record, after}
+use Rattle.mig_stream.specs.Items.{size, first_fault, less_room, with_record, after}
 use Rattle.mig_stream.specs.Reading.{Settings, IsItem, Front, Ends}
 use Rattle.mig_stream.specs.Taking.{HasTakenTo}
 use Rattle.mig_stream.specs.Giving.{Giver, GivenSoFar, with_more, Gives, Paused, giver_at, PausesAt}
@@ -54,7 +54,7 @@ page_taken c place content due len =
 
 -- Where the content is the caller's, its record was given.
 pub took_page : (given : Settings) (text content : List ℕ) (so_far : GivenSoFar) (p q : Paused) (place : Place) → page_due p ≡ Some place → length content ≡ p.progress.page_size
-    → p.progress.records ≡ [] → p.progress.rounds ≡ [] → q.progress ≡ record p.progress { due = RecordHead } → q.pending ≡ p.pending → q.fed ≡ min (p.fed + length content) (2 ^ 64 - 1)
+    → p.progress.records ≡ [] → p.progress.rounds ≡ [] → q.progress ≡ record p.progress { due = RecordHead; room = less_room p.progress.room } → q.pending ≡ p.pending → q.fed ≡ min (p.fed + length content) (2 ^ 64 - 1)
     → PausesAt given text so_far p → PausesAt given (text ++ content) (with_more (page_record place content ∷ []) so_far) q
 took_page given text content so_far p q place due len no_records no_rounds progress pending fed at =
     let here = due_page p place due in
@@ -65,9 +65,9 @@ took_page given text content so_far p q place due len no_records no_rounds progr
     let ends : Ends read.progress [] Reading = (is_due c.page_size RecordHead [] (omega arith), no_item c.page_size RecordHead [] (omega arith)) in
     let gives : Gives given (text ++ content) so_far read = reads_behind given (text ++ content) so_far before read (page_taken c place content here.1 len) ends refl resumes in
     gives_more given (text ++ content) so_far read (giver_at q) (page_record place content ∷ []) (ap (λ (x : List PageRecord). x ++ page_record place content ∷ []) (sym no_records))
-    no_rounds (progress ∙ ap (λ (x : List PageRecord). record c { due = RecordHead; records = x }) no_records) (pending ∙ here.0) refl refl gives
+    no_rounds (progress ∙ ap (λ (x : List PageRecord). record c { due = RecordHead; room = less_room c.room; records = x }) no_records) (pending ∙ here.0) refl refl gives
 
-pub took_each : (content : List ℕ) (p q : Paused) → length content ≡ p.progress.page_size → p.progress.records ≡ [] → p.progress.rounds ≡ [] → q.progress ≡ record p.progress { due = RecordHead }
+pub took_each : (content : List ℕ) (p q : Paused) → length content ≡ p.progress.page_size → p.progress.records ≡ [] → p.progress.rounds ≡ [] → q.progress ≡ record p.progress { due = RecordHead; room = less_room p.progress.room }
     → q.pending ≡ p.pending → q.fed ≡ min (p.fed + length content) (2 ^ 64 - 1)
     → IfSome (page_due p) (λ place. (given : Settings) (text : List ℕ) (so_far : GivenSoFar) → PausesAt given text so_far p → PausesAt given (text ++ content) (with_more (page_record place content ∷ []) so_far) q)
 took_each content p q len no_records no_rounds progress pending fed = go (page_due p) refl

@@ -19,7 +19,7 @@ use Rattle.mig_stream.proofs.Unique.{one_item, no_end, one_reading}
 
 -- where a reading begins
 abbrev from : Settings → StreamProgress
-from given = start given.frame given.mode given.page_size given.limit
+from given = start given.frame given.mode given.page_size given.limit given.waiting
 
 -- ---- one place
 

@@ -17,7 +17,7 @@ use Rattle.mig_stream.specs.declared.item.Due.TheVariants.{RecordHead, BlockName
 use Rattle.mig_stream.specs.Fields.{be64_at}
 use Rattle.mig_stream.specs.PageRecord.{PageRecord}
 use Rattle.mig_stream.specs.Progress.{StreamProgress}
-use Rattle.mig_stream.specs.Items.{id_in, record_kind, kind_faults, head_faults, first_fault, after_kind, after_head, with_record, after}
+use Rattle.mig_stream.specs.Items.{id_in, record_kind, is_full, less_room, kind_faults, head_faults, first_fault, after_kind, after_head, with_record, after}
 use Rattle.mig_stream.specs.Reading.{Front}
 use Rattle.mig_stream.specs.Taking.{HasTaken, HasTakenTo, HasTakenRecords}
 use Rattle.mig_stream.proofs.Fronts.{Front-none, Front-append}
@@ -39,24 +39,24 @@ kind_front c head kind flags page len flags_are kind_is number none =
     subst (λ (x : StreamProgress). Front d head x) new (item_front d head (λ e. absurd cc) len free)
 
 -- a record that leaves its block's id out
-continued_front : (c : StreamProgress) (head : List ℕ) (b page : ℕ) → is_none c.left ≡ false → c.named ≡ Some b → length head ≡ 8 → be64_at 0 head % c.page_size ≡ 0x22
+continued_front : (c : StreamProgress) (head : List ℕ) (b page : ℕ) → is_none c.left ≡ false → is_full c.room ≡ false → c.named ≡ Some b → length head ≡ 8 → be64_at 0 head % c.page_size ≡ 0x22
     → be64_at 0 head / c.page_size ≡ page → page < (block c.blocks b).pages → Front (record c { due = RecordHead }) (head ++ 0 ∷ []) (with_record c (place_at b page) None)
-continued_front c head b page begun named len flags number in_range =
+continued_front c head b page begun free named len flags number in_range =
     let d : StreamProgress = record c { named = Some b } in
     let inside : ltb page (block c.blocks b).pages ≡ true = lt-ltb page (block c.blocks b).pages in_range in
-    let first = kind_front d head (Continued Zero) 0x22 page len flags refl number (rw (begun, inside) refl) in
+    let first = kind_front d head (Continued Zero) 0x22 page len flags refl number (rw (begun, free, inside) refl) in
     let content = content_front d (place_at b page) None tt in
     subst (λ (n : Option ℕ). Front (record c { due = RecordHead; named = n }) (head ++ 0 ∷ []) (record (with_record c (place_at b page) None) { named = n })) (sym named)
     (Front-append _ _ _ _ _ first content)
 
 -- a record that names its block
-named_front : (c : StreamProgress) (head name : List ℕ) (b page : ℕ) → is_none c.left ≡ false → length head ≡ 8 → be64_at 0 head % c.page_size ≡ 0x02 → be64_at 0 head / c.page_size ≡ page
+named_front : (c : StreamProgress) (head name : List ℕ) (b page : ℕ) → is_none c.left ≡ false → is_full c.room ≡ false → length head ≡ 8 → be64_at 0 head % c.page_size ≡ 0x02 → be64_at 0 head / c.page_size ≡ page
     → length name ≡ 1 + slice_index name 0 → block_of c.blocks (id_in name) ≡ Some b → page < (block c.blocks b).pages
     → Front (record c { due = RecordHead }) (head ++ (name ++ 0 ∷ [])) (record (with_record c (place_at b page) None) { named = Some b })
-named_front c head name b page begun len flags number whole found in_range =
+named_front c head name b page begun room len flags number whole found in_range =
     let d : StreamProgress = record c { due = BlockName Zero page } in
     let inside : ltb page (block c.blocks b).pages ≡ true = lt-ltb page (block c.blocks b).pages in_range in
-    let first = kind_front c head (Named Zero) 0x02 page len flags refl number (rw begun refl) in
+    let first = kind_front c head (Named Zero) 0x02 page len flags refl number (rw (begun, room) refl) in
     let free : first_fault d name ≡ None = rw (found, inside) refl in
     let new : after d name ≡ record c { due = Content Zero (place_at b page); named = Some b } = rw found refl in
     let second = subst (λ (x : StreamProgress). Front d name x) new (item_front d name (λ e. absurd cc) whole free) in
@@ -143,20 +143,20 @@ records_stop old mid new bytes rest n a is b = record {
 pub nothing_more : (c new : StreamProgress) (bytes : List ℕ) → new ≡ c → HasTaken c bytes new
 nothing_more c new bytes is = record { front = []; rest = bytes; has_bytes = refl; leads = subst (λ (x : StreamProgress). Front c [] x) (sym is) (Front-none c) }
 
-pub continued_taken : (c new : StreamProgress) (bytes : List ℕ) (at b page : ℕ) → at + 9 ≤ length bytes → c.due ≡ RecordHead → is_none c.left ≡ false → c.named ≡ Some b
+pub continued_taken : (c new : StreamProgress) (bytes : List ℕ) (at b page : ℕ) → at + 9 ≤ length bytes → c.due ≡ RecordHead → is_none c.left ≡ false → is_full c.room ≡ false → c.named ≡ Some b
     → be64_at at bytes % c.page_size ≡ 0x22 → be64_at at bytes / c.page_size ≡ page → page < (block c.blocks b).pages → slice_index bytes (at + 8) ≡ 0
-    → new ≡ record c { records = c.records ++ record { place = place_at b page; content = None } ∷ [] } → HasTakenRecords c (drop at bytes) 9 new
-continued_taken c new bytes at b page fits due begun named flags number in_range fill is =
+    → new ≡ record c { room = less_room c.room; records = c.records ++ record { place = place_at b page; content = None } ∷ [] } → HasTakenRecords c (drop at bytes) 9 new
+continued_taken c new bytes at b page fits due begun free named flags number in_range fill is =
     let rest : List ℕ = drop at bytes in
     let long : 9 ≤ length rest = omega (arith, length-drop at bytes, fits) in
     let records : List PageRecord = c.records ++ record { place = place_at b page; content = None } ∷ [] in
     let zero_byte : slice_index rest 8 ≡ 0 = get_or-drop at bytes 8 0 ∙ fill in
-    let taken = continued_front c (take 8 rest) b page begun named (head_len rest (omega (arith, long)))
+    let taken = continued_front c (take 8 rest) b page begun free named (head_len rest (omega (arith, long)))
     (ap (λ (n : ℕ). n % c.page_size) (number_in bytes at) ∙ flags) (ap (λ (n : ℕ). n / c.page_size) (number_in bytes at) ∙ number) in_range in
-    let all : Front (record c { due = RecordHead }) (take 9 rest) (record c { due = RecordHead; records = records }) =
-    subst (λ (l : List ℕ). Front (record c { due = RecordHead }) l (record c { due = RecordHead; records = records })) (sym (up_to rest 8 0 (omega (arith, long)) zero_byte)) taken in
-    let here : Front c (take 9 rest) (record c { records = records }) =
-    subst (λ (d : Due). Front (record c { due = d }) (take 9 rest) (record c { due = d; records = records })) (sym due) all in
+    let all : Front (record c { due = RecordHead }) (take 9 rest) (record c { due = RecordHead; room = less_room c.room; records = records }) =
+    subst (λ (l : List ℕ). Front (record c { due = RecordHead }) l (record c { due = RecordHead; room = less_room c.room; records = records })) (sym (up_to rest 8 0 (omega (arith, long)) zero_byte)) taken in
+    let here : Front c (take 9 rest) (record c { room = less_room c.room; records = records }) =
+    subst (λ (d : Due). Front (record c { due = d }) (take 9 rest) (record c { due = d; room = less_room c.room; records = records })) (sym due) all in
     record {
       fits = long;
       leads = subst (λ (x : StreamProgress). Front c (take 9 rest) x) (sym is) here;
@@ -166,25 +166,25 @@ continued_taken c new bytes at b page fits due begun named flags number in_range
       same_page_size = ap (λ (x : StreamProgress). x.page_size) is;
     }
 
-pub named_taken : (c new : StreamProgress) (bytes head rest : List ℕ) (k b page : ℕ) → head ≡ take 8 bytes → rest ≡ drop 8 bytes → k < length rest → c.due ≡ RecordHead → is_none c.left ≡ false
+pub named_taken : (c new : StreamProgress) (bytes head rest : List ℕ) (k b page : ℕ) → head ≡ take 8 bytes → rest ≡ drop 8 bytes → k < length rest → c.due ≡ RecordHead → is_none c.left ≡ false → is_full c.room ≡ false
     → be64_at 0 head % c.page_size ≡ 0x02 → be64_at 0 head / c.page_size ≡ page → page < (block c.blocks b).pages
     → k ≡ 1 + slice_index rest 0 → block_of c.blocks (id_in (take k rest)) ≡ Some b → slice_index rest k ≡ 0
-    → new ≡ record c { named = Some b; records = c.records ++ record { place = place_at b page; content = None } ∷ [] } → HasTakenRecords c bytes (9 + k) new
-named_taken c new bytes head rest k b page head_is rest_is lt due begun flags number in_range whole found fill is =
+    → new ≡ record c { named = Some b; room = less_room c.room; records = c.records ++ record { place = place_at b page; content = None } ∷ [] } → HasTakenRecords c bytes (9 + k) new
+named_taken c new bytes head rest k b page head_is rest_is lt due begun room flags number in_range whole found fill is =
     let len : length rest ≡ length bytes - 8 = ap (λ (l : List ℕ). length l) rest_is ∙ length-drop 8 bytes in
     let records : List PageRecord = c.records ++ record { place = place_at b page; content = None } ∷ [] in
     let name : List ℕ = take k rest in
     let head_long : length head ≡ 8 = ap (λ (l : List ℕ). length l) head_is ∙ head_len bytes (omega (arith, len, lt)) in
     let name_long : length name ≡ 1 + slice_index name 0 = omega (arith, length-take k rest, lt, whole, get_or-take k rest 0 0 (omega (arith, whole))) in
-    let taken = named_front c head name b page begun head_long flags number name_long found in_range in
+    let taken = named_front c head name b page begun room head_long flags number name_long found in_range in
     let count : 9 + k ≡ 8 + (k + 1) = omega arith in
     let spelled : take (9 + k) bytes ≡ head ++ (name ++ 0 ∷ []) =
     ap (λ (n : ℕ). take n bytes) count ∙ take-add 8 (k + 1) bytes ∙ ap (λ (l : List ℕ). l ++ take (k + 1) (drop 8 bytes)) (sym head_is)
     ∙ ap (λ (l : List ℕ). head ++ take (k + 1) l) (sym rest_is) ∙ ap (λ (l : List ℕ). head ++ l) (up_to rest k 0 lt fill) in
-    let all : Front (record c { due = RecordHead }) (take (9 + k) bytes) (record c { due = RecordHead; named = Some b; records = records }) =
-    subst (λ (l : List ℕ). Front (record c { due = RecordHead }) l (record c { due = RecordHead; named = Some b; records = records })) (sym spelled) taken in
-    let here : Front c (take (9 + k) bytes) (record c { named = Some b; records = records }) =
-    subst (λ (d : Due). Front (record c { due = d }) (take (9 + k) bytes) (record c { due = d; named = Some b; records = records })) (sym due) all in
+    let all : Front (record c { due = RecordHead }) (take (9 + k) bytes) (record c { due = RecordHead; named = Some b; room = less_room c.room; records = records }) =
+    subst (λ (l : List ℕ). Front (record c { due = RecordHead }) l (record c { due = RecordHead; named = Some b; room = less_room c.room; records = records })) (sym spelled) taken in
+    let here : Front c (take (9 + k) bytes) (record c { named = Some b; room = less_room c.room; records = records }) =
+    subst (λ (d : Due). Front (record c { due = d }) (take (9 + k) bytes) (record c { due = d; named = Some b; room = less_room c.room; records = records })) (sym due) all in
     record {
       fits = omega (arith, len, lt);
       leads = subst (λ (x : StreamProgress). Front c (take (9 + k) bytes) x) (sym is) here;

@@ -32,3 +32,4 @@ fault_number fault.Subsection = 46
 fault_number fault.Capability = 47
 fault_number fault.PageBits = 48
 fault_number fault.Command = 49
+fault_number fault.Waiting = 64

@@ -75,7 +75,7 @@ pub record Gives (given : Settings) (text : List ℕ) (so_far : GivenSoFar) (r :
   pub is_page_size : IsPageSize given.page_size
   pub front : List ℕ
   pub has_text : text ≡ front ++ r.rest
-  pub leads : Front (start given.frame given.mode given.page_size given.limit) front (all_read so_far r.progress)
+  pub leads : Front (start given.frame given.mode given.page_size given.limit given.waiting) front (all_read so_far r.progress)
   pub ends : IfSome r.found (λ found. Ends (all_read so_far r.progress) r.rest found)
   pub has_fed : length text < 2 ^ 64 → r.fed ≡ length text
 

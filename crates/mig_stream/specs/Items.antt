@@ -139,14 +139,22 @@ passed_faults page_size (SubsectionBody Uuid) item = []
 passed_faults page_size (SubsectionBody Capabilities) item = []
 passed_faults page_size (Capability others) item = (list_any (λ name. bytes_eq (id_in item) name) layout_capabilities, fault.Capability) ∷ []
 
+-- no page record more fits into the open round
+abbrev pub is_full : Option ℕ → Bool
+is_full None = false
+is_full (Some room) = room == 0
+
 -- the tests of a record head with this page number, after that of its flags
 abbrev pub kind_faults : StreamProgress → RecordKind → ℕ → List (Bool × StreamFault)
 kind_faults c SizeList page =
     (is_some c.left, fault.SizePlace) ∷
     (page == 0 || nat_lt c.limit (page * c.page_size), fault.Total) ∷ []
-kind_faults c (Named filling) page = (is_none c.left, fault.SizePlace) ∷ []
+kind_faults c (Named filling) page =
+    (is_none c.left, fault.SizePlace) ∷
+    (is_full c.room, fault.Waiting) ∷ []
 kind_faults c (Continued filling) page =
     (is_none c.left, fault.SizePlace) ∷
+    (is_full c.room, fault.Waiting) ∷
     (is_none c.named, fault.NoBlock) ∷
     (not (has_page c.blocks c.named page), fault.OffsetOut) ∷ []
 kind_faults c EndOfSection page =
@@ -249,7 +257,7 @@ behind_passed (Capability others) item = capabilities_due others
 
 -- the records so far are a whole round
 abbrev pub end_round : StreamProgress → StreamProgress
-end_round c = record c { records = []; rounds = c.rounds ++ c.records ∷ [] }
+end_round c = record c { room = c.waiting; records = []; rounds = c.rounds ++ c.records ∷ [] }
 
 abbrev pub after_kind : StreamProgress → RecordKind → ℕ → StreamProgress
 after_kind c SizeList page = record c { due = ListEntry; left = Some (page * c.page_size) }
@@ -262,8 +270,13 @@ abbrev pub after_head : StreamProgress → Option RecordKind → ℕ → StreamP
 after_head c None page = c
 after_head c (Some kind) page = after_kind c kind page
 
+-- with a page record more in the open round
+abbrev pub less_room : Option ℕ → Option ℕ
+less_room None = None
+less_room (Some room) = Some (room - 1)
+
 abbrev pub with_record : StreamProgress → Place → Option (List ℕ) → StreamProgress
-with_record c place content = record c { due = RecordHead; records = c.records ++ record { place = place; content = content } ∷ [] }
+with_record c place content = record c { due = RecordHead; room = less_room c.room; records = c.records ++ record { place = place; content = content } ∷ [] }
 
 abbrev pub footer_of : Section → Before
 footer_of section.Start = before.Footer
@@ -274,6 +287,11 @@ abbrev pub behind_footer : Frame → Section → Due
 behind_footer frame kind = if closes frame kind then Nothing else TypeByte (footer_of kind)
 
 -- In a single stream a section is a round; in a main stream the round goes on after the footer.
+abbrev pub open_room : Mode → Option ℕ → Option ℕ → Option ℕ
+open_room mode None room = None
+open_room Single (Some waiting) room = Some waiting
+open_room Main (Some waiting) room = room
+
 abbrev pub open_records : Mode → List PageRecord → List PageRecord
 open_records Single records = []
 open_records Main records = records
@@ -285,6 +303,7 @@ whole_rounds Main rounds records = rounds
 abbrev pub end_section : StreamProgress → StreamProgress
 end_section c = record c {
   due = behind_footer c.frame c.section;
+  room = open_room c.mode c.waiting c.room;
   records = open_records c.mode c.records;
   rounds = whole_rounds c.mode c.rounds c.records;
 }

@@ -16,6 +16,7 @@ checkpoint_of c = record {
   left = c.left;
   blocks = length c.blocks;
   named = c.named;
+  room = c.room;
   records = length c.records;
   rounds = length c.rounds;
 }
@@ -32,6 +33,7 @@ pub record IsLater (old new : StreamProgress) : Type 0 where
   pub same_mode : new.mode ≡ old.mode
   pub same_page_size : new.page_size ≡ old.page_size
   pub same_limit : new.limit ≡ old.limit
+  pub same_waiting : new.waiting ≡ old.waiting
   pub more_blocks : List Block
   pub has_blocks : new.blocks ≡ old.blocks ++ more_blocks
   pub has_grown : HasGrown old new

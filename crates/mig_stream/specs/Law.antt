@@ -140,7 +140,7 @@ pub record HasFaultAt (given : Settings) (text : List ℕ) (n : ℕ) (fault : St
   pub more : List ℕ
   pub has_text : text ≡ front ++ item ++ more
   pub has_length : length front ≡ n
-  pub leads : Front (start given.frame given.mode given.page_size given.limit) front to
+  pub leads : Front (start given.frame given.mode given.page_size given.limit given.waiting) front to
   pub is_item : IsItem to.page_size to.due item
   pub has_fault : first_fault to item ≡ Some fault
 

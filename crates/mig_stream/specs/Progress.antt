@@ -11,12 +11,13 @@ use Rattle.mig_stream.specs.declared.item.Due.TheVariants as due
 use Rattle.mig_stream.specs.PageRecord.{PageRecord}
 
 pub record StreamProgress : Type 0 where
-  -- what no text tells: what it is the stream of, which stream it is, the size of a page, and the
-  -- limit on the table's total
+  -- what no byte says: what it is the stream of, which stream it is, the size of a page, the limit on
+  -- the table's total, and the most page records of an open round, or None for any number
   pub frame : Frame
   pub mode : Mode
   pub page_size : ℕ
   pub limit : ℕ
+  pub waiting : Option ℕ
   -- the item that comes next
   pub due : Due
   -- the section that is being read, and START's section id
@@ -28,23 +29,27 @@ pub record StreamProgress : Type 0 where
   pub blocks : List Block
   -- the block that a page record named last
   pub named : Option ℕ
+  -- how many page records more the round may have that isn't whole yet
+  pub room : Option ℕ
   -- the page records of the round that isn't whole yet, and the whole rounds
   pub records : List PageRecord
   pub rounds : List (List PageRecord)
 
 -- before the first byte
-abbrev pub start : Frame → Mode → ℕ → ℕ → StreamProgress
-start frame mode page_size limit = record {
+abbrev pub start : Frame → Mode → ℕ → ℕ → Option ℕ → StreamProgress
+start frame mode page_size limit waiting = record {
   frame = frame;
   mode = mode;
   page_size = page_size;
   limit = limit;
+  waiting = waiting;
   due = due.FileHeader;
   section = section.Start;
   section_id = 0;
   left = None;
   blocks = [];
   named = None;
+  room = waiting;
   records = [];
   rounds = [];
 }

@@ -67,7 +67,7 @@ pub record Stands (given : Settings) (so_far : SoFar) (r : Reader) : Type 0 wher
   pub rounds : List (List PageRecord)
   pub has_taken : length rounds ≡ so_far.taken
   pub rest : List ℕ
-  pub reads : Reads (start given.frame given.mode given.page_size given.limit) so_far.text (with_taken rounds r.progress) rest r.found
+  pub reads : Reads (start given.frame given.mode given.page_size given.limit given.waiting) so_far.text (with_taken rounds r.progress) rest r.found
   pub has_pending : r.found ≡ Reading → rest ≡ r.pending
   pub has_valid_up_to : r.valid_up_to + length rest ≡ length so_far.text
 
@@ -107,7 +107,7 @@ pub record HasFront (given : Settings) (text : List ℕ) (n : ℕ) : Type 0 wher
   pub rest : List ℕ
   pub has_text : text ≡ front ++ rest
   pub has_length : length front ≡ n
-  pub leads : Front (start given.frame given.mode given.page_size given.limit) front to
+  pub leads : Front (start given.frame given.mode given.page_size given.limit given.waiting) front to
 
 -- The text is read to its first n bytes: these are its longest front of whole items without a
 -- fault. Where it is bad, the item at fault begins after them.
@@ -115,7 +115,7 @@ pub record IsValidUpTo (given : Settings) (text : List ℕ) (n : ℕ) : Type 0 w
   pub to : StreamProgress
   pub rest : List ℕ
   pub state : StreamState
-  pub reads : Reads (start given.frame given.mode given.page_size given.limit) text to rest state
+  pub reads : Reads (start given.frame given.mode given.page_size given.limit given.waiting) text to rest state
   pub has_length : length reads.front ≡ n
 
 -- where the text is closed, if it is

@@ -63,25 +63,30 @@ pub record StreamReading : Type 0 where
   pub rounds : List (List PageRecord)
   pub state : StreamState
 
--- what no text tells: what it is the stream of, which stream it is, the size of a page, and the
--- limit on the table's total
+-- what no byte says: what it is the stream of, which stream it is, the size of a page, the limit on
+-- the table's total, and the most page records of an open round, or None for any number
 pub record Settings : Type 0 where
   pub frame : Frame
   pub mode : Mode
   pub page_size : ℕ
   pub limit : ℕ
+  pub waiting : Option ℕ
 
--- as a caller hands them in, for RAM's sections alone
+-- as a caller passes them, for RAM's sections alone
 abbrev pub settings : Mode → ℕ → ℕ → Settings
-settings mode page_size limit = record { frame = Ram; mode = mode; page_size = page_size; limit = limit }
+settings mode page_size limit = record { frame = Ram; mode = mode; page_size = page_size; limit = limit; waiting = None }
 
 -- these settings, for a stream of this frame
 abbrev pub in_frame : Frame → Settings → Settings
 in_frame frame given = record given { frame = frame }
 
+-- these settings, with at most so many page records in an open round
+abbrev pub with_waiting : Option ℕ → Settings → Settings
+with_waiting waiting given = record given { waiting = waiting }
+
 pub record IsReading (given : Settings) (text : List ℕ) (reading : StreamReading) : Type 0 where
   pub to : StreamProgress
   pub rest : List ℕ
-  pub reads : Reads (start given.frame given.mode given.page_size given.limit) text to rest reading.state
+  pub reads : Reads (start given.frame given.mode given.page_size given.limit given.waiting) text to rest reading.state
   pub has_table : reading.table ≡ whole_table to
   pub has_rounds : reading.rounds ≡ to.rounds

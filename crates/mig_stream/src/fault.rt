@@ -68,6 +68,8 @@ pub enum StreamFault {
     PageBits,
     /// A COMMAND has another number than those that are passed over.
     Command,
+    /// A section, or a round of a main stream, has more page records than may wait.
+    Waiting,
 }
 
 impl StreamFault {
@@ -104,6 +106,7 @@ impl StreamFault {
             StreamFault::Capability => 47,
             StreamFault::PageBits => 48,
             StreamFault::Command => 49,
+            StreamFault::Waiting => 64,
         }
     }
 
@@ -141,6 +144,7 @@ impl StreamFault {
             StreamFault::Capability => "a capability changes the layout of RAM's section",
             StreamFault::PageBits => "the configuration's page bits don't match the page size",
             StreamFault::Command => "this COMMAND isn't one that is passed over",
+            StreamFault::Waiting => "more page records than may wait for their round's end",
         }
     }
 }

@@ -14,7 +14,7 @@ ghost use Rattle.mig_mem.specs.Place.{IsPlace};
 ghost use Rattle.mig_stream.specs.declared.item.Mode.TheVariants.{Single};
 ghost use Rattle.mig_stream.specs.declared.item.StreamState.TheVariants as state;
 ghost use Rattle.mig_stream.specs.Progress.{whole_table};
-ghost use Rattle.mig_stream.specs.Reading.{settings, in_frame, Settings, Ends};
+ghost use Rattle.mig_stream.specs.Reading.{settings, in_frame, with_waiting, Settings, Ends};
 ghost use Rattle.mig_stream.specs.Reader.{HasTable, HasFront, IsValidUpTo, IsUnfinished};
 ghost use Rattle.mig_stream.specs.Giving.{none_given, with_given, Gives, GivesOn, left, LeavesLess, GiverTells, EndsSo, TellsFound, IsBehind, GivenSoFar, LeavesNone, HasNoneLeft, IsUnread, PausesAt, PauseTells};
 ghost use Rattle.mig_stream.specs.Taking.{HasTaken, HasTakenTo};
@@ -179,8 +179,24 @@ impl<A: Allocator + Copy> Pause<A> {
         requires limit { limit ≤ 2 ^ 40 }
         ensures pauses { PausesAt (in_frame frame (settings Single page_size limit)) [] none_given result }
     {
+        Pause::new_within(alloc, frame, page_size, limit, None)
+    }
+
+    /// Creates the pause before the first byte as `new_in` does, with at most `waiting` page records
+    /// in a section. One more is the fault `Waiting`. `None` is any number.
+    pub fn new_within(
+        alloc: A,
+        frame: Frame,
+        page_size: u64,
+        limit: u64,
+        waiting: Option<u64>,
+    ) -> Pause<A>
+        requires page_size { IsPageSize page_size }
+        requires limit { limit ≤ 2 ^ 40 }
+        ensures pauses { PausesAt (with_waiting waiting (in_frame frame (settings Single page_size limit))) [] none_given result }
+    {
         Pause {
-            progress: Progress::new(alloc, frame, Mode::Single, page_size, limit),
+            progress: Progress::new(alloc, frame, Mode::Single, page_size, limit, waiting),
             pending: Vec::new(alloc),
             fed: 0,
         }
@@ -267,7 +283,26 @@ impl<'a, A: Allocator + Copy> RecordReader<'a, A> {
         ensures left { left result ≡ 2 * length text.now + 1 }
         ensures given { result.given ≡ record { page_size = page_size; records = [] } }
     {
-        let progress = Progress::new(alloc, frame, Mode::Single, page_size, limit);
+        RecordReader::new_within(alloc, frame, page_size, limit, None, text)
+    }
+
+    /// Creates a reader of `text` as `new_in` does, with at most `waiting` page records in a section.
+    /// One more is the fault `Waiting`. `None` is any number.
+    pub fn new_within(
+        alloc: A,
+        frame: Frame,
+        page_size: u64,
+        limit: u64,
+        waiting: Option<u64>,
+        text: &'a [u8],
+    ) -> RecordReader<'a, A>
+        requires page_size { IsPageSize page_size }
+        requires limit { limit ≤ 2 ^ 40 }
+        ensures gives { Gives (with_waiting waiting (in_frame frame (settings Single page_size limit))) text.now none_given result }
+        ensures left { left result ≡ 2 * length text.now + 1 }
+        ensures given { result.given ≡ record { page_size = page_size; records = [] } }
+    {
+        let progress = Progress::new(alloc, frame, Mode::Single, page_size, limit, waiting);
         RecordReader {
             progress,
             pending: Vec::new(alloc),

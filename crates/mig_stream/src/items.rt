@@ -8,7 +8,7 @@ ghost use Rattle.mig_mem.specs.PageSize.{IsPageSize};
 ghost use Rattle.mig_stream.specs.declared.item.Due.TheVariants as due;
 ghost use Rattle.mig_stream.specs.declared.item.RecordKind.TheVariants as kind;
 ghost use Rattle.mig_stream.specs.declared.item.Filling.TheVariants as filling;
-ghost use Rattle.mig_stream.specs.Items.{is_allowed, is_passed, closes, passed_size, passed_by, is_passed_command, behind_command, subsection_of, body_of, capabilities_due, behind_footer, record_kind, end_round};
+ghost use Rattle.mig_stream.specs.Items.{is_allowed, is_passed, closes, passed_size, passed_by, is_passed_command, behind_command, subsection_of, body_of, capabilities_due, behind_footer, record_kind, end_round, is_full, less_room, open_room};
 ghost use Rattle.std.specs.List.{list_any};
 ghost use Rattle.std.specs.Str.{bytes_eq};
 ghost use Rattle.mig_stream.specs.Format.{layout_capabilities};
@@ -174,6 +174,9 @@ impl<'a, A: Allocator> Progress<'a, A> {
         if self.entries.left().is_none() {
             return Err(Stop::Fault(StreamFault::SizePlace));
         }
+        if is_full(self.room) {
+            return Err(Stop::Fault(StreamFault::Waiting));
+        }
         self.due = Due::BlockName(filling, page);
         Ok(())
     }
@@ -183,6 +186,9 @@ impl<'a, A: Allocator> Progress<'a, A> {
     {
         if self.entries.left().is_none() {
             return Err(Stop::Fault(StreamFault::SizePlace));
+        }
+        if is_full(self.room) {
+            return Err(Stop::Fault(StreamFault::Waiting));
         }
         let Some(block) = self.named else {
             return Err(Stop::Fault(StreamFault::NoBlock));
@@ -225,6 +231,7 @@ impl<'a, A: Allocator> Progress<'a, A> {
             return Err(Stop::Fault(StreamFault::Fill(item[0])));
         }
         self.records.push_zeros(place)?;
+        self.room = less_room(self.room);
         self.due = Due::RecordHead;
         Ok(())
     }
@@ -257,6 +264,7 @@ impl<'a, A: Allocator + Copy> Progress<'a, A> {
         let none = Records::new(*self.rounds.allocator());
         let records = mem::replace(&mut self.records, none);
         self.rounds.push_back_reserved(records);
+        self.room = self.waiting;
         self.filling = 0;
         Ok(())
     }
@@ -314,6 +322,7 @@ impl<'a, A: Allocator + Copy> Progress<'a, A> {
         // for what `page_size` tells of itself: it is at most 8,192
         let _page_size = self.entries.page_size();
         self.filling = self.records.push_page(self.filling, place, item)?;
+        self.room = less_room(self.room);
         self.due = Due::RecordHead;
         Ok(())
     }
@@ -332,6 +341,7 @@ impl<'a, A: Allocator + Copy> Progress<'a, A> {
         if self.mode == Mode::Single {
             self.end_round()?;
         }
+        self.room = open_room(self.mode, self.waiting, self.room);
         self.due = behind_footer(self.frame, self.section);
         Ok(())
     }
@@ -532,6 +542,39 @@ pub(crate) fn split_head(head: u64, page_size: u64) -> (u64, u16)
         (head / PAGE_SIZE_4K, (head % PAGE_SIZE_4K) as u16)
     } else {
         (head / PAGE_SIZE_8K, (head % PAGE_SIZE_8K) as u16)
+    }
+}
+
+// Returns whether no page record more fits into the open round.
+#[inline(always)]
+pub(crate) fn is_full(room: Option<u64>) -> bool
+    ensures { result ≡ is_full room }
+{
+    match room {
+        Some(room) => room == 0,
+        None => false,
+    }
+}
+
+// Returns the room for page records after a footer.
+fn open_room(mode: Mode, waiting: Option<u64>, room: Option<u64>) -> Option<u64>
+    ensures { result ≡ open_room mode waiting room }
+{
+    match (waiting, mode) {
+        (None, _) => None,
+        (Some(waiting), Mode::Single) => Some(waiting),
+        (Some(_), Mode::Main) => room,
+    }
+}
+
+// Returns the room for page records after one more.
+#[inline(always)]
+pub(crate) fn less_room(room: Option<u64>) -> Option<u64>
+    ensures { result ≡ less_room room }
+{
+    match room {
+        Some(room) => Some(room.saturating_sub(1)),
+        None => None,
     }
 }
 

@@ -5,7 +5,7 @@ ghost use Rattle.std.specs.Option.{option_copied};
 ghost use Rattle.mig_mem.specs.PageSize.{IsPageSize};
 ghost use Rattle.mig_stream.specs.declared.item.Due.TheVariants as due;
 ghost use Rattle.mig_stream.specs.Progress.{StreamProgress, start, whole_table};
-ghost use Rattle.mig_stream.specs.Items.{size, passed_size};
+ghost use Rattle.mig_stream.specs.Items.{size, passed_size, less_room};
 ghost use Rattle.mig_stream.specs.Reading.{IsItem, Ends, Reads};
 ghost use Rattle.mig_stream.specs.Taking.{TakesAs, HasTaken, HasTakenTo};
 ghost use Rattle.mig_stream.specs.Entries.{AreListed};
@@ -15,6 +15,7 @@ ghost use Rattle.mig_stream.specs.Reader.{with_taken};
 
 use crate::entries::Entries;
 use crate::item::{Due, Filling, Frame, Mode, PassedItem, Section, StreamState, Subsection};
+use crate::items::less_room;
 use crate::piece::Piece;
 use crate::round::{Records, StreamRound};
 use crate::stop::Stop;
@@ -37,6 +38,9 @@ pub(crate) struct Progress<'a, A: Allocator> {
     pub(crate) section: Section,
     pub(crate) section_id: u32,
     pub(crate) named: Option<usize>,
+    // the most page records of a round, and how many more the open one may have: None is any number
+    pub(crate) waiting: Option<u64>,
+    pub(crate) room: Option<u64>,
     // the records of the round that isn't whole yet, and the whole rounds that were not given away
     pub(crate) records: Records<'a, A>,
     // the record whose buffer is being filled, if there is one
@@ -57,12 +61,14 @@ impl<'a, A: Allocator> Model for Progress<'a, A> {
       mode = c.mode;
       page_size = c.entries.page_size;
       limit = c.entries.limit;
+      waiting = c.waiting;
       due = c.due;
       section = c.section;
       section_id = c.section_id;
       left = c.entries.left;
       blocks = c.entries.blocks;
       named = c.named;
+      room = c.room;
       records = c.records;
       rounds = c.rounds.items;
     } };
@@ -80,6 +86,7 @@ pub(crate) struct Checkpoint {
     left: Option<u64>,
     blocks: usize,
     named: Option<usize>,
+    room: Option<u64>,
     records: usize,
     rounds: usize,
 }
@@ -92,10 +99,11 @@ impl<'a, A: Allocator + Copy> Progress<'a, A> {
         mode: Mode,
         page_size: u64,
         limit: u64,
+        waiting: Option<u64>,
     ) -> Progress<'a, A>
         requires page_size { IsPageSize page_size }
         requires limit { limit ≤ 2 ^ 40 }
-        ensures { result ≡ start frame mode page_size limit }
+        ensures { result ≡ start frame mode page_size limit waiting }
     {
         Progress {
             frame,
@@ -105,6 +113,8 @@ impl<'a, A: Allocator + Copy> Progress<'a, A> {
             section: Section::Start,
             section_id: 0,
             named: None,
+            waiting,
+            room: waiting,
             records: Records::new(alloc),
             filling: 0,
             rounds: VecDeque::new(alloc),
@@ -113,8 +123,9 @@ impl<'a, A: Allocator + Copy> Progress<'a, A> {
 
     /// Goes on after the content of a page, whose record isn't kept here.
     pub(crate) fn pass_page(&mut self)
-        ensures { self.new ≡ record self.old { due = due.RecordHead } }
+        ensures { self.new ≡ record self.old { due = due.RecordHead; room = less_room self.old.room } }
     {
+        self.room = less_room(self.room);
         self.due = Due::RecordHead;
     }
 
@@ -133,6 +144,8 @@ impl<'a, A: Allocator + Copy> Progress<'a, A> {
             section: self.section,
             section_id: self.section_id,
             named: self.named,
+            waiting: self.waiting,
+            room: self.room,
             records: Records::new(alloc),
             filling: 0,
             rounds: VecDeque::new(alloc),
@@ -331,6 +344,7 @@ impl<'a, A: Allocator> Progress<'a, A> {
             left: self.entries.left(),
             blocks: self.entries.len(),
             named: self.named,
+            room: self.room,
             records: self.records.len(),
             rounds: self.rounds.len(),
         }
@@ -345,6 +359,7 @@ impl<'a, A: Allocator> Progress<'a, A> {
         self.section = checkpoint.section;
         self.section_id = checkpoint.section_id;
         self.named = checkpoint.named;
+        self.room = checkpoint.room;
         self.entries.go_back(checkpoint.left, checkpoint.blocks);
         if let Some(records) = self.rounds.remove(checkpoint.rounds) {
             let _others = mem::replace(&mut self.records, records);

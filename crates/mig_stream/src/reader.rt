@@ -13,7 +13,7 @@ ghost use Rattle.mig_stream.specs.declared.item.StreamState.TheVariants as state
 ghost use Rattle.mig_stream.specs.PageRecord.{PageRecord};
 ghost use Rattle.mig_stream.specs.Items.{size};
 ghost use Rattle.mig_stream.specs.Taking.{HasTaken};
-ghost use Rattle.mig_stream.specs.Reading.{settings, in_frame, state_at};
+ghost use Rattle.mig_stream.specs.Reading.{settings, in_frame, with_waiting, state_at};
 ghost use Rattle.mig_stream.specs.Kept.{bytes_of};
 ghost use Rattle.mig_stream.specs.Reader.{IsUnfinished, ReadsOn, nothing_yet, with_piece, over, one_taken, Stands, StepsOn, Tells, waiting, HasState, IsSettled, IsValidUpTo, HasClosedAt, HasTable, HasRound};
 
@@ -184,8 +184,28 @@ impl<'a, A: Allocator + Copy> StreamReader<'a, A> {
         ensures open { IsFalse result.ended }
         ensures fed { result.fed ≡ 0 }
     {
+        StreamReader::new_within(alloc, frame, mode, page_size, limit, None)
+    }
+
+    /// Creates a reader as `new_in` does, which keeps at most `waiting` page records: so many may a
+    /// section of a single stream have, or a round of a main stream. One more is the fault
+    /// `Waiting`. `None` is any number.
+    pub fn new_within(
+        alloc: A,
+        frame: Frame,
+        mode: Mode,
+        page_size: u64,
+        limit: u64,
+        waiting: Option<u64>,
+    ) -> StreamReader<'a, A>
+        requires page_size { IsPageSize page_size }
+        requires limit { limit ≤ 2 ^ 40 }
+        ensures stands { Stands (with_waiting waiting (in_frame frame (settings mode page_size limit))) nothing_yet result }
+        ensures open { IsFalse result.ended }
+        ensures fed { result.fed ≡ 0 }
+    {
         StreamReader {
-            progress: Progress::new(alloc, frame, mode, page_size, limit),
+            progress: Progress::new(alloc, frame, mode, page_size, limit, waiting),
             pending: Vec::new(alloc),
             found: StreamState::Reading,
             valid_up_to: 0,
@@ -233,7 +253,32 @@ impl<'a, A: Allocator + Copy> StreamReader<'a, A> {
         ensures open { IfOk result (λ r. IsFalse r.ended) }
         ensures fed { IfOk result (λ r. r.fed ≡ length text.now) }
     {
-        let mut progress = Progress::new(alloc, frame, mode, page_size, limit);
+        StreamReader::of_text_within(alloc, frame, mode, page_size, limit, None, text)
+    }
+
+    /// Creates a reader that was fed `text` as `of_text_in` does, with at most `waiting` page records
+    /// in a section, or in a round of a main stream. One more is the fault `Waiting`. `None` is any
+    /// number.
+    ///
+    /// # Errors
+    ///
+    /// `NoMemory`: an allocation was refused.
+    pub fn of_text_within(
+        alloc: A,
+        frame: Frame,
+        mode: Mode,
+        page_size: u64,
+        limit: u64,
+        waiting: Option<u64>,
+        text: &'a [u8],
+    ) -> Result<StreamReader<'a, A>, NoMemory>
+        requires page_size { IsPageSize page_size }
+        requires limit { limit ≤ 2 ^ 40 }
+        ensures stands { IfOk result (λ r. Stands (with_waiting waiting (in_frame frame (settings mode page_size limit))) (with_piece text.now nothing_yet) r) }
+        ensures open { IfOk result (λ r. IsFalse r.ended) }
+        ensures fed { IfOk result (λ r. r.fed ≡ length text.now) }
+    {
+        let mut progress = Progress::new(alloc, frame, mode, page_size, limit, waiting);
         let mut pending = Vec::new(alloc);
         let (found, left) = read_in_place(&mut progress, &mut pending, Piece::Staying(text))?;
         Ok(StreamReader {

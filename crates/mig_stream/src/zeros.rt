@@ -7,14 +7,14 @@
 ghost use Rattle.std.specs.Prelude.{◌≡◌, ◌+◌, ◌<◌, ◌≤◌, ◌++◌, [], ◌∷◌, false, is_none, length, slice_index, Some, None, IfOk, IfSome, OnOk, OnErr};
 ghost use Rattle.mig_mem.specs.RamTable.{block, block_of};
 ghost use Rattle.mig_stream.specs.declared.item.Due.TheVariants as due;
-ghost use Rattle.mig_stream.specs.Items.{id_in};
+ghost use Rattle.mig_stream.specs.Items.{id_in, is_full, less_room};
 ghost use Rattle.mig_stream.specs.Kept.{bytes_of, IsShort};
 ghost use Rattle.mig_stream.specs.Taking.{HasTaken, HasTakenTo, HasTakenRecords};
 
 use crate::fields::be64;
 use crate::format::{CONTINUED_ZERO, RAM_SAVE_FLAG_ZERO};
 use crate::item::Due;
-use crate::items::split_head;
+use crate::items::{is_full, less_room, split_head};
 use crate::piece::Piece;
 use crate::progress::Progress;
 use mig_mem::{NoMemory, Place};
@@ -106,7 +106,11 @@ impl<'a, A: Allocator> Progress<'a, A> {
         let mut at = 0;
         'records: while CONTINUED_LEN <= bytes.len() - at {
             let (page, flags) = split_head(be64(bytes, at), page_size);
-            if flags != CONTINUED_ZERO || page >= pages || bytes[at + HEAD_LEN] != 0 {
+            if flags != CONTINUED_ZERO
+                || page >= pages
+                || bytes[at + HEAD_LEN] != 0
+                || is_full(self.room)
+            {
                 break;
             }
             self.add_zeros(Place { block, page })?;
@@ -143,7 +147,7 @@ impl<'a, A: Allocator> Progress<'a, A> {
         ensures ok { IfOk result (λ n. HasTakenRecords self.old bytes.now n self.new) }
         ensures err { OnErr result (self.new ≡ self.old) }
     {
-        if bytes.len() <= HEAD_LEN {
+        if bytes.len() <= HEAD_LEN || is_full(self.room) {
             return Ok(0);
         }
         let (head, rest) = bytes.split_at(HEAD_LEN);
@@ -181,9 +185,11 @@ impl<'a, A: Allocator> Progress<'a, A> {
     #[inline(always)]
     fn add_zeros(&mut self, place: Place) -> Result<(), NoMemory>
         requires { IsShort place }
-        ensures ok { OnOk result (self.new ≡ record self.old { records = self.old.records ++ record { place = place; content = None } ∷ [] }) }
+        ensures ok { OnOk result (self.new ≡ record self.old { room = less_room self.old.room; records = self.old.records ++ record { place = place; content = None } ∷ [] }) }
         ensures err { OnErr result (self.new ≡ self.old) }
     {
-        self.records.push_zeros(place)
+        self.records.push_zeros(place)?;
+        self.room = less_room(self.room);
+        Ok(())
     }
 }

@@ -41,4 +41,6 @@ mod texts;
 #[cfg(test)]
 mod valid;
 #[cfg(test)]
+mod waiting;
+#[cfg(test)]
 mod wanted;

@@ -16,9 +16,9 @@ pieces-init g c =
     let text = c.args.text.now in
     let table : RamTable = c.in-Some.table.now in
     let e = c.in_ok-gave.ensures in
-    let step : Gave c.in_ok-gave.gave c.new_in-reader.result c.read_on.new.self = record { ok = e.ok; page_size = e.page_size; places = e.places; end = e.end; less = e.less } in
-    let has = c.in-Some.ensures.table (single_of given) text _ (e.ok (single_of given) text none_given c.new_in-reader.ensures.gives) in
-    (table, put_first given text table c.in_ok-gave.gave c.new_in-reader.result c.read_on.new.self c.in_ok-memory.memory c.requires.page_size c.new_in-reader.ensures.gives c.new_in-reader.ensures.left step has c.in_ok-memory.ensures)
+    let step : Gave c.in_ok-gave.gave c.new_within-reader.result c.read_on.new.self = record { ok = e.ok; page_size = e.page_size; places = e.places; end = e.end; less = e.less } in
+    let has = c.in-Some.ensures.table (single_of given) text _ (e.ok (single_of given) text none_given c.new_within-reader.ensures.gives) in
+    (table, put_first given text table c.in_ok-gave.gave c.new_within-reader.result c.read_on.new.self c.in_ok-memory.memory c.requires.page_size c.new_within-reader.ensures.gives c.new_within-reader.ensures.left step has c.in_ok-memory.ensures)
 
 pub put_records-requires : goal.put_records-requires
 put_records-requires g c =

@@ -1,7 +1,7 @@
 use Rattle.std.proofs.Common.{◌≡◌, ℕ, [], sym, ap, subst, ◌∙◌}
 use Rattle.mig_mem.specs.RamTable.{RamTable, IsTable}
 use Rattle.mig_stream.specs.declared.item.Mode.TheVariants.{Single}
-use Rattle.mig_stream.specs.Reading.{settings, in_frame}
+use Rattle.mig_stream.specs.Reading.{settings, in_frame, with_waiting}
 use Rattle.mig_stream.specs.Giving.{none_given, PausesAt}
 use Rattle.mig_single_load.specs.Eager.{settings_for}
 use Rattle.mig_single_load.proofs.Eager.{eager_first}
@@ -11,6 +11,6 @@ pub returns-clause-loads : goal.returns-clause-loads
 returns-clause-loads g c = λ first image same.
     let is : IsTable first.table = subst IsTable (sym same) c.keeps_limits.ensures in
     let size : c.page_size-page_size.result ≡ first.table.page_size = c.page_size-page_size.ensures ∙ ap (λ (t : RamTable). t.page_size) (sym same) in
-    let at : PausesAt (settings_for first.table c.args.settings) [] none_given c.new_in.result =
-    subst (λ (n : ℕ). PausesAt (in_frame c.args.settings.frame (settings Single n c.args.settings.limit)) [] none_given c.new_in.result) size c.new_in.ensures.pauses in
-    eager_first c.args.settings first c.new_in.result c.in_ok-table.table is image (same ∙ sym c.in_ok-table.ensures) at
+    let at : PausesAt (settings_for first.table c.args.settings) [] none_given c.new_within.result =
+    subst (λ (n : ℕ). PausesAt (with_waiting c.args.settings.waiting (in_frame c.args.settings.frame (settings Single n c.args.settings.limit))) [] none_given c.new_within.result) size c.new_within.ensures.pauses in
+    eager_first c.args.settings first c.new_within.result c.in_ok-table.table is image (same ∙ sym c.in_ok-table.ensures) at

@@ -1,9 +1,10 @@
-use Rattle.std.proofs.Common.{◌≡◌, ◌+◌, ◌<◌, ◌≤◌, ◌/◌, ◌%◌, ℕ, List, drop, length, Some, Option, refl, sym, ap, subst, ◌∙◌, arith}
+use Rattle.std.proofs.Common.{◌≡◌, ◌+◌, ◌<◌, ◌≤◌, ◌/◌, ◌%◌, ℕ, false, List, drop, length, Some, Option, refl, sym, ap, subst, ◌∙◌, arith}
 use Rattle.std.specs.Prelude.{is_none}
 use Rattle.mig_stream.proofs.Writing.{on_err}
 use Rattle.mig_mem.specs.RamTable.{Block, block}
 use Rattle.mig_stream.specs.Fields.{be64_at}
 use Rattle.mig_stream.specs.Progress.{StreamProgress}
+use Rattle.mig_stream.specs.Items.{is_full}
 use Rattle.mig_stream.specs.Taking.{HasTakenRecords}
 use Rattle.mig_stream.proofs.ZeroRecords.{records_more, records_stop, nothing_more, continued_taken}
 use Rattle.mig_stream.proofs.progress.Progress.continued_zeros.Goals as goal
@@ -34,9 +35,11 @@ records-preserved g c =
     let number : be64_at at bytes / mid.page_size ≡ page =
     sym (c.split_head-page.ensures.page ∙ ap (λ (n : ℕ). n / c.page_size-page_size.result) c.be64.ensures ∙ ap (λ (n : ℕ). be64_at at bytes / n) size) in
     let in_range : page < (block mid.blocks b).pages = subst (λ (n : ℕ). page < n) pages c.if-page-pages.false in
+    let free : is_full mid.room ≡ false =
+    sym (ap (λ (x : StreamProgress). is_full x.room) c.self-in-records.view_is) ∙ sym c.is_full.ensures ∙ c.if-is_full.false in
     let fits : at + 9 ≤ length bytes = omega arith in
     let one : HasTakenRecords mid (drop at bytes) 9 new =
-    continued_taken mid new bytes at b page fits before.is_due (ap (λ (o : Option ℕ). is_none o) before.same_left ∙ c.requires.begun) named flags number in_range c.if-bytes-at-ne0.false c.in_ok-add_zeros.ensures.ok in (
+    continued_taken mid new bytes at b page fits before.is_due (ap (λ (o : Option ℕ). is_none o) before.same_left ∙ c.requires.begun) free named flags number in_range c.if-bytes-at-ne0.false c.in_ok-add_zeros.ensures.ok in (
       records_more old mid new bytes (drop at bytes) at 9 before refl one,
       ap (λ (x : StreamProgress). x.named) c.in_ok-add_zeros.ensures.ok ∙ c.records.invariant.1,
     )

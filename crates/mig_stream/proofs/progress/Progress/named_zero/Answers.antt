@@ -1,7 +1,8 @@
-use Rattle.std.proofs.Common.{◌≡◌, ◌<◌, ◌/◌, ◌%◌, ℕ, Some, refl, sym, ap, subst, ◌∙◌}
+use Rattle.std.proofs.Common.{◌≡◌, ◌<◌, ◌/◌, ◌%◌, ℕ, false, Some, refl, sym, ap, subst, ◌∙◌}
 use Rattle.mig_mem.specs.RamTable.{block}
 use Rattle.mig_stream.specs.Fields.{be64_at}
 use Rattle.mig_stream.specs.Progress.{StreamProgress}
+use Rattle.mig_stream.specs.Items.{is_full}
 use Rattle.mig_stream.proofs.ZeroRecords.{named_taken}
 use Rattle.mig_stream.proofs.progress.Progress.named_zero.Goals as goal
 
@@ -17,6 +18,8 @@ returns-clause-ok g c =
     sym (c.in-Some.ensures.page.0 ∙ c.split_head-page.ensures.page ∙ ap (λ (n : ℕ). n / c.page_size.result) c.be64.ensures ∙ ap (λ (n : ℕ). be64_at 0 head / n) size) in
     let in_range : place.page < (block old.blocks place.block).pages =
     subst (λ (n : ℕ). n < (block old.blocks place.block).pages) (sym c.in-Some.ensures.page.0) c.in-Some.ensures.page.1 in
+    let room : is_full old.room ≡ false =
+    sym (ap (λ (x : StreamProgress). is_full x.room) c.self.view_is) ∙ sym c.is_full.ensures ∙ c.if-is_full.false in
     named_taken old _ c.args.bytes.now head c.split_at.result.1.now _ place.block place.page c.split_at.ensures.front c.split_at.ensures.back c.if-rest-name_len.false c.requires.due c.requires.begun
-    flags number in_range refl c.in-Some.ensures.block c.if-rest-name_len-ne0.false
+    room flags number in_range refl c.in-Some.ensures.block c.if-rest-name_len-ne0.false
     (ap (λ (x : StreamProgress). record x { named = Some place.block }) (c.self-2.view_is ∙ c.in_ok-add_zeros.ensures.ok))
