@@ -1,5 +1,5 @@
 -- What was sent on several channels is loaded, as the single stream of the same rounds is.
-use Rattle.std.proofs.Common.{ℕ, ◌≡◌, ◌+◌, ◌<◌, ◌≤◌, true, false, List, [], ◌∷◌, length, map, refl, sym, ap, ◌∙◌, Option, Some, None, subst}
+use Rattle.std.proofs.Common.{ℕ, ◌≡◌, ◌+◌, ◌<◌, ◌≤◌, true, false, List, [], ◌∷◌, ◌++◌, length, map, replicate, refl, sym, ap, ◌∙◌, Option, Some, None, subst}
 use Rattle.std.specs.Option.{option_map, option_and_then}
 use Rattle.std.specs.List.{All, list_all, list_any, range_with_len}
 use Rattle.std.proofs.lemmas.List.{length-map}
@@ -11,12 +11,17 @@ use Rattle.mig_mem.specs.Place.{IsPlace}
 use Rattle.mig_mem.specs.Image.{Image}
 use Rattle.mig_mem.specs.Round.{after, round_of, IsRound}
 use Rattle.mig_mem.proofs.Rounds.{image_round}
-use Rattle.mig_stream.specs.Reading.{StreamReading}
+use Rattle.mig_stream.specs.declared.item.Frame.{Frame}
+use Rattle.mig_stream.specs.declared.item.Frame.TheVariants.{Ram, Machine}
+use Rattle.mig_stream.specs.declared.item.Mode.TheVariants.{Main}
+use Rattle.mig_stream.specs.Reading.{StreamReading, IsReading, in_frame, settings}
+use Rattle.mig_stream.specs.Law.{closed}
 use Rattle.mig_stream.specs.Text.{total_bytes}
 use Rattle.mig_stream.specs.Written.{single}
 use Rattle.mig_send.specs.DealtRounds.{DealtRound, IsDealtRound}
-use Rattle.mig_send.specs.ReadBack.{SendingsAreReadBack}
+use Rattle.mig_send.specs.ReadBack.{SendingsAreReadBack, MachineSendingsAreReadBack}
 use Rattle.mig_single_load.specs.Settings.{ram_settings}
+use Rattle.mig_single_load.specs.declared.settings.LoadSettings.{LoadSettings}
 use Rattle.mig_single_load.specs.declared.loaded.Loaded.{Loaded}
 use Rattle.mig_answer.specs.declared.verdict.Verdict.{Verdict}
 use Rattle.mig_answer.specs.declared.verdict.Verdict.TheVariants.{Done}
@@ -25,18 +30,19 @@ use Rattle.mig_answer.specs.declared.status.Status.TheVariants.{Whole, Clean}
 use Rattle.mig_answer.specs.Status.{is_whole, is_clean, is_pending, fault_of}
 use Rattle.mig_answer.specs.Texts.{ended_texts, Readings, AreReadings}
 use Rattle.mig_answer.specs.Rounds.{refusal_of, refusal_at, pages_at, memory_at}
-use Rattle.mig_answer.specs.MultiLoad.{Standing, main_at, channels_at, sources_at, passes, IsFirstStop, failed_with_own, verdict_at, Answer}
+use Rattle.mig_answer.specs.MultiLoad.{Standing, main_at, channels_at, sources_at, passes, IsFirstStop, failed_with_own, verdict_at, Answer, IsAnswer}
 use Rattle.mig_mem.specs.First.{first_some}
-use Rattle.mig_answer.specs.Sent.{IsSentInAnyOrder, sent_rounds, sent_answer, SendingsAreLoaded, ChannelsLoadAsOneStream}
+use Rattle.mig_answer.specs.Sent.{IsSentInAnyOrder, IsMachineSentInAnyOrder, sent_rounds, sent_answer, SendingsAreLoaded, MachineSendingsAreLoaded, ChannelsLoadAsOneStream}
 use Rattle.mig_single_load.proofs.Sections.{sent_answer_is}
 use Rattle.mig_answer.proofs.Statuses.{all_pass}
 use Rattle.mig_answer.proofs.OneAnswer.{is_answer_at}
 use Rattle.mig_answer.proofs.Dealt.{is_brought}
-use Rattle.mig_answer.proofs.Sent.{told_of, Stands, whole_below, clean_at_end, hellos_differ}
+use Rattle.mig_answer.proofs.Sent.{framed, IsReadAsSent, told_of, Stands, whole_below, clean_at_end, hellos_differ}
 use Rattle.mig_answer.proofs.SentRounds.{AreOfSending, round_at, no_round, fits, lawful_round, memory_is}
 use Rattle.mig_stream.proofs.WrittenText.{written_main}
+use Rattle.mig_stream.proofs.WrittenMachine.{machine_mains}
 use Rattle.mig_stream.proofs.SpelledText.{spelled_law}
-use Rattle.mig_send.proofs.ReadBack.{sendings_are_read_back}
+use Rattle.mig_send.proofs.ReadBack.{sendings_are_read_back, machine_sendings_are_read_back}
 
 -- ---- each round passes, and then all is done
 
@@ -83,11 +89,11 @@ stops table limit channels rounds readings is =
 
 -- ---- the law
 
-pub of_sending : SendingsAreReadBack → (table : RamTable) (uuid : List ℕ) (limit : ℕ) (rounds : List DealtRound) (main : List ℕ) (channels : List (List ℕ)) (readings : Readings)
-    → (sent : IsSentInAnyOrder table uuid rounds main channels) → total_bytes table ≤ limit → AreReadings (ram_settings table.page_size limit) uuid (ended_texts main channels) readings
+of_read : (frame : Frame) (table : RamTable) (uuid : List ℕ) (limit : ℕ) (rounds : List DealtRound) (main : List ℕ) (channels : List (List ℕ)) (readings : Readings)
+    → (sent : IsReadAsSent frame table uuid limit rounds main channels) → AreReadings (framed frame table.page_size limit) uuid (ended_texts main channels) readings
     → AreOfSending table sent.batch_limit (length channels) rounds readings
-of_sending back table uuid limit rounds main channels readings sent room are = record {
-  told = told_of back table uuid limit rounds main channels readings sent room are;
+of_read frame table uuid limit rounds main channels readings sent are = record {
+  told = told_of frame table uuid limit rounds main channels readings sent are;
   are_dealt = sent.is_sending.are_dealt;
   are_numbered = sent.is_sending.are_numbered;
   are_brought = λ k below. is_brought table sent.batch_limit (length channels) (round_at table rounds k) sent.is_sending.is_set.has_limit.1
@@ -95,19 +101,74 @@ of_sending back table uuid limit rounds main channels readings sent room are = r
       (All-get_or (IsDealtRound table sent.batch_limit (length channels)) rounds k (no_round table) below sent.is_sending.are_dealt);
 }
 
-pub sendings_law : SendingsAreReadBack → SendingsAreLoaded
-sendings_law back = λ table uuid limit rounds main channels answer sent room answers.
+read_law : (frame : Frame) (table : RamTable) (uuid : List ℕ) (limit : ℕ) (rounds : List DealtRound) (main : List ℕ) (channels : List (List ℕ)) (answer : Answer)
+    → IsReadAsSent frame table uuid limit rounds main channels → IsAnswer (framed frame table.page_size limit) uuid (ended_texts main channels) answer → answer ≡ sent_answer table rounds
+read_law frame table uuid limit rounds main channels answer sent answers =
     let size : IsPageSize table.page_size = sent.is_sending.is_set.has_table.has_page_size in
     let readings : Readings = answers.readings in
     let is : AreOfSending table sent.batch_limit (length channels) rounds readings =
-    of_sending back table uuid limit rounds main channels readings sent room answers.are_readings in
+    of_read frame table uuid limit rounds main channels readings sent answers.are_readings in
     let n : ℕ = length rounds in
     let memory : memory_at n readings ≡ Some (after table (sent_rounds rounds)) =
     ap (λ (r : StreamReading). option_map (λ t. after t (map (λ i. pages_at t i readings) (range_with_len 0 n))) r.table) is.told.has_main
     ∙ ap (λ (m : Image). Some m) (memory_is table sent.batch_limit (length channels) rounds readings is) in
-    is_answer_at (ram_settings table.page_size limit) uuid (ended_texts main channels) readings n answer size answers.are_readings (stops table sent.batch_limit (length channels) rounds readings is) answers
+    is_answer_at (framed frame table.page_size limit) uuid (ended_texts main channels) readings n answer size answers.are_readings (stops table sent.batch_limit (length channels) rounds readings is) answers
     ∙ ap (λ (m : Option Image). record { memory = m; rounds = n; verdict = verdict_at n readings }) memory
     ∙ ap (λ (v : Verdict). record { memory = Some (after table (sent_rounds rounds)); rounds = n; verdict = v }) (done_is table sent.batch_limit (length channels) rounds readings is)
+
+-- ---- a main stream of RAM's sections alone
+
+abbrev pub as_sent : SendingsAreReadBack → (table : RamTable) (uuid : List ℕ) (limit : ℕ) (rounds : List DealtRound) (main : List ℕ) (channels : List (List ℕ))
+    → IsSentInAnyOrder table uuid rounds main channels → total_bytes table ≤ limit → IsReadAsSent Ram table uuid limit rounds main channels
+as_sent back table uuid limit rounds main channels sent room =
+    let read = back table uuid sent.batch_limit (length channels) rounds main sent.in_order sent.is_sending in
+    record {
+      batch_limit = sent.batch_limit;
+      ram = main;
+      in_order = sent.in_order;
+      is_sending = sent.is_sending;
+      is_permutation = sent.is_permutation;
+      main_is_read = read.main_is_read limit room;
+      channels_are_read = read.channels_are_read;
+    }
+
+pub of_sending : SendingsAreReadBack → (table : RamTable) (uuid : List ℕ) (limit : ℕ) (rounds : List DealtRound) (main : List ℕ) (channels : List (List ℕ)) (readings : Readings)
+    → (sent : IsSentInAnyOrder table uuid rounds main channels) → total_bytes table ≤ limit → AreReadings (ram_settings table.page_size limit) uuid (ended_texts main channels) readings
+    → AreOfSending table sent.batch_limit (length channels) rounds readings
+of_sending back table uuid limit rounds main channels readings sent room are =
+    of_read Ram table uuid limit rounds main channels readings (as_sent back table uuid limit rounds main channels sent room) are
+
+pub sendings_law : SendingsAreReadBack → SendingsAreLoaded
+sendings_law back = λ table uuid limit rounds main channels answer sent room answers.
+    read_law Ram table uuid limit rounds main channels answer (as_sent back table uuid limit rounds main channels sent room) answers
+
+-- ---- a machine's main stream
+
+machine_as_sent : MachineSendingsAreReadBack → (table : RamTable) (uuid : List ℕ) (limit : ℕ) (rounds : List DealtRound) (main : List ℕ) (channels : List (List ℕ))
+    → IsMachineSentInAnyOrder table uuid rounds main channels → total_bytes table ≤ limit → IsReadAsSent Machine table uuid limit rounds main channels
+machine_as_sent back table uuid limit rounds main channels sent room =
+    let read = back sent.name table uuid sent.batch_limit (length channels) rounds sent.ram sent.in_order sent.has_name sent.is_sending in
+    record {
+      batch_limit = sent.batch_limit;
+      ram = _;
+      in_order = sent.in_order;
+      is_sending = sent.is_sending.is_sending;
+      is_permutation = sent.is_permutation;
+      main_is_read = subst (λ (bytes : List ℕ). IsReading (in_frame Machine (settings Main table.page_size limit)) bytes (closed table (replicate (length rounds) [])))
+          (sym sent.has_main) (read.0 limit sent.behind room);
+      channels_are_read = read.1.channels_are_read;
+    }
+
+pub machine_sendings_law : MachineSendingsAreReadBack → MachineSendingsAreLoaded
+machine_sendings_law back = λ given table uuid rounds main channels answer is_machine unlimited same room sent answers.
+    let named : given ≡ framed Machine table.page_size given.limit =
+    ap (λ (f : Frame). record given { frame = f }) is_machine ∙ ap (λ (n : Option ℕ). record given { frame = Machine; waiting = n }) unlimited ∙ ap (λ (n : ℕ). framed Machine n given.limit) (sym same) in
+    read_law Machine table uuid given.limit rounds main channels answer (machine_as_sent back table uuid given.limit rounds main channels sent room)
+    (subst (λ (g : LoadSettings). IsAnswer g uuid (ended_texts main channels) answer) named answers)
+
+pub machine_sendings_are_loaded : MachineSendingsAreLoaded
+machine_sendings_are_loaded =
+    machine_sendings_law (machine_sendings_are_read_back machine_mains (sendings_are_read_back (λ limit table n is room. written_main table n limit is room) spelled_law))
 
 -- ---- beside the single stream
 

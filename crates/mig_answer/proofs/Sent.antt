@@ -10,20 +10,21 @@ use Rattle.std.proofs.lemmas.List.Sorted.{IsPermutation-map, All-permutation}
 use Rattle.std.proofs.lemmas.Map.Keys.{IsDistinct-IsPermutation, IsDistinct-head, IsDistinct-tail}
 use Rattle.mig_mem.specs.RamTable.{RamTable}
 use Rattle.mig_mem.specs.PageSize.{IsPageSize}
-use Rattle.mig_stream.specs.Text.{total_bytes}
+use Rattle.mig_stream.specs.declared.item.Frame.{Frame}
+use Rattle.mig_stream.specs.declared.item.Mode.TheVariants.{Main}
 use Rattle.mig_stream.specs.Reading.{StreamReading}
+use Rattle.mig_stream.specs.Reading as stream
 use Rattle.mig_stream.specs.Law.{closed}
 use Rattle.mig_packet.specs.Reading.{Settings, settings, ChannelReading, IsReading}
-use Rattle.mig_send.specs.DealtRounds.{DealtRound, channel_text}
-use Rattle.mig_send.specs.ReadBack.{channel_told, round_packets, AreReadBack, SendingsAreReadBack}
-use Rattle.mig_single_load.specs.Settings.{ram_settings}
+use Rattle.mig_send.specs.DealtRounds.{DealtRound, IsSending, channel_text}
+use Rattle.mig_send.specs.ReadBack.{channel_told, round_packets}
+use Rattle.mig_single_load.specs.declared.settings.LoadSettings.{LoadSettings}
 use Rattle.mig_single_load.specs.declared.fault.Origin.TheVariants as origin
 use Rattle.mig_answer.specs.declared.status.Status.{Status}
 use Rattle.mig_answer.specs.declared.status.Status.TheVariants.{Whole, Clean}
 use Rattle.mig_answer.specs.Status.{main_status, channel_status, status_at}
 use Rattle.mig_answer.specs.Texts.{Text, ended_text, ended_texts, Readings, AreReadings}
 use Rattle.mig_answer.specs.MultiLoad.{Standing, main_at, channels_at, sources_at, hello_ids, is_same_id, comes_again, repeated_hello}
-use Rattle.mig_answer.specs.Sent.{IsSentInAnyOrder}
 use Rattle.mig_answer.proofs.OneAnswer.{same_main, channel_reading, channels_are}
 use Rattle.mig_answer.proofs.Statuses.{status_whole, status_end, finds_none}
 
@@ -42,13 +43,27 @@ read_each given told n [] each = tt
 read_each given told n (text ∷ texts) each =
     (each 0 n (omega arith) (omega arith), read_each given told (n + 1) texts (λ i j below is. each (suc i) j (omega (arith, below)) (omega (arith, is))))
 
-pub told_of : SendingsAreReadBack → (table : RamTable) (uuid : List ℕ) (limit : ℕ) (rounds : List DealtRound) (main : List ℕ) (channels : List (List ℕ)) (readings : Readings)
-    → IsSentInAnyOrder table uuid rounds main channels → total_bytes table ≤ limit → AreReadings (ram_settings table.page_size limit) uuid (ended_texts main channels) readings
+-- for a load of a table's page size
+abbrev pub framed : Frame → ℕ → ℕ → LoadSettings
+framed frame page_size limit = record { page_size = page_size; limit = limit; frame = frame; waiting = None }
+
+-- The channels are those of a sending, in any order, and the main stream is read in a frame as what
+-- it has of RAM: the table, and as many rounds.
+pub record IsReadAsSent (frame : Frame) (table : RamTable) (uuid : List ℕ) (limit : ℕ) (rounds : List DealtRound) (main : List ℕ) (channels : List (List ℕ)) : Type 0 where
+  pub batch_limit : ℕ
+  pub ram : List ℕ
+  pub in_order : List (List ℕ)
+  pub is_sending : IsSending table uuid batch_limit (length channels) rounds ram in_order
+  pub is_permutation : IsPermutation in_order channels
+  pub main_is_read : stream.IsReading (stream.in_frame frame (stream.settings Main table.page_size limit)) main (closed table (replicate (length rounds) []))
+  pub channels_are_read : (channel : ℕ) → channel < length channels
+      → IsReading (settings table.page_size uuid (length channels)) (get_or in_order channel []) true (channel_told rounds channel)
+
+pub told_of : (frame : Frame) (table : RamTable) (uuid : List ℕ) (limit : ℕ) (rounds : List DealtRound) (main : List ℕ) (channels : List (List ℕ)) (readings : Readings)
+    → IsReadAsSent frame table uuid limit rounds main channels → AreReadings (framed frame table.page_size limit) uuid (ended_texts main channels) readings
     → AreToldOf table (length channels) rounds readings
-told_of back table uuid limit rounds main channels readings sent room are =
+told_of frame table uuid limit rounds main channels readings sent are =
     let size : IsPageSize table.page_size = sent.is_sending.is_set.has_table.has_page_size in
-    let read : AreReadBack table uuid (length channels) rounds main sent.in_order =
-    back table uuid sent.batch_limit (length channels) rounds main sent.in_order sent.is_sending in
     let given : Settings = settings table.page_size uuid (length (map ended_text channels)) in
     let many : length (map ended_text channels) ≡ length channels = length-map channels ended_text in
     let long : length sent.in_order ≡ length channels =
@@ -57,14 +72,14 @@ told_of back table uuid limit rounds main channels readings sent room are =
     read_each given (channel_told rounds) 0 sent.in_order (λ i j below is.
     subst (λ k. IsReading given (get_or sent.in_order i []) true (channel_told rounds k)) (omega (arith, is))
     (subst (λ n. IsReading (settings table.page_size uuid n) (get_or sent.in_order i []) true (channel_told rounds i)) (sym many)
-    (read.channels_are_read i (omega (arith, below, long))))) in
+    (sent.channels_are_read i (omega (arith, below, long))))) in
     let told : map (channel_told rounds) (range_with_len 0 (length sent.in_order)) ≡ map (channel_reading given size) (map ended_text sent.in_order) =
     channels_are given size (map ended_text sent.in_order) (map (channel_told rounds) (range_with_len 0 (length sent.in_order))) zip in
     let perm : IsPermutation (map (channel_reading given size) (map ended_text sent.in_order)) (map (channel_reading given size) (map ended_text channels)) =
     IsPermutation-map (channel_reading given size) (map ended_text sent.in_order) (map ended_text channels) (IsPermutation-map ended_text sent.in_order channels sent.is_permutation) in
     record {
-      has_main = same_main (ram_settings table.page_size limit) (ended_text main) readings.main (closed table (replicate (length rounds) [])) size are.has_main
-          (record { found = closed table (replicate (length rounds) []); is_reading = read.main_is_read limit room; has_end = refl });
+      has_main = same_main (framed frame table.page_size limit) (ended_text main) readings.main (closed table (replicate (length rounds) [])) size are.has_main
+          (record { found = closed table (replicate (length rounds) []); is_reading = sent.main_is_read; has_end = refl });
       has_channels = subst (λ n. IsPermutation (map (channel_told rounds) (range_with_len 0 n)) readings.channels) long
           (subst (λ cs. IsPermutation cs readings.channels) (sym told)
           (subst (λ cs. IsPermutation (map (channel_reading given size) (map ended_text sent.in_order)) cs)

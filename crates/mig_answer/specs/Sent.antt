@@ -1,14 +1,17 @@
 -- A load of what a sender on several channels has sent.
-use Rattle.std.specs.Prelude.{ℕ, ◌≡◌, ◌+◌, ◌≤◌, List, length, map, Some, Ok, IsPermutation}
+use Rattle.std.specs.Prelude.{ℕ, ◌≡◌, ◌+◌, ◌≤◌, List, ◌++◌, length, map, Option, None, Some, Ok, IfSome, IsPermutation}
 use Rattle.mig_mem.specs.RamTable.{RamTable}
 use Rattle.mig_mem.specs.Image.{Page}
 use Rattle.mig_mem.specs.Round.{after}
 use Rattle.mig_mem.specs.Tracking.{rounds_of}
+use Rattle.mig_stream.specs.declared.item.Frame.TheVariants.{Machine}
+use Rattle.mig_stream.specs.Format.{most_name_bytes}
 use Rattle.mig_stream.specs.Text.{total_bytes}
 use Rattle.mig_stream.specs.Written.{single}
-use Rattle.mig_send.specs.DealtRounds.{DealtRound, IsSending}
+use Rattle.mig_send.specs.DealtRounds.{DealtRound, IsSending, IsMachineSending}
 use Rattle.mig_single_load.specs.Settings.{ram_settings}
 use Rattle.mig_single_load.specs.declared.loaded.Loaded.{Loaded}
+use Rattle.mig_single_load.specs.declared.settings.LoadSettings.{LoadSettings}
 use Rattle.mig_answer.specs.declared.verdict.Verdict.TheVariants.{Done}
 use Rattle.mig_single_load.specs.SingleLoad.{IsSingleAnswer}
 use Rattle.mig_answer.specs.Texts.{ended_texts}
@@ -36,6 +39,25 @@ abbrev pub SendingsAreLoaded : Type 0
 SendingsAreLoaded = (table : RamTable) (uuid : List ℕ) (limit : ℕ) (rounds : List DealtRound) (main : List ℕ) (channels : List (List ℕ)) (answer : Answer)
     → IsSentInAnyOrder table uuid rounds main channels → total_bytes table ≤ limit
     → IsAnswer (ram_settings table.page_size limit) uuid (ended_texts main channels) answer → answer ≡ sent_answer table rounds
+
+-- The streams are those of a sending in a machine's stream, with its name or without one. The
+-- channels are in any order, and anything may follow RAM's END in the main stream.
+pub record IsMachineSentInAnyOrder (table : RamTable) (uuid : List ℕ) (rounds : List DealtRound) (main : List ℕ) (channels : List (List ℕ)) : Type 0 where
+  pub batch_limit : ℕ
+  pub name : Option (List ℕ)
+  pub has_name : IfSome name (λ bytes. length bytes ≤ most_name_bytes)
+  pub ram : List ℕ
+  pub behind : List ℕ
+  pub has_main : main ≡ ram ++ behind
+  pub in_order : List (List ℕ)
+  pub is_sending : IsMachineSending name table uuid batch_limit (length channels) rounds ram in_order
+  pub is_permutation : IsPermutation in_order channels
+
+-- What was sent so is loaded in a machine's frame, by the same answer as what was sent alone.
+abbrev pub MachineSendingsAreLoaded : Type 0
+MachineSendingsAreLoaded = (given : LoadSettings) (table : RamTable) (uuid : List ℕ) (rounds : List DealtRound) (main : List ℕ) (channels : List (List ℕ)) (answer : Answer)
+    → given.frame ≡ Machine → given.waiting ≡ None → table.page_size ≡ given.page_size → total_bytes table ≤ given.limit → IsMachineSentInAnyOrder table uuid rounds main channels
+    → IsAnswer given uuid (ended_texts main channels) answer → answer ≡ sent_answer table rounds
 
 -- a load of several channels and one of a single stream gave the same memory, and both are Ok; a single stream has two sections more,
 -- START and END

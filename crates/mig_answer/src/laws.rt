@@ -7,7 +7,7 @@ ghost use Rattle.mig_answer.specs.Law.{HasOneAnswer, EndedTextsAreJudged};
 ghost use Rattle.mig_answer.specs.Growing.{AnswersStay, WithoutMemoryStays, RoundsStay};
 ghost use Rattle.mig_answer.specs.Received.{FrontTellsChannel, StopIsLast, RoundsAreCounted, FrontsTellAllChannels};
 ghost use Rattle.mig_answer.specs.Dealt.{DealtRoundsAreLawful};
-ghost use Rattle.mig_answer.specs.Sent.{SendingsAreLoaded, ChannelsLoadAsOneStream};
+ghost use Rattle.mig_answer.specs.Sent.{SendingsAreLoaded, MachineSendingsAreLoaded, ChannelsLoadAsOneStream};
 
 use std::alloc::Allocator;
 
@@ -50,4 +50,13 @@ pub fn sendings_are_loaded<A: Allocator>()
     ensures same { ChannelsLoadAsOneStream A }
 {
     mig_send::sendings_are_read_back();
+}
+
+/// What a sender on several channels has sent with a machine's main stream (`MultiSender::finish_open`)
+/// is loaded in a machine's frame: done, with all its rounds and the memory after them, whatever
+/// follows RAM's END. So a load of it and one of what was sent alone give the same answer.
+pub fn machine_sendings_are_loaded()
+    ensures { MachineSendingsAreLoaded }
+{
+    mig_send::machine_sendings_are_read_back();
 }

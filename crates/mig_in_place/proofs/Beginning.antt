@@ -34,7 +34,7 @@ nothing_read = record { table = None; rounds = []; state = Reading }
 
 main_nothing : (given : LoadSettings) (reading : StreamReading) → IsPageSize given.page_size → IsMainReading given no_text reading → reading ≡ nothing_read
 main_nothing given reading size is =
-    let begin : StreamProgress = start given.frame Main given.page_size given.limit in
+    let begin : StreamProgress = start given.frame Main given.page_size given.limit given.waiting in
     same_main given no_text reading nothing_read size is (record {
       found = nothing_read;
       is_reading = record { to = begin; rest = []; reads = reads_short begin [] (omega arith); has_table = refl; has_rounds = refl };
@@ -115,7 +115,7 @@ first_channels given t (suc n) (c ∷ channels) same holds =
 
 pub first_main : (given : LoadSettings) (t : RamTable) (m : KeptMain) → IsPageSize given.page_size → given.page_size ≡ t.page_size → HoldsMain (main_of given) 0 no_text m → IsFalse m.is_whole → IsMainOf t m
 first_main given t m size same holds open_ =
-    let begin : StreamProgress = start given.frame Main given.page_size given.limit in
+    let begin : StreamProgress = start given.frame Main given.page_size given.limit given.waiting in
     record {
       given = main_of given;
       k = 0;

@@ -83,7 +83,7 @@ main_stays_named given k text more p size names (inr over) =
       is_reading = record {
         to = is.to;
         rest = is.rest ++ more;
-        reads = stream_more (stream_start given.frame given.mode given.page_size given.limit) text is.to is.rest more names.reading.state over is.reads;
+        reads = stream_more (stream_start given.frame given.mode given.page_size given.limit given.waiting) text is.to is.rest more names.reading.state over is.reads;
         has_table = is.has_table;
         has_rounds = is.has_rounds;
       };

@@ -64,12 +64,13 @@ impl<A: Allocator + Copy> MainStream<A> {
         ensures count { main_count result ≡ record { fed = 0; ended = false } }
     {
         MainStream {
-            reader: StreamReader::new_in(
+            reader: StreamReader::new_within(
                 alloc,
                 settings.frame,
                 Mode::Main,
                 settings.page_size,
                 settings.limit,
+                settings.waiting,
             ),
             is_whole: false,
         }

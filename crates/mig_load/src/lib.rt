@@ -9,8 +9,8 @@
 #![tactic(auto)]
 
 pub use mig_answer::{
-    Verdict, answers_stay, dealt_rounds_are_lawful, received_tells_status, sendings_are_loaded,
-    texts_have_one_answer,
+    Verdict, answers_stay, dealt_rounds_are_lawful, machine_sendings_are_loaded,
+    received_tells_status, sendings_are_loaded, texts_have_one_answer,
 };
 pub use mig_relay::{
     ChannelEnd, Collector, Fed, Feeder, FeederStep, Item, Relay, load_multi, load_multi_in,

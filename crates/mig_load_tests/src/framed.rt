@@ -21,7 +21,7 @@ use uuid::Uuid;
 
 const FRAMES: [Frame; 2] = [Frame::Ram, Frame::Machine];
 
-fn settings(frame: Frame) -> LoadSettings
+pub(crate) fn settings(frame: Frame) -> LoadSettings
     ensures page_size { result.page_size ≡ 4096 }
     ensures limit { result.limit ≤ 2 ^ 40 }
 {

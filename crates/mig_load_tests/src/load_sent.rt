@@ -1,12 +1,14 @@
 //! What the sender on several channels wrote is loaded to what the single stream of the same rounds is loaded to.
 
+use crate::framed::settings;
 use crate::meeting::Meeting;
 use mig_fixtures::{at, places_of, set, zeroed};
 use mig_mem::{Dirty, Memory, first_difference};
 use mig_packet::{Gate, OpenGate};
-use mig_relay::load_multi;
+use mig_relay::{load_multi, load_multi_in};
 use mig_send::{MultiSender, Sent, SingleSender};
 use mig_single_load::{Loaded, load_single};
+use mig_stream::Frame;
 use std::alloc::AllocGlobal;
 use std::process::Abort;
 use std::sync::Wait;
@@ -207,4 +209,61 @@ fn sevens_by_two_workers_at_once(rt: HostRuntime) {
     let sent = sent_behind(&rt, &rounds, 2, 128, &gate);
     gate.assert_met(&rt);
     assert_same(&rt, &rounds, &sent);
+}
+
+// ---- in a machine's stream
+
+// The streams of the rounds on so many channels, with the main stream of a machine `q35`, whose RAM
+// a device's section follows.
+fn machine_sent<R: AllocGlobal + Abort + Threads + Sync>(
+    rt: &R,
+    rounds: &[Round],
+    channels: usize,
+) -> Sent {
+    let first = rounds.first().expect(rt, "a round");
+    let table = first.memory.table();
+    let made = MultiSender::with_configuration(rt.alloc(), table, Uuid::nil(), channels, 2, b"q35");
+    let (mut main, mut sender) = made.expect(rt, "a sender");
+    for round in rounds {
+        let run = sender.round(rt, &round.memory, &round.dirty, &OpenGate);
+        assert!(rt; run == Ok(()));
+    }
+    let Ok(
+        Sent {
+            main: rest,
+            channels,
+        },
+    ) = sender.finish_open()
+    else {
+        panic!(rt; "memory")
+    };
+    assert!(rt; main.extend_from_slice(&rest).is_ok());
+    assert!(rt;
+        main.extend_from_slice(b"\x04\x00\x00\x00\x02\x05timer")
+            .is_ok()
+    );
+    Sent { main, channels }
+}
+
+#[test]
+fn machine_streams_on_few_and_many_channels(rt: HostRuntime) {
+    let rounds = rounds_of_two_blocks(&rt);
+    let last = rounds.last().expect(&rt, "a round");
+    for channels in [1usize, 3, 255] {
+        let sent = machine_sent(&rt, &rounds, channels);
+        let texts = sent.channels.as_slice();
+        assert!(rt; 1 <= texts.len() && texts.len() <= 255);
+        let settings = settings(Frame::Machine);
+        let uuid = Uuid::nil();
+        let loaded = load_multi_in(
+            &rt,
+            rt.alloc(),
+            settings,
+            &uuid,
+            &sent.main,
+            texts,
+            &OpenGate,
+        );
+        assert_loaded(&rt, &loaded, 3, &last.memory);
+    }
 }

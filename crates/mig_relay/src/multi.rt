@@ -1,14 +1,15 @@
 //! The load of whole texts on several channels, for callers that have them: a relay, with a worker for each channel.
 
-ghost use Rattle.std.specs.Prelude.{ℕ, ◌≡◌, ◌≤◌, ◌^◌, ◌⊎◌, List, length, map, IfOk, vec_len, vec_capacity};
+ghost use Rattle.std.specs.Prelude.{ℕ, ◌≡◌, ◌≤◌, ◌^◌, ◌⊎◌, List, None, length, map, IfOk, vec_len, vec_capacity};
 ghost use Rattle.mig_mem.specs.PageSize.{IsPageSize};
 ghost use Rattle.mig_mem.specs.RamTable.{RamTable};
+ghost use Rattle.mig_stream.specs.declared.item.Frame.TheVariants.{Machine};
 ghost use Rattle.mig_stream.specs.Text.{total_bytes};
 ghost use Rattle.mig_send.specs.DealtRounds.{DealtRound};
 ghost use Rattle.mig_single_load.specs.Settings.{ram_settings};
 ghost use Rattle.mig_answer.specs.Texts.{ended_texts};
 ghost use Rattle.mig_answer.specs.MultiLoad.{IsWithoutMemory, IsAnswerOrWithoutMemory, answer_of, bytes_of};
-ghost use Rattle.mig_answer.specs.Sent.{IsSentInAnyOrder, sent_answer};
+ghost use Rattle.mig_answer.specs.Sent.{IsSentInAnyOrder, IsMachineSentInAnyOrder, sent_answer};
 ghost use Rattle.mig_relay.specs.RelayItems.{IsThrough};
 ghost use Rattle.mig_relay.specs.Multi.{AnswersRelay};
 
@@ -68,7 +69,8 @@ pub fn load_multi<
 }
 
 /// Loads a guest from the texts of a migration on several channels that are there whole, as
-/// `load_multi` does, with the main stream read with `settings`.
+/// `load_multi` does, with the main stream read with `settings`. What a sender wrote with a machine's
+/// main stream is loaded in the machine's frame, whatever follows RAM's END.
 ///
 /// # Errors
 ///
@@ -93,7 +95,11 @@ pub fn load_multi_in<
     requires page_size { IsPageSize settings.page_size }
     requires channels { (1 ≤ length channels.now) × (length channels.now ≤ 255) }
     requires limit { settings.limit ≤ 2 ^ 40 }
-    ensures { IsAnswerOrWithoutMemory settings uuid.now (ended_texts main.now (bytes_of channels.now)) (answer_of result) }
+    ensures answer { IsAnswerOrWithoutMemory settings uuid.now (ended_texts main.now (bytes_of channels.now)) (answer_of result) }
+    ensures machine { (table : RamTable) (rounds : List DealtRound) → IsMachineSentInAnyOrder table uuid.now rounds main.now (bytes_of channels.now)
+        → settings.frame ≡ Machine → settings.waiting ≡ None → table.page_size ≡ settings.page_size → total_bytes table ≤ settings.limit
+        → (answer_of result ≡ sent_answer table rounds)
+        ⊎ IsWithoutMemory settings uuid.now (ended_texts main.now (bytes_of channels.now)) (answer_of result) }
 {
     let page_size = settings.page_size;
     let Ok((feeders, collector)) = Relay::start(alloc, page_size, uuid, channels, QUEUE_CAPACITY)

@@ -261,12 +261,13 @@ pub fn load_relayed_in<'a, R: Wait, A: Allocator + Copy>(
     ensures received { AllZip (HasReceived result.rounds (is_ok result.verdict)) collector.old collector.new }
 {
     let page_size = collector.page_size();
-    let Ok(mut reader) = StreamReader::of_text_in(
+    let Ok(mut reader) = StreamReader::of_text_within(
         alloc,
         settings.frame,
         Mode::Main,
         page_size,
         settings.limit,
+        settings.waiting,
         main,
     ) else {
         return without_memory();

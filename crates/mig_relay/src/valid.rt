@@ -67,12 +67,13 @@ fn main_valid_up_to<A: Allocator + Copy>(
     requires limit { settings.limit ≤ 2 ^ 40 }
     ensures { IfOk result (IsValidUpTo (main_of settings) main.now) }
 {
-    let reader = StreamReader::of_text_in(
+    let reader = StreamReader::of_text_within(
         alloc,
         settings.frame,
         Mode::Main,
         settings.page_size,
         settings.limit,
+        settings.waiting,
         main,
     )?;
     Ok(reader.valid_up_to())

@@ -15,10 +15,13 @@ use Rattle.mig_mem.specs.Image.{Image, IsImage}
 use Rattle.mig_mem.specs.Round.{round_of}
 use Rattle.mig_deal.specs.Deal.{HasEachOnce, times}
 use Rattle.mig_deal.proofs.Counts.{count_by-cons}
+use Rattle.mig_stream.specs.declared.item.Frame.TheVariants.{Machine}
 use Rattle.mig_stream.specs.declared.item.Mode.TheVariants.{Main}
-use Rattle.mig_stream.specs.Written.{main}
+use Rattle.mig_stream.specs.Written.{main, FlushPart}
+use Rattle.mig_stream.specs.MachineWritten.{machine_written, MachineMainsAreTexts}
 use Rattle.mig_stream.specs.Reading as stream
 use Rattle.mig_stream.specs.Law.{SpelledIsRead, MainsAreTexts, closed}
+use Rattle.mig_stream.proofs.SpelledMachine.{machine_is_read}
 use Rattle.mig_packet.specs.declared.state.ChannelState.TheVariants.{Reading}
 use Rattle.mig_packet.specs.PageSize.{IsPageSize, page_limit, head_len}
 use Rattle.mig_packet.specs.Hello.{written_hello}
@@ -35,7 +38,7 @@ use Rattle.mig_send.specs.Packing.{packed_of, normals_of, zeros_of, offsets_of, 
 use Rattle.mig_send.specs.Work.{Share, no_batch, claimed_packet}
 use Rattle.mig_send.specs.Dealing.{sync_packet}
 use Rattle.mig_send.specs.DealtRounds.{DealtRound, IsDealtRound, AreNumbered, IsSending, no_share, packet_count, round_text, channel_text}
-use Rattle.mig_send.specs.ReadBack.{round_packets, channel_items, SendingsAreReadBack, SayTheirPages}
+use Rattle.mig_send.specs.ReadBack.{round_packets, channel_items, SendingsAreReadBack, MachineSendingsAreReadBack, SayTheirPages}
 use Rattle.mig_send.proofs.Packing.{is_packed, batch_writable, normal_pages_are}
 use Rattle.mig_send.proofs.Cutting.{batches_fit}
 
@@ -293,6 +296,18 @@ sendings_are_read_back mains spelled = λ table uuid limit channels rounds main_
     items_are page_size rounds channel =
         ap (λ (l : List (List ℕ)). Hello channel ∷ map (λ packet. Page (fields_of page_size packet)) l ++ Stop None ∷ [])
         (sym (append-nil (flat_map (λ round. round) (map (round_packets channel) rounds)) ∙ flat_map-map (λ round. round) (round_packets channel) rounds))
+
+-- ---- a machine's main stream
+
+pub machine_sendings_are_read_back : MachineMainsAreTexts → SendingsAreReadBack → MachineSendingsAreReadBack
+machine_sendings_are_read_back written back = λ name table uuid limit channels rounds main_text texts short sending.
+    let n : ℕ = length rounds in (
+      λ most rest fits. subst (λ (text : List ℕ). stream.IsReading (stream.in_frame Machine (stream.settings Main table.page_size most)) (text ++ rest) (closed table (replicate n [])))
+          (sym sending.has_main)
+          (machine_is_read Main most (machine_written name table (replicate n FlushPart)) rest table (replicate n [])
+          (written most name table n short sending.is_sending.is_set.has_table fits)),
+      back table uuid limit channels rounds _ texts sending.is_sending,
+    )
 
 -- ---- what the packets say
 

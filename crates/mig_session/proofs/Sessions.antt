@@ -242,7 +242,7 @@ nothing_read = record { table = None; rounds = []; state = Reading }
 
 main_nothing : (given : LoadSettings) (reading : StreamReading) → IsPageSize given.page_size → IsMainReading given no_text reading → reading ≡ nothing_read
 main_nothing given reading size is =
-    let begin : StreamProgress = start given.frame Main given.page_size given.limit in
+    let begin : StreamProgress = start given.frame Main given.page_size given.limit given.waiting in
     same_main given no_text reading nothing_read size is (record {
       found = nothing_read;
       is_reading = record { to = begin; rest = []; reads = reads_short begin [] (omega arith); has_table = refl; has_rounds = refl };
@@ -256,13 +256,13 @@ none_counted (suc n) = ap (λ (l : List Count). no_count ∷ l) (none_counted n)
 -- nothing is valid up to its first byte
 main_first : (given : LoadSettings) → stream.IsValidUpTo (main_of given) [] 0
 main_first given =
-    let begin : StreamProgress = start given.frame Main given.page_size given.limit in
+    let begin : StreamProgress = start given.frame Main given.page_size given.limit given.waiting in
     let reads : Reads begin [] begin [] Reading = reads_short begin [] (omega arith) in
     record { to = begin; rest = []; state = Reading; reads = reads; has_length = omega (arith, ap (λ (l : List ℕ). length l) reads.has_text, length-append reads.front []) }
 
 main_open : (given : LoadSettings) → stream.HasClosedAt (main_of given) [] None
 main_open given =
-    let begin : StreamProgress = start given.frame Main given.page_size given.limit in
+    let begin : StreamProgress = start given.frame Main given.page_size given.limit given.waiting in
     (nothing_read, record { to = begin; rest = []; reads = reads_short begin [] (omega arith); has_table = refl; has_rounds = refl }, λ e. absurd cc)
 
 channel_first : (given : Settings) → channel.IsValidUpTo given [] 0

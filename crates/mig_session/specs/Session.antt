@@ -5,6 +5,7 @@ use Rattle.std.specs.Option.{option_map, option_map_or}
 use Rattle.mig_mem.specs.PageSize.{IsPageSize}
 use Rattle.mig_mem.specs.RamTable.{RamTable}
 use Rattle.mig_assemble.specs.Target.{LoadTarget}
+use Rattle.mig_stream.specs.declared.item.Frame.TheVariants.{Machine}
 use Rattle.mig_stream.specs.Reader as stream
 use Rattle.mig_stream.specs.Text.{total_bytes}
 use Rattle.mig_packet.specs.Reader as channel
@@ -21,7 +22,7 @@ use Rattle.mig_answer.specs.Growing.{GoOn}
 use Rattle.mig_answer.specs.Texts.{Text, Texts, Readings, AreReadings, no_text, with_piece, over, ended_texts}
 use Rattle.mig_answer.specs.Rounds.{base_at}
 use Rattle.mig_answer.specs.MultiLoad.{Answer, IsAnswer, IsWithoutMemory}
-use Rattle.mig_answer.specs.Sent.{IsSentInAnyOrder, sent_answer}
+use Rattle.mig_answer.specs.Sent.{IsSentInAnyOrder, IsMachineSentInAnyOrder, sent_answer}
 use Rattle.mig_session.specs.Sources.{Counts, Places, FedSources, counts_of, Holds}
 
 -- ---- what a session holds
@@ -197,3 +198,9 @@ abbrev pub LoadsSent : LoadSession → Type 0
 LoadsSent s = (table : RamTable) (uuid : List ℕ) (limit : ℕ) (rounds : List DealtRound) (main : List ℕ) (channels : List (List ℕ))
     → IsSentInAnyOrder table uuid rounds main channels → total_bytes table ≤ limit
     → StandsFor (ram_settings table.page_size limit) uuid (ended_texts main channels) s → answer_in s ≡ sent_answer table rounds
+
+-- So is what it has sent with a machine's main stream, whatever follows RAM's END.
+abbrev pub LoadsMachineSent : LoadSession → Type 0
+LoadsMachineSent s = (given : LoadSettings) (table : RamTable) (uuid : List ℕ) (rounds : List DealtRound) (main : List ℕ) (channels : List (List ℕ))
+    → given.frame ≡ Machine → given.waiting ≡ None → table.page_size ≡ given.page_size → total_bytes table ≤ given.limit → IsMachineSentInAnyOrder table uuid rounds main channels
+    → StandsFor given uuid (ended_texts main channels) s → answer_in s ≡ sent_answer table rounds

@@ -41,12 +41,13 @@ impl<A: Allocator + Copy> MainSource<A> {
         ensures count { main_count result ≡ record { fed = 0; ended = false } }
     {
         let mut source = MainSource {
-            reader: StreamReader::new_in(
+            reader: StreamReader::new_within(
                 alloc,
                 settings.frame,
                 Mode::Main,
                 settings.page_size,
                 settings.limit,
+                settings.waiting,
             ),
             round: None,
         };

@@ -11,4 +11,4 @@ returns-clause-sent g c =
     let channels = bytes_of c.args.channels.now in
     let answer = answer_of c.load_multi_in.result in
     sending_is_loaded c.args.page_size c.args.uuid.now c.args.limit main channels answer
-    (subst (λ (given : LoadSettings). IsAnswerOrWithoutMemory given c.args.uuid.now (ended_texts main channels) answer) c.new-settings.ensures c.load_multi_in.ensures)
+    (subst (λ (given : LoadSettings). IsAnswerOrWithoutMemory given c.args.uuid.now (ended_texts main channels) answer) c.new-settings.ensures c.load_multi_in.ensures.answer)

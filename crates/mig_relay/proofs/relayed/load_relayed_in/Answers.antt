@@ -2,7 +2,7 @@ use Rattle.std.proofs.Common.{ℕ, ◌≡◌, ◌<◌, ◌∙◌, List, length, 
 use Rattle.std.specs.Prelude.{◌^◌}
 use Rattle.mig_mem.specs.PageSize.{IsPageSize}
 use Rattle.mig_stream.specs.declared.item.Mode.TheVariants.{Main}
-use Rattle.mig_stream.specs.Reading.{settings, in_frame}
+use Rattle.mig_stream.specs.Reading.{settings, in_frame, with_waiting}
 use Rattle.mig_stream.specs.Reader.{Stands, nothing_yet, with_piece}
 use Rattle.mig_answer.specs.Texts.{ended_texts}
 use Rattle.mig_relay.specs.Relayed.{Load, Begins}
@@ -41,15 +41,15 @@ load_all-requires g c =
     let main : List ℕ = c.args.main.now in
     let ends = c.args.collector.now in
     let same = relay_size relay.page_size n relay.uuid relay.texts ends relay.is_relay c.page_size-page_size.ensures.value in
-    let stands : Stands (in_frame given.frame (settings Main n given.limit)) (main_so_far main 0) c.end.new.self =
-    c.end.ensures.stands (in_frame given.frame (settings Main n given.limit)) (with_piece main nothing_yet) c.in-Ok.ensures.stands in
+    let stands : Stands (with_waiting given.waiting (in_frame given.frame (settings Main n given.limit))) (main_so_far main 0) c.end.new.self =
+    c.end.ensures.stands (with_waiting given.waiting (in_frame given.frame (settings Main n given.limit))) (with_piece main nothing_yet) c.in-Ok.ensures.stands in
     let places : c.in-Ok-starts.places.items ≡ replicate (length ends) 0 = c.in-Ok-starts.ensures ∙ ap (λ (m : ℕ). replicate m 0) c.len.ensures in
     let short : length main < 2 ^ 63 = omega arith in
     let l : Load = load_of (record given { page_size = relay.page_size }) relay.uuid main relay.texts relay.is_page_size in (
       l,
       subst (λ (ps : List ℕ). Begins l c.end.new.self ps ends) (sym places)
           (load_begins (record given { page_size = relay.page_size }) relay.uuid main relay.texts ends c.end.new.self relay.is_page_size relay.is_relay
-          (subst (λ (m : ℕ). Stands (in_frame given.frame (settings Main m given.limit)) (main_so_far main 0) c.end.new.self) same stands) short),
+          (subst (λ (m : ℕ). Stands (with_waiting given.waiting (in_frame given.frame (settings Main m given.limit))) (main_so_far main 0) c.end.new.self) same stands) short),
     )
 
 pub returns-clause-answer : goal.returns-clause-answer
@@ -60,11 +60,11 @@ returns-clause-answer g c = λ uuid texts is.
     let ends = c.args.collector.now in
     let same = relay_size given.page_size n uuid texts ends is c.page_size-page_size.ensures.value in
     let size : IsPageSize given.page_size = subst IsPageSize same c.page_size-page_size.ensures.page_size in
-    let stands : Stands (in_frame given.frame (settings Main n given.limit)) (main_so_far main 0) c.end.new.self =
-    c.end.ensures.stands (in_frame given.frame (settings Main n given.limit)) (with_piece main nothing_yet) c.in-Ok.ensures.stands in
+    let stands : Stands (with_waiting given.waiting (in_frame given.frame (settings Main n given.limit))) (main_so_far main 0) c.end.new.self =
+    c.end.ensures.stands (with_waiting given.waiting (in_frame given.frame (settings Main n given.limit))) (with_piece main nothing_yet) c.in-Ok.ensures.stands in
     let places : c.in-Ok-starts.places.items ≡ replicate (length ends) 0 = c.in-Ok-starts.ensures ∙ ap (λ (m : ℕ). replicate m 0) c.len.ensures in
     let short : length main < 2 ^ 63 = omega arith in
     let l : Load = load_of given uuid main texts size in
     c.load_all.ensures.answer l (subst (λ (ps : List ℕ). Begins l c.end.new.self ps ends) (sym places)
     (load_begins given uuid main texts ends c.end.new.self size is
-    (subst (λ (m : ℕ). Stands (in_frame given.frame (settings Main m given.limit)) (main_so_far main 0) c.end.new.self) same stands) short))
+    (subst (λ (m : ℕ). Stands (with_waiting given.waiting (in_frame given.frame (settings Main m given.limit))) (main_so_far main 0) c.end.new.self) same stands) short))
