@@ -1,4 +1,4 @@
--- Each text has a reading and a list of items, and it has no other.
+-- A channel's bytes have a reading and a list of items, and no other.
 use Rattle.std.proofs.Common.{◌≡◌, ◌⊎◌, ℕ, zero, suc, ◌+◌, ◌<◌, Bool, true, List, [], ◌++◌, length, take, drop}
 use Rattle.std.proofs.Common.{Option, Some, None, refl, sym, ap, ◌∙◌, inl, inr, append_assoc, arith}
 use Rattle.std.proofs.lemmas.Bool.{cases_lt}
@@ -13,9 +13,9 @@ use Rattle.mig_packet.specs.Law.{HasOneReading, HasOneListOfItems}
 use Rattle.mig_packet.proofs.Fronts.{Front-none, Front-push, no_head, no_item, item_at, due_is, faultless_front}
 use Rattle.mig_packet.proofs.Unique.{one_reading}
 
--- ---- a text has a reading
+-- ---- bytes have a reading
 
--- Some reading of a text from here.
+-- Some reading of bytes from here.
 abbrev pub SomeReading : ChannelProgress → List ℕ → Type 0
 SomeReading from text = (to : ChannelProgress) × (rest : List ℕ) × (state : ChannelState) × Reads from text to rest state
 
@@ -29,7 +29,7 @@ some_bytes : (p : ℕ) (h : Option ℕ) (bytes : List ℕ) → 0 < item_len p h 
 some_bytes p None bytes = omega arith
 some_bytes p (Some id) bytes = omega arith
 
--- however far a text has been read, it can be read on, since each item is a step forward
+-- however far bytes have been read, they can be read on, since each item is a step forward
 read_on : (fuel : ℕ) (from c : ChannelProgress) (text front rest : List ℕ) → length rest < fuel → text ≡ front ++ rest → Front from front c
     → SomeReading from text
 read_on zero from c text front rest few e so_far = absurd (omega arith)
@@ -55,13 +55,13 @@ read_on (suc fuel) from c text front rest few e so_far =
       ]
     ]
 
--- A text has a reading from anywhere.
+-- Bytes have a reading from anywhere.
 pub some_reading : (from : ChannelProgress) (text : List ℕ) → SomeReading from text
 some_reading from text = read_on (suc (length text)) from from text [] text (omega arith) refl (Front-none from)
 
 -- ---- and no other
 
--- two readings of a text tell the same
+-- two readings of some bytes say the same
 same_reading : (from : ChannelProgress) (text : List ℕ) (ended : Bool) (other : ChannelReading) (c : ChannelProgress) (x : List ℕ) (s : ChannelState)
     → Reads from text c x s
     → (d : ChannelProgress) (y : List ℕ) (t : ChannelState) → Reads from text d y t → other.hello ≡ d.hello → other.rounds ≡ d.rounds
@@ -75,7 +75,7 @@ same_reading from text ended other c x s a d y t b hello rounds state =
     ∙ ap (λ (v : List (List (List ℕ))). record { hello = c.hello; rounds = v; state = other.state }) (rounds ∙ ap (λ (p : ChannelProgress). p.rounds) same.0)
     ∙ ap (λ (v : ChannelState). record { hello = c.hello; rounds = c.rounds; state = v }) (state ∙ at)
 
--- Each text has exactly one reading.
+-- The bytes of a channel have exactly one reading.
 pub one_reading_law : HasOneReading
 one_reading_law = λ given text ended is.
     let from : ChannelProgress = start given.page_size given.uuid given.channels in
@@ -95,7 +95,7 @@ same_items from text c x s a d y t b =
     ∙ ap (λ (z : List ℕ). items_of c (state_at true c z t)) same.1
     ∙ ap (λ (z : ChannelState). items_of c (state_at true c x z)) same.2
 
--- Each text that is over has exactly one list of items.
+-- The bytes of a channel that has ended have exactly one list of items.
 pub one_list_law : HasOneListOfItems
 one_list_law = λ given text is.
     let from : ChannelProgress = start given.page_size given.uuid given.channels in

@@ -1,4 +1,4 @@
--- Reading a piece behind the bytes of an item that wasn't whole.
+-- Reading a piece after the bytes of an item that wasn't complete.
 use Rattle.std.proofs.Common.{◌≡◌, ◌≢◌, ℕ, List, [], ◌++◌, length, take, drop, Option, Some, None, refl, sym, ap, subst, ◌∙◌, append_assoc, inl, inr}
 use Rattle.std.proofs.lemmas.Bool.{cases_lt}
 use Rattle.std.proofs.lemmas.List.{take-append-drop}
@@ -39,12 +39,12 @@ unfinished from text to rest r =
 pub reads_short : (c : ChannelProgress) (bytes : List ℕ) → IsUnfinished c bytes → Reads c bytes c bytes Reading
 reads_short c bytes u = record { front = []; has_text = refl; leads = Front-none c; ends = (u.has_no_fault, not_whole c bytes u) }
 
--- an item behind the hello is a packet
+-- an item after the hello is a packet
 pub after_is : (c : ChannelProgress) (h : Option ℕ) (item : List ℕ) → h ≢ None → after_item c h item ≡ after_packet c item
 after_is c None item some = absurd (some refl)
 after_is c (Some id) item some = refl
 
--- one item, and what is read behind it
+-- one item, and what is read after it
 front_item : (c : ChannelProgress) (item : List ℕ) → IsItem c.page_size c.hello item → first_fault c item ≡ None → Front c item (after c item)
 front_item c item is none = Front-push c c [] item (Front-none c) is none
 

@@ -30,7 +30,7 @@ pub still_faultless : (c : ChannelProgress) (mid new : List ℕ) → judged_len 
 still_faultless c mid new le none kept =
     ap (first_fault c) (grown mid new kept) ∙ ap first_of (faults_stay c c.hello mid (drop (length mid) new) le) ∙ none
 
--- and they tell the same length
+-- and they say the same length
 same_len : (c : ChannelProgress) (mid new : List ℕ) → judged_len c.page_size c.hello ≤ length mid → take (length mid) new ≡ mid
     → item_len c.page_size c.hello new ≡ item_len c.page_size c.hello mid
 same_len c mid new le kept =

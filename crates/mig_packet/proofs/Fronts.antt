@@ -29,7 +29,7 @@ pub len_stays : (p : ℕ) (h : Option ℕ) (a b : List ℕ) → judged_len p h �
 len_stays p None a b le = refl
 len_stays p (Some id) a b le = ap (λ (n : ℕ). head_len p + n * p) (count_stays p a b le)
 
--- a whole item tells its length, whatever follows it
+-- a complete item says its length, whatever follows it
 pub len-append : (p : ℕ) (h : Option ℕ) (item more : List ℕ) → IsItem p h item → item_len p h (item ++ more) ≡ length item
 len-append p h item more is = len_stays p h item more (judged_le p h item is) ∙ sym is
 
@@ -70,7 +70,7 @@ pub faultless_front : (c : ChannelProgress) (rest item more : List ℕ) → firs
 faultless_front c rest item more free e is =
     ap first_of (sym (faults_stay c c.hello item more (judged_le c.page_size c.hello item is)) ∙ ap (faults c c.hello) (sym e)) ∙ free
 
--- behind the hello, an item without a fault is a packet
+-- after the hello, an item without a fault is a packet
 pub item_text : (c : ChannelProgress) (h : Option ℕ) (item : List ℕ) → h ≢ None → IsItem c.page_size h item → first_of (faults c h item) ≡ None
     → IsPacketText c.page_size item
 item_text c None item some is free = absurd (some refl)

@@ -1,4 +1,4 @@
--- Free of faults is the layout, for a hello and for a packet; and a packet tells its length.
+-- Free of faults is the layout, for a hello and for a packet; and a packet says its length.
 use Rattle.std.proofs.Common.{◌≡◌, ◌≢◌, ℕ, ◌+◌, ◌*◌, ◌<◌, ◌≤◌, Bool, true, false, not, cond, eqb, ltb, leb, List, []}
 use Rattle.std.proofs.Common.{◌∷◌, ◌++◌, length, get_or, take, drop, Option, None, refl, sym, ap, ◌∙◌, arith}
 use Rattle.std.specs.Prelude.{◌&&◌, slice_range}
@@ -147,7 +147,7 @@ normal_count-front page_size a b le = be32_at-front 16 a b (omega arith)
 pub due_free : (page_size : ℕ) (bytes : List ℕ) → first_of (packet_faults page_size bytes) ≡ None → due_packet_fault page_size bytes ≡ None
 due_free page_size bytes free = cond_none (leb (head_len page_size) (length bytes)) (first_of (packet_faults page_size bytes)) free
 
--- fewer bytes than the head tells: no front is a packet
+-- fewer bytes than the head says: no front is a packet
 pub cut_short : (page_size : ℕ) (bytes : List ℕ) → length bytes < head_len page_size + normal_count bytes * page_size
     → (front more : List ℕ) → bytes ≡ front ++ more → IsPacketText page_size front → ⊥
 cut_short page_size bytes lt front more e text =
@@ -156,7 +156,7 @@ cut_short page_size bytes lt front more e text =
     let n : head_len page_size + normal_count bytes * page_size ≡ length front = ap (λ (n : ℕ). head_len page_size + n * page_size) same ∙ sym len in
     omega (arith, n, ap length e, length-append front more)
 
--- the front as long as the head tells is a packet
+-- the front as long as the head says is a packet
 pub text_of_front : (page_size : ℕ) (bytes : List ℕ) → first_of (packet_faults page_size bytes) ≡ None
     → head_len page_size + normal_count bytes * page_size ≤ length bytes
     → IsPacketText page_size (take (head_len page_size + normal_count bytes * page_size) bytes)

@@ -185,7 +185,7 @@ later_self c = record { same_page_size = refl; same_uuid = refl; same_channels =
 pub IsLater-front : (c d : ChannelProgress) (bytes : List ℕ) → Front c bytes d → IsLaterBy c [] d
 IsLater-front c d bytes f = subst (λ (x : ChannelProgress). IsLaterBy c [] x) (sym f.leads_to) (later_all c c f.items [] (later_self c))
 
--- and so does one behind a packet, which is the first of those that followed
+-- and so does one after a packet, which is the first of those that followed
 pub IsLater-packet : (c mid d : ChannelProgress) (packet bytes : List ℕ) → mid ≡ after_packet c packet → Front mid bytes d → IsLaterBy c (packet ∷ []) d
 IsLater-packet c mid d packet bytes e f =
     let first : IsLater c (packet ∷ []) mid = subst (λ (x : ChannelProgress). IsLater c (packet ∷ []) x) (sym e) (one_packet c (is_sync packet) packet) in

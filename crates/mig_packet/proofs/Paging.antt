@@ -238,7 +238,7 @@ page_in size bytes offset i = record { offset = offset i; content = content_at s
 page_same : (m n : ℕ) (x y : List ℕ) → m ≡ n → x ≡ y → ◌≡◌ {A = NormalPage} (record { offset = m; content = x }) (record { offset = n; content = y })
 page_same m n x y offset content = cc
 
--- the content that stands behind so many bytes
+-- the content that stands after so many bytes
 content_there : (size i : ℕ) (bytes before content rest : List ℕ) → length before ≡ head_len size + i * size → length content ≡ size
     → bytes ≡ before ++ (content ++ rest) → content_at size bytes i ≡ content
 content_there size i bytes before content rest len whole e =

@@ -1,4 +1,4 @@
--- What a reader of pages tells is the reading of the bytes that it took.
+-- What a reader of pages returns is the reading of the bytes that it took.
 use Rattle.std.proofs.Common.{◌≡◌, ◌≢◌, ℕ, ◌<◌, Bool, true, false, cond, eqb, not, List, [], ◌∷◌, ◌++◌, length, Option, Some, None}
 use Rattle.std.specs.Prelude.{IfSome, ◌⊎◌}
 use Rattle.std.proofs.Common.{inl, inr, refl, sym, ap, subst, ◌∙◌, arith}
@@ -21,7 +21,7 @@ use Rattle.mig_packet.proofs.PagingSteps.{hello_stays, sync_has_any}
 abbrev closed_by : Bool → Bool → ChannelState
 closed_by between unsynced = cond between (cond unsynced (Bad Unsynced) Closed) (Bad Truncated)
 
--- behind a hello, with bytes left
+-- after a hello, with bytes left
 cut : (id : ℕ) (rest : List ℕ) (packets : List (List ℕ)) → 0 < length rest → state_at_end (Some id) rest packets ≡ Bad Truncated
 cut id [] packets some = absurd (omega (arith, some))
 cut id (byte ∷ rest) packets some = refl
@@ -38,7 +38,7 @@ closes_between None kept packets has_packets e = refl
 closes_between (Some id) [] packets has_packets e = ap (λ (b : Bool). cond b (Bad Unsynced) Closed) e ∙ sym (open_round id packets)
 closes_between (Some id) (byte ∷ kept) packets has_packets e = refl
 
--- inside a packet, or right behind it
+-- inside a packet, or right after it
 long : (size : ℕ) (p : OpenPacket) (kept : List ℕ) → IsOpenPacket size p → 0 < length (bytes_of p ++ kept)
 long size p kept is = omega (arith, bytes_length size p is, length-append (bytes_of p) kept)
 
@@ -65,7 +65,7 @@ closes size c None hello has_packets kept e is = closes_between hello kept c.pac
 closes size c (Some p) None has_packets kept e is = refl
 closes size c (Some p) (Some id) has_packets kept e is = closes_inside size id c p kept (is_complete p) refl is
 
--- ---- what is told
+-- ---- what is returned
 
 to_hello : (c : ChannelProgress) (packet : Option OpenPacket) → (read_to c packet).hello ≡ c.hello
 to_hello c None = refl
@@ -124,7 +124,7 @@ found_as true to rest Reading (inr not_ended) = absurd cc
 found_as true to rest Closed other = refl
 found_as true to rest (Bad fault) other = refl
 
--- what is told once the channel is ended
+-- what is returned once the channel is ended
 pub tells_closing : (r : PageHolder) (state : ChannelState) → r.found ≡ Reading → r.ended ≡ true → state ≡ closing_state r
     → HolderTells r (λ given text so_far. HasReading given text r.ended so_far state)
 tells_closing r state reading over e = λ given text so_far g.
@@ -136,7 +136,7 @@ pub tells_found : (r : PageHolder) (state : ChannelState) → (r.found ≢ Readi
 tells_found r state other e = λ given text so_far g.
     told given text so_far r r.ended state g (e ∙ found_as r.ended (read_to so_far.read so_far.packet) (open_bytes so_far.packet ++ r.kept) r.found other)
 
--- a reading tells the state
+-- a reading says the state
 pub state_told : (r : PageHolder) (state : ChannelState) → HolderTells r (λ given text so_far. HasReading given text r.ended so_far state)
     → HolderTells r (λ given text so_far. HasState given text r.ended state)
 state_told r state tells = λ given text so_far g.

@@ -1,4 +1,4 @@
--- Fields at the beginning of bytes and behind others, whatever surrounds them.
+-- Fields at the beginning of bytes and after others, whatever surrounds them.
 use Rattle.std.proofs.Common.{◌≡◌, ℕ, ◌+◌, ◌-◌, ◌≤◌, List, ◌++◌, length, take, drop, sym, ap, ◌∙◌, arith}
 use Rattle.std.specs.Prelude.{slice_range}
 use Rattle.std.specs.Int.{w32, w64, from_be_bytes}
@@ -16,7 +16,7 @@ pub be32_at-front : (at : ℕ) (a b : List ℕ) → at + 4 ≤ length a → be32
 unfolding be32_at
 be32_at-front at a b le = ap (from_be_bytes w32) (range-front a b at (at + 4) (omega arith) le)
 
--- ---- behind other bytes
+-- ---- after other bytes
 
 pub range-past : (x y : List ℕ) (m i j : ℕ) → length x ≡ m → slice_range (x ++ y) (m + i) (m + j) ≡ slice_range y i j
 range-past x y m i j len =

@@ -58,7 +58,7 @@ pages_are size count normal contents offset content all here there =
     ∙ page_same (get_or normal k 0) (offset k) (slice_range contents (k * size) (k * size + size)) (content k) (sym (here k lt)) (sym (there k)))
     ∙ ap (λ (n : ℕ). map read (range_with_len 0 n)) (sym all)
 
--- what is read behind the first is the second
+-- what is read after the first is the second
 tail_is : (from count : ℕ) (xs ys : List ℕ) (f : ℕ → ℕ) → from ≡ length xs → count ≡ length ys
     → ((i : ℕ) → i < length xs + length ys → f i ≡ get_or (xs ++ ys) i 0)
     → map f (range_with_len from count) ≡ ys

@@ -1,4 +1,4 @@
--- What a reader stands for after a call, and what it tells.
+-- What a reader stands for after a call, and what it returns.
 use Rattle.std.proofs.Common.{◌≡◌, ◌≢◌, ℕ, ◌+◌, ◌-◌, ◌<◌, get_or, Bool, true, false, List, [], ◌∷◌, ◌++◌, length}
 use Rattle.std.proofs.Common.{Option, Some, None, refl, sym, ap, subst, ◌∙◌, append_assoc, arith}
 use Rattle.std.specs.Prelude.{IfSome, IfNone}
@@ -110,9 +110,9 @@ fewer_each (Some r) old new c d e f h =
     let left : waiting new ≡ length d.rounds = ap (λ (x : ChannelProgress). length x.rounds) f in
     omega (arith, held, left)
 
--- ---- what a reader tells is the reading
+-- ---- what a reader returns is the reading
 
--- the reading of the text that it stands for
+-- the reading of the bytes that it stands for
 abbrev told : (r : Reader) (taken : List (List (List ℕ))) (ended : Bool) (rest : List ℕ) → ChannelReading
 told r taken ended rest =
     record { hello = r.progress.hello; rounds = taken ++ r.progress.rounds; state = state_at ended (with_taken taken r.progress) rest r.found }
@@ -128,7 +128,7 @@ told_alone : (given : Settings) (so_far : SoFar) (r : Reader) (ended : Bool) (s 
 told_alone given so_far r ended s reading is =
     one_reading (from given) so_far.text (with_taken s.rounds r.progress) is.to s.rest is.rest r.found is.found s.reads is.reads
 
--- the bytes behind the front are asked for where the text has no fault
+-- the bytes after the front are asked for where the channel has no fault
 state_kept : (ended : Bool) (c : ChannelProgress) (taken : List (List (List ℕ))) (rest pending : List ℕ) (found : ChannelState)
     → (found ≡ Reading → rest ≡ pending) → state_at ended c pending found ≡ state_at ended (with_taken taken c) rest found
 state_kept true c taken rest pending Reading same = ap (λ (x : List ℕ). state_at_end c.hello x c.packets) (sym (same refl))
@@ -147,7 +147,7 @@ state_stands r state e = λ given so_far s. (
       ∙ state_kept so_far.ended r.progress s.rounds s.rest r.pending r.found s.has_pending,
 )
 
--- a reader that reads on stands for no text with a fault
+-- a reader that reads on stands for no bytes with a fault
 pub not_settled : (r : Reader) → r.found ≡ Reading → Tells r (λ given so_far. IsSettled given so_far.text → ⊥)
 not_settled r reading = λ given so_far s settled.
     let is : IsReading given so_far.text false settled.1.0 = settled.1.1 in

@@ -1,4 +1,4 @@
--- A text has one reading.
+-- Bytes have one reading.
 use Rattle.std.proofs.Common.{◌≡◌, ℕ, leb, List, [], ◌∷◌, ◌++◌, length, take, drop, Option, Some, None, refl, sym, ap, subst, ◌∙◌, append_assoc}
 use Rattle.std.specs.List.{concat}
 use Rattle.std.proofs.lemmas.List.{take_at, drop_at}
@@ -23,7 +23,7 @@ none_due c item x rest is free e =
     cond_none (leb (judged_len c.page_size c.hello) (length rest)) (first_fault c rest)
     (ap (first_fault c) e ∙ ap first_of (faults_stay c c.hello item x (judged_le c.page_size c.hello item is)) ∙ free)
 
--- and a text doesn't end there
+-- and the bytes don't end there
 pub no_end : (c : ChannelProgress) (item x rest : List ℕ) (s : ChannelState) → IsItem c.page_size c.hello item → first_fault c item ≡ None → rest ≡ item ++ x
     → Ends c rest s → ⊥
 no_end c item x rest Closed is free e end = end
@@ -54,7 +54,7 @@ one_front c (i ∷ xs) (j ∷ ys) x y s t f g a b e =
     (subst (λ (z : ChannelProgress). Ends (after_all z ys) y t) moved b) first.1 in
     (cc, others.1, others.2)
 
--- The reading of a text is one.
+-- The reading of bytes is one.
 pub one_reading : (from : ChannelProgress) (text : List ℕ) (c d : ChannelProgress) (x y : List ℕ) (s t : ChannelState) → Reads from text c x s
     → Reads from text d y t → (c ≡ d) × (x ≡ y) × (s ≡ t)
 one_reading from text c d x y s t a b =

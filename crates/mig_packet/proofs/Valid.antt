@@ -1,4 +1,4 @@
--- Up to where a text is valid: one place, which longer texts only move on.
+-- Up to where bytes are valid: one place, which longer bytes only move on.
 use Rattle.std.proofs.Common.{◌≡◌, ◌≢◌, ℕ, ◌≤◌, ◌+◌, true, false, Option, Some, None, List, [], ◌∷◌, ◌++◌, length, refl, sym, ap, subst, ◌∙◌, append_assoc, arith}
 use Rattle.std.specs.List.{concat}
 use Rattle.std.proofs.lemmas.List.{length-append}
@@ -51,7 +51,7 @@ longest given text m n f v =
 front_of : (given : Settings) (text : List ℕ) (n : ℕ) → IsValidUpTo given text n → HasFront given text n
 front_of given text n v = record { to = v.to; front = v.reads.front; rest = v.rest; has_text = v.reads.has_text; has_length = v.has_length; leads = v.reads.leads }
 
--- what is valid and what is left are the text
+-- what is valid and what is left are all bytes
 all_bytes : (given : Settings) (text : List ℕ) (n : ℕ) (v : IsValidUpTo given text n) → n + length v.rest ≡ length text
 all_bytes given text n v = omega (arith, v.has_length, ap (λ (z : List ℕ). length z) v.reads.has_text, length-append v.reads.front v.rest)
 
@@ -67,7 +67,7 @@ one_place = λ given text.
       λ m other. omega (arith, longest given text m n (front_of given text m other) v, longest given text n m (front_of given text n v) other),
     )
 
--- ---- longer texts
+-- ---- longer bytes
 
 more_front : (given : Settings) (text more : List ℕ) (n : ℕ) → HasFront given text n → HasFront given (text ++ more) n
 more_front given text more n f = record {
@@ -79,7 +79,7 @@ more_front given text more n f = record {
   leads = f.leads;
 }
 
--- the state of a text that isn't over is that of its longest front
+-- the state of bytes that haven't ended is that of their longest front
 same_state : (given : Settings) (text : List ℕ) (n : ℕ) (s : ChannelState) (v : IsValidUpTo given text n) → HasState given text false s → v.found ≡ s
 same_state given text n s v h =
     let is : IsReading given text false h.0 = h.1 in
@@ -108,9 +108,9 @@ stays given text more m n v w settled =
 pub stays_valid : LongerTextsStayValid
 stays_valid = λ given text more m n v w. (longest given (text ++ more) m n (more_front given text more m (front_of given text m v)) w, λ settled. stays given text more m n v w settled)
 
--- ---- where a text is over
+-- ---- where a channel has ended
 
--- a text that is over is closed behind a SYNC packet, at its last byte
+-- a channel that has ended is closed after a SYNC packet, at its last byte
 closed_end : (hello : Option ℕ) (rest : List ℕ) (packets : List (List ℕ)) → state_at_end hello rest packets ≡ Closed → rest ≡ []
 closed_end None rest packets e = absurd cc
 closed_end (Some id) (byte ∷ rest) packets e = absurd cc

@@ -1,4 +1,4 @@
--- The items of a channel's text that is over: what a relay hands on, one after another.
+-- The items of a channel that has ended: what a relay passes on, one after another.
 use Rattle.std.specs.Prelude.{◌≡◌, ℕ, true, List, [], ◌∷◌, ◌++◌, map, flat_map, Option, Some, None}
 use Rattle.mig_packet.specs.declared.fault.ChannelFault.{ChannelFault}
 use Rattle.mig_packet.specs.declared.state.ChannelState.{ChannelState}
@@ -7,7 +7,8 @@ use Rattle.mig_packet.specs.Packet.{Fields, fields_of}
 use Rattle.mig_packet.specs.Progress.{ChannelProgress, start}
 use Rattle.mig_packet.specs.Reading.{Reads, state_at, Settings}
 
--- an item: the id that the hello names, what a packet says, or the stop, with the fault of a text that isn't closed
+-- an item: the id that the hello names, what a packet says, or the stop, with the fault of a
+-- channel that isn't closed
 pub data ChannelItem : Type 0 where
   Hello : ℕ → ChannelItem
   Page : Fields → ChannelItem
@@ -22,14 +23,15 @@ item_of_stop Closed = Stop None ∷ []
 item_of_stop (Bad fault) = Stop (Some fault) ∷ []
 item_of_stop Reading = []
 
--- the packets of the whole rounds and of the one that isn't whole, in the order of the text
+-- the packets of the complete rounds and of the open one, in the order of the channel
 abbrev pub all_packets : ChannelProgress → List (List ℕ)
 all_packets c = flat_map (λ round. round) c.rounds ++ c.packets
 
 abbrev pub items_of : ChannelProgress → ChannelState → List ChannelItem
 items_of c state = item_of_hello c.hello ++ map (λ packet. Page (fields_of c.page_size packet)) (all_packets c) ++ item_of_stop state
 
--- These are the items of a text that is over: its hello where that is in the front, each packet of the front, then one stop.
+-- These are the items of a channel that has ended: its hello where that is in the front, each
+-- packet of the front, then one stop.
 pub record AreItems (given : Settings) (text : List ℕ) (items : List ChannelItem) : Type 0 where
   pub to : ChannelProgress
   pub rest : List ℕ

@@ -1,4 +1,4 @@
--- What a piece makes of an item that wasn't whole.
+-- What a piece makes of an item that wasn't complete.
 use Rattle.std.specs.Prelude.{◌≡◌, ℕ, List, ◌++◌, Some, None}
 use Rattle.mig_packet.specs.declared.reader.Filled.{Filled}
 use Rattle.mig_packet.specs.declared.reader.Filled.TheVariants as filled
@@ -6,8 +6,9 @@ use Rattle.mig_packet.specs.Progress.{ChannelProgress, first_fault, due_fault}
 use Rattle.mig_packet.specs.Reading.{IsItem}
 use Rattle.mig_packet.specs.Reader.{IsUnfinished}
 
--- Where a channel has been read to `c`, `bytes` follow, and `pending` are those of them that are kept. Whole: `pending` are the next
--- item, without a fault, and the rest is left. Unfinished: they are all the bytes, a part of that item. Faulty: a fault is due.
+-- A channel has been read to `c`, `bytes` follow, and `pending` are those of them that are kept.
+-- Whole: `pending` are the next item, without a fault, and the rest is left. Unfinished: they are
+-- all the bytes, a part of that item. Faulty: a fault is due.
 abbrev pub Fills : ChannelProgress → List ℕ → List ℕ → Filled → Type 0
 Fills c bytes pending (filled.Whole rest) = (bytes ≡ pending ++ rest.now) × IsItem c.page_size c.hello pending × (first_fault c pending ≡ None)
 Fills c bytes pending filled.Unfinished = (bytes ≡ pending) × IsUnfinished c pending

@@ -1,4 +1,4 @@
--- What stands at the beginning of bytes: what `read_hello` and `read_packet` answer.
+-- What stands at the beginning of bytes: what `read_hello` and `read_packet` return.
 use Rattle.std.specs.Prelude.{◌≡◌, ℕ, ◌≤◌, ◌<◌, List, ◌++◌, length, take, Some, None}
 use Rattle.mig_packet.specs.declared.front.HelloRead.{HelloRead}
 use Rattle.mig_packet.specs.declared.front.HelloRead.TheVariants as hello
@@ -8,14 +8,15 @@ use Rattle.mig_packet.specs.Hello.{IsHello, hello_len, due_hello_fault}
 use Rattle.mig_packet.specs.Packet.{Fields, IsPacketText, due_packet_fault}
 use Rattle.mig_packet.specs.Lent.{fields}
 
--- Whole: the front is a hello of this UUID, and its id is one of the channels'. Cut: it isn't there yet. Bad: the fault that
--- is due.
+-- Whole: the front is a hello of this UUID, and its id is one of the channels'. Cut: it isn't there
+-- yet. Bad: the fault that is due.
 abbrev pub ReadsHello : List ℕ → ℕ → List ℕ → HelloRead → Type 0
 ReadsHello uuid channels bytes (hello.Whole id) = (id < channels) × IsHello uuid id (take hello_len bytes)
 ReadsHello uuid channels bytes hello.Cut = length bytes < hello_len
 ReadsHello uuid channels bytes (hello.Bad fault) = due_hello_fault uuid channels bytes ≡ Some fault
 
--- Whole: the front of that length is this packet. Cut: no fault is due, and no front is a packet. Bad: the fault that is due.
+-- Whole: the front of that length is this packet. Cut: no fault is due, and no front is a packet.
+-- Bad: the fault that is due.
 abbrev pub ReadsPacket : ℕ → List ℕ → PacketRead → Type 0
 ReadsPacket page_size bytes (packet.Whole found len) = (found.page_size ≡ page_size) × (len ≤ length bytes) × (found.bytes.now ≡ take len bytes)
 ReadsPacket page_size bytes packet.Cut =

@@ -9,7 +9,8 @@ use Rattle.mig_packet.specs.Faults.{first_of}
 abbrev pub hello_len : ℕ
 hello_len = 64
 
--- Bytes are a hello of this UUID and this channel id. The last 39 bytes are reserved, and may be any.
+-- Bytes are a hello of this UUID and this channel id. The last 39 bytes are reserved, and may be
+-- any.
 pub record IsHello (uuid : List ℕ) (id : ℕ) (bytes : List ℕ) : Type 0 where
   pub has_length : length bytes ≡ hello_len
   pub has_magic : be32_at 0 bytes ≡ 0x11223344
@@ -21,7 +22,8 @@ pub record IsHello (uuid : List ℕ) (id : ℕ) (bytes : List ℕ) : Type 0 wher
 abbrev pub written_hello : List ℕ → ℕ → List ℕ
 written_hello uuid id = be32 0x11223344 ++ (be32 1 ++ (uuid ++ (id ∷ replicate 39 0)))
 
--- what may be wrong with a hello's bytes, where so many channels are expected under this UUID, in the order of judging
+-- what may be wrong with a hello's bytes, where so many channels are expected under this UUID, in
+-- the order of judging
 abbrev pub hello_faults : List ℕ → ℕ → List ℕ → List (Bool × ChannelFault)
 hello_faults uuid channels bytes =
     (not (be32_at 0 bytes == 0x11223344), fault.HelloMagic) ∷

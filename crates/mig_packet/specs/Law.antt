@@ -24,13 +24,13 @@ WrittenPacketsArePackets = (page_size number : ℕ) (sync : Bool) (id normal con
 abbrev pub NoPacketBeginsAnother : Type 0
 NoPacketBeginsAnother = (page_size : ℕ) (front more : List ℕ) → IsPacketText page_size front → IsPacketText page_size (front ++ more) → more ≡ []
 
--- Each text, over or not, has exactly one reading.
+-- The bytes of a channel, ended or not, have exactly one reading.
 abbrev pub HasOneReading : Type 0
 HasOneReading = (given : Settings) (text : List ℕ) (ended : Bool) → IsPageSize given.page_size
     → (reading : ChannelReading) × IsReading given text ended reading
     × ((other : ChannelReading) → IsReading given text ended other → other ≡ reading)
 
--- And each text that is over has exactly one list of items.
+-- The bytes of a channel that has ended have exactly one list of items.
 abbrev pub HasOneListOfItems : Type 0
 HasOneListOfItems = (given : Settings) (text : List ℕ) → IsPageSize given.page_size
     → (items : List ChannelItem) × AreItems given text items
@@ -44,8 +44,9 @@ pub record EndsWithSync (round : List (List ℕ)) : Type 0 where
   pub none_before : All (λ packet. IsFalse (is_sync packet)) before
   pub is_last : IsTrue (is_sync last)
 
--- Each whole round is packets of the page size, and ends with its only SYNC packet. There is none without a hello. A text that
--- is over stands closed or bad; it is closed by its end alone, and not without a hello.
+-- Each complete round is packets of the page size, and ends with its only SYNC packet. There is
+-- none without a hello. A channel that has ended stands closed or bad. It is closed by its end
+-- alone, and not without a hello.
 pub record KeepsLimits (page_size : ℕ) (ended : Bool) (reading : ChannelReading) : Type 0 where
   pub end_with_sync : All EndsWithSync reading.rounds
   pub are_packets : All (All (IsPacketText page_size)) reading.rounds
@@ -58,24 +59,25 @@ abbrev pub ReadingsKeepLimits : Type 0
 ReadingsKeepLimits = (given : Settings) (text : List ℕ) (ended : Bool) (reading : ChannelReading) → IsPageSize given.page_size
     → IsReading given text ended reading → KeepsLimits given.page_size ended reading
 
--- ---- up to where a text is valid
+-- ---- up to where bytes are valid
 
--- A text is valid up to exactly one place, and none of its fronts is longer.
+-- Bytes are valid up to exactly one place, and none of their fronts is longer.
 abbrev pub IsValidUpToOnePlace : Type 0
 IsValidUpToOnePlace = (given : Settings) (text : List ℕ)
     → (n : ℕ) × IsValidUpTo given text n × (n ≤ length text)
     × ((m : ℕ) → HasFront given text m → m ≤ n) × ((m : ℕ) → IsValidUpTo given text m → m ≡ n)
 
--- Bytes that follow leave it where it was, or move it on. Once the text has a fault, it stays.
+-- Bytes that follow leave it where it was, or move it on. Once the bytes have a fault, it stays.
 abbrev pub LongerTextsStayValid : Type 0
 LongerTextsStayValid = (given : Settings) (text more : List ℕ) (m n : ℕ) → IsValidUpTo given text m → IsValidUpTo given (text ++ more) n
     → (m ≤ n) × (IsSettled given text → m ≡ n)
 
--- A text that is over and closed is valid up to its last byte.
+-- A channel that has ended and is closed is valid up to its last byte.
 abbrev pub ClosedIsValid : Type 0
 ClosedIsValid = (given : Settings) (text : List ℕ) (n : ℕ) → HasState given text true Closed → IsValidUpTo given text n → n ≡ length text
 
--- whole items without a fault are the first n bytes, and in the bytes after them this fault is due
+-- complete items without a fault are the first n bytes, and in the bytes after them this fault is
+-- due
 pub record HasFaultAt (given : Settings) (text : List ℕ) (n : ℕ) (fault : ChannelFault) : Type 0 where
   pub to : ChannelProgress
   pub front : List ℕ
@@ -85,6 +87,6 @@ pub record HasFaultAt (given : Settings) (text : List ℕ) (n : ℕ) (fault : Ch
   pub leads : Front (start given.page_size given.uuid given.channels) front to
   pub has_fault : due_fault to rest ≡ Some fault
 
--- A bad text is valid up to where the item at fault begins.
+-- A bad channel is valid up to where the item at fault begins.
 abbrev pub BadIsValidBefore : Type 0
 BadIsValidBefore = (given : Settings) (text : List ℕ) (n : ℕ) (fault : ChannelFault) → HasState given text false (Bad fault) → IsValidUpTo given text n → HasFaultAt given text n fault

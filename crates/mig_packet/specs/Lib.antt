@@ -1,4 +1,5 @@
--- To read first, in this order: a hello, a packet, and the one text that is written for some fields ..
+-- To read first, in this order: a hello, a packet, and the one packet that is written for some
+-- fields.
 pub mod PageSize
 pub mod Fields
 pub mod Faults
@@ -8,7 +9,8 @@ pub mod PacketHead
 pub mod Written
 pub mod Lent
 pub mod FaultNumber
--- .. what stands at the beginning of bytes, how a whole text is read, what a reader of it stands for, and the laws
+-- Then what stands at the beginning of bytes, how a channel's bytes are read, what a reader of them
+-- stands for, and the laws.
 pub mod FrontRead
 pub mod Progress
 pub mod Reading

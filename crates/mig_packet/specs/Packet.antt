@@ -1,4 +1,5 @@
--- The layout of a packet, field by field at its place. QEMU's `MultiFDPacket_t`, with this project's count of zero pages.
+-- The layout of a packet, field by field at its place. QEMU's `MultiFDPacket_t`, with this
+-- project's count of zero pages.
 use Rattle.std.specs.Prelude.{◌≡◌, ◌≢◌, ℕ, ◌+◌, ◌*◌, ◌≤◌, Bool, not, nat_le, nat_lt, if◌then◌else◌, ◌==◌}
 use Rattle.std.specs.Prelude.{◌&&◌, List, [], ◌∷◌, length, map, Option, None, slice_range}
 use Rattle.std.specs.List.{before_first, range_with_len}
@@ -70,8 +71,9 @@ fields_of page_size bytes = record {
   zero = map (offset_at bytes) (range_with_len (normal_count bytes) (zero_count bytes));
 }
 
--- Bytes are the text of one packet. What this leaves out may be any bytes: pages_alloc, next_packet_size where there are no
--- normal pages, the reserved fields, what follows the id, and the offsets that no page needs.
+-- Bytes are those of one packet. What this leaves out may be any bytes: pages_alloc,
+-- next_packet_size where there are no normal pages, the reserved fields, what follows the id, and
+-- the offsets that no page needs.
 pub record IsPacketText (page_size : ℕ) (bytes : List ℕ) : Type 0 where
   pub has_magic : be32_at 0 bytes ≡ 0x11223344
   pub has_version : be32_at 4 bytes ≡ 1
@@ -95,6 +97,6 @@ packet_faults page_size bytes =
     (nat_lt (page_limit page_size) (normal_count bytes + zero_count bytes), fault.PageCount) ∷
     (not (normal_count bytes == 0) && not (contents_len_in bytes == normal_count bytes * page_size), fault.PacketSize) ∷ []
 
--- the fault that is due: none before the whole head is there, but also where pages are missing
+-- the fault that is due: none before the complete head is there, but also where pages are missing
 abbrev pub due_packet_fault : ℕ → List ℕ → Option ChannelFault
 due_packet_fault page_size bytes = if nat_le (head_len page_size) (length bytes) then first_of (packet_faults page_size bytes) else None

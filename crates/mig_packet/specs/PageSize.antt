@@ -15,8 +15,9 @@ page_limit page_size = 524288 / page_size
 abbrev pub head_len : ℕ → ℕ
 head_len page_size = 320 + 8 * page_limit page_size
 
--- There is at most one proof that a size is one of the two, as a type asks of the facts that it keeps. It is a proof, and stands here
--- since the field of a type can cite its crate's specs/ alone.
+-- There is at most one proof that a size is one of the two, as a type asks of the facts that it
+-- keeps. It is a proof, and stands here since the field of a type can cite its crate's specs/
+-- alone.
 pub IsPageSize-prop : (size : ℕ) → IsProp (IsPageSize size)
 IsPageSize-prop size (inl e) (inl f) = ap inl (ℕ_set size 4096 e f)
 IsPageSize-prop size (inl e) (inr f) = absurd (let two : 4096 ≡ 8192 = sym e ∙ f in omega (arith, two))

@@ -1,5 +1,5 @@
 -- A reader of a channel that gives each page as soon as its bytes have come, before its packet and
--- its round are complete, and what it stands for.
+-- its round are complete. What it stands for.
 use Rattle.std.specs.Prelude.{◌≡◌, ◌≢◌, ℕ, ◌+◌, ◌-◌, ◌*◌, ◌<◌, ◌≤◌, Bool, true, false, ◌==◌, if◌then◌else◌, List, [], ◌∷◌, ◌++◌}
 use Rattle.std.specs.Prelude.{length, map, Option, Some, None, IfSome, IsTrue, IsFalse, ⊤, ◌⊎◌}
 use Rattle.std.specs.List.{All, flat_map, range_with_len}
@@ -23,7 +23,7 @@ pub record OpenPacket : Type 0 where
   pub head : List ℕ
   pub pages : List NormalPage
 
--- The head is whole and without a fault, and the pages are the packet's first ones.
+-- The head is complete and without a fault, and the pages are the packet's first ones.
 pub record IsOpenPacket (page_size : ℕ) (packet : OpenPacket) : Type 0 where
   pub is_head : IsPacketHead page_size packet.head
   pub has_few : length packet.pages ≤ normal_count packet.head
@@ -68,7 +68,7 @@ pub record PageHolder : Type 0 where
   pub has_packets : Bool
   -- the head of the packet that was begun, and how many of its pages were given
   pub packet : Option (List ℕ × ℕ)
-  -- the bytes of the hello, the head or the page that isn't whole yet
+  -- the bytes of the hello, the head or the page that isn't complete yet
   pub kept : List ℕ
   -- the page that was given last, where the reader has its bytes
   pub page : List ℕ
@@ -120,7 +120,8 @@ pub record Gives (given : Settings) (text : List ℕ) (so_far : GivenSoFar) (r :
   pub is_page_size : IsPageSize given.page_size
   pub has_settings : r.given ≡ given
   pub has_fed : r.fed ≡ length text
-  -- the bytes are read to what was given, and left are pages that were given and bytes that are kept
+  -- the bytes are read to what was given, and left are pages that were given and bytes that are
+  -- kept
   pub reads : Reads (start given.page_size given.uuid given.channels) text (read_to so_far.read so_far.packet) (open_bytes so_far.packet ++ r.kept) r.found
   pub is_open : IfSome so_far.packet (IsOpenPacket given.page_size)
   pub has_packet : r.packet ≡ kept_of so_far.packet
@@ -131,8 +132,8 @@ pub record Gives (given : Settings) (text : List ℕ) (so_far : GivenSoFar) (r :
 abbrev pub HolderTells : PageHolder → (Settings → List ℕ → GivenSoFar → Type 0) → Type 0
 HolderTells r says = (given : Settings) (text : List ℕ) (so_far : GivenSoFar) → Gives given text so_far r → says given text so_far
 
--- A call takes these bytes and gives this answer: whatever the reader gave before, it has given that
--- with the answer.
+-- A call takes these bytes and gives this answer: whatever the reader gave before, it has given
+-- that with the answer.
 abbrev pub GivesOn : List ℕ → Came → PageHolder → PageHolder → Type 0
 GivesOn taken answer old new = (given : Settings) (text : List ℕ) (so_far : GivenSoFar)
     → Gives given text so_far old → Gives given (text ++ taken) (with_came answer new so_far) new
@@ -171,12 +172,12 @@ abbrev pub NeedsMore : Came → PageHolder → Type 0
 NeedsMore came.More r = IsShort r r.packet
 NeedsMore other r = ⊤
 
--- a page is whole
+-- a page is complete
 abbrev pub IsWhole : Came → PageHolder → Type 0
 IsWhole (came.Page offset page) r = length (content_of page r) ≡ r.given.page_size
 IsWhole other r = ⊤
 
--- Only a page that a piece cut is copied: a page that lies whole in the piece is lent from it.
+-- Only a page that a piece cut is copied: a page that lies complete in the piece is lent from it.
 abbrev pub CopiesCutPages : Came → List ℕ → PageHolder → Type 0
 CopiesCutPages (came.Page offset content.Kept) piece old = (old.kept ≢ []) ⊎ (length piece < old.given.page_size)
 CopiesCutPages other piece old = ⊤
@@ -187,25 +188,25 @@ abbrev pub one_if_begun : Option (List ℕ × ℕ) → ℕ
 one_if_begun None = 0
 one_if_begun (Some packet) = 1
 
--- no more calls than so many give something, of so many bytes of a piece
+-- at most so many calls give something, of so many bytes of a piece
 abbrev pub left : ℕ → PageHolder → ℕ
 left bytes r = 2 * bytes + one_if_begun r.packet
 
--- a call that neither needs more nor is over leaves less
+-- a call that neither needs more nor finds the end leaves less
 abbrev pub LeavesLess : Came → ℕ → List ℕ → PageHolder → PageHolder → Type 0
 LeavesLess came.More taken piece old new = ⊤
 LeavesLess came.Over taken piece old new = ⊤
 LeavesLess other taken piece old new = left (length piece - taken) new < left (length piece) old
 
--- ---- what it tells
+-- ---- what it returns
 
 -- the head of the packet that was begun
 abbrev pub head_of : Option OpenPacket → Option (List ℕ)
 head_of None = None
 head_of (Some packet) = Some packet.head
 
--- This is the reading of the bytes taken: its hello and its rounds are those that were given, and so
--- are the packets of the open round.
+-- This is the reading of the bytes taken: its hello and its rounds are those that were given, and
+-- so are the packets of the open round.
 pub record HasReading (given : Settings) (text : List ℕ) (ended : Bool) (so_far : GivenSoFar) (state : ChannelState) : Type 0 where
   pub reading : ChannelReading
   pub is_reading : IsReading given text ended reading

@@ -18,7 +18,7 @@ use Rattle.mig_packet.specs.Paging.{PageHolder, content_of, Stops, IsShort, Copi
 abbrev pub fault_of : Settings → Option ℕ → List ℕ → Option ChannelFault
 fault_of given hello bytes = first_of (faults (start given.page_size given.uuid given.channels) hello bytes)
 
--- a whole hello or head, without a fault
+-- a complete hello or head, without a fault
 pub record IsJudged (r : PageHolder) (bytes : List ℕ) : Type 0 where
   pub has_none_begun : r.packet ≡ None
   pub is_reading : r.found ≡ Reading
@@ -79,7 +79,7 @@ pub record Steps (answer : Came) (count : ℕ) (piece : List ℕ) (old new : Pag
 
 -- ---- a page from a piece
 
--- a page is whole with these bytes, gathered or lent; or all bytes are gathered, and it isn't
+-- a page is complete with these bytes, gathered or lent; or all bytes are gathered, and it isn't
 abbrev pub IsTaken : Option PageContent → List ℕ → List ℕ → ℕ → Type 0
 IsTaken None bytes page size = (page ≡ bytes) × (length bytes < size)
 IsTaken (Some content.Kept) bytes page size = (page ≡ bytes) × (length bytes ≡ size)
@@ -92,7 +92,7 @@ IsCut other kept piece size = ⊤
 
 -- ---- once the channel is ended
 
--- the hello was read, and nothing of an item that isn't complete
+-- the hello was read, and no byte of a next item
 abbrev pub is_between : Option ℕ → Option (List ℕ × ℕ) → List ℕ → Bool
 is_between None packet kept = false
 is_between (Some id) packet (byte ∷ kept) = false

@@ -1,4 +1,4 @@
--- A channel's text, item by item: a hello, then packets. What items leave behind.
+-- A channel's bytes, item by item: a hello, then packets. What items leave.
 use Rattle.std.specs.Prelude.{ℕ, ◌+◌, ◌*◌, Bool, nat_le, if◌then◌else◌, List, [], ◌∷◌, ◌++◌, length, get_or, Option, Some, None, All}
 use Rattle.mig_packet.specs.declared.fault.ChannelFault.{ChannelFault}
 use Rattle.mig_packet.specs.PageSize.{IsPageSize, head_len}
@@ -9,14 +9,14 @@ use Rattle.mig_packet.specs.Packet.{normal_count, is_sync, IsPacketText, packet_
 -- how far a channel has been read
 pub record ChannelProgress : Type 0 where
   pub page_size : ℕ
-  -- the UUID and the number of channels that were handed in
+  -- the UUID and the number of channels that were passed
   pub uuid : List ℕ
   pub channels : ℕ
   -- the id that the hello named: None before the hello
   pub hello : Option ℕ
-  -- the packets of the round that isn't whole yet, each as its text
+  -- the packets of the open round, each as its bytes
   pub packets : List (List ℕ)
-  -- the whole rounds: each is the packets up to and with a SYNC packet
+  -- the complete rounds: each is the packets up to and with a SYNC packet
   pub rounds : List (List (List ℕ))
 
 abbrev pub start : ℕ → List ℕ → ℕ → ChannelProgress
@@ -47,13 +47,14 @@ faults c (Some id) bytes = packet_faults c.page_size bytes
 abbrev pub first_fault : ChannelProgress → List ℕ → Option ChannelFault
 first_fault c bytes = first_of (faults c c.hello bytes)
 
--- the fault that is due: none before the bytes that are judged are there, but also where pages are missing
+-- the fault that is due: none before the bytes that are judged are there, but also where pages are
+-- missing
 abbrev pub due_fault : ChannelProgress → List ℕ → Option ChannelFault
 due_fault c bytes = if nat_le (judged_len c.page_size c.hello) (length bytes) then first_fault c bytes else None
 
 -- ---- what an item leaves
 
--- a SYNC packet makes the round whole
+-- a SYNC packet completes the round
 abbrev pub after_packet : ChannelProgress → List ℕ → ChannelProgress
 after_packet c packet =
     if is_sync packet then record c { packets = []; rounds = c.rounds ++ (c.packets ++ packet ∷ []) ∷ [] }

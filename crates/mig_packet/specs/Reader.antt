@@ -14,19 +14,20 @@ pub record Reader : Type 0 where
   pub progress : ChannelProgress
   -- the bytes after it: a part of an item
   pub pending : List ℕ
-  -- how the bytes fed stand, whether or not the text is over
+  -- how the bytes fed stand, whether or not the channel has ended
   pub found : ChannelState
-  -- how many bytes fed are whole items without a fault
+  -- how many bytes fed are complete items without a fault
   pub valid_up_to : ℕ
   pub fed : ℕ
   pub ended : Bool
 
--- These bytes are a part of the item that comes next, not the whole of it, and no fault of it is due.
+-- These bytes are a part of the item that comes next, not all of it, and no fault of it is due.
 pub record IsUnfinished (c : ChannelProgress) (bytes : List ℕ) : Type 0 where
   pub has_no_fault : due_fault c bytes ≡ None
   pub is_short : judged_len c.page_size c.hello ≤ length bytes → length bytes < item_len c.page_size c.hello bytes
 
--- bytes are read to there, with so many left, and of an item that isn't whole these bytes are kept
+-- bytes are read to there, with so many left, and of an item that isn't complete these bytes are
+-- kept
 pub record ReadsOn (from : ChannelProgress) (bytes : List ℕ) (to : ChannelProgress) (pending : List ℕ) (left : ℕ) (state : ChannelState) : Type 0 where
   pub rest : List ℕ
   pub reads : Reads from bytes to rest state
@@ -39,7 +40,8 @@ with_taken taken c = record c { rounds = taken ++ c.rounds }
 
 -- ---- what a reader stands for
 
--- what a reader was given so far: this text, whether it was told that the text is over, and how many rounds were taken from it
+-- what a reader was given so far: these bytes, whether the channel was ended, and how many rounds
+-- were taken from it
 pub record SoFar : Type 0 where
   pub text : List ℕ
   pub ended : Bool
@@ -49,11 +51,11 @@ pub record SoFar : Type 0 where
 abbrev pub nothing_yet : SoFar
 nothing_yet = record { text = []; ended = false; taken = 0 }
 
--- a piece more of the text
+-- one more piece of the channel
 abbrev pub with_piece : List ℕ → SoFar → SoFar
 with_piece piece so_far = record so_far { text = so_far.text ++ piece }
 
--- told that the text is over
+-- the channel was ended
 abbrev pub over : SoFar → SoFar
 over so_far = record so_far { ended = true }
 
@@ -61,7 +63,8 @@ over so_far = record so_far { ended = true }
 abbrev pub one_taken : SoFar → SoFar
 one_taken so_far = record so_far { taken = so_far.taken + 1 }
 
--- A reader stands for what it was given so far, under these settings. The rounds that were taken come before those that it holds.
+-- A reader stands for what it was given so far, under these settings. The rounds that were taken
+-- come before those that it holds.
 pub record Stands (given : Settings) (so_far : SoFar) (r : Reader) : Type 0 where
   pub has_fed : r.fed ≡ length so_far.text
   pub has_ended : r.ended ≡ so_far.ended
@@ -80,13 +83,13 @@ StepsOn step old new = (given : Settings) (so_far : SoFar) → Stands given so_f
 abbrev pub Tells : Reader → (Settings → SoFar → Type 0) → Type 0
 Tells r says = (given : Settings) (so_far : SoFar) → Stands given so_far r → says given so_far
 
--- how many whole rounds wait to be taken
+-- how many complete rounds wait to be taken
 abbrev pub waiting : Reader → ℕ
 waiting r = length r.progress.rounds
 
 -- ---- a round that was taken
 
--- a round: its packets, each as its text
+-- a round: its packets, each as its bytes
 pub record RoundOfPackets : Type 0 where
   pub page_size : ℕ
   pub packets : List (List ℕ)
@@ -95,17 +98,17 @@ pub record IsPacketRound (page_size : ℕ) (packets : List (List ℕ)) : Type 0 
   pub has_page_size : IsPageSize page_size
   pub are_packets : All (IsPacketText page_size) packets
 
--- ---- what the reading of a text tells (its hello and its rounds are the same, over or not)
+-- ---- what the reading of bytes says (its hello and its rounds don't depend on whether they ended)
 
--- the state of a text that may be over
+-- the state of bytes of a channel that may have ended
 abbrev pub HasState : Settings → List ℕ → Bool → ChannelState → Type 0
 HasState given text ended state = (reading : ChannelReading) × IsReading given text ended reading × (state ≡ reading.state)
 
--- the text has a fault already: more bytes change nothing
+-- the bytes have a fault already: more bytes change nothing
 abbrev pub IsSettled : Settings → List ℕ → Type 0
 IsSettled given text = (state : ChannelState) × HasState given text false state × (state ≢ Reading)
 
--- The first n bytes of the text are whole items without a fault.
+-- The first n bytes are complete items without a fault.
 pub record HasFront (given : Settings) (text : List ℕ) (n : ℕ) : Type 0 where
   pub to : ChannelProgress
   pub front : List ℕ
@@ -114,7 +117,7 @@ pub record HasFront (given : Settings) (text : List ℕ) (n : ℕ) : Type 0 wher
   pub has_length : length front ≡ n
   pub leads : Front (start given.page_size given.uuid given.channels) front to
 
--- The text is read to its first n bytes: these are its longest front of whole items without a
+-- The channel is read to its first n bytes: these are its longest front of complete items without a
 -- fault. Where it is bad, the item at fault begins after them.
 pub record IsValidUpTo (given : Settings) (text : List ℕ) (n : ℕ) : Type 0 where
   pub to : ChannelProgress
@@ -127,7 +130,7 @@ pub record IsValidUpTo (given : Settings) (text : List ℕ) (n : ℕ) : Type 0 w
 abbrev pub HasHello : Settings → List ℕ → Option ℕ → Type 0
 HasHello given text hello = (reading : ChannelReading) × IsReading given text false reading × (hello ≡ reading.hello)
 
--- the whole round of a number
+-- the complete round of a number
 abbrev pub HasRound : Settings → List ℕ → ℕ → List (List ℕ) → Type 0
 HasRound given text i round =
     (reading : ChannelReading) × IsReading given text false reading

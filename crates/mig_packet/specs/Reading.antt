@@ -1,4 +1,5 @@
--- The reading of a channel's text: its longest front of a hello and packets, and how it stands after it.
+-- The reading of a channel's bytes: their longest front of a hello and packets, and how the channel
+-- stands after it.
 use Rattle.std.specs.Prelude.{◌≡◌, ℕ, Bool, true, false, List, [], ◌∷◌, ◌++◌, length, Option, Some, None, ⊤}
 use Rattle.std.specs.List.{concat}
 use Rattle.mig_packet.specs.declared.state.ChannelState.{ChannelState}
@@ -6,11 +7,11 @@ use Rattle.mig_packet.specs.declared.state.ChannelState.TheVariants.{Reading, Cl
 use Rattle.mig_packet.specs.declared.fault.ChannelFault.TheVariants.{Truncated, Unsynced}
 use Rattle.mig_packet.specs.Progress.{ChannelProgress, start, item_len, first_fault, due_fault, after}
 
--- these bytes are one whole item
+-- these bytes are one complete item
 abbrev pub IsItem : ℕ → Option ℕ → List ℕ → Type 0
 IsItem page_size hello item = length item ≡ item_len page_size hello item
 
--- each item is whole and without a fault, after the items before it
+-- each item is complete and without a fault, after the items before it
 abbrev pub AreFaultless : ChannelProgress → List (List ℕ) → Type 0
 AreFaultless c [] = ⊤
 AreFaultless c (item ∷ items) = IsItem c.page_size c.hello item × (first_fault c item ≡ None) × AreFaultless (after c item) items
@@ -19,59 +20,61 @@ abbrev pub after_all : ChannelProgress → List (List ℕ) → ChannelProgress
 after_all c [] = c
 after_all c (item ∷ items) = after_all (after c item) items
 
--- these bytes are whole items without a fault, and lead from here to there
+-- these bytes are complete items without a fault, and lead from here to there
 pub record Front (from : ChannelProgress) (bytes : List ℕ) (to : ChannelProgress) : Type 0 where
   pub items : List (List ℕ)
   pub has_bytes : bytes ≡ concat items
   pub are_faultless : AreFaultless from items
   pub leads_to : to ≡ after_all from items
 
--- How a text stands where these bytes follow a front: bad where a fault is due, and else to be read on, where no whole item
--- follows. No byte closes it.
+-- How a channel stands where these bytes follow a front: bad where a fault is due, and else to be
+-- read on, where no complete item follows. No byte closes it.
 abbrev pub Ends : ChannelProgress → List ℕ → ChannelState → Type 0
 Ends c rest Reading = (due_fault c rest ≡ None) × ((item more : List ℕ) → rest ≡ item ++ more → IsItem c.page_size c.hello item → ⊥)
 Ends c rest Closed = ⊥
 Ends c rest (Bad fault) = due_fault c rest ≡ Some fault
 
--- A text is read from there on to here, with these bytes left, and stands so. A text that is bad is left from its faulty item
--- on.
+-- Bytes are read from there on to here, with these bytes left, and the channel stands so. If it is
+-- bad, the bytes from its faulty item on are left.
 pub record Reads (from : ChannelProgress) (text : List ℕ) (to : ChannelProgress) (rest : List ℕ) (state : ChannelState) : Type 0 where
   pub front : List ℕ
   pub has_text : text ≡ front ++ rest
   pub leads : Front from front to
   pub ends : Ends to rest state
 
--- How a text without a fault stands once it is over: closed where it has a hello and whole rounds, and nothing more.
+-- How a channel without a fault stands once it has ended: closed where it has a hello and complete
+-- rounds, and nothing more.
 abbrev pub state_at_end : Option ℕ → List ℕ → List (List ℕ) → ChannelState
 state_at_end None rest packets = Bad Truncated
 state_at_end (Some id) (byte ∷ rest) packets = Bad Truncated
 state_at_end (Some id) [] (packet ∷ packets) = Bad Unsynced
 state_at_end (Some id) [] [] = Closed
 
--- how a text stands that is read to there, and may be over
+-- how a channel stands that is read to there, and may have ended
 abbrev pub state_at : Bool → ChannelProgress → List ℕ → ChannelState → ChannelState
 state_at true to rest Reading = state_at_end to.hello rest to.packets
 state_at true to rest Closed = Closed
 state_at true to rest (Bad fault) = Bad fault
 state_at false to rest state = state
 
--- what a text tells so far: the id that its hello names, its whole rounds, each as its packets' texts, and how it stands
+-- what bytes say so far: the id that the hello names, the complete rounds, each as its packets'
+-- bytes, and how the channel stands
 pub record ChannelReading : Type 0 where
   pub hello : Option ℕ
   pub rounds : List (List (List ℕ))
   pub state : ChannelState
 
--- what no text tells: the size of a page, the UUID and the number of channels
+-- what no bytes say: the size of a page, the UUID and the number of channels
 pub record Settings : Type 0 where
   pub page_size : ℕ
   pub uuid : List ℕ
   pub channels : ℕ
 
--- as a caller hands them in
+-- as a caller passes them
 abbrev pub settings : ℕ → List ℕ → ℕ → Settings
 settings page_size uuid channels = record { page_size = page_size; uuid = uuid; channels = channels }
 
--- This is what a text tells, over or not, where these settings were given.
+-- This is what a channel's bytes say, ended or not, where these settings were given.
 pub record IsReading (given : Settings) (text : List ℕ) (ended : Bool) (reading : ChannelReading) : Type 0 where
   pub to : ChannelProgress
   pub rest : List ℕ

@@ -1,4 +1,4 @@
--- What the next bytes of a channel are, that a reader goes through page by page.
+-- What the next bytes of a channel are, for a reader that gives page by page.
 use Rattle.std.specs.Prelude.{◌≡◌, ◌≢◌, ◌⊎◌, ◌<◌, ◌+◌, ℕ, List, [], length, Option, None, Some, IsTrue, IsFalse}
 use Rattle.std.specs.Option.{IsSomeAnd}
 use Rattle.mig_packet.specs.declared.state.ChannelState.TheVariants.{Reading}
@@ -29,7 +29,7 @@ next_len r = len_of r.packet
 abbrev pub IsAllGiven : PageHolder → Type 0
 IsAllGiven r = IsSomeAnd r.packet (λ packet. packet.1 ≡ normal_count packet.0)
 
--- A page is wanted where nothing of it has come; else so many bytes as complete what has begun to
+-- A page is wanted where no byte of it has come; else so many bytes as complete what has begun to
 -- come. Nothing is wanted of a complete packet, or where nothing more is read.
 abbrev pub IsWanted : Wanted → PageHolder → Type 0
 IsWanted (wanted.Page offset count) r = ReadsMore r × (r.kept ≡ []) × IsSomeAnd r.packet (HasPagesLeft offset count)

@@ -9,8 +9,8 @@ abbrev pub flags_of : Bool → ℕ
 flags_of true = 1
 flags_of false = 0
 
--- the first 64 bytes: magic, version, flags, pages_alloc, normal pages, bytes of their contents, number, zero pages, and
--- the reserved fields
+-- the first 64 bytes: magic, version, flags, pages_alloc, normal pages, bytes of their contents,
+-- number, zero pages, and the reserved fields
 unfoldable pub written_counts : ℕ → ℕ → Bool → ℕ → ℕ → List ℕ
 written_counts page_size number sync normals zeros =
     be32 0x11223344 ++ (be32 1 ++ (be32 (flags_of sync) ++ (be32 (page_limit page_size)
@@ -29,7 +29,8 @@ abbrev pub written_head : ℕ → ℕ → Bool → List ℕ → List ℕ → Lis
 written_head page_size number sync id normal zero =
     written_counts page_size number sync (length normal) (length zero) ++ (written_id id ++ written_offsets page_size (normal ++ zero))
 
--- the packet of these normal and zero pages, by their offsets, and of the contents of the normal ones, one behind the other
+-- the packet of these normal and zero pages, by their offsets, and of the contents of the normal
+-- ones, one after the other
 abbrev pub written_packet : ℕ → ℕ → Bool → List ℕ → List ℕ → List ℕ → List ℕ → List ℕ
 written_packet page_size number sync id normal contents zero = written_head page_size number sync id normal zero ++ contents
 
@@ -44,8 +45,8 @@ abbrev pub written_fields : ℕ → ℕ → Bool → List ℕ → List ℕ → L
 written_fields page_size number sync id normal contents zero =
     record { number = number; sync = sync; id = id; normal = normal_pages page_size normal contents; zero = zero }
 
--- What can be written so that it is read back: numbers that fit their fields, no more pages than a packet may have, whole
--- contents, and an id that no byte 0 cuts short.
+-- What can be written so that it is read back: numbers that fit their fields, no more pages than a
+-- packet may have, complete contents, and an id that no byte 0 cuts short.
 pub record IsWritable (page_size number : ℕ) (id normal contents zero : List ℕ) : Type 0 where
   pub has_page_size : IsPageSize page_size
   pub has_number : number < 2 ^ 64

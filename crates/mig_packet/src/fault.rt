@@ -1,4 +1,5 @@
-//! Why a channel is refused, by name and number: what readers of hellos, packets and channels answer, and loads pass on.
+//! Why a channel is refused, by name and number. Readers of hellos, packets and channels return
+//! these faults, and loads pass them on.
 
 ghost use Rattle.std.specs.Prelude.{◌≡◌};
 ghost use Rattle.mig_packet.specs.FaultNumber.{fault_number, no_memory_number};
@@ -7,14 +8,15 @@ use std::alloc::{AllocError, AllocFailed};
 use std::error::Error;
 use std::fmt::{self, Display, Formatter};
 
-/// Why a text is no channel of packets: the first fault of its first faulty item, or how it was cut.
+/// Why bytes are no channel of packets: the first fault of the first faulty item, or how the
+/// channel was cut.
 #[derive(Clone, Copy, Debug, PartialEq, Eq)]
 pub enum ChannelFault {
     /// The hello doesn't begin with 0x11223344, QEMU's `MULTIFD_MAGIC`.
     HelloMagic,
     /// The version of the hello isn't 1, QEMU's `MULTIFD_VERSION`.
     HelloVersion,
-    /// The hello's UUID isn't the one handed in.
+    /// The hello's UUID isn't the one that was passed.
     HelloUuid,
     /// The hello's channel id isn't below the number of channels.
     HelloId,
@@ -26,16 +28,17 @@ pub enum ChannelFault {
     PacketFlags(u32),
     /// The packet has more normal and zero pages than a packet may have.
     PageCount,
-    /// The packet has normal pages, and its next_packet_size isn't their number times the page size.
+    /// The packet has normal pages, and its `next_packet_size` isn't their number times the page
+    /// size.
     PacketSize,
-    /// The text was over inside the hello or a packet.
+    /// The channel ended inside the hello or a packet.
     Truncated,
-    /// The text was over after a packet without SYNC.
+    /// The channel ended after a packet without SYNC.
     Unsynced,
 }
 
 impl ChannelFault {
-    /// The fault's number in documents and in the tool's output.
+    /// Returns the fault's number, as documents and the tool's output have it.
     pub fn number(self) -> u8
         ensures { result ≡ fault_number self }
     {
@@ -54,7 +57,7 @@ impl ChannelFault {
         }
     }
 
-    // The fault in a few words, for who reads what is printed.
+    // Returns the fault in a few words, for messages.
     fn words(self) -> &'static str {
         match self {
             ChannelFault::HelloMagic => "the hello doesn't begin with MULTIFD_MAGIC",
@@ -72,7 +75,7 @@ impl ChannelFault {
     }
 }
 
-/// The fault's number, and what it says.
+/// Writes the fault's number and its words.
 impl Display for ChannelFault {
     fn fmt<W: fmt::Write>(&self, f: &mut Formatter<W>) -> fmt::Result {
         write!(f, "{}: {}", self.number(), self.words())?;
@@ -90,7 +93,7 @@ impl Error for ChannelFault {}
 pub struct NoMemory;
 
 impl NoMemory {
-    /// The fault's number in documents and in the tool's output.
+    /// Returns the fault's number, as documents and the tool's output have it.
     pub fn number(self) -> u8
         ensures { result ≡ no_memory_number }
     {
@@ -98,7 +101,7 @@ impl NoMemory {
     }
 }
 
-/// The fault's number, and what it says.
+/// Writes the fault's number and its words.
 impl Display for NoMemory {
     fn fmt<W: fmt::Write>(&self, f: &mut Formatter<W>) -> fmt::Result {
         write!(f, "{}: an allocation was refused", self.number())

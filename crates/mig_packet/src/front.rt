@@ -1,4 +1,5 @@
-//! Reading what bytes begin with: a hello, or a packet. `progress` calls it, the feeder of a relay, and callers that have a text whole.
+//! Reads a hello or a packet at the beginning of bytes. `progress` calls it, the feeder of a relay,
+//! and callers that have all bytes of a channel.
 
 ghost use Rattle.std.specs.Prelude.{◌≡◌, ◌+◌, ◌*◌, ◌<◌, ◌≤◌, ◌++◌, ℕ, List, length};
 ghost use Rattle.mig_packet.specs.declared.front.HelloRead.TheVariants as hello_read;
@@ -17,26 +18,28 @@ use uuid::Uuid;
 /// What stands at the beginning of bytes, where a hello is expected.
 #[derive(Clone, Copy, Debug, PartialEq, Eq)]
 pub enum HelloRead {
-    /// A hello, with its channel id.
+    /// A complete hello, with its channel id.
     Whole(u8),
-    /// Fewer than 64 bytes, which aren't judged yet.
+    /// Fewer than 64 bytes (`HELLO_LEN`), which aren't judged yet.
     Cut,
-    /// The first fault of it.
+    /// The hello's first fault.
     Bad(ChannelFault),
 }
 
 /// What stands at the beginning of bytes, where a packet is expected.
 #[derive(Clone, Copy, Debug)]
 pub enum PacketRead<'a> {
-    /// A packet, and how many bytes it has.
+    /// A complete packet, and how many bytes it has.
     Whole(Packet<'a>, usize),
     /// The head isn't there yet, or it has no fault and pages are missing.
     Cut,
-    /// The first fault of its head. It is told as soon as the head is there, though pages may be missing.
+    /// The first fault of the packet's head. It is returned as soon as the head is there, though
+    /// pages may be missing.
     Bad(ChannelFault),
 }
 
-/// Reads the hello at the beginning of these bytes, where so many channels are expected under this UUID.
+/// Reads the hello at the beginning of `bytes`, where `channels` channels are expected under
+/// `uuid`.
 pub fn read_hello(bytes: &[u8], uuid: &Uuid, channels: usize) -> HelloRead
     ensures reads { ReadsHello uuid.now channels bytes.now result }
     ensures found { (front more : List ℕ) (id : ℕ) → bytes.now ≡ front ++ more → IsHello uuid.now id front → id < channels → result ≡ hello_read.Whole id }
@@ -50,7 +53,7 @@ pub fn read_hello(bytes: &[u8], uuid: &Uuid, channels: usize) -> HelloRead
     }
 }
 
-/// The first fault of a hello, where there is one.
+/// Returns the first fault of a hello, if it has one.
 pub(crate) fn hello_fault(bytes: &[u8], uuid: &Uuid, channels: usize) -> Option<ChannelFault>
     requires { hello_len ≤ length bytes.now }
     ensures { result ≡ first_of (hello_faults uuid.now channels bytes.now) }
@@ -71,7 +74,7 @@ pub(crate) fn hello_fault(bytes: &[u8], uuid: &Uuid, channels: usize) -> Option<
     None
 }
 
-/// Reads the packet at the beginning of these bytes, of pages of this size, in bytes.
+/// Reads the packet at the beginning of `bytes`, whose pages have `page_size` bytes.
 pub fn read_packet<'a>(page_size: u64, bytes: &'a [u8]) -> PacketRead<'a>
     requires { IsPageSize page_size }
     ensures reads { ReadsPacket page_size bytes.now result }
@@ -98,7 +101,7 @@ fn read_front<'a>(page_size: u64, bytes: &'a [u8]) -> PacketRead<'a>
     PacketRead::Whole(Packet { page_size, bytes }, len)
 }
 
-/// The first fault of a packet's head, where there is one.
+/// Returns the first fault of a packet's head, if it has one.
 pub(crate) fn head_fault(page_size: u64, bytes: &[u8]) -> Option<ChannelFault>
     requires page_size { IsPageSize page_size }
     requires head { head_len page_size ≤ length bytes.now }
@@ -125,7 +128,7 @@ pub(crate) fn head_fault(page_size: u64, bytes: &[u8]) -> Option<ChannelFault>
     None
 }
 
-/// How many bytes a packet has, as its head says.
+/// Returns how many bytes a packet has, as its head says.
 pub(crate) fn packet_len(page_size: u64, bytes: &[u8]) -> usize
     requires page_size { IsPageSize page_size }
     requires head { head_len page_size ≤ length bytes.now }

@@ -1,4 +1,4 @@
-//! The head of a packet, before its pages have come: what a `PageReader` gives first of each packet.
+//! The head of a packet, before its pages have come. A `PageReader` gives it first of each packet.
 
 ghost use Rattle.std.specs.Prelude.{◌≡◌, ◌+◌, ◌<◌};
 ghost use Rattle.mig_packet.specs.PageSize.{IsPageSize, IsPageSize-prop};

@@ -1,16 +1,24 @@
 //! The channels of multifd: the hello that each begins with, and the packets that carry the pages.
 //!
-//! The definitions stand in `specs/`, apart from the code of both directions. To read first, in this order: the layout of a
-//! hello and of a packet (`Hello`, `Packet`), the one text that is written for some fields (`Written`), how any bytes of a
-//! channel are read, with every fault by name (`Progress`, `Reading`), what a reader stands for (`Reader`), the items of a
-//! text that is over (`ChannelItems`), and the laws between them (`Law`). `PacketHead` and `Paging` are of a reader that gives
-//! pages before their packet is complete. `Taking`, `Later`, `Filling` and `PagingStep` are of the inside: only contracts of
-//! private functions name them.
+//! The definitions stand in `specs/`, apart from the code of both directions. Read them in this
+//! order:
 //!
-//! `hello`, `put_packet` and `PacketFields` write; `read_hello` and `read_packet` read what lies at the beginning of bytes; a
-//! `ChannelReader` reads a channel that comes in pieces and keeps its rounds, and a `PageReader` gives each page as soon as its
-//! bytes have come, and keeps none. Whether the packets of a round fit together, and what becomes of
-//! their pages, is for other crates, and so are the threads that send and load.
+//! - `Hello`, `Packet`: the layout of a hello and of a packet.
+//! - `Written`: the one packet that is written for some fields.
+//! - `Progress`, `Reading`: how any bytes of a channel are read, with every fault by name.
+//! - `Reader`: what a reader stands for.
+//! - `ChannelItems`: the items of a channel that has ended.
+//! - `Law`: the laws between them.
+//!
+//! `PacketHead` and `Paging` are of a reader that gives pages before their packet is complete. Only
+//! contracts of private functions name `Taking`, `Later`, `Filling` and `PagingStep`.
+//!
+//! `hello`, `put_packet` and `PacketFields` write. `read_hello` and `read_packet` read at the
+//! beginning of bytes. A `ChannelReader` reads a channel that comes in pieces, and keeps its
+//! rounds. A `PageReader` gives each page as soon as its bytes have come, and keeps none.
+//!
+//! Whether the packets of a round fit together, and what becomes of their pages, is for other
+//! crates. So are the threads that send and load.
 #![tactic(auto)]
 
 mod fault;

@@ -1,4 +1,5 @@
-//! A packet, as it lies in bytes that somebody else holds: what readers and relays give, and `Target` puts into memory.
+//! A packet, as it lies in bytes that somebody else holds. Readers and relays give packets, and
+//! `Target` applies them.
 
 ghost use Rattle.std.specs.Prelude.{◌≡◌, ◌+◌, ◌*◌, ◌<◌, ◌≤◌, ◌==◌, length};
 ghost use Rattle.std.specs.List.{before_first, position};
@@ -9,7 +10,8 @@ use crate::fields::{be32, be64};
 use crate::format::{FIELDS_LEN, MULTIFD_FLAG_SYNC, MULTIFD_PACKET_SIZE};
 use std::fmt;
 
-/// One packet: QEMU's `MultiFDPacket_t` with its pages behind it. It borrows its bytes, and copies none of them.
+/// One packet: QEMU's `MultiFDPacket_t` and its pages after it. It borrows its bytes, and copies
+/// none of them.
 #[derive(Clone, Copy)]
 pub struct Packet<'a> {
     pub(crate) page_size: u64,
@@ -26,7 +28,7 @@ impl fmt::Debug for Packet<'_> {
 }
 
 impl<'a> Packet<'a> {
-    /// The number of bytes of a page.
+    /// Returns the number of bytes of a page.
     pub fn page_size(&self) -> u64
         ensures value { result ≡ self.now.page_size }
         ensures page_size { IsPageSize result }
@@ -34,42 +36,44 @@ impl<'a> Packet<'a> {
         self.page_size
     }
 
-    /// The packet's number. One counter numbers the packets of all channels.
+    /// Returns the packet's number. One counter numbers the packets of all channels.
     pub fn number(&self) -> u64
         ensures { result ≡ number_in self.now.bytes.now }
     {
         number_of(self.bytes)
     }
 
-    /// Whether the packet ends its channel's round: `MULTIFD_FLAG_SYNC`.
+    /// Returns whether the packet ends its channel's round: `MULTIFD_FLAG_SYNC`.
     pub fn sync(&self) -> bool
         ensures { result ≡ is_sync self.now.bytes.now }
     {
         sync_of(self.bytes)
     }
 
-    /// The id of the block that its pages are of. It may be any bytes but 0, and of a packet without pages it says nothing.
+    /// Returns the id of the block that its pages are of. It may be any bytes but 0. The id of a
+    /// packet without pages has no meaning.
     pub fn id(&self) -> &'a [u8]
         ensures { result.now ≡ id_in self.now.bytes.now }
     {
         id_of(self.bytes)
     }
 
-    /// How many of its pages come with their contents.
+    /// Returns how many of its pages come with their contents.
     pub fn normal_len(&self) -> usize
         ensures { result ≡ normal_count self.now.bytes.now }
     {
         normal_count_of(self.bytes)
     }
 
-    /// How many of its pages are zeros.
+    /// Returns how many of its pages are zeros.
     pub fn zero_len(&self) -> usize
         ensures { result ≡ zero_count self.now.bytes.now }
     {
         zero_count_of(self.bytes)
     }
 
-    /// Where in its block, in bytes, page `i` is: the normal pages come first, then the zero pages. It may be any number.
+    /// Returns the offset of page `i` in its block, in bytes. The normal pages come first, then the
+    /// zero pages. It may be any number.
     pub fn offset(&self, i: usize) -> u64
         requires { i < normal_count self.now.bytes.now + zero_count self.now.bytes.now }
         ensures { result ≡ offset_at self.now.bytes.now i }
@@ -77,7 +81,7 @@ impl<'a> Packet<'a> {
         offset_of(self.bytes, i)
     }
 
-    /// The content of normal page `i`.
+    /// Returns the content of normal page `i`.
     pub fn page(&self, i: usize) -> &'a [u8]
         requires { i < normal_count self.now.bytes.now }
         ensures content { result.now ≡ content_at self.now.page_size self.now.bytes.now i }
@@ -139,7 +143,7 @@ pub(crate) fn offset_of(head: &[u8], i: usize) -> u64
     be64(head, FIELDS_LEN + 8 * i)
 }
 
-// The bytes before the first byte 0, or all.
+// Returns the bytes before the first byte 0, or all.
 fn up_to_zero(name: &[u8]) -> &[u8]
     ensures { result.now ≡ before_first (λ byte. byte == 0) name.now }
 {
@@ -155,7 +159,7 @@ fn zero_at(name: &[u8]) -> Option<usize>
     name.iter().position(|byte| *byte == 0)
 }
 
-/// How many pages a packet may have, and how many offsets it always has.
+/// Returns how many pages a packet may have. A packet always has as many offsets.
 pub fn page_limit(page_size: u64) -> usize
     requires { IsPageSize page_size }
     ensures { result ≡ page_limit page_size }
@@ -163,7 +167,7 @@ pub fn page_limit(page_size: u64) -> usize
     (MULTIFD_PACKET_SIZE / page_size) as usize
 }
 
-/// How many bytes of a packet stand before its pages.
+/// Returns how many bytes of a packet stand before its pages.
 pub fn head_len(page_size: u64) -> usize
     requires { IsPageSize page_size }
     ensures { result ≡ head_len page_size }

@@ -1,9 +1,9 @@
 //! The reader of a channel that gives each page as soon as its bytes have come. A load that writes
 //! into memory that the caller lends has one for each channel, and keeps no round.
 //!
-//! It keeps the head of the packet that is being read, and the first bytes of a hello, a head or a
-//! page that isn't whole. A page that lies whole in a piece is lent from it. All its memory is
-//! allocated when it is made. `ChannelReader` keeps whole rounds instead.
+//! It keeps the head of the packet that is being read, and the first bytes of an incomplete hello,
+//! head or page. A page that lies complete in a piece is lent from it. All its memory is allocated
+//! when it is made. `ChannelReader` keeps complete rounds instead.
 
 ghost use Rattle.std.specs.Prelude.{◌≡◌, ◌≢◌, ◌+◌, ◌*◌, ◌<◌, ◌≤◌, ◌^◌, ◌++◌, ℕ, List, [], length, take, true};
 ghost use Rattle.std.specs.Prelude.{IsTrue, IsFalse, IsSome, None, Some, IfOk, IfSome, OnOk, vec_len, vec_capacity, IfNone, Bool};
@@ -29,7 +29,7 @@ use uuid::Uuid;
 /// Where the content of a page lies that was given.
 #[derive(Clone, Copy, Debug)]
 pub enum PageContent<'b> {
-    /// In the piece, whole.
+    /// In the piece, complete.
     Lent(&'b [u8]),
     /// In the reader, since a piece cut the page: until the next call of `PageReader::read_on`.
     Kept,
@@ -38,18 +38,19 @@ pub enum PageContent<'b> {
 /// What a call of `PageReader::read_on` came to.
 #[derive(Clone, Copy, Debug)]
 pub enum Came<'b> {
-    /// The hello is whole and has no fault. It named this channel id.
+    /// The hello is complete and has no fault. It named this channel id.
     Hello(u8),
-    /// The head of the next packet is whole and has no fault: `PageReader::head` returns it.
+    /// The head of the next packet is complete and has no fault: `PageReader::head` returns it.
     Head,
-    /// The packet's next normal page: its offset in the block, in bytes, and where its content lies.
-    /// `PageReader::content` returns the content.
+    /// The packet's next normal page: its offset in the block, in bytes, and where its content
+    /// lies. `PageReader::content` returns the content.
     Page(u64, PageContent<'b>),
-    /// The packet is complete: all its normal pages were given. Whether it ends the round.
+    /// The packet is complete: all its normal pages were given. The value says whether it ends the
+    /// round.
     Packet(bool),
     /// All bytes of the piece were taken, and more are needed.
     More,
-    /// The bytes taken have a fault, or the channel was ended: `PageReader::state` tells it.
+    /// The bytes taken have a fault, or the channel was ended: `PageReader::state` returns which.
     Over,
 }
 
@@ -62,7 +63,7 @@ pub struct PageReader<A: Allocator = Global> {
     pub(crate) hello: Option<u8>,
     // whether the open round has packets
     pub(crate) has_packets: bool,
-    // how many pages of the packet that was begun were given; None before its head is whole
+    // how many pages of the packet that was begun were given; None before its head is complete
     pub(crate) pages: Option<usize>,
     // the first bytes of the hello or the head, or the head of the packet that was begun
     pub(crate) head: Vec<u8, A>,
@@ -98,7 +99,7 @@ impl<A: Allocator> Model for PageReader<A> {
     ghost invariant = { λ r. IsHeld r.page_size r.hello r.pages r.has_page r.head.items r.page.items (vec_capacity r.head) (vec_capacity r.page) r.found };
 }
 
-// Appends the first bytes of a piece until there are `len` bytes, or the piece is used up. Returns
+// Appends the first bytes of `piece` until `kept` has `len` bytes, or the piece is used up. Returns
 // how many it appended. It allocates nothing.
 fn fill<A: Allocator>(kept: &mut Vec<u8, A>, len: usize, piece: &[u8]) -> usize
     requires room { len ≤ vec_capacity kept.old }
@@ -114,8 +115,8 @@ fn fill<A: Allocator>(kept: &mut Vec<u8, A>, len: usize, piece: &[u8]) -> usize
     missing
 }
 
-// Takes the rest of a page from a piece. Returns where its content lies, once it is whole, and how
-// many bytes were taken. `was_given` says that the bytes that are there are an earlier page's.
+// Takes the rest of a page from a piece. Returns where its content lies, once it is complete, and
+// how many bytes were taken. `was_given` says that the bytes that are there are an earlier page's.
 fn take_page<'b, A: Allocator>(
     page: &mut Vec<u8, A>,
     was_given: bool,
@@ -137,7 +138,7 @@ fn take_page<'b, A: Allocator>(
     take_begun(page, size, piece)
 }
 
-// Takes the rest of a page, of which these bytes are there.
+// Takes the rest of a page whose first bytes are kept.
 fn take_begun<'b, A: Allocator>(
     page: &mut Vec<u8, A>,
     size: usize,
@@ -230,8 +231,8 @@ impl<A: Allocator> PageReader<A> {
         self.ended = true;
     }
 
-    /// Returns the channel id that the hello named. None before the hello is whole, and where it has
-    /// a fault.
+    /// Returns the channel id that the hello named. None before the hello is complete, or if the
+    /// hello has a fault.
     pub fn hello_id(&self) -> Option<u8>
         ensures value { result ≡ self.now.hello }
         ensures hello { HolderTells self.now (λ given text so_far. HasHello given text result) }
@@ -264,7 +265,7 @@ impl<A: Allocator> PageReader<A> {
         }
     }
 
-    // The page that was given last, where it was gathered.
+    // Returns the page that was given last, where it was gathered.
     fn kept_page(&self) -> &[u8]
         ensures { result.now ≡ self.now.page }
     {
@@ -274,8 +275,8 @@ impl<A: Allocator> PageReader<A> {
     /// Reads on in `piece`, the next bytes of the channel, up to what it returns. Also returns how
     /// many bytes of the piece were taken: the next call goes on after these. It allocates nothing.
     ///
-    /// `Came::Packet` takes no bytes. So call it until it returns `Came::More` or `Came::Over`, also
-    /// where no byte of the piece is left.
+    /// `Came::Packet` takes no bytes. So call it until it returns `Came::More` or `Came::Over`,
+    /// also where no byte of the piece is left.
     pub fn read_on<'b>(&mut self, piece: &'b [u8]) -> (Came<'b>, usize)
         requires room { self.old.fed + length piece.now < 2 ^ 64 }
         ensures taken { result.1 ≤ length piece.now }
@@ -364,7 +365,7 @@ impl<A: Allocator> PageReader<A> {
         (Came::Head, taken)
     }
 
-    // Reads a page of the packet that was begun, of which so many were given, or ends it.
+    // Reads a page of the packet that was begun, of which `given` were given, or ends the packet.
     fn read_packet<'b>(&mut self, given: usize, piece: &'b [u8]) -> (Came<'b>, usize)
         requires room { self.old.fed + length piece.now < 2 ^ 64 }
         requires reading { (self.old.found ≡ state.Reading) × IsFalse self.old.ended }
@@ -431,7 +432,7 @@ impl<A: Allocator> PageReader<A> {
         }
     }
 
-    // How bytes without a fault stand once the channel is ended.
+    // Returns how bytes without a fault stand once the channel is ended.
     fn state_at_end(&self) -> ChannelState
         ensures { result ≡ closing_state self.now }
     {
@@ -444,7 +445,7 @@ impl<A: Allocator> PageReader<A> {
         ChannelState::Closed
     }
 
-    // Whether the hello was read, and nothing of an item that isn't complete.
+    // Returns whether the hello was read, and no byte of a next item.
     fn is_between_packets(&self) -> bool
         ensures { result ≡ is_between self.now.hello self.now.packet self.now.kept }
     {
@@ -454,7 +455,7 @@ impl<A: Allocator> PageReader<A> {
         }
     }
 
-    // Whether the round is open that the last packet belongs to.
+    // Returns whether the round is open that the last packet belongs to.
     fn is_unsynced(&self) -> bool
         ensures { result ≡ is_unsynced self.now.has_packets self.now.packet }
     {

@@ -1,4 +1,5 @@
-//! How far a channel has been read: what its items leave, and how one is taken after another. `ChannelReader` keeps one.
+//! How far a channel has been read: what its items leave, and how one is taken after another.
+//! `ChannelReader` keeps one.
 
 ghost use Rattle.std.specs.Prelude.{◌≡◌, ◌≢◌, ◌≤◌, ◌<◌, [], ◌∷◌, List, ℕ, None, slice_get, length, IsTrue, IsFalse, IfOk, IfErr, IfSome, IfNone, OnOk, OnErr};
 ghost use Rattle.mig_packet.specs.PageSize.{IsPageSize};
@@ -29,7 +30,7 @@ pub(crate) struct Progress<A: Allocator> {
     uuid: Uuid,
     channels: usize,
     hello: Option<u8>,
-    // the packets of the round that isn't whole yet, and the whole rounds that were not given away
+    // the packets of the open round, and the complete rounds that were not given away
     packets: Packets<A>,
     rounds: VecDeque<Packets<A>, A>,
 }
@@ -51,7 +52,7 @@ impl<A: Allocator> Model for Progress<A> {
     ghost invariant = { λ c. ArePackets c.page_size c.packets c.rounds.items };
 }
 
-/// How far a channel had been read, to go back to: its lists only grow.
+/// How far a channel had been read, to go back to. Its lists only grow.
 #[derive(Clone, Copy)]
 pub(crate) struct Checkpoint {
     hello: Option<u8>,
@@ -60,7 +61,7 @@ pub(crate) struct Checkpoint {
 }
 
 impl<A: Allocator + Copy> Progress<A> {
-    /// Before the first byte.
+    /// Creates the progress of a channel before its first byte.
     pub(crate) fn new(alloc: A, page_size: u64, uuid: Uuid, channels: usize) -> Progress<A>
         requires { IsPageSize page_size }
         ensures { result ≡ start page_size uuid channels }
@@ -76,7 +77,7 @@ impl<A: Allocator + Copy> Progress<A> {
         }
     }
 
-    /// An empty buffer for bytes of this channel.
+    /// Returns an empty buffer for bytes of this channel.
     pub(crate) fn buffer(&self) -> Vec<u8, A>
         ensures { result.items ≡ [] }
     {
@@ -101,7 +102,8 @@ impl<A: Allocator + Copy> Progress<A> {
         }
     }
 
-    /// Takes the packet that comes next, whose bytes it keeps where they are. An `Err` changes nothing, and gives it back.
+    /// Takes the packet that comes next, whose bytes it keeps where they are. An `Err` changes
+    /// nothing, and gives the packet back.
     pub(crate) fn take_packet(&mut self, packet: PacketText<A>) -> Result<(), PacketText<A>>
         requires { IsPacketText self.old.page_size packet }
         ensures ok { OnOk result (self.new ≡ after_packet self.old packet) }
@@ -120,8 +122,8 @@ impl<A: Allocator + Copy> Progress<A> {
         Ok(())
     }
 
-    /// Takes items from the beginning of the bytes, as far as they are whole and without a fault. Gives the bytes that are left,
-    /// and how they stand. After an `Err` some items were taken.
+    /// Takes items from the beginning of `bytes`, as far as they are complete and without a fault.
+    /// Returns the bytes that are left, and how they stand. After an `Err` some items were taken.
     pub(crate) fn run<'a>(&mut self, bytes: &'a [u8]) -> Result<(&'a [u8], ChannelState), NoMemory>
         ensures ok { IfOk result (λ r. Reads self.old bytes.now self.new r.0.now r.1) }
         ensures err { OnErr result (HasTaken self.old bytes.now self.new) }
@@ -144,14 +146,14 @@ impl<A: Allocator + Copy> Progress<A> {
 }
 
 impl<A: Allocator> Progress<A> {
-    /// The id that the hello named.
+    /// Returns the id that the hello named.
     pub(crate) fn hello(&self) -> Option<u8>
         ensures { result ≡ self.now.hello }
     {
         self.hello
     }
 
-    /// Whether the round that isn't whole yet has packets.
+    /// Returns whether the open round has packets.
     pub(crate) fn has_packets(&self) -> bool
         ensures none { IsFalse result → self.now.packets ≡ [] }
         ensures some { IsTrue result → self.now.packets ≢ [] }
@@ -159,7 +161,7 @@ impl<A: Allocator> Progress<A> {
         self.packets.len() != 0
     }
 
-    /// At how many bytes the next item is judged.
+    /// Returns at how many bytes the next item is judged.
     pub(crate) fn judged_len(&self) -> usize
         ensures len { result ≡ judged_len self.now.page_size self.now.hello }
         ensures page_size { IsPageSize self.now.page_size }
@@ -170,7 +172,7 @@ impl<A: Allocator> Progress<A> {
         }
     }
 
-    /// The first fault of the next item, where it has one.
+    /// Returns the first fault of the next item, if it has one.
     pub(crate) fn fault(&self, bytes: &[u8]) -> Option<ChannelFault>
         requires { judged_len self.now.page_size self.now.hello ≤ length bytes.now }
         ensures { result ≡ first_fault self.now bytes.now }
@@ -181,7 +183,7 @@ impl<A: Allocator> Progress<A> {
         }
     }
 
-    /// How many bytes the next item has, as its first bytes say.
+    /// Returns how many bytes the next item has, as its first bytes say.
     pub(crate) fn item_len(&self, bytes: &[u8]) -> usize
         requires { judged_len self.now.page_size self.now.hello ≤ length bytes.now }
         ensures { result ≡ item_len self.now.page_size self.now.hello bytes.now }
@@ -192,7 +194,8 @@ impl<A: Allocator> Progress<A> {
         }
     }
 
-    /// How many bytes to make room for, of an item that isn't whole: all that it has, where it tells.
+    /// Returns how many bytes to make room for, of an item that isn't complete: all that it has, if
+    /// its bytes say how many these are.
     pub(crate) fn room(&self, bytes: &[u8]) -> usize
         ensures judged { length bytes.now < judged_len self.now.page_size self.now.hello → result ≡ judged_len self.now.page_size self.now.hello }
         ensures whole { judged_len self.now.page_size self.now.hello ≤ length bytes.now → result ≡ item_len self.now.page_size self.now.hello bytes.now }
@@ -204,7 +207,7 @@ impl<A: Allocator> Progress<A> {
         self.item_len(bytes)
     }
 
-    /// The first whole round that was not given away.
+    /// Takes the first complete round that was not given away.
     pub(crate) fn take_round(&mut self) -> Option<PacketRound<A>>
         ensures none { IfNone result ((self.old.rounds ≡ []) × (self.new ≡ self.old)) }
         ensures some { IfSome result (λ r. self.old ≡ with_taken (r.packets ∷ []) self.new) }
@@ -216,7 +219,7 @@ impl<A: Allocator> Progress<A> {
         }
     }
 
-    /// The mark of this place.
+    /// Returns the mark of how far the channel was read.
     pub(crate) fn checkpoint(&self) -> Checkpoint
         ensures { result ≡ checkpoint_of self.now }
     {
@@ -227,7 +230,8 @@ impl<A: Allocator> Progress<A> {
         }
     }
 
-    /// Goes back to where the mark was made. Gives the first of the packets that had followed.
+    /// Goes back to where `checkpoint` was made. Returns the first of the packets that had
+    /// followed.
     pub(crate) fn undo(&mut self, checkpoint: Checkpoint) -> Option<PacketText<A>>
         ensures back { (c : ChannelProgress) (more : List (List ℕ)) → checkpoint ≡ checkpoint_of c → IsLater c more self.old → self.new ≡ c }
         ensures first { (c : ChannelProgress) (more : List (List ℕ)) → checkpoint ≡ checkpoint_of c → IsLater c more self.old → result ≡ slice_get more 0 }
@@ -237,7 +241,7 @@ impl<A: Allocator> Progress<A> {
         self.packets.cut(checkpoint.packets)
     }
 
-    // Drops the rounds from a place on; the first of them is open again.
+    // Drops the complete rounds from number `n` on. The first of them is open again.
     fn reopen(&mut self, n: usize)
         ensures whole { n < length self.old.rounds → self.new ≡ reopened self.old n }
         ensures open { length self.old.rounds ≤ n → self.new ≡ self.old }

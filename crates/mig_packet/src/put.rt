@@ -1,4 +1,5 @@
-//! Writing hellos and packets, for the senders of `mig_send` and for callers with pages of their own.
+//! Writes hellos and packets, for the senders of `mig_send` and for callers with pages of their
+//! own.
 
 ghost use Rattle.std.specs.Prelude.{◌≡◌, ◌+◌, ◌-◌, ◌*◌, ◌<◌, ◌≤◌, ◌++◌, length, OnOk, OnErr, replicate, vec_len, vec_capacity};
 ghost use Rattle.std.specs.List.{flat_map};
@@ -22,7 +23,7 @@ const HELLO: [u8; 64] = [
 
 static ZEROS: [u8; 1024] = [0; 1024];
 
-/// The hello of a channel: QEMU's `MultiFDInit_t`, with zeros in its reserved bytes.
+/// Returns the hello of a channel: QEMU's `MultiFDInit_t`, with zeros in its reserved bytes.
 #[tactic(auto, unfolding(crate::specs::Fields::be32))]
 pub fn hello(uuid: &Uuid, id: u8) -> [u8; 64]
     ensures hello { result ≡ written_hello uuid.now id }
@@ -34,10 +35,15 @@ pub fn hello(uuid: &Uuid, id: u8) -> [u8; 64]
     bytes
 }
 
-/// Appends one packet: of a block's id, of the offsets of its normal pages with their contents one behind the other, and of
-/// the offsets of its zero pages, all offsets in bytes. The contents are copied once. An `Err` changes nothing.
+/// Appends one packet: a block's id, the offsets of its normal pages with their contents one after
+/// the other, and the offsets of its zero pages. All offsets are in bytes. The contents are copied
+/// once.
 ///
 /// A byte 0 in the id would cut it short for whoever reads the packet.
+///
+/// # Errors
+///
+/// `NoMemory`: `out` has too little room, and more was refused. It keeps its bytes.
 pub fn put_packet<A: Allocator>(
     page_size: u64,
     out: &mut Vec<u8, A>,
@@ -63,8 +69,12 @@ pub fn put_packet<A: Allocator>(
     Ok(())
 }
 
-/// Appends what stands before the pages of a packet, for a caller that appends the contents of its normal pages himself, in
-/// the order of their offsets. An `Err` changes nothing.
+/// Appends what stands before the pages of a packet. The caller appends the contents of its normal
+/// pages himself, in the order of their offsets.
+///
+/// # Errors
+///
+/// `NoMemory`: `out` has too little room, and more was refused. It keeps its bytes.
 pub fn put_packet_head<A: Allocator>(
     page_size: u64,
     out: &mut Vec<u8, A>,
@@ -87,7 +97,7 @@ pub fn put_packet_head<A: Allocator>(
     Ok(())
 }
 
-// Here and in each function below the room is there.
+// Appends what stands before the pages. Here and in each function below the room is there.
 fn append_head<A: Allocator>(
     page_size: u64,
     out: &mut Vec<u8, A>,
@@ -112,7 +122,7 @@ fn append_head<A: Allocator>(
     append_all_offsets(page_size, out, normal, zero);
 }
 
-// The first 64 bytes.
+// Appends the first 64 bytes.
 #[tactic(auto, unfolding(crate::specs::Written::written_counts))]
 fn append_counts<A: Allocator>(
     page_size: u64,
@@ -153,7 +163,7 @@ fn zeros_of(n: usize) -> &'static [u8]
     &ZEROS[..n]
 }
 
-// The id, and zeros up to 256 bytes.
+// Appends the id, and zeros up to 256 bytes.
 #[tactic(auto, unfolding(crate::specs::Written::written_id))]
 fn append_id<A: Allocator>(out: &mut Vec<u8, A>, id: &[u8])
     requires id { length id.now ≤ 255 }
@@ -166,7 +176,7 @@ fn append_id<A: Allocator>(out: &mut Vec<u8, A>, id: &[u8])
     append(out, zeros_of(256 - id.len()));
 }
 
-// All offsets, and zeros up to the room for as many as a packet may have.
+// Appends all offsets, and zeros up to the room for as many as a packet may have.
 #[tactic(auto, unfolding(crate::specs::Written::written_offsets))]
 fn append_all_offsets<A: Allocator>(
     page_size: u64,

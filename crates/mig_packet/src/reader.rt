@@ -1,8 +1,10 @@
-//! The reader of a channel that comes in pieces. A session of `mig_load` has one for each channel.
+//! The reader of a channel that comes in pieces. A session of `mig_session` has one for each
+//! channel.
 //!
-//! It keeps what was read as a `Progress`, and of the text only the bytes of an item that isn't whole yet. A piece is read in
-//! place, but for what such an item needs of its beginning; and a packet that comes in pieces is kept where its bytes were
-//! gathered. So each byte of a packet is copied once.
+//! It keeps what was read as a `Progress`. Of the channel's bytes it keeps only those of an item
+//! that isn't complete yet. A piece is read in place, but for the bytes that complete such an item.
+//! A packet that comes in pieces is kept where its bytes were gathered. So each byte of a packet is
+//! copied once.
 
 ghost use Rattle.std.specs.Prelude.{◌≡◌, ◌≢◌, ◌+◌, ◌<◌, ◌≤◌, ◌^◌, ◌++◌, ℕ, List, [], length, take, true};
 ghost use Rattle.std.specs.Prelude.{IsTrue, IsFalse, IsOk, None, IfOk, IfSome, IfNone, OnOk, OnErr};
@@ -23,13 +25,14 @@ use std::marker::Model;
 use std::{fmt, mem};
 use uuid::Uuid;
 
-/// Reads a channel from pieces of its text. What it tells is the reading of all bytes fed, however they were cut.
+/// Reads a channel from pieces of its bytes. What it returns is the reading of all bytes fed,
+/// however they were cut.
 #[derive(Drop)]
 pub struct ChannelReader<A: Allocator = Global> {
     progress: Progress<A>,
-    // the bytes of the item that isn't whole yet
+    // the bytes of the item that isn't complete yet
     pending: Vec<u8, A>,
-    // how the bytes fed stand, whether or not the text is over
+    // how the bytes fed stand, whether or not the channel has ended
     found: ChannelState,
     // how many of the bytes fed are complete items without a fault
     valid_up_to: u64,
@@ -56,16 +59,17 @@ impl<A: Allocator> fmt::Debug for ChannelReader<A> {
     }
 }
 
-/// What a piece made of the item that wasn't whole.
+/// What a piece made of the item that wasn't complete.
 pub(crate) enum Filled<'a> {
-    /// The item is whole and without a fault. This is left of the piece.
+    /// The item is complete and without a fault. This is left of the piece.
     Whole(&'a [u8]),
-    /// It isn't whole yet.
+    /// The item isn't complete yet.
     Unfinished,
     Faulty(ChannelFault),
 }
 
-// Appends the beginning of a piece until there are `len` bytes, or the piece is used up. Gives what is left of the piece.
+// Appends the beginning of a piece until there are `len` bytes, or the piece is used up. Returns
+// what is left of the piece.
 fn append_up_to<'a, A: Allocator>(
     pending: &mut Vec<u8, A>,
     len: usize,
@@ -114,7 +118,8 @@ fn fill_up<'a, A: Allocator>(
     Ok(Filled::Whole(rest))
 }
 
-// Puts these bytes in place of others, with room for `room` bytes in all. An `Err` changes nothing.
+// Replaces the bytes of `kept` by `bytes`, with room for `room` bytes in all. An `Err` changes
+// nothing.
 fn keep<A: Allocator>(kept: &mut Vec<u8, A>, bytes: &[u8], room: usize) -> Result<(), NoMemory>
     ensures ok { OnOk result (kept.new.items ≡ bytes.now) }
     ensures err { OnErr result (kept.new.items ≡ kept.old.items) }
@@ -129,8 +134,8 @@ fn keep<A: Allocator>(kept: &mut Vec<u8, A>, bytes: &[u8], room: usize) -> Resul
     Ok(())
 }
 
-// Reads bytes in place, and keeps those of an item that isn't whole. Returns how the text stands,
-// and how many bytes are left. After an `Err` some items were taken.
+// Reads bytes in place, and keeps those of an item that isn't complete. Returns how the channel
+// stands, and how many bytes are left. After an `Err` some items were taken.
 fn read_in_place<A: Allocator + Copy>(
     progress: &mut Progress<A>,
     pending: &mut Vec<u8, A>,
@@ -148,7 +153,8 @@ fn read_in_place<A: Allocator + Copy>(
     Ok((found, rest.len()))
 }
 
-// Takes the pending packet, whose bytes stay where they are, and reads what follows it. An `Err` changes nothing.
+// Takes the pending packet, whose bytes stay where they are, and reads what follows it. An `Err`
+// changes nothing.
 fn read_behind_packet<A: Allocator + Copy>(
     progress: &mut Progress<A>,
     pending: &mut Vec<u8, A>,
@@ -197,8 +203,8 @@ fn read_behind<A: Allocator + Copy>(
     read_in_place(progress, pending, rest)
 }
 
-// Reads a piece that follows the pending bytes. After an `Err` some items were taken, and the pending bytes may have others
-// after them.
+// Reads a piece that follows the pending bytes. After an `Err` some items were taken, and bytes of
+// the piece may have been appended to the pending ones.
 fn read<A: Allocator + Copy>(
     progress: &mut Progress<A>,
     pending: &mut Vec<u8, A>,
@@ -221,7 +227,8 @@ fn read<A: Allocator + Copy>(
 }
 
 impl<A: Allocator + Copy> ChannelReader<A> {
-    /// A reader that was fed nothing, of one of so many channels under this UUID, with pages of this size in bytes.
+    /// Creates a reader of one of `channels` channels under `uuid`, with pages of `page_size`
+    /// bytes.
     pub fn new(alloc: A, page_size: u64, uuid: Uuid, channels: usize) -> ChannelReader<A>
         requires page_size { IsPageSize page_size }
         requires channels { (0 < channels) × (channels ≤ 255) }
@@ -239,8 +246,12 @@ impl<A: Allocator + Copy> ChannelReader<A> {
         }
     }
 
-    /// Takes the next piece of the text. After a fault its bytes are only counted, which is never refused. An `Err` changes
-    /// nothing.
+    /// Takes the next piece of the channel. After a fault its bytes are only counted, and the call
+    /// never fails.
+    ///
+    /// # Errors
+    ///
+    /// `NoMemory`: an allocation was refused. Nothing changes.
     pub fn feed(&mut self, piece: &[u8]) -> Result<(), NoMemory>
         requires open { IsFalse self.old.ended }
         requires room { self.old.fed + length piece.now < 2 ^ 64 }
@@ -294,8 +305,8 @@ impl<A: Allocator> ChannelReader<A> {
         }
     }
 
-    /// The text is over: a reader without a fault is closed from now on where it has a hello and whole rounds and nothing
-    /// more, and else bad. A second call changes nothing.
+    /// Ends the channel. If it has no fault, it is closed from now on where it has a hello and
+    /// complete rounds and nothing more, and else bad. A second call changes nothing.
     pub fn end(&mut self)
         ensures value { self.new ≡ record self.old { ended = true } }
         ensures stands { StepsOn over self.old self.new }
@@ -303,21 +314,21 @@ impl<A: Allocator> ChannelReader<A> {
         self.ended = true;
     }
 
-    /// Whether the reader was told that the text is over.
+    /// Returns whether the channel was ended.
     pub fn ended(&self) -> bool
         ensures { result ≡ self.now.ended }
     {
         self.ended
     }
 
-    /// How many bytes were fed.
+    /// Returns how many bytes were fed.
     pub fn fed(&self) -> u64
         ensures { result ≡ self.now.fed }
     {
         self.fed
     }
 
-    /// How the text stands that was fed: still to be read on, closed, or bad.
+    /// Returns how the bytes fed stand: still to be read on, closed, or bad.
     pub fn state(&self) -> ChannelState
         ensures { Tells self.now (λ given so_far. HasState given so_far.text so_far.ended result) }
     {
@@ -340,7 +351,7 @@ impl<A: Allocator> ChannelReader<A> {
         self.valid_up_to
     }
 
-    // How a text without a fault stands once it is over.
+    // Returns how a channel without a fault stands once it has ended.
     fn state_at_end(&self) -> ChannelState
         ensures { result ≡ state_at_end self.now.progress.hello self.now.pending self.now.progress.packets }
     {
@@ -353,14 +364,16 @@ impl<A: Allocator> ChannelReader<A> {
         ChannelState::Closed
     }
 
-    /// The channel id that the hello named. None before the hello is whole, and where it has a fault.
+    /// Returns the channel id that the hello named. None before the hello is complete, or if the
+    /// hello has a fault.
     pub fn hello_id(&self) -> Option<u8>
         ensures { Tells self.now (λ given so_far. HasHello given so_far.text result) }
     {
         self.progress.hello()
     }
 
-    /// The next whole round that was not taken, in the order of the text. It allocates nothing, and is always `Ok`.
+    /// Takes the next complete round, in the order of the channel. It allocates nothing, and is
+    /// always `Ok`.
     pub fn take_round(&mut self) -> Result<Option<PacketRound<A>>, NoMemory>
         ensures ok { IsOk result }
         ensures none { IfOk result (λ o. IfNone o (self.new ≡ self.old)) }

@@ -1,4 +1,5 @@
-//! The rounds of a channel: their packets. `Progress` fills them, and a session gathers the packets of each.
+//! The rounds of a channel: their packets. `Progress` fills them, and a session gathers the packets
+//! of each.
 
 ghost use Rattle.std.specs.Prelude.{◌≡◌, ◌++◌, [], ◌∷◌, length, take, map, All, slice_get, IfOk, IfErr, OnOk, OnErr};
 ghost use Rattle.mig_packet.specs.Reader.{IsPacketRound};
@@ -9,7 +10,7 @@ use std::alloc::{AllocFailed, Allocator, Global};
 use std::fmt;
 use std::marker::Model;
 
-/// The text of a packet, in memory of its own.
+/// The bytes of a packet, in memory of its own.
 #[derive(Drop)]
 pub(crate) struct PacketText<A: Allocator> {
     pub(crate) bytes: Vec<u8, A>,
@@ -24,7 +25,7 @@ impl<A: Allocator> Model for PacketText<A> {
 }
 
 impl<A: Allocator> PacketText<A> {
-    /// A copy of these bytes.
+    /// Copies `bytes`.
     pub(crate) fn copied(alloc: A, bytes: &[u8]) -> Result<PacketText<A>, NoMemory>
         ensures { IfOk result (λ p. p ≡ bytes.now) }
     {
@@ -33,7 +34,7 @@ impl<A: Allocator> PacketText<A> {
         })
     }
 
-    /// The bytes themselves, which aren't copied.
+    /// Takes `bytes` themselves, which aren't copied.
     pub(crate) fn of(bytes: Vec<u8, A>) -> PacketText<A>
         ensures { result ≡ bytes.items }
     {
@@ -83,7 +84,8 @@ impl<A: Allocator> Packets<A> {
         self.items.len()
     }
 
-    /// Adds a packet, whose bytes it keeps where they are. An `Err` changes nothing, and gives the packet back.
+    /// Adds a packet, whose bytes it keeps where they are. An `Err` changes nothing, and gives the
+    /// packet back.
     pub(crate) fn push(&mut self, packet: PacketText<A>) -> Result<(), PacketText<A>>
         ensures ok { OnOk result (self.new ≡ self.old ++ packet ∷ []) }
         ensures err { OnErr result (self.new ≡ self.old) }
@@ -95,7 +97,7 @@ impl<A: Allocator> Packets<A> {
         }
     }
 
-    /// Keeps the first packets alone, and gives the first one behind them.
+    /// Keeps the first `n` packets alone, and returns the first one after them.
     pub(crate) fn cut(&mut self, n: usize) -> Option<PacketText<A>>
         ensures kept { self.new ≡ take n self.old }
         ensures first { result ≡ slice_get self.old n }
@@ -109,7 +111,7 @@ impl<A: Allocator> Packets<A> {
 }
 
 impl<A: Allocator + Copy> Packets<A> {
-    // The packets, which lend these bytes.
+    // Returns the packets, which lend these bytes.
     fn lend(&self, page_size: u64) -> Result<Vec<Packet<'_>, A>, NoMemory>
         requires { IsPacketRound page_size self.now }
         ensures texts { IfOk result (λ v. map (λ p. p.bytes.now) v.items ≡ self.now) }
@@ -126,7 +128,8 @@ impl<A: Allocator + Copy> Packets<A> {
     }
 }
 
-/// A whole round of a channel: the packets up to and with a SYNC packet, in the order of the text.
+/// A complete round of a channel: the packets up to and with a SYNC packet, in the order of the
+/// channel.
 #[derive(Drop)]
 pub struct PacketRound<A: Allocator = Global> {
     page_size: u64,
@@ -160,7 +163,11 @@ impl<A: Allocator> PacketRound<A> {
 }
 
 impl<A: Allocator + Copy> PacketRound<A> {
-    /// The packets. They lend the round's bytes, and copy none.
+    /// Returns the packets. They lend the round's bytes, and copy none.
+    ///
+    /// # Errors
+    ///
+    /// `NoMemory`: the list of packets could not be allocated.
     pub fn packets(&self) -> Result<Vec<Packet<'_>, A>, NoMemory>
         ensures texts { IfOk result (λ v. map (λ p. p.bytes.now) v.items ≡ self.now.packets) }
         ensures page_sizes { IfOk result (λ v. All (λ p. p.page_size ≡ self.now.page_size) v.items) }

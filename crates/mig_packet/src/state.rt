@@ -1,14 +1,14 @@
-//! The state of a channel: reading, closed or bad. `ChannelReader::state` answers it.
+//! The state of a channel: reading, closed or bad. `ChannelReader::state` returns it.
 
 use crate::ChannelFault;
 
-/// How far a text has come.
+/// How far a channel has come.
 #[derive(Clone, Copy, Debug, PartialEq, Eq)]
 pub enum ChannelState {
-    /// More bytes are needed, or the word that the text is over.
+    /// More bytes are needed, or the call that ends the channel.
     Reading,
-    /// The text is over, after a hello and whole rounds.
+    /// The channel ended after a hello and complete rounds.
     Closed,
-    /// The text has a fault.
+    /// The channel has a fault.
     Bad(ChannelFault),
 }

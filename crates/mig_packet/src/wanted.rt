@@ -16,11 +16,10 @@ use std::alloc::Allocator;
 #[derive(Clone, Copy, Debug, PartialEq, Eq)]
 pub enum Wanted {
     /// The content of the page at this offset in the block of the packet's head, in bytes, from its
-    /// first byte on. So many normal pages of the packet are still to come, this one among them:
-    /// their contents follow one another.
+    /// first byte on. The second number says how many normal pages of the packet are still to come,
+    /// this one among them. Their contents follow one another.
     Page(u64, usize),
-    /// So many bytes belong to a hello, a head or a page that isn't complete: at least 1. With all of
-    /// them it is complete.
+    /// So many bytes, at least 1, complete a hello, a head or a page.
     Bytes(usize),
     /// No more bytes, before the next call of `PageReader::read_on`: a packet is complete, the
     /// channel was ended, or its bytes have a fault.
@@ -43,7 +42,7 @@ impl<A: Allocator> PageReader<A> {
         }
     }
 
-    // At how many bytes the hello or the head is judged that is due.
+    // Returns at how many bytes the next hello or head is judged.
     fn judged_len(&self) -> usize
         ensures { result ≡ judged_len self.now.given.page_size self.now.hello }
     {
@@ -53,7 +52,8 @@ impl<A: Allocator> PageReader<A> {
         }
     }
 
-    // The same of a packet that was begun, of which so many pages were given.
+    // Returns what the next bytes are in a packet that was begun, of which `given` pages were
+    // given.
     fn wanted_of_packet(&self, given: usize) -> Wanted
         requires begun { IsSomeAnd self.now.packet (λ packet. packet.1 ≡ given) }
         requires reading { (self.now.found ≡ state.Reading) × IsFalse self.now.ended }

@@ -1,4 +1,5 @@
-//! A packet by its fields, as one record with names: for callers that write one, in place of `put_packet`'s list of arguments.
+//! A packet by its fields, as one record with names: for callers that write one, in place of
+//! `put_packet`'s list of arguments.
 
 ghost use Rattle.std.specs.Prelude.{◌≡◌, ◌+◌, ◌*◌, ◌<◌, ◌≤◌, ◌++◌, length, OnOk, OnErr, vec_len, vec_capacity};
 ghost use Rattle.mig_packet.specs.PageSize.{IsPageSize, page_limit, head_len};
@@ -15,11 +16,12 @@ pub struct PacketFields<'a> {
     pub number: u64,
     /// Whether it ends its channel's round: `MULTIFD_FLAG_SYNC`.
     pub sync: bool,
-    /// The id of the block that its pages are of. A byte 0 in it would cut it short for whoever reads the packet.
+    /// The id of the block that its pages are of. A byte 0 in it would cut it short for whoever
+    /// reads the packet.
     pub id: &'a [u8],
     /// The offsets of its normal pages, in bytes.
     pub normal: &'a [u64],
-    /// The contents of those pages, one behind the other.
+    /// The contents of those pages, one after the other.
     pub contents: &'a [u8],
     /// The offsets of its pages of zeros.
     pub zero: &'a [u64],
@@ -33,7 +35,11 @@ impl fmt::Debug for PacketFields<'_> {
 }
 
 impl PacketFields<'_> {
-    /// Appends the packet of these fields, with pages of this size in bytes: `put_packet`. An `Err` changes nothing.
+    /// Appends the packet of these fields, with pages of `page_size` bytes, as `put_packet` does.
+    ///
+    /// # Errors
+    ///
+    /// `NoMemory`: `out` has too little room, and more was refused. It keeps its bytes.
     pub fn put<A: Allocator>(&self, page_size: u64, out: &mut Vec<u8, A>) -> Result<(), NoMemory>
         requires page_size { IsPageSize page_size }
         requires few { length self.now.normal.now + length self.now.zero.now ≤ page_limit page_size }
