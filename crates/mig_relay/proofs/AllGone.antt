@@ -1,4 +1,4 @@
--- A round of all channels gone through, one channel after another.
+-- A round of all channels processed, one channel after another.
 use Rattle.std.proofs.Common.{ℕ, zero, suc, ◌≡◌, ◌≢◌, ◌+◌, ◌<◌, ◌≤◌, List, [], ◌∷◌, ◌++◌, length, map, take, set, refl, sym, ap, ◌∙◌, Option, Some, arith, subst}
 use Rattle.std.specs.Prelude.{IfSome, slice_get, slice_set}
 use Rattle.std.specs.List.{All, AllZip}
@@ -49,7 +49,7 @@ all_at P xs j x all e = subst P (get_or_from_slice_get xs j x x e) (all j x (sli
 
 -- ---- the channels so far
 
--- the channels behind the first j stay as they were
+-- the channels after the first j stay as they were
 pub record Rest (j : ℕ) (places_before places : List ℕ) (old now : List QueueEnd) : Type 0 where
   pub same_ends : length now ≡ length old
   pub same_places : length places ≡ length places_before
@@ -59,7 +59,7 @@ pub record Rest (j : ℕ) (places_before places : List ℕ) (old now : List Queu
 abbrev IsWhole : Status → Type 0
 IsWhole status = status ≡ Whole
 
--- round k of the first j channels was gone through
+-- round k of the first j channels was processed
 pub record Gone (k j : ℕ) (places : List ℕ) (now : List QueueEnd) (statuses : List Status) (packets : List Packet) : Type 0 where
   pub are_told : All (HasEnough k) (take j now)
   pub has_statuses : statuses ≡ map (status_in k) (received_of (take j now))
@@ -115,7 +115,7 @@ gone_more k j at to places_before places old now new statuses status packets mor
           (zip_push (λ (at : ℕ) (p : QueueEnd). IsAtRound (k + 1) at p.passed) (take j places) (take j now) to q (gone.goes_on parts.0) (here.goes_on parts.1)));
     }
 
--- a packet has the page size of all texts
+-- a packet has the page size of all channels
 pub sizes_more : (page_size j at to : ℕ) (places_before places : List ℕ) (old now new : List QueueEnd) (status : Status) (packets more : List Packet) → Rest j places_before places old now
     → GoesThrough j at now new to status more → All (λ p. p.source.page_size ≡ page_size) old → All (λ packet. packet.page_size ≡ page_size) packets
     → All (λ packet. packet.page_size ≡ page_size) (packets ++ more)

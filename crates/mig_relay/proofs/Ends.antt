@@ -94,7 +94,7 @@ on_the_way v w m source done last b =
 
 -- ---- the feeder
 
--- what it found comes next in the text of its pass
+-- what it found comes next in the channel of its pass
 pub feeds_next : (k behind : Cursor) (text : List ℕ) (count : ℕ) (v : Log) (m : Message) → IsFeeding k text count v → Finds k text m behind
     → BeginsMessages v.source (v.done ++ m ∷ [])
 feeds_next k behind text count v m f n =
@@ -147,7 +147,7 @@ feeds_first k text v size_is at_start e =
 
 -- ---- the end that collects
 
--- what was popped lies in the text
+-- what was popped lies in the channel's bytes
 pub lies : (page_size : ℕ) (text : List ℕ) (items : List Item) (over : Bool) (v : Log) (m : Message) → IsCollecting page_size text items over v
     → BeginsMessages v.source (v.done ++ m ∷ []) → IsMessageIn page_size text m
 lies page_size text items over v m k b =

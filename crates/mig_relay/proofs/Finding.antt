@@ -1,4 +1,4 @@
--- What is read at a place in a text comes next among its messages.
+-- What is read at a place in a channel comes next among its messages.
 use Rattle.std.proofs.Common.{◌≡◌, ◌≢◌, ℕ, ◌+◌, ◌-◌, ◌≤◌, ◌<◌, Bool, true, false, not, cond, true≢false, List, [], ◌∷◌, ◌++◌, length, take, drop, get_or, Option, Some, None, refl, sym, ap, subst, ◌∙◌, append_assoc, arith, leb}
 use Rattle.std.specs.List.{concat}
 use Rattle.std.proofs.lemmas.Bool.{lt-leb}
@@ -26,7 +26,7 @@ use Rattle.mig_relay.specs.Messages.{hello_message, places, stop_message, front_
 use Rattle.mig_relay.specs.Cursor.{text_of, place_behind, IsBehind, Finds}
 use Rattle.mig_relay.proofs.Places.{more_packets, same_settings}
 
--- ---- a reading goes on behind an item
+-- ---- a reading goes on after an item
 
 one_item : (p : ℕ) (h : Option ℕ) (a b x y : List ℕ) → IsItem p h a → IsItem p h b → a ++ x ≡ b ++ y → (a ≡ b) × (x ≡ y)
 one_item p h a b x y i j e =
@@ -35,7 +35,7 @@ one_item p h a b x y i j e =
       sym (drop_at a x (length a) refl) ∙ ap (drop (length a)) e ∙ drop_at b y (length a) (sym len),
     )
 
--- a text doesn't end where an item without a fault stands
+-- a channel doesn't end where an item without a fault stands
 no_end : (c : ChannelProgress) (item more : List ℕ) (s : ChannelState) → IsItem c.page_size c.hello item → first_fault c item ≡ None → Ends c (item ++ more) s → ⊥
 no_end c item more state.Closed is free end = end
 no_end c item more state.Reading is free end = end.1 item more refl is
@@ -83,7 +83,7 @@ places-push at (x ∷ packets) packet =
     (places-push (at + length x) packets packet
     ∙ ap (λ (n : ℕ). places (at + length x) packets ++ message.Page n (length packet) ∷ []) e)
 
--- the message of an item, behind this hello and these packets
+-- the message of an item, after this hello and these packets
 item_message : ChannelProgress → Option ℕ → List ℕ → Message
 item_message c None item = message.Hello (get_or item 24 0)
 item_message c (Some id) item = message.Page (place_behind c) (length item)
@@ -118,7 +118,7 @@ front_goes_on c (item ∷ items) none =
       rest.1 ∙ ap (λ (l : List Message). l ++ rest.0) (item_behind c c.hello item refl none) ∙ append_assoc (front_messages c) (m ∷ []) rest.0,
     )
 
--- where a reading goes on from there, the whole text's messages begin with those before
+-- where a reading goes on from there, the channel's messages begin with those before
 begins_there : (k : Cursor) (text more : List ℕ) (c to : ChannelProgress) (rest : List ℕ) (found : ChannelState) → HasNoneBefore c
     → Reads (start k.page_size k.uuid k.channels) text to rest found → Reads c more to rest found → BeginsMessages (text_of k text) (front_messages c)
 begins_there k text more c to rest found none whole r =
@@ -143,7 +143,7 @@ unfolding HasNoneBefore
 none_before k text done true b e = λ no. absurd ((b.behind_hello e).0 no)
 none_before k text done false b e = λ _. (b.before_hello e).2
 
--- the reading behind an item of this length
+-- the reading after an item of this length
 behind_found : (k : Cursor) (text : List ℕ) (done : List Message) (len : ℕ) (b : IsBehind k text done) → IsItem b.c.page_size b.c.hello (take len (drop k.at text))
     → first_fault b.c (take len (drop k.at text)) ≡ None
     → Reads (after b.c (take len (drop k.at text))) (drop (k.at + len) text) b.to b.rest b.found
@@ -249,7 +249,7 @@ not_true : (b : Bool) → not b ≡ true → b ≡ false
 not_true true e = absurd (true≢false (sym e))
 not_true false e = refl
 
--- behind the hello, this is the next item
+-- after the hello, this is the next item
 packet_item : (k : Cursor) (text : List ℕ) (done : List Message) (len id : ℕ) (b : IsBehind k text done) → b.c.hello ≡ Some id
     → IsPacketText k.page_size (take len (drop k.at text))
     → IsItem b.c.page_size b.c.hello (take len (drop k.at text)) × (first_fault b.c (take len (drop k.at text)) ≡ None)

@@ -1,4 +1,4 @@
--- A channel gone through, item by item, up to the end of a round or the stop.
+-- A channel processed, item by item, up to the end of a round or the stop.
 use Rattle.std.proofs.Common.{ℕ, ◌≡◌, ◌≢◌, ◌+◌, ◌<◌, ◌≤◌, true, false, List, [], ◌∷◌, ◌++◌, length, map, take, drop, refl, sym, ap, ◌∙◌, inl, inr, Option, Some, arith, subst, append_assoc, get_or}
 use Rattle.std.specs.Prelude.{IfSome, slice_get, slice_set}
 use Rattle.std.specs.List.{All, AllZip}
@@ -25,7 +25,8 @@ use Rattle.mig_relay.proofs.GoingThrough.{set_there, set_same, set_twice, is_som
 
 -- ---- on the way
 
--- channel j was gone through from one place to another, and brought these packets, without the end of a round
+-- channel j was processed from one place to another, and brought these packets, without the end of
+-- a round
 pub record Going (j at : ℕ) (old new : List QueueEnd) (to : ℕ) (packets : List Packet) : Type 0 where
   pub before : QueueEnd
   pub behind : QueueEnd
@@ -125,7 +126,7 @@ going_packet j at to packet old mid new packets going gives f =
 
 -- ---- the end of a round
 
--- the rounds of all that was taken are those that were gone through, and others
+-- the rounds of all that was taken are those that were processed, and others
 rounds_are : (to : ℕ) (passed : List ChannelItem) (rounds : List (List Fields)) → HoldsRounds (take to passed) rounds [] → rounds_in passed ≡ rounds ++ rounds_in (drop to passed)
 rounds_are to passed rounds holds = ap rounds_in (sym (take-append-drop to passed)) ∙ holds (drop to passed)
 

@@ -88,7 +88,7 @@ pops pass v may x items views h at =
       (refl, (items ++ h.6.0, subst (λ (p : ChannelText × List Message). AreMessages p.0 p.1) (λ i. (sym mine.1 i, all i)) h.6.1)),
     )
 
--- the one pass of a new queue is cut in two, which learn the text
+-- the one pass of a new queue is cut in two, which learn the channel
 pub forks : (pass : ℕ) (v : Log) (source : ChannelText) → IsPageSize source.page_size → v ≡ fresh → Forks IsInOrder pass v (feeding source []) (collecting source [])
 forks pass v source size_is is items views h at =
     let l : Log = feeding source [] in

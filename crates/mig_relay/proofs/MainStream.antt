@@ -24,7 +24,7 @@ use Rattle.mig_answer.specs.Putting.{HasLoaded}
 use Rattle.mig_answer.proofs.Putting.{table_is}
 use Rattle.mig_relay.proofs.RelayRounds.{size_is}
 
--- a main stream's text that is over, so many of whose rounds were taken
+-- a complete main stream, so many of whose rounds were taken
 abbrev pub main_so_far : List ℕ → ℕ → SoFar
 main_so_far text n = record { text = text; ended = true; taken = n }
 
@@ -38,7 +38,7 @@ same_main l k places ends reading loading is =
     let same : main.found ≡ reading = one.2 main.found main.is_reading ∙ sym (one.2 reading is) in
     main.has_end ∙ ap (λ (r : StreamReading). record r { state = state_at true r.state }) same
 
--- those that were given are the text's
+-- those that were given are the stream's
 given_are_there : (l : Load) (k n : ℕ) (places : List ℕ) (ends : List QueueEnd) (r : Reader) → Loading l k places ends → Stands (main_of l.given) (main_so_far l.main n) r
     → n ≤ length l.readings.main.rounds
 given_are_there l k n places ends r loading stands =
@@ -119,7 +119,7 @@ ended_here l k target new verdict places ends now e loading loaded same ended =
     subst (λ (t : LoadTarget). HasLoaded t.rounds l.readings t × HasEnded l t.rounds verdict now × ((j : ℕ) → j < t.rounds → IsTrue (passes j l.readings))) (sym same)
     (loaded, subst (λ n. HasEnded l n verdict now) e ended, loading.have_passed)
 
--- behind all rounds
+-- after all rounds
 pub goes_to_end : (l : Load) (k : ℕ) (reader next : Reader) (target : LoadTarget) (state : StreamState) (places : List ℕ) (ends : List QueueEnd) → k ≡ target.rounds → Goes l reader target places ends
     → next ≡ reader → ((i : ℕ) (round : List PageRecord) → HasRound (main_of l.given) l.main i round → i < target.rounds)
     → HasState (main_of l.given) l.main true state → EndsAt l k state places ends

@@ -1,4 +1,5 @@
--- A text that is over has messages, which say where its items lie: all of them lie in it, and the one stop is last.
+-- A channel that has ended has messages, which say where its items lie: all of them lie in its
+-- bytes, and the one stop is last.
 use Rattle.std.proofs.Common.{◌≡◌, ◌≢◌, ℕ, ◌+◌, ◌≤◌, true, false, cond, true≢false, List, [], ◌∷◌, ◌++◌, length, take, drop, map, Option, Some, None, refl, sym, ap, subst, ◌∙◌, append_assoc, arith}
 use Rattle.std.specs.Prelude.{flat_map}
 use Rattle.std.specs.List.{concat, All}
@@ -25,7 +26,7 @@ use Rattle.mig_relay.specs.declared.message.Message.TheVariants as message
 use Rattle.mig_relay.specs.RelayItems.{given, HasItems, BeginsItems}
 use Rattle.mig_relay.specs.Messages.{item_in, item_of_message, hello_message, places, stop_message, front_messages, AreMessages, BeginsMessages, IsMessageIn, is_last}
 
--- some text's messages begin with none
+-- some channel's messages begin with none
 pub some_messages : (source : ChannelText) → IsPageSize source.page_size → BeginsMessages source []
 some_messages source size_is =
     let are = (one_list_law (given source) source.text size_is).1 in (
@@ -59,7 +60,8 @@ same_settings c packet =
       | false ↦ (refl, refl, refl, refl)
     ]
 
--- How a front lies: the hello, and then the packets, one behind the other. Before the hello there are none.
+-- How a front lies: the hello, and then the packets, one after the other. Before the hello there
+-- are none.
 record IsLaid (page_size : ℕ) (c : ChannelProgress) (front : List ℕ) : Type 0 where
   has_page_size : c.page_size ≡ page_size
   hello : List ℕ
@@ -144,7 +146,7 @@ read_places p at text front rest (packet ∷ packets) e is =
     let others = read_places p (at + length packet) text (front ++ packet) rest packets (next_place at front packet e) (next_text text front packet (concat packets) rest is) in
     λ i. Page (fields_of p (here.0 i)) ∷ others i
 
--- all messages lie in the text, and the one stop is last
+-- all messages lie in the channel's bytes, and the one stop is last
 abbrev WellMade : ℕ → List ℕ → List Message → Type 0
 WellMade p text [] = ⊥
 WellMade p text (message.Hello id ∷ l) = WellMade p text l
@@ -207,7 +209,7 @@ well_fronted p c text front rest (Some id) stop e l is made =
     let some : c.hello ≢ None = λ no. absurd (let clash : None ≡ Some id = sym no ∙ e in cc) in
     well_placed p hello_len text l.hello rest (all_packets c) stop (sym (l.behind_hello some)) (begins_packets p c text front rest l is) l.are_packets made
 
--- ---- of the whole text
+-- ---- of all bytes
 
 well_made : (source : ChannelText) (l : List Message) → AreMessages source l → WellMade source.page_size source.text l
 well_made source l are =
@@ -218,7 +220,7 @@ well_made source l are =
     (well_fronted p are.to source.text are.reads.front are.rest are.to.hello (stop_message (state_at true are.to are.rest are.found)) refl
     (laid source are.to are.reads.front are.reads.leads) are.reads.has_text last)
 
--- The items are the messages, read in the text.
+-- The items are the messages, read in the channel's bytes.
 pub items_law : (source : ChannelText) (l : List Message) → AreMessages source l → HasItems source (map (item_of_message source) l)
 items_law source l are =
     let p = source.page_size in
@@ -244,7 +246,7 @@ pub items_begin : (source : ChannelText) (front : List Message) → BeginsMessag
 items_begin source front b =
     (map (item_of_message source) b.0, subst (HasItems source) (map-append (item_of_message source) front b.0) (items_law source (front ++ b.0) b.1))
 
--- ---- what is known of a message by its place among the text's
+-- ---- what is known of a message by its place among the channel's
 
 lies_there : (p : ℕ) (text : List ℕ) (done : List Message) (m : Message) (more : List Message) → WellMade p text ((done ++ m ∷ []) ++ more) → IsMessageIn p text m
 lies_there p text [] (message.Hello id) more made = tt
@@ -268,7 +270,7 @@ none_behind p text (message.Page at len ∷ done) m more last made = none_behind
 none_behind p text (message.Stop end ∷ []) m more last made = absurd made
 none_behind p text (message.Stop end ∷ (x ∷ done)) m more last made = absurd made
 
--- behind a stop there are no more
+-- after a stop there are no more
 pub all_there : (source : ChannelText) (done : List Message) (m : Message) → is_last m ≡ true → BeginsMessages source (done ++ m ∷ [])
     → AreMessages source (done ++ m ∷ [])
 all_there source done m last b =
@@ -288,7 +290,7 @@ some_behind p text (message.Page at len ∷ done) m more last made = some_behind
 some_behind p text (message.Stop end ∷ []) m more last made = absurd made
 some_behind p text (message.Stop end ∷ (x ∷ done)) m more last made = absurd made
 
--- behind another one there are more
+-- after another one there are more
 pub one_more_there : (source : ChannelText) (done : List Message) (m : Message) → is_last m ≡ false → BeginsMessages source (done ++ m ∷ [])
     → (next : Message) × BeginsMessages source ((done ++ m ∷ []) ++ next ∷ [])
 one_more_there source done m last b =

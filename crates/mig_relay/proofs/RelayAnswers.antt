@@ -137,7 +137,7 @@ are_at_start (p ∷ ends) = (
 
 -- ---- the relay
 
--- its texts are these
+-- its channels are these
 pub relay_size : (page_size n : ℕ) (uuid : List ℕ) (texts : List (List ℕ)) (ends : List QueueEnd) → IsRelayOf page_size uuid texts ends → All (λ p. p.source.page_size ≡ n) ends → n ≡ page_size
 relay_size page_size n uuid texts [] is all =
     let some = is.has_some in
@@ -146,7 +146,7 @@ relay_size page_size n uuid texts (p ∷ ends) is all =
     sym (All-head (λ (p : QueueEnd). p.source.page_size ≡ n) p ends all)
     ∙ All-head (λ (p : QueueEnd). p.source.page_size ≡ page_size) p ends (sizes_are page_size uuid (length texts) texts (p ∷ ends) is.has_sources)
 
--- a load of them, with what they tell
+-- a load of them, with what they say
 abbrev pub load_of : (given : LoadSettings) (uuid : List ℕ) (main : List ℕ) (texts : List (List ℕ)) → IsPageSize given.page_size → Load
 load_of given uuid main texts size = record {
   given = given;

@@ -1,4 +1,4 @@
--- A load of what a relay brings: what is told at a round, and the rounds that go into the memory.
+-- A load of what a relay brings: what is found at a round, and the rounds that are applied.
 use Rattle.std.proofs.Common.{ℕ, zero, suc, ◌≡◌, ◌≢◌, ◌+◌, Bool, true, false, cond, ◌&&◌, List, [], ◌∷◌, ◌++◌, length, map, refl, sym, ap, ◌∙◌, inl, inr, Option, Some, None, is_none, arith, subst, find}
 use Rattle.std.specs.Prelude.{◌==◌}
 use Rattle.std.specs.Bool.{then_some}
@@ -32,9 +32,9 @@ use Rattle.mig_answer.proofs.ReceivedTogether.{together_law}
 use Rattle.mig_relay.proofs.Relays.{source_of, of_relay}
 use Rattle.mig_answer.proofs.ToldSources.{TellsSources, told_stops, told_refused, told_passes, told_whole}
 
--- ---- what was received tells
+-- ---- what was received says
 
--- a channel that was gone through a round has enough of its text
+-- a channel of which a round was processed has enough items
 enough : (k : ℕ) (p : QueueEnd) (page_size : ℕ) (uuid : List ℕ) (n : ℕ) (text : List ℕ) → p.source ≡ with_settings page_size uuid n text → HasEnough k p
     → IsEnough (settings page_size uuid n) k text p.passed
 enough k p page_size uuid n text is told = elim told.1 [
@@ -82,7 +82,7 @@ same_standings k from [] = refl
 same_standings k from (items ∷ received) =
     ap (λ (l : List Standing). told_standing (from, status_in k items) ∷ l) (same_standings k (from + 1) received)
 
--- behind the first round no hello comes again
+-- after the first round no hello comes again
 no_repeat : (l : Load) (k : ℕ) (places : List ℕ) (ends : List QueueEnd) → Loading l (suc k) places ends → repeated_hello (hello_ids l.readings) ≡ None
 no_repeat l k places ends loading =
     let t : passes 0 l.readings ≡ true = loading.have_passed 0 (omega arith) in
@@ -112,7 +112,7 @@ tells_sources l k places places_now ends ends_now main statuses packets loading 
       has_repeated = repeated_is l k places ends ends_now loading tells.has_hellos;
     }
 
--- ---- the verdict that is told
+-- ---- the verdict that is returned
 
 -- a verdict other than done
 abbrev IsOther : Option Verdict → Type 0

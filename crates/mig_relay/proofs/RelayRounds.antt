@@ -1,4 +1,4 @@
--- The rounds of what a relay brings: how each goes into the memory, and how a load ends.
+-- The rounds of what a relay brings: how each is applied, and how a load ends.
 use Rattle.std.proofs.Common.{ℕ, ◌≡◌, ◌≢◌, ◌+◌, ◌<◌, ◌≤◌, true, false, List, [], ◌∷◌, ◌++◌, length, take, drop, refl, sym, ap, ◌∙◌, inl, inr, Option, Some, None, arith, subst, cond}
 use Rattle.std.specs.Prelude.{⊤, ◌^◌, IsTrue, Result, Ok, Err, is_ok}
 use Rattle.std.specs.List.{All, AllZip}
@@ -86,7 +86,7 @@ pub ends_without : (l : Load) (k : ℕ) (result : Result ⊤ LoadFault) (places 
 ends_without l k result places ends now loading zip is =
     subst (λ (r : Result ⊤ LoadFault). HasEnded l k r now) (sym is) (ends_bad l k (record { round = k; source = origin.Round; fault = fault.NoMemory }) places ends now loading zip (inr refl))
 
--- ---- a round goes into the memory
+-- ---- a round is applied
 
 -- the page size of the table
 pub size_is : (l : Load) (k : ℕ) (target : LoadTarget) (places : List ℕ) (ends : List QueueEnd) → Loading l k places ends → HasLoaded k l.readings target → target.memory.table.page_size ≡ l.given.page_size
@@ -150,7 +150,7 @@ goes_in l target new places places_now ends now round packets comes zip told law
       few,
     )
 
--- what is told at the round that has come
+-- what is found at the round that has come
 pub told_now : (l : Load) (n : ℕ) (target : LoadTarget) (told found : Option Verdict) (places places_now : List ℕ) (ends now : List QueueEnd) (round : RoundOfRecords) (packets : List Fields)
     → n ≡ target.rounds → told ≡ found → ComesToRound l target places ends round
     → (Loading l n places ends → Whole ≡ main_status n l.readings.main → ToldAt l n Whole told places_now now packets) → ToldAt l target.rounds Whole found places_now now packets
@@ -159,7 +159,7 @@ told_now l n target told found places places_now ends now round packets e is com
     (subst (λ (m : ℕ). Loading l m places ends → Whole ≡ main_status m l.readings.main → ToldAt l m Whole told places_now now packets) e tells comes.loading
     (main_whole l target.rounds comes.has_round))
 
--- ---- behind all rounds of the main stream
+-- ---- after all rounds of the main stream
 
 -- how it stands there
 pub main_ends : (l : Load) (k : ℕ) (state : StreamState) (main : Status) (places : List ℕ) (ends : List QueueEnd) → EndsAt l k state places ends → main ≡ stream_end state
@@ -175,7 +175,7 @@ ends_at_fault l k state main f places ends at is bad =
     (sym (main_ends l k state main places ends at is) ∙ bad) in
     ends_bad l k (record { round = k; source = origin.Main; fault = f }) places ends ends loading (all_go_on ends) (inl (stops.0, stops.1))
 
--- something is told there: no source has a further round
+-- some verdict is found there: no source has a further round
 pub told_at_end : (l : Load) (k : ℕ) (state : StreamState) (main : Status) (places places_now : List ℕ) (ends now : List QueueEnd) (packets : List Fields) → EndsAt l k state places ends
     → main ≡ stream_end state → (told : Option Verdict) → ToldAt l k main told places_now now packets → told ≢ None
 told_at_end l k state main places places_now ends now packets at is told tells none =

@@ -1,4 +1,5 @@
--- The load of texts on several channels: the relay of the texts, the answer where an allocation was refused, and what was sent.
+-- The load of complete streams on several channels: their relay, the answer where an allocation was
+-- refused, and what was sent.
 use Rattle.std.proofs.Common.{ℕ, ◌≡◌, ◌≤◌, List, None, refl, sym, inl, inr, arith, subst}
 use Rattle.std.specs.Prelude.{◌⊎◌}
 use Rattle.mig_mem.specs.PageSize.{IsPageSize}

@@ -1,4 +1,4 @@
--- Relays: the texts of their queues.
+-- Relays: the channels of their queues.
 use Rattle.std.proofs.Common.{ℕ, zero, suc, ◌≡◌, ◌<◌, ◌≤◌, List, [], ◌∷◌, length, map, refl, sym, ap, ◌∙◌, Some, arith, subst, get_or}
 use Rattle.std.specs.Prelude.{slice_get, slice_set, Vec, Bool, true, false, Result, Ok, Err, IfOk, OnErr}
 use Rattle.std.specs.List.{All, AllZip}

@@ -1,4 +1,4 @@
--- A place in a channel's text, and the messages before it.
+-- A place in a channel's bytes, and the messages before it.
 use Rattle.std.specs.Prelude.{◌≡◌, ◌≢◌, ℕ, ◌+◌, ◌≤◌, true, false, List, [], ◌∷◌, ◌++◌, length, drop, None}
 use Rattle.std.specs.List.{concat}
 use Rattle.mig_packet.specs.Hello.{hello_len}
@@ -15,11 +15,12 @@ use Rattle.mig_relay.specs.Messages.{front_messages, BeginsMessages, is_last}
 abbrev pub text_of : Cursor → List ℕ → ChannelText
 text_of k text = with_settings k.page_size k.uuid k.channels text
 
--- where the bytes behind a hello and these packets begin
+-- where the bytes after a hello and these packets begin
 abbrev pub place_behind : ChannelProgress → ℕ
 place_behind c = hello_len + length (concat (all_packets c))
 
--- Before the place lie these messages. The reading of the text goes on from there: it comes as far as that of the whole text.
+-- Before the place lie these messages. The reading of the bytes goes on from there: it comes as far
+-- as that of all bytes.
 pub record IsBehind (k : Cursor) (text : List ℕ) (done : List Message) : Type 0 where
   pub c : ChannelProgress
   pub has_page_size : c.page_size ≡ k.page_size
@@ -37,7 +38,7 @@ pub record IsBehind (k : Cursor) (text : List ℕ) (done : List Message) : Type 
   pub goes_on : Reads c (drop k.at text) to rest found
   pub whole : Reads (start k.page_size k.uuid k.channels) text to rest found
 
--- this is the message that comes next, and the place behind it
+-- this is the message that comes next, and the place after it
 pub record Finds (k : Cursor) (text : List ℕ) (message : Message) (behind : Cursor) : Type 0 where
   pub next : (done : List Message) → IsBehind k text done → BeginsMessages (text_of k text) (done ++ message ∷ [])
   pub goes_on : is_last message ≡ false → (done : List Message) → IsBehind k text done → IsBehind behind text (done ++ message ∷ [])

@@ -1,5 +1,5 @@
--- To read first, in this order: the items of a channel's text and the two ends of its queue, what
--- the ends promise, and the answer of a load of what a relay brings
+-- To read first, in this order: a channel's items and the two ends of its queue, what the ends
+-- promise, and the answer of a load of what a relay brings.
 pub mod RelayItems
 pub mod Relay
 pub mod Relayed

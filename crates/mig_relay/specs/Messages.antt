@@ -1,4 +1,4 @@
--- The items of a channel's text as places in it: what goes through the channel's queue.
+-- The items of a channel as places in its bytes: what passes through the channel's queue.
 use Rattle.std.specs.Prelude.{◌≡◌, ℕ, ◌+◌, ◌≤◌, Bool, true, false, List, [], ◌∷◌, ◌++◌, length, take, drop, Option, None, Some, ⊤}
 use Rattle.mig_packet.specs.declared.state.ChannelState.{ChannelState}
 use Rattle.mig_packet.specs.declared.state.ChannelState.TheVariants as state
@@ -22,13 +22,13 @@ item_in page_size text (message.Stop end) = Stop (end_fault end)
 abbrev pub item_of_message : ChannelText → Message → ChannelItem
 item_of_message source message = item_in source.page_size source.text message
 
--- ---- the messages of a text that is over
+-- ---- the messages of a channel that has ended
 
 abbrev pub hello_message : Option ℕ → List Message
 hello_message None = []
 hello_message (Some id) = message.Hello id ∷ []
 
--- packets that lie one behind the other from there on
+-- packets that lie one after the other from there on
 abbrev pub places : ℕ → List (List ℕ) → List Message
 places at [] = []
 places at (packet ∷ packets) = message.Page at (length packet) ∷ places (at + length packet) packets
@@ -38,11 +38,12 @@ stop_message state.Closed = message.Stop Clean ∷ []
 stop_message (state.Bad fault) = message.Stop (Bad fault) ∷ []
 stop_message state.Reading = []
 
--- those of a front: its hello, and its packets behind it
+-- those of a front: its hello, and its packets after it
 abbrev pub front_messages : ChannelProgress → List Message
 front_messages c = hello_message c.hello ++ places hello_len (all_packets c)
 
--- These are the text's messages: its hello where that is in the front, each packet of the front, then one stop.
+-- These are the channel's messages: its hello where that is in the front, each packet of the front,
+-- then one stop.
 pub record AreMessages (source : ChannelText) (messages : List Message) : Type 0 where
   pub to : ChannelProgress
   pub rest : List ℕ
@@ -50,13 +51,13 @@ pub record AreMessages (source : ChannelText) (messages : List Message) : Type 0
   pub reads : Reads (start source.page_size source.uuid source.channels) source.text to rest found
   pub has_messages : messages ≡ front_messages to ++ stop_message (state_at true to rest found)
 
--- the text's messages begin with these
+-- the channel's messages begin with these
 abbrev pub BeginsMessages : ChannelText → List Message → Type 0
 BeginsMessages source front = (more : List Message) × AreMessages source (front ++ more)
 
 -- ---- one message
 
--- the message's bytes lie in the text, and are a packet
+-- the message's bytes lie in the channel's, and are a packet
 abbrev pub IsMessageIn : ℕ → List ℕ → Message → Type 0
 IsMessageIn page_size text (message.Hello id) = ⊤
 IsMessageIn page_size text (message.Page at len) = (at + len ≤ length text) × IsPacketText page_size (take len (drop at text))

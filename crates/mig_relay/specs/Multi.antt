@@ -1,5 +1,5 @@
--- The load of what a relay brings, from a main stream's text that is over: the answer on the texts of the relay, or that where memory
--- was refused.
+-- The load of what a relay brings, from a complete main stream: the answer on the channels of the
+-- relay, or that where memory was refused.
 use Rattle.std.specs.Prelude.{ℕ, List}
 use Rattle.mig_mem.specs.PageSize.{IsPageSize}
 use Rattle.mig_single_load.specs.declared.settings.LoadSettings.{LoadSettings}

@@ -14,7 +14,7 @@ use Rattle.mig_relay.specs.Messages.{item_of_message, BeginsMessages}
 abbrev pub log : Bool → Bool → ChannelText → List Message → Log
 log feeds collects source done = record { feeds = feeds; collects = collects; source = source; done = done }
 
--- a text of no bytes, as long as the pass knows of none
+-- a channel of no bytes, as long as the pass knows of none
 abbrev pub no_channel_text : ChannelText
 no_channel_text = with_settings 4096 [] 0 []
 
@@ -42,13 +42,14 @@ LogHolds feeder collector source pushed popped pass v =
     (v.feeds ≡ true → (pass ≡ feeder) × (v.source ≡ source) × (v.done ≡ pushed))
     × (v.collects ≡ true → (pass ≡ collector) × (v.source ≡ source) × (v.done ≡ popped))
 
--- One pass pushes, and one pops. What was popped, and then what the queue holds, is what was pushed, which begins the text's messages.
+-- One pass pushes, and one pops. What was popped, and then what the queue holds, is what was
+-- pushed, which begins the channel's messages.
 abbrev pub IsInOrder : List Message → List Log → Type 0
 IsInOrder items views = (feeder : ℕ) × (collector : ℕ) × (source : ChannelText) × (pushed : List Message) × (popped : List Message)
     × (pushed ≡ popped ++ items) × BeginsMessages source pushed
     × ((pass : ℕ) (v : Log) → get_elem? views pass ≡ some v → LogHolds feeder collector source pushed popped pass v)
 
--- ---- what the steps tell
+-- ---- what the steps promise
 
 abbrev pub TellsPush : Log → Message → Log → Type 0
 TellsPush v x w = w ≡ feeding v.source (v.done ++ x ∷ [])

@@ -6,7 +6,8 @@ use Rattle.mig_relay.specs.declared.feeder.FeederStep.TheVariants.{More, Ended}
 use Rattle.mig_relay.specs.declared.log.ChannelText.{ChannelText}
 use Rattle.mig_relay.specs.RelayItems.{with_settings, QueueEnd, one_more, BeginsItems, IsThrough, IsOnTheWay}
 
--- One item more was pushed. The feeder goes on where a further one is left, and else it was the stop.
+-- One item more was pushed. The feeder goes on where a further one is left, and else it was the
+-- stop.
 abbrev pub PushesOne : {A : Type 0} → QueueEnd → FeederStep A → Type 0
 PushesOne p (More next) = (next_item : ChannelItem) × (next ≡ one_more p next_item) × IsOnTheWay next
 PushesOne p (Ended fed) = (next_item : ChannelItem) × (fed ≡ one_more p next_item) × IsThrough fed
@@ -24,6 +25,6 @@ TakesAt j old new more = (p : QueueEnd) × (q : QueueEnd) × (slice_get old j �
 abbrev pub so_far : QueueEnd → ChannelText × List ChannelItem
 so_far p = (p.source, p.passed)
 
--- a text of which nothing was pushed or popped
+-- a channel of which no item was pushed or popped
 abbrev pub at_start : {A : Type 0} → ℕ → List ℕ → ℕ → Vec ℕ A → ChannelText × List ChannelItem
 at_start page_size uuid channels text = (with_settings page_size uuid channels text.items, [])

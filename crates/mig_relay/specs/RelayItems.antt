@@ -1,4 +1,4 @@
--- What a relay hands on: the items of each channel's text, as its contracts see them.
+-- What a relay passes on: the items of each channel, as its contracts see them.
 use Rattle.std.specs.Prelude.{◌≡◌, ℕ, List, [], ◌∷◌, ◌++◌, Option, None, Some, ⊤}
 use Rattle.atomic_table.specs.Seated.{TableId}
 use Rattle.mig_packet.specs.declared.fault.ChannelFault.{ChannelFault}
@@ -28,7 +28,7 @@ IsOfPageSize page_size (item.Hello id) = ⊤
 IsOfPageSize page_size (item.Page packet) = packet.page_size ≡ page_size
 IsOfPageSize page_size (item.Stop end) = ⊤
 
--- ---- the items of a text that is over
+-- ---- the items of a channel that has ended
 
 abbrev pub with_settings : ℕ → List ℕ → ℕ → List ℕ → ChannelText
 with_settings page_size uuid channels text = record { page_size = page_size; uuid = uuid; channels = channels; text = text }
@@ -36,17 +36,18 @@ with_settings page_size uuid channels text = record { page_size = page_size; uui
 abbrev pub given : ChannelText → Settings
 given source = settings source.page_size source.uuid source.channels
 
--- these are the text's items
+-- these are the channel's items
 abbrev pub HasItems : ChannelText → List ChannelItem → Type 0
 HasItems source items = AreItems (given source) source.text items
 
--- the text's items begin with these
+-- the channel's items begin with these
 abbrev pub BeginsItems : ChannelText → List ChannelItem → Type 0
 BeginsItems source front = (more : List ChannelItem) × HasItems source (front ++ more)
 
 -- ---- the two ends of a channel's queue
 
--- one of them: which queue its pass is of, the channel's text, and the items that the pass has pushed or popped
+-- one of them: which queue its pass is of, the channel, and the items that the pass has pushed or
+-- popped
 pub record QueueEnd : Type 0 where
   pub queue : TableId
   pub source : ChannelText

@@ -32,14 +32,15 @@ use Rattle.mig_single_load.specs.declared.fault.Fault.TheVariants as fault
 use Rattle.mig_relay.specs.RelayItems.{as_channel_item, IsOfPageSize, with_settings, QueueEnd, BeginsItems, IsThrough}
 use Rattle.mig_answer.specs.Putting.{HasLoaded}
 
--- ---- the relay of some texts
+-- ---- the relay of some channels
 
--- these are the ends that pop of the queues of these texts, at pages of this size and under this UUID
+-- these are the ends that pop of the queues of these channels, at pages of this size and under this
+-- UUID
 pub record IsRelayOf (page_size : ℕ) (uuid : List ℕ) (texts : List (List ℕ)) (ends : List QueueEnd) : Type 0 where
   pub has_some : 1 ≤ length texts
   pub has_sources : map (λ p. p.source) ends ≡ map (with_settings page_size uuid (length texts)) texts
 
--- they are of the queues of some texts
+-- they are of the queues of some channels
 pub record IsRelay (ends : List QueueEnd) : Type 0 where
   pub page_size : ℕ
   pub uuid : List ℕ
@@ -50,21 +51,22 @@ pub record IsRelay (ends : List QueueEnd) : Type 0 where
 abbrev pub received_of : List QueueEnd → List (List ChannelItem)
 received_of ends = map (λ p. p.passed) ends
 
--- the same queue and text, and what was taken begins with what it was
+-- the queue and the channel stay, and what was taken begins with what was taken before
 pub record Continues (old new : QueueEnd) : Type 0 where
   pub same_queue : new.queue ≡ old.queue
   pub same_source : new.source ≡ old.source
   pub begins : IsFront old.passed new.passed
 
--- What a load has taken that counts so many rounds: their SYNC packets at least, and where it is done the stop.
+-- What a load has taken that counts so many rounds: their SYNC packets at least, and where it is
+-- done the stop.
 pub record HasReceived (rounds : ℕ) (done : Bool) (old new : QueueEnd) : Type 0 where
   pub continues : Continues old new
   pub has_rounds : rounds ≤ round_count new.passed
   pub has_stop : done ≡ true → IsThrough new
 
--- ---- one channel, gone through item by item
+-- ---- one channel, processed item by item
 
--- the status that a stop tells
+-- the status that a stop gives
 abbrev pub stop_status : ChannelEnd → Status
 stop_status channel_end.Clean = Clean
 stop_status (channel_end.Bad f) = Bad (fault.Channel f)
@@ -73,30 +75,33 @@ stop_status (channel_end.Bad f) = Bad (fault.Channel f)
 abbrev pub IsOpenAt : ℕ → QueueEnd → Type 0
 IsOpenAt at p = (at ≤ length p.passed) × (end_in (take at p.passed) ≡ Pending)
 
--- The first `at` items that were taken of a channel were gone through: they have these whole rounds, then no further packet, and no stop.
+-- The first `at` items that were taken of a channel were processed: they have these complete
+-- rounds, then no further packet, and no stop.
 pub record IsAt (at : ℕ) (passed : List ChannelItem) (rounds : List (List Fields)) : Type 0 where
   pub within : at ≤ length passed
   pub has_rounds : (more : List ChannelItem) → rounds_in (take at passed ++ more) ≡ rounds ++ rounds_in more
   pub is_open : end_in (take at passed) ≡ Pending
 
--- they have exactly k whole rounds
+-- they have exactly k complete rounds
 pub record IsAtRound (k at : ℕ) (passed : List ChannelItem) : Type 0 where
   pub rounds : List (List Fields)
   pub has_count : length rounds ≡ k
   pub is_at : IsAt at passed rounds
 
--- enough was taken of a channel to tell round k
+-- enough was taken of a channel to know round k
 abbrev pub HasEnough : ℕ → QueueEnd → Type 0
 HasEnough k p = BeginsItems p.source p.passed × ((k < round_count p.passed) ⊎ IsThrough p)
 
--- Round k of a channel was gone through, up to there: how the channel stands at it, and the packets where it is whole.
+-- Round k of a channel was processed, up to there: how the channel stands at it, and the packets
+-- where it is complete.
 pub record HasGone (k to : ℕ) (p : QueueEnd) (status : Status) (packets : List Fields) : Type 0 where
   pub is_told : HasEnough k p
   pub has_status : status ≡ status_in k p.passed
   pub has_packets : status ≡ Whole → packets ≡ channel_packets_in k p.passed
   pub goes_on : status ≡ Whole → IsAtRound (k + 1) to p.passed
 
--- Item `at` of channel j is this item, which was taken where it wasn't yet. The other channels stay.
+-- Item `at` of channel j is this item, which was taken where it wasn't yet. The other channels
+-- stay.
 pub record GivesItem (j at : ℕ) (old new : List QueueEnd) (item : Item) : Type 0 where
   pub before : QueueEnd
   pub behind : QueueEnd
@@ -109,7 +114,8 @@ pub record GivesItem (j at : ℕ) (old new : List QueueEnd) (item : Item) : Type
   pub is_page_size : IsPageSize before.source.page_size
   pub has_page_size : IsOfPageSize before.source.page_size item
 
--- Channel j was gone through from one place to another, and brought these packets. The other channels stay.
+-- Channel j was processed from one place to another, and brought these packets. The other channels
+-- stay.
 pub record GoesThrough (j at : ℕ) (old new : List QueueEnd) (to : ℕ) (status : Status) (packets : List Packet) : Type 0 where
   pub before : QueueEnd
   pub behind : QueueEnd
@@ -121,11 +127,12 @@ pub record GoesThrough (j at : ℕ) (old new : List QueueEnd) (to : ℕ) (status
 
 -- ---- all channels
 
--- all were gone through up to round k
+-- all were processed up to round k
 abbrev pub AreAtRound : ℕ → List ℕ → List QueueEnd → Type 0
 AreAtRound k places ends = AllZip (λ (at : ℕ) (p : QueueEnd). IsAtRound k at p.passed) places ends
 
--- Round k of all channels was gone through: how they stand at it, and where it is whole of each the packets of all.
+-- Round k of all channels was processed: how they stand at it, and where it is complete of each the
+-- packets of all.
 pub record HaveGone (k : ℕ) (places : List ℕ) (ends : List QueueEnd) (statuses : List Status) (packets : List Fields) : Type 0 where
   pub are_told : All (HasEnough k) ends
   pub has_statuses : statuses ≡ map (status_in k) (received_of ends)
@@ -134,11 +141,11 @@ pub record HaveGone (k : ℕ) (places : List ℕ) (ends : List QueueEnd) (status
 
 -- ---- the round that is judged
 
--- the least channel whose hello names an earlier one's id, which the first round alone tells
+-- the least channel whose hello names an earlier one's id; round 0 alone reports it
 abbrev pub repeated_at : ℕ → List QueueEnd → Option ℕ
 repeated_at k ends = if k == 0 then repeated_hello (map hello_in (received_of ends)) else None
 
--- what a load on channels is of, and what the texts tell
+-- what a load on channels is of, and what the sources say
 pub record Load : Type 0 where
   pub given : LoadSettings
   pub uuid : List ℕ
@@ -146,7 +153,8 @@ pub record Load : Type 0 where
   pub texts : List (List ℕ)
   pub readings : Readings
 
--- A load has come to round k: the rounds before it pass, and these are the channels, gone through up to it.
+-- A load has come to round k: the rounds before it pass, and these are the channels, processed up
+-- to it.
 pub record Loading (l : Load) (k : ℕ) (places : List ℕ) (ends : List QueueEnd) : Type 0 where
   pub is_page_size : IsPageSize l.given.page_size
   pub is_relay : IsRelayOf l.given.page_size l.uuid l.texts ends
@@ -154,7 +162,8 @@ pub record Loading (l : Load) (k : ℕ) (places : List ℕ) (ends : List QueueEn
   pub have_passed : (j : ℕ) → j < k → IsTrue (passes j l.readings)
   pub are_at : AreAtRound k places ends
 
--- What the sources tell at round k: a verdict, which is the load's, or that all have the round, with these packets.
+-- What the sources say at round k: a verdict, which is the load's, or that all have the round, with
+-- these packets.
 pub record ToldAt (l : Load) (k : ℕ) (main : Status) (told : Option Verdict) (places : List ℕ) (ends : List QueueEnd) (packets : List Fields) : Type 0 where
   pub stops : (verdict : Verdict) → told ≡ Some verdict → IsFirstStop l.readings k × (verdict_at k l.readings ≡ verdict) × (verdict ≢ Running)
   pub through : told ≡ Some Done → All IsThrough ends
@@ -165,7 +174,7 @@ pub record ToldAt (l : Load) (k : ℕ) (main : Status) (told : Option Verdict) (
   pub refused : told ≡ None → (why : RoundFault) → refusal_at k l.readings ≡ Some why
       → IsFirstStop l.readings k × (verdict_at k l.readings ≡ failed k origin.Round (fault.Round why))
 
--- the answer of a load at round k: that of the texts, or `NoMemory`
+-- the answer of a load at round k: that on the sources, or `NoMemory`
 abbrev pub IsAnswered : Load → ℕ → Result ⊤ LoadFault → Type 0
 IsAnswered l k verdict = (IsFirstStop l.readings k × (verdict_at k l.readings ≡ as_verdict verdict)) ⊎ (verdict ≡ no_memory_at k)
 
@@ -179,7 +188,8 @@ pub record HasEnded (l : Load) (k : ℕ) (verdict : Result ⊤ LoadFault) (ends 
   pub have_rounds : HaveRounds k ends
   pub through : is_ok verdict ≡ true → All IsThrough ends
 
--- a load has come to a round of these records, which the main stream has, with the rounds before it in the memory
+-- a load has come to a round of these records, which the main stream has; the rounds before it are
+-- applied
 pub record ComesToRound (l : Load) (target : LoadTarget) (places : List ℕ) (ends : List QueueEnd) (round : RoundOfRecords) : Type 0 where
   pub loading : Loading l target.rounds places ends
   pub has_loaded : HasLoaded target.rounds l.readings target
@@ -189,19 +199,20 @@ pub record ComesToRound (l : Load) (target : LoadTarget) (places : List ℕ) (en
   pub is_round : round.records ≡ get_or l.readings.main.rounds target.rounds []
   pub fits : FitsTable target.memory.table round
 
--- What the judging of a round leaves: with None it is in the memory, and the next one is due; else the load has ended, and the memory stays.
+-- What the judging of a round leaves. With None it is applied, and the next one is due. Else the
+-- load has ended, and the memory stays.
 abbrev pub HasJudged : Load → LoadTarget → Option (Result ⊤ LoadFault) → LoadTarget → List ℕ → List QueueEnd → Type 0
 HasJudged l old None new places ends =
     Loading l (old.rounds + 1) places ends × HasLoaded (old.rounds + 1) l.readings new × (new.base ≤ 2 ^ 63)
 HasJudged l old (Some verdict) new places ends = (new ≡ old) × HasEnded l old.rounds verdict ends
 
--- Behind round k the main stream stands so.
+-- After round k the main stream stands so.
 pub record EndsAt (l : Load) (k : ℕ) (state : StreamState) (places : List ℕ) (ends : List QueueEnd) : Type 0 where
   pub loading : Loading l k places ends
   pub is_last : length l.readings.main.rounds ≡ k
   pub has_state : l.readings.main.state ≡ state
 
--- a load has put the first rounds of the main stream, of which the reader gives the others, into the memory
+-- a load has applied the first rounds of the main stream, of which the reader gives the others
 pub record Goes (l : Load) (reader : Reader) (target : LoadTarget) (places : List ℕ) (ends : List QueueEnd) : Type 0 where
   pub stands : Stands (main_of l.given) (record { text = l.main; ended = true; taken = target.rounds }) reader
   pub loading : Loading l target.rounds places ends
@@ -209,13 +220,14 @@ pub record Goes (l : Load) (reader : Reader) (target : LoadTarget) (places : Lis
   pub few_packets : target.base ≤ 2 ^ 63
   pub is_short : length l.main < 2 ^ 63
 
--- a load begins: of neither the main stream, which its reader was given, nor the channels anything was gone through
+-- a load begins: no item of the main stream, which its reader was given, nor of the channels was
+-- processed
 pub record Begins (l : Load) (reader : Reader) (places : List ℕ) (ends : List QueueEnd) : Type 0 where
   pub stands : Stands (main_of l.given) (record { text = l.main; ended = true; taken = 0 }) reader
   pub loading : Loading l 0 places ends
   pub is_short : length l.main < 2 ^ 63
 
--- the answer of a load: that on its texts, or the one without memory
+-- the answer of a load: that on its sources, or the one without memory
 abbrev pub IsAnswerOf : {A : Type 0} → Load → Loaded A → Type 0
 IsAnswerOf l loaded =
     IsAnswerOrWithoutMemory l.given l.uuid (ended_texts l.main l.texts) (answer_of loaded)

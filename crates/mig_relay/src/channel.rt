@@ -13,7 +13,8 @@ use std::alloc::{Allocator, Global};
 use std::marker::Model;
 use std::sync::Wait;
 
-/// The items of one channel's text as they come. Contracts see its queue, the text, and the items that it has popped.
+/// The items of one channel as they come. Contracts see its queue, its bytes, and the items that it
+/// has popped.
 #[derive(Drop)]
 pub struct Channel<'a, A: Allocator = Global> {
     pub(crate) page_size: u64,
@@ -42,7 +43,7 @@ impl<'a, A: Allocator> Model for Channel<'a, A> {
 }
 
 impl<'a, A: Allocator> Channel<'a, A> {
-    /// The number of bytes of a page of its packets.
+    /// Returns the number of bytes of a page of its packets.
     pub(crate) fn page_size(&self) -> u64
         ensures value { result ≡ self.now.source.page_size }
         ensures page_size { IsPageSize result }
@@ -50,7 +51,7 @@ impl<'a, A: Allocator> Channel<'a, A> {
         self.page_size
     }
 
-    /// The items that were popped.
+    /// Returns the items that were popped.
     pub(crate) fn received(&self) -> &[Item<'a>]
         ensures items { map as_channel_item result.now ≡ self.now.passed }
         ensures begun { BeginsItems self.now.source self.now.passed }
@@ -60,7 +61,8 @@ impl<'a, A: Allocator> Channel<'a, A> {
         self.items.as_slice()
     }
 
-    /// Pops the next item. False where the stop was popped before. On an `Err` none was popped.
+    /// Pops the next item. Returns false, without a pop, if the stop was popped before. On an `Err`
+    /// none was popped.
     pub(crate) fn next<R: Wait>(&mut self, wait: &R) -> Result<bool, NoMemory>
         ensures ok { IfOk result (λ more. Takes self.old self.new more) }
         ensures err { OnErr result (self.new ≡ self.old) }

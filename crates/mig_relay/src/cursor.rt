@@ -1,4 +1,5 @@
-//! A place in a channel's text, between two items, and how the next one is found. A feeder keeps one.
+//! A place in a channel's bytes, between two items, and how the next item is found. A feeder keeps
+//! one.
 
 ghost use Rattle.std.specs.Prelude.{◌≡◌, ◌≤◌, true, false, length};
 ghost use Rattle.mig_packet.specs.PageSize.{IsPageSize};
@@ -14,7 +15,8 @@ use uuid::Uuid;
 // how many bytes a hello has
 const HELLO_LEN: usize = 64;
 
-/// A place in a channel's text that is over, between two items, and what was handed in to read the text by.
+/// A place between two items of a channel that has ended, and the settings by which its bytes are
+/// read.
 #[derive(Clone, Copy)]
 pub(crate) struct Cursor {
     pub(crate) page_size: u64,
@@ -29,7 +31,7 @@ pub(crate) struct Cursor {
 }
 
 impl Cursor {
-    /// The next item, and the place behind it.
+    /// Reads the next item. Returns it, and the place after it.
     pub(crate) fn read(self, text: &[u8]) -> (Message, Cursor)
         requires page_size { IsPageSize self.page_size }
         requires within { self.at ≤ length text.now }
@@ -84,7 +86,7 @@ impl Cursor {
     }
 }
 
-// The end of a text with this fault.
+// Returns the end of a channel with `fault`.
 fn stop(fault: ChannelFault) -> Message
     ensures { result ≡ message.Stop (end.Bad fault) }
 {

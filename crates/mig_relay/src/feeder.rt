@@ -1,4 +1,5 @@
-//! The end of a channel's queue that pushes: it goes through the channel's text, item by item. A worker of `load_multi` steps one.
+//! The end of a channel's queue that pushes: it reads the channel's bytes, item by item. A worker
+//! of `load_multi` steps one.
 
 ghost use Rattle.mig_relay.specs.Relay.{PushesOne};
 
@@ -11,7 +12,8 @@ use std::fmt::{self, Debug, Formatter};
 use std::marker::Model;
 use std::sync::Wait;
 
-/// Pushes the items of one channel's text. Contracts see its queue, the text, and the items that it has pushed.
+/// Pushes the items of one channel. Contracts see its queue, its bytes, and the items that it has
+/// pushed.
 #[derive(Drop)]
 pub struct Feeder<'a, A: Allocator = Global> {
     // the number of its channel, and of its next item
@@ -46,7 +48,8 @@ impl<'a, A: Allocator> Debug for Feeder<'a, A> {
     }
 }
 
-/// What is left of a feeder that has pushed its text's stop. Contracts see its queue, the text, and the items that it has pushed.
+/// What is left of a feeder that has pushed its channel's stop. Contracts see its queue, its bytes,
+/// and the items that it has pushed.
 #[derive(Drop)]
 pub struct Fed<A: Allocator = Global> {
     sender: Sender<A>,
@@ -77,7 +80,7 @@ impl<A: Allocator> Debug for Fed<A> {
 pub enum FeederStep<'a, A: Allocator = Global> {
     /// A feeder that has items to push.
     More(Feeder<'a, A>),
-    /// The feeder has pushed its text's stop.
+    /// The feeder has pushed its channel's stop.
     Ended(Fed<A>),
 }
 
@@ -92,8 +95,9 @@ impl<'a, A: Allocator> Debug for FeederStep<'a, A> {
 }
 
 impl<'a, A: Allocator> Feeder<'a, A> {
-    /// Reads the next item, passes the gate with its number as found, pushes it, and passes the gate again. It waits while the queue is
-    /// full, and allocates nothing. Where the collector was dropped early, it may wait for ever.
+    /// Reads the next item, passes the gate with its number as found, pushes it, and passes the
+    /// gate again. It waits while the queue is full, and allocates nothing. If the collector was
+    /// dropped early, it may wait for ever.
     pub fn step<R: Wait, G: Gate>(self, wait: &R, gate: &G) -> FeederStep<'a, A>
         ensures { PushesOne self.entry result }
     {

@@ -13,7 +13,7 @@ use std::alloc::Allocator;
 // How many ids there are.
 const ID_COUNT: usize = 256;
 
-/// The least channel whose hello names the id of an earlier one.
+/// Returns the least channel whose hello names the id of an earlier one.
 pub(crate) fn repeated_hello<A: Allocator>(collector: &Collector<'_, A>) -> Option<usize>
     ensures { result ≡ repeated_hello (map hello_in (received_of collector.now)) }
 {
@@ -29,7 +29,7 @@ pub(crate) fn repeated_hello<A: Allocator>(collector: &Collector<'_, A>) -> Opti
     None
 }
 
-// The id that the hello names, which is the first of some items.
+// Returns the id that the hello names, which is the first of `items`.
 fn first_hello(items: &[Item<'_>]) -> Option<u8>
     ensures { result ≡ hello_in (map as_channel_item items.now) }
 {

@@ -1,23 +1,24 @@
-//! What a channel brings: its items, one after another. Feeders push them, and the collector gives them.
+//! What a channel brings: its items, one after another. Feeders push them, and the collector gives
+//! them.
 
 use mig_packet::{ChannelFault, Packet};
 
-/// How a channel's text stands once it is over.
+/// How a channel stands once it has ended.
 #[derive(Clone, Copy, Debug, PartialEq, Eq)]
 pub enum ChannelEnd {
-    /// Behind its hello and whole rounds, and nothing more.
+    /// After its hello and complete rounds, and nothing more.
     Clean,
     /// With this fault.
     Bad(ChannelFault),
 }
 
-/// An item of a channel's text. A packet borrows the text's bytes.
+/// An item of a channel. A packet borrows the channel's bytes.
 #[derive(Clone, Copy, Debug)]
 pub enum Item<'a> {
     /// The hello, with its channel id.
     Hello(u8),
     /// A packet.
     Page(Packet<'a>),
-    /// The end of the text, which comes once, and last.
+    /// The end of the channel, which comes once, and last.
     Stop(ChannelEnd),
 }

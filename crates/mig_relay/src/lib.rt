@@ -1,13 +1,13 @@
-//! Loads whole streams on several channels, through a relay between threads.
+//! Loads complete streams on several channels, through a relay between threads.
 //!
 //! A relay passes the items of each channel from a thread that reads them to the one that loads.
 //! Each channel has a `Feeder`, a queue, and its place in the one `Collector`. `mig_packet` defines
 //! the items, and `specs/Relay.antt` what the two ends promise. `load_relayed` loads what a relay
-//! brings; `load_multi` starts the relay and its workers too. `mig_answer` defines what they
-//! answer.
+//! brings. `load_multi` starts the relay and its workers too. `mig_answer` defines what they
+//! return.
 //!
-//! Definitions, in reading order: `RelayItems`, `Relay`, `Relayed`, `Multi`, `Valid` (`specs/`). `Messages`,
-//! `Queue`, `Cursor` and `Ends` are internal: only contracts of private functions name them.
+//! Definitions, in reading order: `RelayItems`, `Relay`, `Relayed`, `Multi`, `Valid` (`specs/`).
+//! Only contracts of private functions name `Messages`, `Queue`, `Cursor` and `Ends`.
 #![tactic(auto)]
 
 mod channel;

@@ -1,15 +1,18 @@
 //! The rule of a channel's queue, and the kinds of steps that are made under it, for `queue`.
 //!
-//! Nothing here runs. `crossbeam_channel` asks at each step that it keeps the rule, whatever the queue holds and all passes know by
-//! then, and answers what the step tells. The steps are: the making of the queue with one pass, that this pass is split in two, one to push
-//! and one to pop, a push, and a pop.
+//! Nothing here runs. At each step, `crossbeam_channel` asks that the step keeps the rule, whatever
+//! the queue holds and all passes know by then. It answers with what the kind of step promises.
+//!
+//! The steps are: the queue is made with one pass; this pass is split in two, one to push and one
+//! to pop; a push; a pop.
 
 use crate::message::Message;
 use crossbeam_channel::protocol::{Lesson, Outcome, Protocol, Split};
 use std::collections::LinkedList;
 use std::marker::{Brand, PhantomData};
 
-/// A channel's text that is over, with what was handed in to read it by. No value of this type is made: it is known to proofs alone.
+/// A channel that has ended: its bytes, and the settings by which they are read. No value of this
+/// type is made: it is known to proofs alone.
 pub struct ChannelText {
     pub page_size: u64,
     pub uuid: LinkedList<u8>,
@@ -17,8 +20,8 @@ pub struct ChannelText {
     pub text: LinkedList<u8>,
 }
 
-/// What a pass knows: whether it pushes, whether it pops, the text, and the messages that it pushed or popped. No value of this type is
-/// made.
+/// What a pass knows: whether it pushes, whether it pops, the channel, and the messages that it
+/// pushed or popped. No value of this type is made.
 pub struct Log {
     pub feeds: bool,
     pub collects: bool,
@@ -26,8 +29,9 @@ pub struct Log {
     pub done: LinkedList<Message>,
 }
 
-/// What holds of a queue and its passes between any two steps: what was popped, and then what the queue holds, is what was pushed, and
-/// this begins the text's messages. One pass pushes, and one pops.
+/// What holds of a queue and its passes between any two steps. What was popped, and then what the
+/// queue holds, is what was pushed, and this begins the channel's messages. One pass pushes, and
+/// one pops.
 pub struct InOrder;
 
 impl Protocol<Message, Log> for InOrder {
@@ -38,7 +42,7 @@ impl Protocol<Message, Log> for InOrder {
     ghost first = { fresh };
 }
 
-/// Names the text whose items a queue is to carry.
+/// Names the channel whose items a queue is to carry.
 pub trait Carries {
     ghost use Rattle.mig_relay.specs.declared.log.ChannelText.{ChannelText};
 
@@ -51,7 +55,8 @@ impl Carries for Brand {
     ghost source = { no_channel_text };
 }
 
-/// The step that makes the pass that pops out of a queue's first one, which pushes from then on. Both know the text.
+/// The step that makes the pass that pops out of a queue's first one, which pushes from then on.
+/// Each of the two knows the channel.
 pub struct Cut<Q>(PhantomData<Q>);
 
 impl<Q: Carries> Split<Log> for Cut<Q> {
@@ -78,7 +83,8 @@ impl Lesson<Message, Log> for Pushed {
     ghost fact = { λ v items. ⊤ };
 }
 
-/// The step of a pop: the pass has popped one message more, and all that it popped begins the text's messages.
+/// The step of a pop: the pass has popped one message more, and all that it popped begins the
+/// channel's messages.
 pub struct Popped;
 
 impl Outcome<Message, Log> for Popped {

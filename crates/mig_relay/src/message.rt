@@ -1,5 +1,5 @@
-//! An item as it goes through a channel's queue: numbers alone, which say where in the text it lies. A cursor makes them, and the popping end
-//! makes items of them.
+//! An item as it passes through a channel's queue: numbers alone, which say where in the channel's
+//! bytes it lies. A cursor makes them, and the popping end makes items of them.
 
 ghost use Rattle.std.specs.Prelude.{◌≡◌};
 ghost use Rattle.mig_packet.specs.PageSize.{IsPageSize};
@@ -9,19 +9,19 @@ ghost use Rattle.mig_relay.specs.Messages.{IsMessageIn, is_last, item_in};
 use crate::item::{ChannelEnd, Item};
 use mig_packet::{PacketRead, read_packet};
 
-/// Where an item lies in its text.
+/// Where an item lies in its channel's bytes.
 #[derive(Clone, Copy)]
 pub enum Message {
     /// The hello, with its channel id.
     Hello(u8),
     /// A packet: where its first byte is, and how many bytes it has.
     Page(usize, usize),
-    /// The end of the text.
+    /// The end of the channel.
     Stop(ChannelEnd),
 }
 
 impl Message {
-    /// Whether it is the last one of its text.
+    /// Returns whether it is the last message of its channel.
     pub(crate) fn is_stop(&self) -> bool
         ensures { result ≡ is_last self.now }
     {
@@ -29,7 +29,7 @@ impl Message {
     }
 }
 
-/// The item that lies there.
+/// Returns the item that lies there.
 pub(crate) fn item_of<'a>(page_size: u64, text: &'a [u8], message: Message) -> Item<'a>
     requires page_size { IsPageSize page_size }
     requires lies { IsMessageIn page_size text.now message }

@@ -1,4 +1,4 @@
-//! The load of whole texts on several channels, for callers that have them: a relay, with a worker for each channel.
+//! The load of complete streams on several channels: a relay, with a worker for each channel.
 
 ghost use Rattle.std.specs.Prelude.{ℕ, ◌≡◌, ◌≤◌, ◌^◌, ◌⊎◌, List, None, length, map, IfOk, vec_len, vec_capacity};
 ghost use Rattle.mig_mem.specs.PageSize.{IsPageSize};
@@ -28,17 +28,22 @@ use uuid::Uuid;
 // how many items the queue of a channel holds
 const QUEUE_CAPACITY: usize = 64;
 
-/// Loads a guest from the texts of a migration on several channels, all of which are over: the main stream's, and the channels' in any
-/// order, of pages of this size, under this UUID. The blocks may have `limit` bytes together. Each channel's text is read by a worker on a
-/// thread of its own for the whole load, which passes the gate with each item that it found, and that it pushed. All workers have ended
-/// when it returns.
+/// Loads a guest from a complete main stream and complete channels, which may come in any order.
+/// Pages have `page_size` bytes, and hellos name `uuid`. The blocks may have `limit` bytes
+/// together.
+///
+/// Each channel is read by a worker on a thread of its own for the whole load. The worker passes
+/// `gate` with each item that it found, and that it pushed. All workers have ended when the call
+/// returns.
 ///
 /// # Errors
 ///
-/// The verdict of what is returned is a fault of the main stream (`Fault::Stream`) or of a channel
-/// (`Fault::Channel`), `HelloTwice`, `Extra` or `Short` of a channel, a refusal of a round
-/// (`Fault::Round`, 54 to 59), or `NoMemory`, if an allocation was refused or a worker couldn't be
-/// started. It is never `OtherTable`.
+/// A failed verdict has one of these, and never `OtherTable`:
+///
+/// - `Fault::Stream`: a fault of the main stream.
+/// - `Fault::Channel`, `HelloTwice`, `Extra` or `Short`: a fault of a channel.
+/// - `Fault::Round`: a refusal of a round (54 to 59).
+/// - `NoMemory`: an allocation was refused, or a worker couldn't be started.
 pub fn load_multi<
     R: Threads + Wait + Sync,
     A: Allocator + Copy + Send + Sync,
@@ -68,16 +73,18 @@ pub fn load_multi<
     load_multi_in(rt, alloc, settings, uuid, main, channels, gate)
 }
 
-/// Loads a guest from the texts of a migration on several channels that are there whole, as
-/// `load_multi` does, with the main stream read with `settings`. What a sender wrote with a machine's
-/// main stream is loaded in the machine's frame, whatever follows RAM's END.
+/// Loads a guest from a complete main stream and complete channels, as `load_multi` does, with the
+/// main stream read with `settings`. What a sender wrote with a machine's main stream is loaded in
+/// the machine's frame, whatever follows RAM's END.
 ///
 /// # Errors
 ///
-/// The verdict of what is returned is a fault of the main stream (`Fault::Stream`) or of a channel
-/// (`Fault::Channel`), `HelloTwice`, `Extra` or `Short` of a channel, a refusal of a round
-/// (`Fault::Round`, 54 to 59), or `NoMemory`, if an allocation was refused or a worker couldn't be
-/// started. It is never `OtherTable`.
+/// A failed verdict has one of these, and never `OtherTable`:
+///
+/// - `Fault::Stream`: a fault of the main stream.
+/// - `Fault::Channel`, `HelloTwice`, `Extra` or `Short`: a fault of a channel.
+/// - `Fault::Round`: a refusal of a round (54 to 59).
+/// - `NoMemory`: an allocation was refused, or a worker couldn't be started.
 pub fn load_multi_in<
     R: Threads + Wait + Sync,
     A: Allocator + Copy + Send + Sync,
@@ -176,7 +183,7 @@ fn start_workers<
     Ok(())
 }
 
-// Pushes all that is left of a feeder's text.
+// Pushes all items that a feeder has left.
 fn feed<'a, R: Wait, A: Allocator, G: Gate>(rt: &R, mut feeder: Feeder<'a, A>, gate: &G) -> Fed<A>
     ensures queue { result.queue ≡ feeder.entry.queue }
     ensures source { result.source ≡ feeder.entry.source }

@@ -1,4 +1,5 @@
-//! A channel's queue: one pass that pushes, and one that pops. `Relay::start` makes one for each channel, for a feeder and the collector.
+//! A channel's queue: one pass that pushes, and one that pops. `Relay::start` makes one for each
+//! channel, for a feeder and the collector.
 
 ghost use Rattle.std.specs.Prelude.{◌≡◌, ◌<◌, true, [], ◌∷◌, ◌++◌, IfOk};
 ghost use Rattle.crossbeam_channel.specs.Claims.{view, IsSeatAt};
@@ -23,7 +24,7 @@ pub(crate) type Receiver<A> = RuledReceiver<Message, Log, InOrder, A>;
 
 pub(crate) type LogPass = Pass<Message, Log>;
 
-// Makes the pass that pops, and lets both know the text.
+// Makes the pass that pops, and lets it and the first pass know the channel.
 fn cut<Q: Carries, A: Allocator>(
     sender: &Sender<A>,
     pass: &mut LogPass,
@@ -45,7 +46,7 @@ fn cut<Q: Carries, A: Allocator>(
     sender.another::<Cut<Q>>(pass)
 }
 
-/// The two ends of a queue for the items of this text, each with its pass.
+/// Makes a queue for the items of the channel `text`. Returns its two ends, each with its pass.
 pub(crate) fn queue_for<A: Allocator + Copy>(
     alloc: A,
     page_size: u64,
@@ -65,7 +66,7 @@ pub(crate) fn queue_for<A: Allocator + Copy>(
     Ok((sender, pass, receiver, other))
 }
 
-/// Pushes the message. Where the pass that pops is gone, it sleeps for ever.
+/// Pushes the message. If the pass that pops is gone, it sleeps for ever.
 pub(crate) fn push<A: Allocator, R: Wait>(
     rt: &R,
     sender: &Sender<A>,
@@ -84,7 +85,7 @@ pub(crate) fn push<A: Allocator, R: Wait>(
     }
 }
 
-/// Pops a message. Where the pass that pushes is gone and nothing is left, it sleeps for ever.
+/// Pops a message. If the pass that pushes is gone and nothing is left, it sleeps for ever.
 pub(crate) fn pop<A: Allocator, R: Wait>(
     rt: &R,
     receiver: &Receiver<A>,

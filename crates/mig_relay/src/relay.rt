@@ -1,5 +1,5 @@
-//! A relay: a queue for each channel of a load, between a feeder and the one collector. `load_multi` starts one, and `load_relayed` takes
-//! from it.
+//! A relay: a queue for each channel of a load, between a feeder and the one collector.
+//! `load_multi` starts one, and `load_relayed` takes from it.
 
 ghost use Rattle.std.specs.Prelude.{◌≡◌, ◌<◌, ◌≤◌, false, [], map, length, slice_get, All, IfOk, IfSome, OnErr};
 ghost use Rattle.mig_packet.specs.PageSize.{IsPageSize};
@@ -20,7 +20,8 @@ use std::marker::Model;
 use std::sync::Wait;
 use uuid::Uuid;
 
-/// The items of all channels as they come. Contracts see each channel's queue, its text, and the items that were taken from it.
+/// The items of all channels as they come. Contracts see each channel's queue, its bytes, and the
+/// items that were taken from it.
 #[derive(Drop)]
 pub struct Collector<'a, A: Allocator = Global> {
     channels: Vec<Channel<'a, A>, A>,
@@ -51,8 +52,13 @@ impl<'a, A: Allocator> Debug for Collector<'a, A> {
 pub struct Relay;
 
 impl Relay {
-    /// A feeder for each text of a channel that is over, and the collector of their items: packets of pages of this size, under this UUID.
-    /// Each channel has a queue of its own, which holds up to `capacity` items.
+    /// Makes a feeder for each complete channel of `texts`, and the collector of their items. The
+    /// pages of packets have `page_size` bytes, and hellos name `uuid`. Each channel has a queue of
+    /// its own, which holds up to `capacity` items.
+    ///
+    /// # Errors
+    ///
+    /// `NoMemory`: an allocation was refused.
     pub fn start<'a, A: Allocator + Copy, B: Allocator>(
         alloc: A,
         page_size: u64,
@@ -85,7 +91,7 @@ impl Relay {
     }
 }
 
-// The two ends of one channel, whose cursor is at the start of its text.
+// Makes the two ends of one channel, whose cursor is at the start of its bytes.
 fn open<'a, A: Allocator + Copy>(
     alloc: A,
     j: usize,
@@ -127,7 +133,7 @@ fn open<'a, A: Allocator + Copy>(
 }
 
 impl<'a, A: Allocator> Collector<'a, A> {
-    /// How many channels there are.
+    /// Returns how many channels there are.
     pub fn len(&self) -> usize
         ensures { result ≡ length self.now }
     {
@@ -143,7 +149,7 @@ impl<'a, A: Allocator> Collector<'a, A> {
         self.channels[0].page_size()
     }
 
-    /// The items that were taken from channel `j`: the first ones of its text, in order and whole.
+    /// Returns the items that were taken from channel `j`: its first ones, in order and complete.
     pub fn received(&self, j: usize) -> &[Item<'a>]
         requires { j < length self.now }
         ensures items { IfSome (slice_get self.now j) (λ p. map as_channel_item result.now ≡ p.passed) }
@@ -155,8 +161,13 @@ impl<'a, A: Allocator> Collector<'a, A> {
         channel.received()
     }
 
-    /// Takes the next item of channel `j`, and waits for it. False, without waiting, where its stop was taken before. On an `Err` nothing
-    /// was taken. Where the channel's feeder was dropped before its stop, it may wait for ever.
+    /// Takes the next item of channel `j`, and waits for it. If its stop was taken before, returns
+    /// false and doesn't wait. If the channel's feeder was dropped before its stop, the call may
+    /// wait for ever.
+    ///
+    /// # Errors
+    ///
+    /// `NoMemory`: an allocation was refused. Nothing was taken.
     pub fn next<R: Wait>(&mut self, wait: &R, j: usize) -> Result<bool, NoMemory>
         requires { j < length self.old }
         ensures ok { IfOk result (λ more. TakesAt j self.old self.new more) }
@@ -166,7 +177,8 @@ impl<'a, A: Allocator> Collector<'a, A> {
         channel.next(wait)
     }
 
-    /// Takes and drops what channels 0 to `started` - 1 still bring, up to their stops. It allocates nothing.
+    /// Takes and drops what channels 0 to `started` - 1 still bring, up to their stops. It
+    /// allocates nothing.
     pub fn drain<R: Wait>(self, wait: &R, started: usize)
         requires { started ≤ length self }
     {

@@ -1,4 +1,5 @@
-//! The load of what a relay brings, round by round: `load_multi` calls it beside its workers, and so may callers with a relay of their own.
+//! The load of what a relay brings, round by round. `load_multi` calls it beside its workers, and
+//! so may callers with a relay of their own.
 
 ghost use Rattle.std.specs.Prelude.{ℕ, ◌≡◌, ◌≢◌, ◌<◌, ◌≤◌, ◌^◌, [], List, None, map, replicate, is_ok, IsTrue, All, IfOk, OnOk};
 ghost use Rattle.std.specs.List.{AllZip};
@@ -22,7 +23,7 @@ use mig_stream::{Mode, StreamReader, StreamRound, StreamState};
 use std::alloc::Allocator;
 use std::sync::Wait;
 
-// The least channel whose hello names an earlier one's id, which the first round alone tells.
+// Returns the least channel whose hello names an earlier one's id. Only round 0 reports it.
 fn repeated_at<A: Allocator>(round: u64, collector: &Collector<'_, A>) -> Option<usize>
     ensures { result ≡ repeated_at round collector.now }
 {
@@ -32,7 +33,8 @@ fn repeated_at<A: Allocator>(round: u64, collector: &Collector<'_, A>) -> Option
     None
 }
 
-// Goes through a round of all channels, and gathers its packets. Gives the verdict that the sources tell there; None where all have the round.
+// Takes a round of all channels, and gathers its packets. Returns the verdict that the sources give
+// there. If all have the round, and no hello comes again, returns None.
 fn told_at<'a, R: Wait, A: Allocator + Copy>(
     wait: &R,
     alloc: A,
@@ -56,7 +58,7 @@ fn told_at<'a, R: Wait, A: Allocator + Copy>(
     Ok(verdict_told(round, main, &statuses, repeated))
 }
 
-// The verdict of a load as its answer.
+// Returns the verdict of a load as its answer.
 fn answer_of(verdict: Verdict) -> Result<(), LoadFault>
     requires { verdict ≢ running }
     ensures { as_verdict result ≡ verdict }
@@ -68,8 +70,8 @@ fn answer_of(verdict: Verdict) -> Result<(), LoadFault>
     }
 }
 
-// Judges the next round, of which this is the main stream's part, and puts it into the memory. Some verdict is the load's, and changes
-// nothing.
+// Judges the next round, of which `round` is the main stream's part, and applies it. If a verdict
+// is returned, it is the load's, and the memory stays as it was.
 fn load_round<'a, R: Wait, A: Allocator + Copy>(
     wait: &R,
     alloc: A,
@@ -104,7 +106,7 @@ fn load_round<'a, R: Wait, A: Allocator + Copy>(
     None
 }
 
-// The verdict behind all rounds of a main stream that stands so.
+// Returns the verdict after all rounds of a main stream whose state is `state`.
 fn end<'a, R: Wait, A: Allocator + Copy>(
     wait: &R,
     alloc: A,
@@ -135,7 +137,7 @@ fn end<'a, R: Wait, A: Allocator + Copy>(
     }
 }
 
-// Puts the rounds that wait into the memory, up to the first that doesn't pass, and gives the load's verdict.
+// Applies the rounds that wait, up to the first that doesn't pass, and returns the load's verdict.
 fn load_rounds<'a, R: Wait, A: Allocator + Copy>(
     wait: &R,
     alloc: A,
@@ -165,7 +167,7 @@ fn load_rounds<'a, R: Wait, A: Allocator + Copy>(
     )
 }
 
-// A place at the start of each of some channels.
+// Returns a list of places, each at the start of one of `channels` channels.
 fn starts<A: Allocator>(alloc: A, channels: usize) -> Result<Vec<usize, A>, NoMemory>
     ensures { IfOk result (λ v. v.items ≡ replicate channels 0) }
 {
@@ -176,7 +178,7 @@ fn starts<A: Allocator>(alloc: A, channels: usize) -> Result<Vec<usize, A>, NoMe
     Ok(places)
 }
 
-// Loads what a main stream and the channels bring, of which nothing was gone through.
+// Loads from the main stream and the channels, starting at the first item of each.
 fn load_all<'a, R: Wait, A: Allocator + Copy>(
     wait: &R,
     alloc: A,
@@ -207,16 +209,19 @@ fn load_all<'a, R: Wait, A: Allocator + Copy>(
     }
 }
 
-/// Loads a guest from a main stream's text that is over and the channels of a relay, as far as they have to be taken: of each channel up
-/// to the round that is judged. It begins with what was taken before, and waits for the feeders. `limit` is that of the blocks' bytes
-/// together. Where a feeder was dropped before its stop, it may wait for ever.
+/// Loads a guest from a complete main stream and the channels of a relay. It takes no more of a
+/// channel than up to the round that is judged. It begins with what was taken before, and waits for
+/// the feeders. The blocks may have `limit` bytes together. If a feeder was dropped before its
+/// stop, the call may wait for ever.
 ///
 /// # Errors
 ///
-/// The verdict of what is returned is a fault of the main stream (`Fault::Stream`) or of a channel
-/// (`Fault::Channel`), `HelloTwice`, `Extra` or `Short` of a channel, a refusal of a round
-/// (`Fault::Round`, 54 to 59), or `NoMemory`, if an allocation was refused.
-/// It is never `OtherTable`.
+/// A failed verdict has one of these, and never `OtherTable`:
+///
+/// - `Fault::Stream`: a fault of the main stream.
+/// - `Fault::Channel`, `HelloTwice`, `Extra` or `Short`: a fault of a channel.
+/// - `Fault::Round`: a refusal of a round (54 to 59).
+/// - `NoMemory`: an allocation was refused.
 pub fn load_relayed<'a, R: Wait, A: Allocator + Copy>(
     wait: &R,
     alloc: A,
@@ -239,15 +244,17 @@ pub fn load_relayed<'a, R: Wait, A: Allocator + Copy>(
     )
 }
 
-/// Loads a guest from a main stream that is there whole, read with `settings`, and from the
-/// channels of a relay, as `load_relayed` does. The page size must be that of the relay.
+/// Loads a guest from a complete main stream, read with `settings`, and from the channels of a
+/// relay, as `load_relayed` does. The page size must be that of the relay.
 ///
 /// # Errors
 ///
-/// The verdict of what is returned is a fault of the main stream (`Fault::Stream`) or of a channel
-/// (`Fault::Channel`), `HelloTwice`, `Extra` or `Short` of a channel, a refusal of a round
-/// (`Fault::Round`, 54 to 59), or `NoMemory`, if an allocation was refused.
-/// It is never `OtherTable`.
+/// A failed verdict has one of these, and never `OtherTable`:
+///
+/// - `Fault::Stream`: a fault of the main stream.
+/// - `Fault::Channel`, `HelloTwice`, `Extra` or `Short`: a fault of a channel.
+/// - `Fault::Round`: a refusal of a round (54 to 59).
+/// - `NoMemory`: an allocation was refused.
 pub fn load_relayed_in<'a, R: Wait, A: Allocator + Copy>(
     wait: &R,
     alloc: A,

@@ -15,7 +15,7 @@ use mig_single_load::Fault;
 use std::alloc::Allocator;
 use std::sync::Wait;
 
-// Item `at` of channel `j`, which is taken where it wasn't yet.
+// Returns item `at` of channel `j`, which is taken if it wasn't yet.
 fn item_at<'a, R: Wait, A: Allocator>(
     wait: &R,
     collector: &mut Collector<'a, A>,
@@ -34,8 +34,9 @@ fn item_at<'a, R: Wait, A: Allocator>(
     Ok(collector.received(j)[at])
 }
 
-// Goes through channel `j` from item `at` on, up to the SYNC packet that ends its round, or to its stop, and gathers the packets. Gives how
-// the channel stands at that round, and where it is gone through to.
+// Takes the items of channel `j` from item `at` on, up to the SYNC packet that ends its round, or
+// to its stop. Gathers the packets. Returns the channel's status for the round, and the next item's
+// index.
 fn take_of_channel<'a, R: Wait, A: Allocator, B: Allocator>(
     wait: &R,
     collector: &mut Collector<'a, A>,
@@ -67,8 +68,8 @@ fn take_of_channel<'a, R: Wait, A: Allocator, B: Allocator>(
     unreachable!()
 }
 
-/// Goes through a round of every channel, each from its place on, gathers the packets, and tells how each channel stands. After an `Err` some
-/// channels were gone through.
+/// Takes a round of every channel, each from its place on. Gathers the packets, and appends each
+/// channel's status. After an `Err` some channels were processed.
 pub(crate) fn take_of_all<'a, R: Wait, A: Allocator, B: Allocator>(
     wait: &R,
     collector: &mut Collector<'a, A>,
@@ -92,7 +93,7 @@ pub(crate) fn take_of_all<'a, R: Wait, A: Allocator, B: Allocator>(
     Ok(())
 }
 
-// How a channel stands behind its whole rounds, as its stop tells.
+// Returns how a channel stands after its complete rounds, as its stop says.
 fn stop_status(end: ChannelEnd) -> Status
     ensures { result ≡ stop_status end }
 {

@@ -1,5 +1,5 @@
-//! The byte at which a load of several channels found a fault: for callers of `load_multi` that are
-//! told one, and have the texts.
+//! The byte at which a load of several channels found a fault. For callers of `load_multi` that got
+//! a fault and have the streams.
 
 ghost use Rattle.std.specs.Prelude.{◌≡◌, ◌≤◌, ◌^◌, length, IfOk};
 ghost use Rattle.mig_mem.specs.PageSize.{IsPageSize};
@@ -17,19 +17,20 @@ use mig_stream::{Mode, StreamReader};
 use std::alloc::Allocator;
 use uuid::Uuid;
 
-/// Returns how many bytes of the text of `origin` are complete items without a fault, from the first
-/// byte on. If `load_multi_in` finds a fault of that text (`Fault::Stream`, `Fault::Channel`) on the
-/// same texts, the item at fault begins after them.
+/// Returns how many bytes of the source `origin` are complete items without a fault, from the first
+/// byte on. If `load_multi_in` finds a fault of that source (`Fault::Stream`, `Fault::Channel`) in
+/// the same bytes, the item at fault begins after them.
 ///
-/// `HelloTwice`, `Extra` and `Short` are faults of what several texts tell together: no item of the
-/// text is at fault. What is found in the round (54 to 60) belongs to no one text, and there is no
-/// number for it; nor is there for a channel that there isn't.
+/// `HelloTwice`, `Extra` and `Short` are faults of what several sources say together: no item of
+/// the source is at fault. What is found in the round (54 to 60) belongs to no one source, and the
+/// result is None. For a channel that doesn't exist it is None, too.
 ///
-/// It reads that text alone, once, and of a channel holds a copy of its packets until it returns.
+/// The call reads that source alone, once. Of a channel it holds a copy of its packets until it
+/// returns.
 ///
 /// # Errors
 ///
-/// An allocation was refused.
+/// `NoMemory`: an allocation was refused.
 pub fn multi_valid_up_to<A: Allocator + Copy, B: Allocator>(
     alloc: A,
     settings: LoadSettings,
