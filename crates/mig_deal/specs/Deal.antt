@@ -1,4 +1,5 @@
--- A deal as its callers see it: which deal it is, what a seat has drawn, and when numbers are a whole run, each drawn once.
+-- A deal as its callers see it: which deal it is, what a seat has drawn, and when numbers are a
+-- whole run, each drawn once.
 use Rattle.std.specs.Prelude.{◌≡◌, ℕ, ◌+◌, ◌<◌, ◌≤◌, List, ◌++◌, ◌∷◌, [], length, ◌==◌, ◌^◌, All, count_by, flat_map}
 use Rattle.atomic_table.specs.Seated.{TableId}
 
@@ -42,7 +43,8 @@ all_drawn seats = flat_map (λ (seat : SeatView). seat.drawn) seats
 abbrev pub times : ℕ → List ℕ → ℕ
 times number numbers = count_by (λ other. other == number) numbers
 
--- each number from `from` up to `to`, `to` left out, stands in the list exactly once, and no other number does
+-- each number from `from` up to `to`, `to` left out, stands in the list exactly once, and no other
+-- number does
 pub record HasEachOnce (from to : ℕ) (numbers : List ℕ) : Type 0 where
   pub once : (number : ℕ) → from ≤ number → number < to → times number numbers ≡ 1
   pub none_below : (number : ℕ) → number < from → times number numbers ≡ 0

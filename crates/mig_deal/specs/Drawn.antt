@@ -4,7 +4,8 @@ use Rattle.mig_deal.specs.declared.seat.Drawn.{Drawn}
 use Rattle.mig_deal.specs.declared.seat.Drawn.TheVariants.{Work, Last}
 use Rattle.mig_deal.specs.Deal.{DealView, SeatView, IsNext, with_number, end_of_work, end_of_deal}
 
--- the seat has drawn one number more, above all that it drew before and one of the deal's, and all that it drew before was work
+-- the seat has drawn one number more, above all that it drew before and one of the deal's, and all
+-- that it drew before was work
 pub record HasDrawn (deal : DealView) (before : SeatView) (number : ℕ) (after : SeatView) : Type 0 where
   pub appended : after ≡ with_number before number
   pub next : IsNext deal.base before.drawn number

@@ -1,4 +1,5 @@
--- The history of a deal's draws between any two steps, as it is read from the word and the seats' numbers.
+-- The history of a deal's draws between any two steps, as it is read from the word and the seats'
+-- numbers.
 use Rattle.std.specs.Prelude.{◌≡◌, ℕ, ◌+◌, ◌<◌, ◌≤◌, List, flat_map}
 use mathlib.Core.Option.{some}
 use lib.ListN.{get_elem?}
@@ -7,7 +8,8 @@ use Rattle.mig_deal.specs.declared.rule.Terms.{Terms}
 use Rattle.mig_deal.specs.Deal.{HasEachOnce, times}
 use Rattle.mig_deal.specs.Rule.{Word, IsDealt, next_number, numbers_of, last_count, IsWorkButNewest}
 
--- the lists of all seats together hold each number from the base up to the word exactly once, and no other
+-- the lists of all seats together hold each number from the base up to the word exactly once, and
+-- no other
 abbrev pub EachNumberOnce : Type 0
 EachNumberOnce = (terms : Terms) (word : Word) → IsDealt terms word → HasEachOnce terms.base (next_number word) (flat_map numbers_of word.views)
 

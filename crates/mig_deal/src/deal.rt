@@ -57,7 +57,8 @@ fn put<A: Allocator>(list: &mut Vec<Seat, A>, seat: Seat)
     }
 }
 
-// Splits one seat after the other off the first, which stands for all of them, and puts it last itself.
+// Splits one seat after the other off the first, which stands for all of them. The first seat is
+// put last.
 fn split_seats<A: Allocator>(
     table: &Table<(), Holding, Terms, DealRule, A>,
     terms: Terms,
@@ -78,7 +79,12 @@ fn split_seats<A: Allocator>(
 }
 
 impl<A: Allocator + Copy> Deal<A> {
-    /// A deal of `batches` batches whose packets are numbered from `base` on, with so many seats, none of which has drawn.
+    /// Creates a deal of `batches` batches whose packets are numbered from `base` on. It has
+    /// `seats` seats, none of which has drawn.
+    ///
+    /// # Errors
+    ///
+    /// `NoMemory`: an allocation was refused.
     pub fn new(
         alloc: A,
         base: u64,
@@ -106,15 +112,15 @@ impl<A: Allocator + Copy> Deal<A> {
 }
 
 impl<A: Allocator> Deal<A> {
-    /// The first number.
+    /// Returns the first number.
     pub fn base(&self) -> u64
         ensures { result ≡ self.now.base }
     {
         self.terms.base
     }
 
-    /// Draws the next number for a seat of this deal. It waits for nobody, allocates nothing, and always succeeds. Which of the
-    /// numbers that are left a seat draws is up to the schedule.
+    /// Draws the next number for a seat of this deal. The call waits for nobody, allocates nothing,
+    /// and always succeeds. Which of the numbers that are left a seat draws is up to the schedule.
     pub fn draw(&self, seat: Seat) -> Drawn
         requires { seat.deal ≡ self.now }
         ensures { IsDraw self.now seat result }
@@ -128,10 +134,12 @@ impl<A: Allocator> Deal<A> {
         }
     }
 
-    /// Returns the number after all that were drawn, as `close` does, without ending the deal. It is
-    /// for a deal in an `Arc`, which doesn't give the deal by value. It takes a spent seat for each of
-    /// the deal's seats and uses them up: so nothing is drawn any more, and the deal is dropped
-    /// afterwards, not closed. It reads the word once, waits for nobody and allocates nothing.
+    /// Returns the number after all that were drawn, as `close` does, without ending the deal. It
+    /// is for a deal in an `Arc`, which doesn't give the deal by value.
+    ///
+    /// It takes a spent seat for each of the deal's seats and uses them up. So nothing is drawn any
+    /// more, and the deal is dropped afterwards, not closed. The call reads the word once, waits
+    /// for nobody and allocates nothing.
     pub fn end_number<B: Allocator>(&self, mut spents: Vec<Spent, B>) -> u64
         requires all { vec_len spents ≡ self.now.seats }
         requires own { All (λ spent. spent.deal ≡ self.now) spents.items }
@@ -152,9 +160,9 @@ impl<A: Allocator> Deal<A> {
         self.table.shared.load::<FindEnd>(&mut all, 0)
     }
 
-    /// Ends the deal, frees its memory, and returns the number after all that were drawn. It takes a
-    /// spent seat for each of the deal's seats: these are all, since none can be copied. It allocates
-    /// nothing.
+    /// Ends the deal, frees its memory, and returns the number after all that were drawn. It takes
+    /// a spent seat for each of the deal's seats: these are all, since none can be copied. It
+    /// allocates nothing.
     pub fn close<B: Allocator>(self, mut spents: Vec<Spent, B>) -> u64
         requires all { vec_len spents ≡ self.seats }
         requires own { All (λ spent. spent.deal ≡ self) spents.items }

@@ -11,7 +11,7 @@ use std::fmt::{self, Display, Formatter};
 pub struct NoMemory;
 
 impl NoMemory {
-    /// The fault's number in documents and in the tool's output.
+    /// Returns the fault's number, as documents and the tool's output have it.
     pub fn number(self) -> u8
         ensures { result ≡ 60 }
     {
@@ -19,7 +19,7 @@ impl NoMemory {
     }
 }
 
-/// The fault's number, and what it says.
+/// Writes the fault's number and its words.
 impl Display for NoMemory {
     fn fmt<W: fmt::Write>(&self, f: &mut Formatter<W>) -> fmt::Result {
         write!(f, "{}: an allocation was refused", self.number())

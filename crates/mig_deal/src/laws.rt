@@ -1,14 +1,18 @@
-//! Laws of the rule alone: what is true of a deal between any two steps, since each step keeps the rule.
+//! Laws of the rule alone: what is true of a deal between any two steps, since each step keeps the
+//! rule.
 //!
-//! They stand as clauses of a function that does nothing, so that they are proved with the crate and callers can have them.
+//! They stand as clauses of a function that does nothing. So they are proved with the crate, and
+//! callers can have them.
 
 ghost use Rattle.mig_deal.specs.History.{EachNumberOnce, EachNumberHasOneSeat, WordStaysBelow, SeatsStopAtLast};
 
-/// Between any two steps of any number of seats: the lists of all seats together hold each number from the base up to the
-/// word, the word left out, exactly once. So the history of the draws can be read from the word and the lists: its entry i,
-/// from 0, has the number base + i, and belongs to the one seat that holds this number. The word is at most the base with all
-/// batches and all seats, so it never wraps. A seat has drawn at most one last number, which claims no batch, and no number
-/// after it.
+/// Between any two steps of any number of seats, the lists of all seats hold each number from the
+/// base up to the word (exclusive) exactly once. So the history of the draws can be read from the
+/// word and the lists. Its entry i, from 0, has the number base + i, and belongs to the one seat
+/// that holds this number.
+///
+/// The word is at most the base plus all batches and all seats, so it never wraps. A seat has drawn
+/// at most one last number, which claims no batch, and no number after it.
 pub fn numbers_between_steps()
     ensures once { EachNumberOnce }
     ensures one_seat { EachNumberHasOneSeat }

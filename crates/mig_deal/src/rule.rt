@@ -1,8 +1,10 @@
 //! The rule of a deal's word, and the kinds of steps that are made under it, for `deal` and `seat`.
 //!
-//! Nothing here runs. `atomic_table` asks at each step that it keeps the rule, whatever the word and all seats are by then, and
-//! answers what the step tells. The steps are: the making of the word with one seat, that one seat is split in two, a draw,
-//! that one seat is joined into another, a read by the seat that all others were joined into, and the end.
+//! Nothing here runs. At each step, `atomic_table` asks that the step keeps the rule, whatever the
+//! word and all seats are by then. It answers with what the kind of step promises.
+//!
+//! The steps are: the word is made with one seat; one seat is split in two; a draw; one seat is
+//! joined into another; a read by the seat that all others were joined into; the end.
 
 use atomic_table::{Join, Play, Split, TableRule};
 use std::collections::LinkedList;
@@ -19,8 +21,8 @@ pub struct Terms {
 pub struct Holding {
     /// The terms of the seat's deal.
     pub terms: Terms,
-    /// How many of the deal's seats it stands for: one, but for the first seat until it is split, and for the seats that are
-    /// joined at the end.
+    /// How many of the deal's seats it stands for: one, but for the first seat until it is split,
+    /// and for the seats that are joined at the end.
     pub seats: usize,
     /// The numbers that it drew, in order.
     pub drawn: LinkedList<u64>,

@@ -1,4 +1,4 @@
-//! The seats of a deal, and what a draw answers. Each worker of `mig_send` owns one.
+//! The seats of a deal, and what a draw returns. Each worker of `mig_send` owns one.
 
 ghost use Rattle.std.specs.Prelude.{◌≡◌, []};
 ghost use Rattle.mig_deal.specs.Rule.{holding, terms_of, last_count};
@@ -73,7 +73,8 @@ impl Spent {
     }
 }
 
-/// What a draw answers: a number that claims a batch, and the seat to go on with, or the seat's last number, which claims none.
+/// What a draw returns: a number that claims a batch, and the seat to go on with; or the seat's
+/// last number, which claims none.
 #[derive(Debug)]
 pub enum Drawn {
     Work(u64, Seat),

@@ -4,7 +4,8 @@ use Rattle.mig_deal.specs.Deal.{SeatView, all_drawn}
 use Rattle.mig_deal.specs.Rule.{numbers_of, last_count, terms_of}
 use Rattle.mig_deal.proofs.deal.Deal.end_number.Given as goal
 
--- all numbers are with the seat that takes the others in, or with the seats that are left, and each seat taken in has one last number
+-- all numbers are with the seat that takes the others in, or with the seats that are left, and each
+-- seat taken in has one last number
 abbrev pub invariant-loop-next : goal.invariant-loop-next
 invariant-loop-next g l = record {
   same : l.all.table_id ≡ l.self.id;
