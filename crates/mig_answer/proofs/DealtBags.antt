@@ -1,4 +1,5 @@
--- Lists that are made of the same elements in another order, and numbers that each stand in a list once.
+-- Lists that are made of the same elements in another order, and numbers that each stand in a list
+-- once.
 use Rattle.std.proofs.Common.{ℕ, ◌≡◌, ◌+◌, ◌-◌, ◌<◌, List, [], ◌∷◌, ◌++◌, length, map, get_or, refl, sym, ap, ◌∙◌, inl, inr, arith, zero, suc, Bool, true, false, not, cond, subst, append_assoc}
 use Rattle.std.specs.Prelude.{◌==◌, Contains, flat_map, sum_by, IsPermutation}
 use Rattle.std.specs.List.{filter, range_with_len}

@@ -1,4 +1,5 @@
--- Worked examples of the verdict, computed. A packet is written as its text; the empty one says number 0 and no pages.
+-- Worked examples of the verdict, computed. A packet is written as its bytes; the empty one says
+-- number 0 and no pages.
 use Rattle.std.proofs.Common.{ℕ, ◌≡◌, List, [], ◌∷◌, refl, Some, true}
 use Rattle.mig_mem.specs.RamTable.{RamTable}
 use Rattle.mig_stream.specs.declared.item.StreamState.{StreamState}

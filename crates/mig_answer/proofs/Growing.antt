@@ -1,4 +1,4 @@
--- What stays of what texts told, where they go on.
+-- What stays of what streams said, where they go on.
 use Rattle.std.proofs.Common.{ℕ, zero, suc, ◌≡◌, ◌≢◌, ◌+◌, ◌<◌, ◌≤◌, Bool, true, false, cond, ◌==◌, ◌&&◌, List, [], ◌∷◌, ◌++◌, length, map, flat_map, get_or, refl, sym, ap, subst, ◌∙◌, inl, inr, Option, Some, None, is_none, option_map, option_and_then, sum_by, arith}
 use Rattle.std.specs.Prelude.{◌⊎◌, nat_lt, IsTrue}
 use Rattle.std.specs.Option.{unwrap_or}
@@ -40,13 +40,13 @@ use Rattle.mig_answer.proofs.OneAnswer.{some_readings}
 use Rattle.mig_answer.proofs.GrowingChannels.{ChannelStays, channel_stays, round_of_more}
 use Rattle.mig_answer.proofs.GrowingMain.{main_stays, main_table_first}
 
--- What is read of all texts stays read. There was no round before the table.
+-- What is read of all streams stays read. There was no round before the table.
 pub record ReadingsStay (before now : Readings) : Type 0 where
   pub main : StaysRead before.main now.main
   pub channels : AllZip ChannelStays before.channels now.channels
   pub has_table_first : before.main.table ≡ None → before.main.rounds ≡ []
 
--- ---- texts that go on
+-- ---- streams that go on
 
 channels_stay : (given : Settings) (olds news : List Text) (befores nows : List ChannelReading) → IsPageSize given.page_size → AllZip GoesOn olds news
     → AllZip (λ (text : Text) (reading : ChannelReading). IsReading given text.bytes text.ended reading) olds befores
@@ -113,7 +113,7 @@ kept : {X : Type 0} (before now : Option X) → before ≢ None → ((x : X) →
 kept None now some stays = absurd (some refl)
 kept (Some x) now some stays = stays x refl
 
--- the main stream tells the same of round k
+-- the main stream says the same of round k
 record SameMain (k : ℕ) (before now : StreamReading) : Type 0 where
   same_table : now.table ≡ before.table
   same_status : main_status k now ≡ main_status k before
@@ -176,7 +176,7 @@ same_channels_at k n (x ∷ befores) (y ∷ nows) stay settled =
       same_channels_at k (n + 1) befores nows stay.1 (All-tail IsSettled (standing_at k (n, x)) rest settled),
     )
 
--- all sources tell the same of round k
+-- all sources say the same of round k
 record SameAt (k : ℕ) (before now : Readings) : Type 0 where
   main : SameMain k before.main now.main
   channels : AllZip (SameChannel k) before.channels now.channels

@@ -1,4 +1,4 @@
--- What is read of a channel's text stays read where more bytes follow, or it ends.
+-- What is read of a channel stays read where more bytes follow, or it ends.
 use Rattle.std.proofs.Common.{◌≡◌, ◌≢◌, ◌⊎◌, ℕ, ◌+◌, ◌<◌, Bool, true, false, cond, List, [], ◌∷◌, ◌++◌, length, get_or, Option, Some, None, refl, sym, ap, subst, ◌∙◌, inl, inr, arith}
 use Rattle.std.proofs.lemmas.Bool.{cases_Bool}
 use Rattle.std.proofs.lemmas.List.{append-nil, length-append, get_or_append_left}
@@ -16,8 +16,8 @@ use Rattle.mig_packet.proofs.Exists.{some_reading, one_reading_law}
 use Rattle.mig_answer.specs.Texts.{Text}
 use Rattle.mig_answer.specs.Growing.{GoesOn}
 
--- What is read of a channel stays read: its hello, its whole rounds, and everything once it isn't reading any more. There was no round
--- before the hello.
+-- What is read of a channel stays read: its hello, its complete rounds, and everything once it
+-- isn't reading any more. There was no round before the hello.
 pub record ChannelStays (before now : ChannelReading) : Type 0 where
   pub more_rounds : List (List (List ℕ))
   pub has_rounds : now.rounds ≡ before.rounds ++ more_rounds
@@ -68,7 +68,7 @@ same_reading a b h r s =
     ∙ ap (λ (x : List (List (List ℕ))). record { hello = b.hello; rounds = x; state = a.state }) r
     ∙ ap (λ (x : ChannelState). record { hello = b.hello; rounds = b.rounds; state = x }) s
 
--- an end changes nothing where a text isn't to be read on
+-- an end changes nothing where a channel isn't to be read on
 state_stays : (ended : Bool) (to : ChannelProgress) (rest : List ℕ) (found : ChannelState) → found ≢ Reading → state_at ended to rest found ≡ found
 state_stays true to rest Reading other = absurd (other refl)
 state_stays true to rest Closed other = refl
@@ -96,7 +96,7 @@ stays_over a b first e = record {
   has_hello_first = first;
 }
 
--- a text that isn't over is read on
+-- a channel that hasn't ended is read on
 stays_on : (given : Settings) (text more : List ℕ) (ended : Bool) (a b : ChannelReading) → (a.hello ≡ None → a.rounds ≡ []) → a.state ≡ Reading
     → IsReading given text false a → IsReading given (text ++ more) ended b → ChannelStays a b
 stays_on given text more ended a b first_hello open_ is_a is_b =
@@ -148,7 +148,7 @@ channel_stays given old new before now size goes is_before is_now = elim (cases_
       (subst (λ (bytes : List ℕ). IsReading given bytes new.ended now) goes.has_bytes is_now)
 ]
 
--- The rounds and the hello are the same, over or not.
+-- The rounds and the hello don't depend on whether the channel has ended.
 pub same_rounds : (given : Settings) (text : List ℕ) (a b : Bool) (x y : ChannelReading) → IsReading given text a x → IsReading given text b y
     → (x.rounds ≡ y.rounds) × (x.hello ≡ y.hello)
 same_rounds given text a b x y is_x is_y =

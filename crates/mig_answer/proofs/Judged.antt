@@ -1,4 +1,4 @@
--- Texts that have ended are done or have a fault.
+-- Streams that have ended are done or have a fault.
 use Rattle.std.proofs.Common.{ℕ, ◌≡◌, ◌≢◌, ◌+◌, ◌<◌, ◌≤◌, Bool, true, false, cond, ◌&&◌, List, [], ◌∷◌, length, map, refl, sym, ap, ◌∙◌, inl, inr, Option, Some, None, is_none, arith, find}
 use Rattle.std.specs.Bool.{then_some}
 use Rattle.std.specs.Option.{option_map, unwrap_or}
@@ -32,7 +32,8 @@ use Rattle.mig_answer.proofs.Statuses.{status_whole, status_end, stream_ends, ch
 
 -- ---- no source is pending
 
--- a source has all rounds before the first that doesn't pass, so it has this round, or these are all
+-- a source has all rounds before the first that doesn't pass, so it has this round, or these are
+-- all
 pub reached : (k rounds : ℕ) (end : Status) → k ≤ rounds → is_pending end ≡ false → is_pending (status_at k rounds end) ≡ false
 reached k rounds end few settled = elim (cases_order k rounds) [
   | inl e ↦ ap is_pending (status_end k rounds end e) ∙ settled
@@ -108,7 +109,7 @@ none_pending given uuid texts readings k size main_over over are stop =
 
 -- ---- and there is an answer
 
--- no source has a fault, where none is told
+-- no source has a fault, where none is found
 pub no_fault : (k : ℕ) (sources : List Standing) → first_some (map (failed_with_own k) sources) ≡ None → All (λ (s : Standing). fault_of s.status ≡ None) sources
 no_fault k [] e = All-nil (λ (s : Standing). fault_of s.status ≡ None)
 no_fault k (s ∷ sources) e =

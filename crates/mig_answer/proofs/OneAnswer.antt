@@ -1,4 +1,4 @@
--- Some texts have exactly one answer.
+-- Some streams have exactly one answer.
 use Rattle.std.proofs.Common.{ℕ, zero, suc, ◌≡◌, ◌<◌, Bool, true, false, Option, List, [], ◌∷◌, length, map, refl, sym, ap, ◌∙◌, inl, inr, arith, subst}
 use Rattle.std.specs.Prelude.{◌⊎◌, IsTrue, IsFalse}
 use Rattle.std.specs.List.{AllZip}
@@ -19,7 +19,7 @@ use Rattle.mig_answer.specs.Status.{main_status, stream_end, is_whole}
 use Rattle.mig_answer.specs.Law.{HasOneAnswer}
 use Rattle.mig_answer.proofs.Statuses.{status_end, stream_ends}
 
--- ---- one reading of each text
+-- ---- one reading of each stream
 
 pub main_reading : (given : LoadSettings) (text : Text) → IsPageSize given.page_size → (reading : StreamReading) × IsMainReading given text reading
 main_reading given text size =
@@ -34,7 +34,7 @@ same_main given text a b size is_a is_b =
     let same : is_a.found ≡ is_b.found = one.2 is_a.found is_a.is_reading ∙ sym (one.2 is_b.found is_b.is_reading) in
     is_a.has_end ∙ ap (λ (found : StreamReading). record found { state = state_at text.ended found.state }) same ∙ sym is_b.has_end
 
--- what a channel's text tells
+-- what a channel's bytes say
 abbrev pub channel_reading : (given : Settings) → IsPageSize given.page_size → Text → ChannelReading
 channel_reading given size text = (channel_law given text.bytes text.ended size).0
 
@@ -105,7 +105,7 @@ same_stop readings j k a b = elim (cases_order j k) [
   ]
 ]
 
--- the main stream has no round behind its last
+-- the main stream has no round after its last
 main_ends : (readings : Readings) → passes (length readings.main.rounds) readings ≡ false
 main_ends readings =
     let n : ℕ = length readings.main.rounds in
@@ -125,7 +125,7 @@ answer_is readings k answer rounds memory verdict =
     ∙ ap (λ (v : Verdict). record { memory = memory_at answer.rounds readings; rounds = answer.rounds; verdict = v }) verdict
     ∙ ap (λ (n : ℕ). answer_at n readings) rounds
 
--- an answer is that of any readings of the texts and of any least round that doesn't pass
+-- an answer is that of any readings of the streams and of any least round that doesn't pass
 pub is_answer_at : (given : LoadSettings) (uuid : List ℕ) (texts : Texts) (readings : Readings) (k : ℕ) (answer : Answer) → IsPageSize given.page_size
     → AreReadings given uuid texts readings → IsFirstStop readings k → IsAnswer given uuid texts answer → answer ≡ answer_at k readings
 is_answer_at given uuid texts readings k answer size are stop is =

@@ -1,4 +1,4 @@
--- How a round goes into the memory of a load on several channels, whoever gathered it.
+-- How a round is applied in a load on several channels, whoever gathered it.
 use Rattle.std.proofs.Common.{ℕ, ◌≡◌, ◌+◌, List, [], ◌∷◌, ◌++◌, length, map, sym, ap, ◌∙◌, Option, Some, None, arith, get_or, sum_by, zero-add}
 use Rattle.std.specs.List.{range_with_len}
 use Rattle.std.specs.Option.{option_map, option_and_then}

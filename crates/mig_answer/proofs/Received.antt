@@ -1,4 +1,4 @@
--- What was received of a channel's items tells what its text tells.
+-- What was received of a channel's items says what its bytes say.
 use Rattle.std.proofs.Common.{ℕ, suc, ◌≡◌, ◌≢◌, ◌+◌, ◌<◌, Bool, true, false, cond, List, [], ◌∷◌, ◌++◌, length, map, get_or, refl, sym, ap, ◌∙◌, inl, inr, Option, Some, None, append_assoc, arith, subst}
 use Rattle.std.specs.Prelude.{flat_map, IsFalse, IsTrue}
 use Rattle.std.specs.List.{All}
@@ -84,7 +84,7 @@ hello_first (Hello id ∷ front) rest some = refl
 hello_first (Page packet ∷ front) rest some = refl
 hello_first (Stop end ∷ front) rest some = refl
 
--- ---- all items of a text
+-- ---- all items of a channel
 
 abbrev IsOpen : List ℕ → Type 0
 IsOpen packet = IsFalse (is_sync packet)
@@ -130,7 +130,7 @@ rounds_of_all page_size (round ∷ rounds) packets more ends opens none =
     ∙ ap (λ (rs : List (List Fields)). map (fields_of page_size) round ∷ rs)
     (rounds_of_all page_size rounds packets more (All-tail EndsWithSync round rounds ends) opens none)
 
--- the hello, and what is behind it
+-- the hello, and what is after it
 behind_hello : (c : ChannelProgress) (state : ChannelState) → items_of c state ≡ item_of_hello c.hello ++ (pages c.page_size (all_packets c) ++ item_of_stop state)
 behind_hello c state = append_assoc (item_of_hello c.hello) (pages c.page_size (all_packets c)) (item_of_stop state)
 
@@ -138,7 +138,7 @@ rounds_of_hello : (hello : Option ℕ) (more : List ChannelItem) → rounds_in (
 rounds_of_hello None more = refl
 rounds_of_hello (Some id) more = refl
 
--- behind the hello there is none
+-- after the hello there is none
 hello_of_pages : (page_size : ℕ) (packets : List (List ℕ)) (state : ChannelState) → hello_in (pages page_size packets ++ item_of_stop state) ≡ None
 hello_of_pages page_size (packet ∷ packets) state = refl
 hello_of_pages page_size [] Reading = refl
@@ -186,7 +186,7 @@ same_page_size : (c : ChannelProgress) (items : List (List ℕ)) → (after_all 
 same_page_size c [] = refl
 same_page_size c (item ∷ items) = same_page_size (after c item) items ∙ page_size_stays c c.hello item
 
--- ---- all items tell what the reading tells
+-- ---- all items say what the reading says
 
 record TellAll (page_size : ℕ) (pieces : List ChannelItem) (reading : ChannelReading) : Type 0 where
   has_hello : hello_in pieces ≡ reading.hello

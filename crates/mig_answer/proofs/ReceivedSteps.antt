@@ -1,4 +1,5 @@
--- One item more: how what was received of a channel tells more with each item, for a loader that takes them one after another.
+-- One item more: what was received of a channel says more with each item, for a loader that takes
+-- them one after another.
 use Rattle.std.proofs.Common.{ℕ, ◌≡◌, ◌≢◌, true, false, List, [], ◌∷◌, ◌++◌, length, refl, sym, ap, ◌∙◌, Option, Some, None, append_assoc}
 use Rattle.std.proofs.lemmas.List.{append-nil}
 use Rattle.mig_packet.specs.declared.fault.ChannelFault.{ChannelFault}
@@ -13,8 +14,8 @@ abbrev pub all_before : List Fields → List (List Fields) → List (List Fields
 all_before [] rounds = rounds
 all_before (packet ∷ packets) rounds = before_rounds packet (all_before packets rounds)
 
--- These are the whole rounds of what was received, and the packets of the round that isn't whole: whatever comes, the rounds are those,
--- and then those that come, with the packets in front of the first.
+-- These are the complete rounds of what was received, and the packets of the open round. Whatever
+-- comes, the rounds are those, and then those that come, with the packets in front of the first.
 abbrev pub HoldsRounds : List ChannelItem → List (List Fields) → List Fields → Type 0
 HoldsRounds received rounds packets = (more : List ChannelItem) → rounds_in (received ++ more) ≡ rounds ++ all_before packets (rounds_in more)
 

@@ -1,4 +1,4 @@
--- What was received of all channels' items tells what their texts tell together.
+-- What was received of all channels' items says what their streams say together.
 use Rattle.std.proofs.Common.{ℕ, zero, suc, ◌≡◌, ◌+◌, ◌<◌, ◌≤◌, List, [], ◌∷◌, length, map, get_or, flat_map, sum_by, refl, sym, ap, ◌∙◌, arith, subst}
 use Rattle.std.specs.List.{AllZip, range_with_len, enumerate_from}
 use Rattle.std.proofs.lemmas.List.{length-map}

@@ -1,4 +1,4 @@
--- What the texts of a sending tell a load.
+-- What the streams of a sending say to a load.
 use Rattle.std.proofs.Common.{ℕ, zero, suc, ◌≡◌, ◌+◌, ◌<◌, ◌≤◌, ◌==◌, true, false, List, [], ◌∷◌, length, map, get_or, replicate, refl, sym, ap, ◌∙◌, inl, inr, Option, Some, None, subst, arith, IsPermutation}
 use Rattle.std.specs.List.{All, AllZip, range_with_len, enumerate_from, IsDistinct, AllByRecursion}
 use Rattle.std.proofs.lemmas.Bool.{eqb-true, eqb-false, eq-eqb, ne_eqb, cases_Bool}
@@ -35,7 +35,7 @@ pub record AreToldOf (table : RamTable) (channels : ℕ) (rounds : List DealtRou
   pub has_main : readings.main ≡ closed table (replicate (length rounds) [])
   pub has_channels : IsPermutation (map (channel_told rounds) (range_with_len 0 channels)) readings.channels
 
--- texts that are read one by one are read so all together
+-- streams that are read one by one are read so all together
 read_each : (given : Settings) (told : ℕ → ChannelReading) (n : ℕ) (texts : List (List ℕ))
     → ((i j : ℕ) → i < length texts → n + i ≡ j → IsReading given (get_or texts i []) true (told j))
     → AllZip (λ (text : Text) (reading : ChannelReading). IsReading given text.bytes text.ended reading) (map ended_text texts) (map told (range_with_len n (length texts)))
@@ -97,7 +97,7 @@ enumerated P n [] all = All-nil (λ (c : ℕ × ChannelReading). P c.1)
 enumerated P n (c ∷ cs) all =
     All-cons (λ (x : ℕ × ChannelReading). P x.1) (n, c) (enumerate_from (n + 1) cs) (All-head P c cs all) (enumerated P (n + 1) cs (All-tail P c cs all))
 
--- what holds of what each channel is told holds of each channel, in whatever order
+-- what holds of each channel's reading holds of each channel, in whatever order
 all_told : (table : RamTable) (channels : ℕ) (rounds : List DealtRound) (readings : Readings) → AreToldOf table channels rounds readings
     → (P : ChannelReading → Type 0) → ((i : ℕ) → P (channel_told rounds i)) → All P readings.channels
 all_told table channels rounds readings told P each =

@@ -29,14 +29,15 @@ use Rattle.mig_answer.proofs.DealtPages.{same_last, same_memory}
 use Rattle.mig_answer.proofs.Dealt.{IsBrought}
 use Rattle.mig_answer.proofs.Sent.{AreToldOf}
 
--- what stands behind the last round
+-- what stands after the last round
 abbrev pub no_round : RamTable → DealtRound
 no_round table = record { snapshot = record { image = zero_image table; dirty = [] }; batches = []; base = 0; shares = [] }
 
 abbrev pub round_at : RamTable → List DealtRound → ℕ → DealtRound
 round_at table rounds k = get_or rounds k (no_round table)
 
--- These are the readings of a sending: rounds that were dealt, with numbers that fit, over so many channels.
+-- These are the readings of a sending: rounds that were dealt, with numbers that fit, over so many
+-- channels.
 pub record AreOfSending (table : RamTable) (limit channels : ℕ) (rounds : List DealtRound) (readings : Readings) : Type 0 where
   pub told : AreToldOf table channels rounds readings
   pub are_dealt : All (IsDealtRound table limit channels) rounds
@@ -45,7 +46,7 @@ pub record AreOfSending (table : RamTable) (limit channels : ℕ) (rounds : List
 
 -- ---- the packets of a round
 
--- a round is numbered behind the packets of those before it
+-- a round is numbered after the packets of those before it
 numbered : (from : ℕ) (rounds : List DealtRound) (k : ℕ) (d : DealtRound) → AreNumbered from rounds → k < length rounds
     → (get_or rounds k d).base ≡ from + sum_by packet_count (take k rounds)
 numbered from [] k d are below = absurd (omega (arith, below))

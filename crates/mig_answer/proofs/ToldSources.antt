@@ -1,4 +1,4 @@
--- What the verdict that the sources tell at a round says of the answer on texts that have ended.
+-- What the sources' verdict at a round says of the answer on streams that have ended.
 use Rattle.std.proofs.Common.{ℕ, ◌≡◌, ◌≢◌, ◌+◌, ◌<◌, ◌≤◌, Bool, true, false, cond, ◌&&◌, List, [], ◌∷◌, ◌++◌, length, map, refl, sym, ap, subst, ◌∙◌, inl, inr, Option, Some, None, is_none, is_some, find}
 use Rattle.std.specs.Prelude.{IsTrue, slice_get, get_or, nat_lt}
 use Rattle.std.specs.Bool.{then_some}
@@ -48,7 +48,7 @@ first_behind [] more e = refl
 first_behind (None ∷ os) more e = first_behind os more e
 first_behind (Some y ∷ os) more e = absurd cc
 
--- ---- no source is pending behind rounds that pass
+-- ---- no source is pending after rounds that pass
 
 have_ended : (texts : List (List ℕ)) → All (λ (text : Text). text.ended ≡ true) (map ended_text texts)
 have_ended [] = All-nil (λ (text : Text). text.ended ≡ true)
@@ -76,9 +76,9 @@ none_pending_at : (given : LoadSettings) (uuid : List ℕ) (main : List ℕ) (ch
 none_pending_at given uuid main channels readings k size are before =
     list_any_none (λ (s : Standing). is_pending s.status) (sources_at k readings) (settled_at given uuid main channels readings k size are before)
 
--- ---- what is told where all sources have the round, and where nothing is told
+-- ---- the verdict where all sources have the round, and where there is none
 
--- what the readings' sources tell at a round
+-- the readings' verdicts of sources at a round
 abbrev pub told_at : ℕ → Readings → List (Option Verdict)
 told_at k readings = verdicts_told k (main_at k readings) (channels_at k readings) (repeated_hello (hello_ids readings))
 
@@ -95,7 +95,7 @@ is_whole_status Clean e = absurd cc
 is_whole_status (Bad f) e = absurd cc
 is_whole_status Pending e = absurd cc
 
--- sources that all have the round, of which none is told alone
+-- sources that all have the round, of which none gives a verdict alone
 abbrev pub AreWhole : List Standing → Type 0
 AreWhole sources = All IsWhole sources
 
@@ -130,7 +130,8 @@ whole_tells_none k m cs repeated all once =
     (finds_none (λ (s : Standing). is_clean s.status) cs (none_clean cs (All-tail IsWhole m cs all))) in
     rw (waits, own, once, clean, whole, short) refl
 
--- where none is told, of sources that don't wait, all have the round, and no hello comes again
+-- where there is no verdict, of sources that don't wait, all have the round, and no hello comes
+-- again
 pub none_told : (k : ℕ) (m : Standing) (cs : List Standing) (repeated : Option ℕ) → All IsSettled (m ∷ cs)
     → first_some (verdicts_told k m cs repeated) ≡ None
     → (list_all (λ (s : Standing). is_whole s.status) (m ∷ cs) ≡ true) × (repeated ≡ None)
@@ -195,7 +196,7 @@ told_first_some k readings v e =
     ] in
     (stops, first_more (told_at k readings) (round_told k readings) v e)
 
--- a verdict that the sources tell is that of the first round that doesn't pass
+-- a verdict of the sources is that of the first round that doesn't pass
 pub told_stops : (given : LoadSettings) (uuid : List ℕ) (main : List ℕ) (channels : List (List ℕ)) (readings : Readings) (k : ℕ) (status : Status) (statuses : List Status)
     (repeated : Option ℕ) (v : Verdict) → IsPageSize given.page_size → AreReadings given uuid (ended_texts main channels) readings → ((j : ℕ) → j < k → IsTrue (passes j readings))
     → TellsSources k readings status statuses repeated → first_some (verdicts_told k (main_standing status) (standings statuses) repeated) ≡ Some v
@@ -209,7 +210,7 @@ told_stops given uuid main channels readings k status statuses repeated v size a
           (all_told k readings (none_pending_at given uuid main channels readings k size are before)) found.1,
     )
 
--- where they tell none, it is that of the round, if it is refused
+-- where they give none, it is that of the round, if it is refused
 pub told_refused : (given : LoadSettings) (uuid : List ℕ) (main : List ℕ) (channels : List (List ℕ)) (readings : Readings) (k : ℕ) (status : Status) (statuses : List Status)
     (repeated : Option ℕ) (f : RoundFault) → IsPageSize given.page_size → AreReadings given uuid (ended_texts main channels) readings → ((j : ℕ) → j < k → IsTrue (passes j readings))
     → TellsSources k readings status statuses repeated → first_some (verdicts_told k (main_standing status) (standings statuses) repeated) ≡ None
@@ -253,7 +254,7 @@ whole_statuses n (s ∷ statuses) all =
     (is_whole_status s (All-head IsWhole (record { source = origin.Channel n; status = s }) rest all))
     (whole_statuses (n + 1) statuses (All-tail IsWhole (record { source = origin.Channel n; status = s }) rest all))
 
--- all sources have a round of which they tell none
+-- all sources have a round at which they give no verdict
 pub told_whole : (given : LoadSettings) (uuid : List ℕ) (main : List ℕ) (channels : List (List ℕ)) (readings : Readings) (k : ℕ) (status : Status) (statuses : List Status)
     (repeated : Option ℕ) → IsPageSize given.page_size → AreReadings given uuid (ended_texts main channels) readings → ((j : ℕ) → j < k → IsTrue (passes j readings))
     → TellsSources k readings status statuses repeated → first_some (verdicts_told k (main_standing status) (standings statuses) repeated) ≡ None
@@ -269,7 +270,7 @@ told_whole given uuid main channels readings k status statuses repeated size are
       whole_statuses 0 statuses (subst AreWhole (sym tells.has_channels) channels_whole),
     )
 
--- a fault of the main stream behind rounds that pass is the verdict, whatever the channels bring
+-- a fault of the main stream after rounds that pass is the verdict, whatever the channels bring
 pub told_bad_main : (given : LoadSettings) (uuid : List ℕ) (main : List ℕ) (channels : List (List ℕ)) (readings : Readings) (k : ℕ) (f : Fault)
     → IsPageSize given.page_size → AreReadings given uuid (ended_texts main channels) readings → ((j : ℕ) → j < k → IsTrue (passes j readings))
     → main_status k readings.main ≡ Bad f → IsFirstStop readings k × (verdict_at k readings ≡ failed k origin.Main f)

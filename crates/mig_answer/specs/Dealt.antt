@@ -1,4 +1,5 @@
--- What the packets of a dealt round say, and that they are a lawful round, which brings what was dealt.
+-- What the packets of a dealt round say, and that they are a lawful round, which brings what was
+-- dealt.
 use Rattle.std.specs.Prelude.{ℕ, ◌≡◌, ◌+◌, ◌≤◌, ◌^◌, List, [], length, map, flat_map, None}
 use Rattle.mig_mem.specs.RamTable.{RamTable}
 use Rattle.mig_mem.specs.Image.{Page, Image}
@@ -23,14 +24,16 @@ dealt_fields round = flat_map (share_fields round) round.shares
 abbrev pub dealt_pages : RamTable → DealtRound → List Page
 dealt_pages table round = all_round_pages table [] (dealt_fields round)
 
--- The packets of a round, without any page record, are a lawful round from the round's base on. There are as many of them as the
--- round counts, and they leave of any memory what the round of its snapshot leaves of it.
+-- The packets of a round, without any page record, are a lawful round from the round's base on.
+-- There are as many of them as the round counts, and they leave of any memory what the round of its
+-- snapshot leaves of it.
 pub record BringTheRound (table : RamTable) (round : DealtRound) : Type 0 where
   pub are_lawful : refusal table round.base [] (dealt_fields round) ≡ None
   pub as_many : length (dealt_fields round) ≡ packet_count round
   pub same_memory : (m : Image) → with_round m (dealt_pages table round) ≡ with_round m (round_of round.snapshot.image round.snapshot.dirty)
 
--- However a round was dealt, its packets bring it, where a packet has room for a batch and its number.
+-- However a round was dealt, its packets bring it, where a packet has room for a batch and its
+-- number.
 abbrev pub DealtRoundsAreLawful : Type 0
 DealtRoundsAreLawful = (table : RamTable) (limit channels : ℕ) (round : DealtRound) → limit ≤ page_limit table.page_size
     → round.base + packet_count round ≤ 2 ^ 64 → IsDealtRound table limit channels round → BringTheRound table round

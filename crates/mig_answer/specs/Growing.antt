@@ -1,4 +1,4 @@
--- Texts that go on, and what stays of what they told before.
+-- Streams that go on, and what stays of what they said before.
 use Rattle.std.specs.Prelude.{ℕ, ◌≡◌, ◌≢◌, ◌≤◌, true, List, ◌++◌}
 use Rattle.std.specs.List.{AllZip}
 use Rattle.mig_mem.specs.PageSize.{IsPageSize}
@@ -7,13 +7,14 @@ use Rattle.mig_answer.specs.declared.verdict.Verdict.TheVariants.{Running}
 use Rattle.mig_answer.specs.Texts.{Text, Texts}
 use Rattle.mig_answer.specs.MultiLoad.{Answer, IsAnswer, IsWithoutMemory}
 
--- A text has gone on to be another: bytes have followed, or it has ended, or both. One that had ended is the same.
+-- A stream has gone on to be another: bytes have followed, or it has ended, or both. One that had
+-- ended stays.
 pub record GoesOn (old new : Text) : Type 0 where
   pub more : List ℕ
   pub has_bytes : new.bytes ≡ old.bytes ++ more
   pub stays_ended : old.ended ≡ true → new ≡ old
 
--- each text has
+-- each stream has
 pub record GoOn (old new : Texts) : Type 0 where
   pub main : GoesOn old.main new.main
   pub channels : AllZip GoesOn old.channels new.channels

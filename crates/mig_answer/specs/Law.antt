@@ -6,17 +6,17 @@ use Rattle.mig_answer.specs.declared.verdict.Verdict.TheVariants.{Running}
 use Rattle.mig_answer.specs.Texts.{Texts}
 use Rattle.mig_answer.specs.MultiLoad.{Answer, IsAnswer}
 
--- Any texts, as far as they have come, have exactly one answer.
+-- Any streams, as far as they have come, have exactly one answer.
 abbrev pub HasOneAnswer : Type 0
 HasOneAnswer = (given : LoadSettings) (uuid : List ℕ) (texts : Texts) → IsPageSize given.page_size
     → (answer : Answer) × IsAnswer given uuid texts answer
     × ((other : Answer) → IsAnswer given uuid texts other → other ≡ answer)
 
--- all texts have ended
+-- all streams have ended
 abbrev pub HaveEnded : Texts → Type 0
 HaveEnded texts = (texts.main.ended ≡ true) × All (λ text. text.ended ≡ true) texts.channels
 
--- Texts that have ended are done or have a fault.
+-- Streams that have ended are done or have a fault.
 abbrev pub EndedTextsAreJudged : Type 0
 EndedTextsAreJudged = (given : LoadSettings) (uuid : List ℕ) (texts : Texts) (answer : Answer) → IsPageSize given.page_size → HaveEnded texts
     → IsAnswer given uuid texts answer → answer.verdict ≢ Running

@@ -1,11 +1,11 @@
--- To read first, in this order: how a source stands at a round; the texts and their readings; the
--- rounds that they have together; the answer of a load on several channels
+-- To read first, in this order: how a source stands at a round; the streams and their readings; the
+-- rounds that they have together; the answer of a load on several channels.
 pub mod Status
 pub mod Texts
 pub mod Rounds
 pub mod MultiLoad
--- Then what was received of channels, and what it tells; how a round was dealt; what was sent; and
--- the laws
+-- Then what was received of channels, and what it says; how a round was dealt; what was sent; and
+-- the laws.
 pub mod Received
 pub mod Dealt
 pub mod Sent

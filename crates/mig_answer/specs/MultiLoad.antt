@@ -1,4 +1,4 @@
--- What a load on several channels answers: one function of its texts as far as they have come.
+-- What a load on several channels answers: one function of its streams as far as they have come.
 use Rattle.std.specs.Prelude.{ℕ, ◌≡◌, ◌⊎◌, ◌<◌, Bool, false, ◌&&◌, ◌==◌, if◌then◌else◌, List, [], ◌∷◌, ◌++◌, length, map, take, get_or, find, Option, Some, None, is_none, IsTrue, IsFalse, Result, Ok, Err, ⊤, Vec}
 use Rattle.std.specs.Bool.{then_some}
 use Rattle.std.specs.List.{list_any, list_all, range_with_len, enumerate_from}
@@ -32,7 +32,7 @@ main_standing status = record { source = origin.Main; status = status }
 abbrev pub main_at : ℕ → Readings → Standing
 main_at k readings = main_standing (main_status k readings.main)
 
--- the channels, each by its place among the texts
+-- the channels, each by its place
 abbrev pub channels_at : ℕ → Readings → List Standing
 channels_at k readings = map (λ c. record { source = origin.Channel c.0; status = channel_status k c.1 }) (enumerate_from 0 readings.channels)
 
@@ -84,7 +84,7 @@ failed_at_first k is_such fault sources = option_map (λ s. failed k s.source fa
 abbrev pub failed_with_own : ℕ → Standing → Option Verdict
 failed_with_own k s = option_map (failed k s.source) (fault_of s.status)
 
--- The verdicts that the sources' statuses and hellos may tell at round k, in the order of judging:
+-- The verdicts that the sources' statuses and hellos may give at round k, in the order of judging:
 --   running, where a source is pending;
 --   the first source's fault, the main stream's before the channels';
 --   HelloTwice, at the least channel whose hello names an earlier one's id;
@@ -100,7 +100,8 @@ verdicts_told k main channels repeated =
     (if is_clean main.status then failed_at_first k is_whole fault.Extra channels else None) ∷
     (if is_whole main.status then failed_at_first k is_clean fault.Short channels else None) ∷ []
 
--- All verdicts that there may be at round k, in the order of judging: those, and then why the round isn't lawful.
+-- All verdicts that there may be at round k, in the order of judging: those, and then why the round
+-- isn't lawful.
 abbrev pub verdicts_at : ℕ → Readings → List (Option Verdict)
 verdicts_at k readings =
     verdicts_told k (main_at k readings) (channels_at k readings) (repeated_hello (hello_ids readings))
@@ -112,14 +113,15 @@ verdict_at k readings = unwrap_or (first_some (verdicts_at k readings)) Running
 
 -- ---- the answer
 
--- what a load tells: the guest's memory, how many rounds are in it, and how the load stands
+-- what a load returns: the guest's memory, how many rounds are in it, and how the load stands
 pub record Answer : Type 0 where
   pub memory : Option Image
   pub rounds : ℕ
   pub verdict : Verdict
 
--- The answer on some texts, with these settings and under this UUID. `rounds` is the
--- least round that doesn't pass, the memory is that after the rounds before it, and the verdict is that at this round.
+-- The answer on some streams, with these settings and under this UUID. `rounds` is the least round
+-- that doesn't pass, the memory is that after the rounds before it, and the verdict is that at this
+-- round.
 pub record IsAnswer (given : LoadSettings) (uuid : List ℕ) (texts : Texts) (answer : Answer) : Type 0 where
   pub readings : Readings
   pub are_readings : AreReadings given uuid texts readings
@@ -127,7 +129,8 @@ pub record IsAnswer (given : LoadSettings) (uuid : List ℕ) (texts : Texts) (an
   pub has_memory : answer.memory ≡ memory_at answer.rounds readings
   pub has_verdict : answer.verdict ≡ verdict_at answer.rounds readings
 
--- The answer where an allocation was refused: the memory is that after the rounds counted, each of which passes, or None where none was counted.
+-- The answer where an allocation was refused: the memory is that after the rounds counted, each of
+-- which passes, or None where none was counted.
 pub record IsWithoutMemory (given : LoadSettings) (uuid : List ℕ) (texts : Texts) (answer : Answer) : Type 0 where
   pub readings : Readings
   pub are_readings : AreReadings given uuid texts readings
@@ -135,7 +138,8 @@ pub record IsWithoutMemory (given : LoadSettings) (uuid : List ℕ) (texts : Tex
   pub has_memory : (answer.memory ≡ memory_at answer.rounds readings) ⊎ ((answer.memory ≡ None) × (answer.rounds ≡ 0))
   pub has_verdict : answer.verdict ≡ failed answer.rounds origin.Round fault.NoMemory
 
--- What a load may answer: the answer on its texts, or, where an allocation was refused, one without memory.
+-- What a load may answer: the answer on its streams, or, where an allocation was refused, one
+-- without memory.
 abbrev pub IsAnswerOrWithoutMemory : LoadSettings → List ℕ → Texts → Answer → Type 0
 IsAnswerOrWithoutMemory given uuid texts answer =
     IsAnswer given uuid texts answer ⊎ IsWithoutMemory given uuid texts answer
@@ -148,6 +152,6 @@ as_verdict (Err fault) = Failed fault
 abbrev pub answer_of : {A : Type 0} → Loaded A → Answer
 answer_of loaded = record { memory = loaded.memory; rounds = loaded.rounds; verdict = as_verdict loaded.verdict }
 
--- the bytes of texts that a caller holds
+-- the bytes of streams that a caller holds
 abbrev pub bytes_of : {B : Type 0} → List (Vec ℕ B) → List (List ℕ)
 bytes_of texts = map (λ text. text.items) texts

@@ -1,4 +1,4 @@
--- What was received of channels' items, and what it tells of the channels' texts.
+-- What was received of channels' items, and what it says of the complete channels.
 use Rattle.std.specs.Prelude.{ℕ, ◌≡◌, ◌≢◌, ◌≤◌, ◌<◌, ◌⊎◌, Bool, true, false, if◌then◌else◌, List, [], ◌∷◌, ◌++◌, length, map, flat_map, get_or, sum_by, Option, Some, None}
 use Rattle.std.specs.List.{AllZip, count_by, range_with_len, enumerate_from}
 use Rattle.mig_mem.specs.PageSize.{IsPageSize}
@@ -15,7 +15,7 @@ use Rattle.mig_answer.specs.Texts.{Readings, AreReadings, ended_texts}
 use Rattle.mig_answer.specs.Rounds.{channel_packets_at, packets_at, base_at}
 use Rattle.mig_answer.specs.MultiLoad.{Standing, channels_at, hello_ids}
 
--- ---- what items tell
+-- ---- what items say
 
 -- an item ends a round: it is a SYNC packet
 abbrev pub ends_round : ChannelItem → Bool
@@ -32,7 +32,8 @@ abbrev pub before_rounds : Fields → List (List Fields) → List (List Fields)
 before_rounds packet [] = []
 before_rounds packet (round ∷ rounds) = (packet ∷ round) ∷ rounds
 
--- the whole rounds: a SYNC packet ends its round, and any other belongs to the round of the packet behind it
+-- the complete rounds: a SYNC packet ends its round, and any other belongs to the round of the
+-- packet after it
 abbrev pub rounds_in : List ChannelItem → List (List Fields)
 rounds_in [] = []
 rounds_in (Hello id ∷ items) = rounds_in items
@@ -46,7 +47,7 @@ hello_in (Hello id ∷ items) = Some id
 hello_in (Page packet ∷ items) = None
 hello_in (Stop end ∷ items) = None
 
--- how a channel stands behind its whole rounds, as the stop tells; pending where there is no stop
+-- how a channel stands after its complete rounds, as the stop says; pending where there is no stop
 abbrev pub end_in : List ChannelItem → Status
 end_in [] = Pending
 end_in (Hello id ∷ items) = end_in items
@@ -68,17 +69,18 @@ pub record IsFront (front items : List ChannelItem) : Type 0 where
   pub rest : List ChannelItem
   pub has_rest : items ≡ front ++ rest
 
--- enough of some items was received to tell round k: its SYNC packet, or all
+-- enough of some items was received to know round k: its SYNC packet, or all
 abbrev pub AreEnough : ℕ → List ChannelItem → List ChannelItem → Type 0
 AreEnough k received items = (k < round_count received) ⊎ (received ≡ items)
 
--- Items tell of a channel, up to round k, what the reading of its text tells: the hello, the status at that round, and the packets.
+-- Items say of a channel, up to round k, what the reading of its bytes says: the hello, the status
+-- at that round, and the packets.
 pub record TellsChannel (page_size k : ℕ) (received : List ChannelItem) (reading : ChannelReading) : Type 0 where
   pub has_hello : hello_in received ≡ reading.hello
   pub has_status : status_in k received ≡ channel_status k reading
   pub has_packets : (i : ℕ) → i ≤ k → channel_packets_in i received ≡ channel_packets_at page_size i reading
 
--- A front of a channel's items that settles a round tells of it what the whole text tells.
+-- A front of a channel's items that decides a round says of it what the complete channel says.
 abbrev pub FrontTellsChannel : Type 0
 FrontTellsChannel = (given : Settings) (k : ℕ) (text : List ℕ) (items received : List ChannelItem) (reading : ChannelReading) → IsPageSize given.page_size
     → AreItems given text items → IsReading given text true reading → IsFront received items → AreEnough k received items
@@ -96,7 +98,7 @@ RoundsAreCounted = (items : List ChannelItem) → length (rounds_in items) ≡ r
 
 -- ---- all channels together
 
--- enough of a channel's text was received to tell round k
+-- enough of a channel was received to know round k
 pub record IsEnough (given : Settings) (k : ℕ) (text : List ℕ) (received : List ChannelItem) : Type 0 where
   pub items : List ChannelItem
   pub are_items : AreItems given text items
@@ -115,15 +117,17 @@ packets_in k received = flat_map (channel_packets_in k) received
 abbrev pub base_in : ℕ → List (List ChannelItem) → ℕ
 base_in k received = sum_by (λ i. length (packets_in i received)) (range_with_len 0 k)
 
--- What was received of the channels tells, up to round k, what the readings tell: how the channels stand at that round, which ids the
--- hellos name, the packets of each round up to it, and how many there are before it. The main stream's part alone isn't here.
+-- What was received of the channels says, up to round k, what the readings say: how the channels
+-- stand at that round, which ids the hellos name, the packets of each round up to it, and how many
+-- there are before it. The main stream's part alone isn't here.
 pub record TellsAllChannels (page_size k : ℕ) (received : List (List ChannelItem)) (readings : Readings) : Type 0 where
   pub has_channels : channels_in k received ≡ channels_at k readings
   pub has_hellos : map hello_in received ≡ hello_ids readings
   pub has_packets : (i : ℕ) → i ≤ k → packets_in i received ≡ packets_at page_size i readings
   pub has_base : base_in k received ≡ base_at k readings
 
--- Where enough was received of each channel to tell a round, that is so of the readings of the whole texts.
+-- Where enough was received of each channel to know a round, that is so of the readings of the
+-- complete channels.
 abbrev pub FrontsTellAllChannels : Type 0
 FrontsTellAllChannels = (given : LoadSettings) (uuid : List ℕ) (k : ℕ) (main : List ℕ) (channels : List (List ℕ)) (received : List (List ChannelItem)) (readings : Readings)
     → IsPageSize given.page_size → AreReadings given uuid (ended_texts main channels) readings

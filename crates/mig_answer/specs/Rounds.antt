@@ -12,7 +12,8 @@ use Rattle.mig_assemble.specs.declared.fault.RoundFault.{RoundFault}
 use Rattle.mig_assemble.specs.Judging.{refusal, all_round_pages}
 use Rattle.mig_answer.specs.Texts.{Readings}
 
--- the pages that the main stream's records of round k stand for; none, where it hasn't that round (a round is judged only where all have it)
+-- the pages that the main stream's records of round k stand for; none, where it hasn't that round
+-- (a round is judged only where all have it)
 abbrev pub record_pages_at : ℕ → ℕ → Readings → List Page
 record_pages_at page_size k readings = map (page_of page_size) (get_or readings.main.rounds k [])
 
@@ -28,7 +29,8 @@ packets_at page_size k readings = flat_map (channel_packets_at page_size k) read
 abbrev pub packet_count_at : ℕ → Readings → ℕ
 packet_count_at k readings = sum_by (λ reading. length (get_or reading.rounds k [])) readings.channels
 
--- the least number that a packet of round k is to have: how many packets there are of the rounds before
+-- the least number that a packet of round k is to have: how many packets there are of the rounds
+-- before
 abbrev pub base_at : ℕ → Readings → ℕ
 base_at k readings = sum_by (λ i. packet_count_at i readings) (range_with_len 0 k)
 

@@ -17,8 +17,8 @@ use Rattle.mig_single_load.specs.SingleLoad.{IsSingleAnswer}
 use Rattle.mig_answer.specs.Texts.{ended_texts}
 use Rattle.mig_answer.specs.MultiLoad.{Answer, IsAnswer}
 
--- The texts are those of a sending of these rounds, under this UUID, with some limit of pages to a batch: its main stream, and its
--- channels in any order.
+-- The streams are those of a sending of these rounds, under this UUID, with some batch limit: its
+-- main stream, and its channels in any order.
 pub record IsSentInAnyOrder (table : RamTable) (uuid : List ℕ) (rounds : List DealtRound) (main : List ℕ) (channels : List (List ℕ)) : Type 0 where
   pub batch_limit : ℕ
   pub in_order : List (List ℕ)
@@ -33,15 +33,15 @@ sent_rounds rounds = rounds_of (map (λ round. round.snapshot) rounds)
 abbrev pub sent_answer : RamTable → List DealtRound → Answer
 sent_answer table rounds = record { memory = Some (after table (sent_rounds rounds)); rounds = length rounds; verdict = Done }
 
--- What was sent is loaded, whatever the table, the rounds, the batch limit, the number of channels and their order, and whichever
--- worker sent what.
+-- What was sent is loaded, whatever the table, the rounds, the batch limit, the number of channels
+-- and their order, and whichever worker sent what.
 abbrev pub SendingsAreLoaded : Type 0
 SendingsAreLoaded = (table : RamTable) (uuid : List ℕ) (limit : ℕ) (rounds : List DealtRound) (main : List ℕ) (channels : List (List ℕ)) (answer : Answer)
     → IsSentInAnyOrder table uuid rounds main channels → total_bytes table ≤ limit
     → IsAnswer (ram_settings table.page_size limit) uuid (ended_texts main channels) answer → answer ≡ sent_answer table rounds
 
--- The streams are those of a sending in a machine's stream, with its name or without one. The
--- channels are in any order, and anything may follow RAM's END in the main stream.
+-- a load of several channels and one of a single stream gave the same memory, and both are Ok; a
+-- single stream has two sections more, START and END
 pub record IsMachineSentInAnyOrder (table : RamTable) (uuid : List ℕ) (rounds : List DealtRound) (main : List ℕ) (channels : List (List ℕ)) : Type 0 where
   pub batch_limit : ℕ
   pub name : Option (List ℕ)
@@ -52,15 +52,10 @@ pub record IsMachineSentInAnyOrder (table : RamTable) (uuid : List ℕ) (rounds 
   pub in_order : List (List ℕ)
   pub is_sending : IsMachineSending name table uuid batch_limit (length channels) rounds ram in_order
   pub is_permutation : IsPermutation in_order channels
-
--- What was sent so is loaded in a machine's frame, by the same answer as what was sent alone.
 abbrev pub MachineSendingsAreLoaded : Type 0
 MachineSendingsAreLoaded = (given : LoadSettings) (table : RamTable) (uuid : List ℕ) (rounds : List DealtRound) (main : List ℕ) (channels : List (List ℕ)) (answer : Answer)
     → given.frame ≡ Machine → given.waiting ≡ None → table.page_size ≡ given.page_size → total_bytes table ≤ given.limit → IsMachineSentInAnyOrder table uuid rounds main channels
     → IsAnswer given uuid (ended_texts main channels) answer → answer ≡ sent_answer table rounds
-
--- a load of several channels and one of a single stream gave the same memory, and both are Ok; a single stream has two sections more,
--- START and END
 abbrev pub AgreesWith : {A : Type 0} → Answer → Loaded A → Type 0
 AgreesWith answer alone = (answer.memory ≡ alone.memory) × (answer.rounds + 2 ≡ alone.rounds) × (answer.verdict ≡ Done) × (alone.verdict ≡ Ok _)
 

@@ -1,4 +1,5 @@
--- The texts of a load on several channels as far as they have come, and what they tell: the main stream's and the channels'.
+-- The streams of a load on several channels as far as they have come, and what they say: the main
+-- stream and the channels.
 use Rattle.std.specs.Prelude.{ℕ, ◌≡◌, Bool, true, false, List, [], ◌++◌, length, map, replicate}
 use Rattle.std.specs.List.{AllZip}
 use Rattle.mig_stream.specs.Reading as stream
@@ -6,9 +7,9 @@ use Rattle.mig_packet.specs.Reading as channel
 use Rattle.mig_single_load.specs.Settings.{main_of}
 use Rattle.mig_single_load.specs.declared.settings.LoadSettings.{LoadSettings}
 
--- ---- texts
+-- ---- streams
 
--- a text as far as it has come, and whether it has ended
+-- a source's bytes as far as they have come, and whether it has ended
 pub record Text : Type 0 where
   pub bytes : List ℕ
   pub ended : Bool
@@ -40,7 +41,7 @@ ended_texts main channels = record { main = ended_text main; channels = map ende
 
 -- ---- their readings
 
--- what the main stream and the channels tell
+-- what the main stream and the channels say
 pub record Readings : Type 0 where
   pub main : stream.StreamReading
   pub channels : List channel.ChannelReading
@@ -51,8 +52,8 @@ pub record IsMainReading (given : LoadSettings) (text : Text) (reading : stream.
   pub is_reading : stream.IsReading (main_of given) text.bytes found
   pub has_end : reading ≡ record found { state = stream.state_at text.ended found.state }
 
--- These are the readings of the texts, with these settings and under this UUID. As many channels are
--- expected as there are texts of channels.
+-- These are the readings of the streams, with these settings and under this UUID. As many channels
+-- are expected as there are streams of channels.
 pub record AreReadings (given : LoadSettings) (uuid : List ℕ) (texts : Texts) (readings : Readings) : Type 0 where
   pub has_main : IsMainReading given texts.main readings.main
   pub has_channels : AllZip (λ (text : Text) (reading : channel.ChannelReading). channel.IsReading (channel.settings given.page_size uuid (length texts.channels)) text.bytes text.ended reading)

@@ -1,7 +1,8 @@
-//! Laws of the definitions alone: what holds of the answers of loads on several channels, whatever code gives them.
+//! Laws of the definitions alone: what holds of the answers of loads on several channels, whatever
+//! code gives them.
 //!
-//! Each law is the clause of a function that does nothing, but for naming the law that it rests on, so that it is proved with the crate and
-//! callers can have it.
+//! Each law is the clause of a function whose body at most names the law that it rests on. So it is
+//! proved with the crate, and callers can have it.
 
 ghost use Rattle.mig_answer.specs.Law.{HasOneAnswer, EndedTextsAreJudged};
 ghost use Rattle.mig_answer.specs.Growing.{AnswersStay, WithoutMemoryStays, RoundsStay};
@@ -11,25 +12,28 @@ ghost use Rattle.mig_answer.specs.Sent.{SendingsAreLoaded, MachineSendingsAreLoa
 
 use std::alloc::Allocator;
 
-/// Any texts, as far as they have come, have exactly one answer. So of loaders that answer by it neither the cutting of texts into
-/// pieces, nor the order in which these come, nor who reads them makes a difference. On texts that have ended it isn't `Running`.
+/// Any streams, as far as they have come, have exactly one answer. So the answer doesn't depend on
+/// how the streams are cut into pieces, in which order these come, or who reads them. If all
+/// streams have ended, it isn't `Running`.
 pub fn texts_have_one_answer()
     ensures one { HasOneAnswer }
     ensures ended { EndedTextsAreJudged }
 {}
 
-/// Texts that go on leave an answer as it is, once it isn't `Running`: whatever bytes follow in them, and whichever of them end, the memory,
-/// the rounds and the verdict stay. So does an answer without memory. And a round that was counted stays counted, whatever comes. So a
-/// load can answer before its texts are over.
+/// An answer that isn't `Running` stays, whatever bytes follow in the streams, and whichever of
+/// them end: the memory, the rounds and the verdict. So does an answer without memory. A round that
+/// was counted stays counted, whatever comes. So a load can answer before its streams have ended.
 pub fn answers_stay()
     ensures settled { AnswersStay }
     ensures wanting { WithoutMemoryStays }
     ensures rounds { RoundsStay }
 {}
 
-/// Some first items of a channel tell of a round what the channel's whole text tells, once they have the round's SYNC packet, or the stop: the
-/// hello, how the channel stands at the round, and its packets of each round up to it. So a load can judge a round by what it has received
-/// of each channel, before the texts are over. The stop is the last item, and there are as many whole rounds as SYNC packets.
+/// Some first items of a channel say of a round what the complete channel says, once they have the
+/// round's SYNC packet, or the stop: the hello, the channel's status at the round, and its packets
+/// of each round up to it. So a load can judge a round by what it has received of each channel,
+/// before the channels have ended. The stop is the last item. There are as many complete rounds as
+/// SYNC packets.
 pub fn received_tells_status()
     ensures channel { FrontTellsChannel }
     ensures stop { StopIsLast }
@@ -37,14 +41,16 @@ pub fn received_tells_status()
     ensures all_channels { FrontsTellAllChannels }
 {}
 
-/// However a round was dealt, its packets are a lawful round from its base on, as many as it counts, and they bring the round's pages.
+/// However a round was dealt, its packets are a lawful round from its base on, as many as it
+/// counts. They bring the round's pages.
 pub fn dealt_rounds_are_lawful()
     ensures { DealtRoundsAreLawful }
 {}
 
-/// What a sender on several channels has sent is loaded: done, with all its rounds and the memory after them, whatever the table, the
-/// rounds, the limit of pages to a batch and the number of channels, whichever worker sent what, and in whatever order the channels'
-/// texts are handed in. So it agrees with the load of the single stream of the same rounds.
+/// What a sender on several channels has sent is loaded: done, with all its rounds and the memory
+/// after them. That holds for any table, rounds, batch limit and number of channels, whichever
+/// worker sent what, and in whatever order the channels are passed. So it agrees with the load of
+/// the single stream of the same rounds.
 pub fn sendings_are_loaded<A: Allocator>()
     ensures done { SendingsAreLoaded }
     ensures same { ChannelsLoadAsOneStream A }

@@ -8,8 +8,8 @@
 //! other than `Running` stays when more bytes come. What a sender has sent is loaded. They hold of
 //! each load that answers by `IsAnswer`, as those of `mig_relay` and `mig_session` do.
 //!
-//! Relays and sessions share the calls beside the laws: `verdict_told` returns the verdict that the
-//! sources tell at a round, and `put` applies a round to memory.
+//! Relays and sessions share the calls beside the laws: `verdict_told` returns the verdict of the
+//! sources at a round, and `put` applies a round to memory.
 //!
 //! Definitions, in reading order: `Status`, `Texts`, `Rounds`, `MultiLoad`, then `Received`,
 //! `Dealt`, `Sent`, `Law`, `Growing` (`specs/`). `Told` and `Putting` are for the shared calls

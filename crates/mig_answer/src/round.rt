@@ -12,12 +12,17 @@ use mig_single_load::{Fault, LoadFault, Origin, no_memory};
 use mig_stream::StreamRound;
 use std::alloc::Allocator;
 
-// Packets are numbered below 2^63, and as many rounds are counted: more are refused with `NoMemory`. No text in memory has so many.
+// Packets are numbered below 2^63, and at most 2^63 rounds are counted. More are refused with
+// `NoMemory`. No streams in memory have so many.
 const PACKET_LIMIT: u64 = 1 << 63;
 
 const ROUND_LIMIT: u64 = 1 << 63;
 
-/// Puts a round into the memory, where it is lawful. An `Err` changes nothing.
+/// Applies a round to memory, if it is lawful.
+///
+/// # Errors
+///
+/// `Fault::Round` with the refusal of the round, or `NoMemory`. Nothing changes.
 pub fn put<A: Allocator + Copy>(
     target: &mut Target<A>,
     round: &StreamRound<'_, A>,

@@ -1,4 +1,5 @@
-//! How a source of a load stands at a round, the main stream or a channel: relays and sessions find it, and `told` makes a verdict of it.
+//! The status of a source at a round, the main stream or a channel. Relays and sessions find it,
+//! and `told` makes a verdict of it.
 
 ghost use Rattle.std.specs.Prelude.{◌≡◌};
 ghost use Rattle.mig_answer.specs.Status.{stream_end, channel_end};
@@ -7,20 +8,20 @@ use mig_packet::ChannelState;
 use mig_single_load::Fault;
 use mig_stream::StreamState;
 
-/// How a source stands at a round, behind the rounds before.
+/// How a source stands at a round, after the rounds before.
 #[derive(Clone, Copy, Debug)]
 pub enum Status {
-    /// It has the round whole.
+    /// It has the complete round.
     Whole,
-    /// It is closed: the main stream by its end byte, a channel by the end of its text.
+    /// It is closed: the main stream by its end byte, a channel by its end.
     Clean,
     /// It has this fault.
     Bad(Fault),
-    /// More of its text is needed.
+    /// More of its bytes are needed.
     Pending,
 }
 
-/// How a main stream stands behind its whole rounds.
+/// Returns the status of a main stream after its complete rounds.
 pub fn stream_end(state: StreamState) -> Status
     ensures { result ≡ stream_end state }
 {
@@ -31,7 +32,7 @@ pub fn stream_end(state: StreamState) -> Status
     }
 }
 
-/// How a channel stands behind its whole rounds.
+/// Returns the status of a channel after its complete rounds.
 pub fn channel_end(state: ChannelState) -> Status
     ensures { result ≡ channel_end state }
 {

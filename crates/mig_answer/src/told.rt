@@ -1,4 +1,5 @@
-//! The verdict that the sources of a load tell at a round, before the round itself is judged: for relays and for sessions.
+//! The verdict of a load's sources at a round, before the round itself is judged: for relays and
+//! sessions.
 
 ghost use Rattle.std.specs.Prelude.{◌≡◌, [], ◌∷◌, map, is_some, None, if◌then◌else◌};
 ghost use Rattle.std.specs.List.{list_any, list_all, position};
@@ -14,8 +15,8 @@ use crate::Verdict;
 use crate::status::Status;
 use mig_single_load::{Fault, LoadFault, Origin};
 
-/// The verdict at a round that the statuses of the sources tell, and the least channel whose hello comes again; None where all sources have
-/// the round.
+/// Returns the verdict at a round, by the statuses of the sources and the least channel whose hello
+/// comes again. If all sources have the round, and no hello comes again, returns None.
 pub fn verdict_told(
     round: u64,
     main: Status,
@@ -39,21 +40,21 @@ pub fn verdict_told(
     unequal_told(round, main, channels)
 }
 
-// More of a source's text is needed.
+// Returns whether more bytes of a source are needed.
 fn any_pending(main: Status, channels: &[Status]) -> bool
     ensures { result ≡ list_any (λ s. is_pending s.status) (main_standing main ∷ standings channels.now) }
 {
     is_pending(main) || some_pending(channels)
 }
 
-// All sources are closed.
+// Returns whether all sources are closed.
 fn all_clean(main: Status, channels: &[Status]) -> bool
     ensures { result ≡ list_all (λ s. is_clean s.status) (main_standing main ∷ standings channels.now) }
 {
     is_clean(main) && each_clean(channels)
 }
 
-// Failed with the first source's fault.
+// Returns the failure with the first source's fault, if there is one.
 fn fault_told(round: u64, main: Status, channels: &[Status]) -> Option<Verdict>
     ensures { result ≡ first_some (map (failed_with_own round) (main_standing main ∷ standings channels.now)) }
 {
@@ -63,7 +64,7 @@ fn fault_told(round: u64, main: Status, channels: &[Status]) -> Option<Verdict>
     }
 }
 
-// Failed with the first channel's fault.
+// Returns the failure with the first channel's fault, if there is one.
 fn channel_fault_told(round: u64, channels: &[Status]) -> Option<Verdict>
     ensures { result ≡ first_some (map (failed_with_own round) (standings channels.now)) }
 {
@@ -76,7 +77,8 @@ fn channel_fault_told(round: u64, channels: &[Status]) -> Option<Verdict>
     }
 }
 
-// Failed at the first channel that has the round where the main stream is closed, or is closed where the main stream has it.
+// Returns the failure at the first channel that has the round where the main stream is closed, or
+// the other way round.
 fn unequal_told(round: u64, main: Status, channels: &[Status]) -> Option<Verdict>
     ensures { result ≡ first_some ((if is_clean main then failed_at_first round is_whole fault.Extra (standings channels.now) else None)
         ∷ (if is_whole main then failed_at_first round is_clean fault.Short (standings channels.now) else None) ∷ []) }
@@ -88,7 +90,7 @@ fn unequal_told(round: u64, main: Status, channels: &[Status]) -> Option<Verdict
     }
 }
 
-// Failed with a fault at a channel, if there is one.
+// Returns the failure with `fault` at a channel, if there is one.
 fn failed_at(round: u64, channel: Option<usize>, fault: Fault) -> Option<Verdict>
     ensures { result ≡ option_map (λ j. failed round (origin.Channel j) fault) channel }
 {
@@ -165,7 +167,7 @@ fn is_bad(status: Status) -> bool
 // How many ids there are.
 const ID_COUNT: usize = 256;
 
-/// The least of some channels whose hello names the id of an earlier one.
+/// Returns the least channel whose hello names the id of an earlier one.
 pub fn repeated_id(hellos: &[Option<u8>]) -> Option<usize>
     ensures { result ≡ repeated_hello hellos.now }
 {
