@@ -37,7 +37,7 @@ use Rattle.mig_session.proofs.KeptMain.{same_found, waits_here}
 use Rattle.mig_session.proofs.KeptSources.{have_round, packets_here, sizes_here}
 use Rattle.mig_session.proofs.Telling.{due_sources, due_passes, due_refused, told_here}
 
--- ---- what is told
+-- ---- the verdict
 
 -- nothing: the round is judged
 pub comes_of : (f : Feeding) (s : FedSources) (t : LoadTarget) → Advances f s (Some t) → TellsAll t.rounds s None → RoundIsDue f s t
@@ -49,7 +49,7 @@ comes_of f s t advances told = record {
 memory_of : (readings : Readings) (t : LoadTarget) → HasPutRounds readings t → Some t.memory ≡ memory_at t.rounds readings
 memory_of readings t has = sym has.has_loaded.has_memory
 
--- a verdict: it is that of the texts
+-- a verdict: it is that of the streams
 pub told_of : (f : Feeding) (s : FedSources) (t : LoadTarget) (v : Verdict) → Advances f s (Some t) → TellsAll t.rounds s (Some v) → TellsVerdict f.readings (Some t) v
 told_of f s t v advances told =
     let here = told_here t.rounds f.readings v (told f.given f.uuid f.texts f.readings advances.is_page_size advances.holds advances.are_readings) in
@@ -154,7 +154,7 @@ stays_out f s t new round packets found comes is are refused same = elim refused
 pub stays_without : (f : Feeding) (t new : LoadTarget) (n : ℕ) (result : Result ⊤ LoadFault) → result ≡ no_memory_at n → new ≡ t → PutsOrRefuses f t result new
 stays_without f t new n result is same = subst (λ (r : Result ⊤ LoadFault). PutsOrRefuses f t r new) (sym is) (same, inr refl)
 
--- behind it the next one is due
+-- after it the next one is due
 pub next_advances : (f : Feeding) (s next : FedSources) (t new : LoadTarget) → Advances f s (Some t) → HasRounds f.readings (Some new) → new.rounds ≡ t.rounds + 1
     → Holds f.given f.uuid (t.rounds + 1) f.texts next → Advances f next (Some new)
 next_advances f s next t new advances has count holds = record {
@@ -166,7 +166,7 @@ next_advances f s next t new advances has count holds = record {
 
 -- ---- before the table
 
--- there is no round, and something is told
+-- there is no round, and there is a verdict
 pub told_without : (f : Feeding) (s : FedSources) (v : Verdict) → Advances f s None → f.readings.main.table ≡ None → TellsAll 0 s (Some v) → TellsVerdict f.readings None v
 told_without f s v advances none told =
     let here = told_here 0 f.readings v (told f.given f.uuid f.texts f.readings advances.is_page_size advances.holds advances.are_readings) in

@@ -1,4 +1,4 @@
--- What a session keeps of a channel, and what that tells.
+-- What a session keeps of a channel, and what that says.
 use Rattle.std.proofs.Common.{ℕ, ◌≡◌, ◌≢◌, ◌+◌, ◌<◌, ◌≤◌, true, false, List, [], length, map, get_or, refl, sym, ap, subst, ◌∙◌, inl, inr, Option, Some, None, arith}
 use Rattle.std.specs.Prelude.{IfSome, IfNone, is_some}
 use Rattle.std.proofs.lemmas.Bool.{cases_lt}
@@ -45,7 +45,7 @@ takes_next (Some r) old now same last is step round = λ given k text stands.
 
 -- ---- a piece comes
 
--- behind a round that waits
+-- after a round that waits
 pub fed_behind : (given : Settings) (k : ℕ) (text : Text) (piece : List ℕ) (old now : Reader) (r : RoundOfPackets) → IsPageSize given.page_size → StepsOn (read_piece piece) old now
     → HoldsChannel given k text (kept old (Some r)) → HoldsChannel given k (with_piece piece text) (kept now (Some r))
 fed_behind given k text piece old now r size step holds = record {
@@ -62,14 +62,14 @@ pub fed_open : (given : Settings) (k : ℕ) (text : Text) (piece : List ℕ) (ol
     → Stands given (channel_so_far (with_piece piece text) k) now
 fed_open given k text piece old now step holds = step given (channel_so_far text k) holds.stands
 
--- ---- the text is over
+-- ---- the channel has ended
 
 pub holds_over : (given : Settings) (k : ℕ) (text : Text) (old now : Reader) (round : Option RoundOfPackets) → StepsOn read_over old now
     → HoldsChannel given k text (kept old round) → HoldsChannel given k (over text) (kept now round)
 holds_over given k text old now None step holds = record { stands = step given (channel_so_far text k) holds.stands; has_round = tt; has_none = holds.has_none }
 holds_over given k text old now (Some r) step holds = record { stands = step given (channel_so_far text (k + 1)) holds.stands; has_round = holds.has_round; has_none = tt }
 
--- ---- what it tells
+-- ---- what it says
 
 -- how many rounds a reading has, of which so many were taken
 taken_are_there : (given : Settings) (text : Text) (taken : ℕ) (r : Reader) (reading : ChannelReading) → Stands given (channel_so_far text taken) r
@@ -166,7 +166,7 @@ of_size given k text c holds = go c.round refl
     go None e = tt
     go (Some r) e = (subst (λ (x : Option RoundOfPackets). IfSome x (IsChannelRound given k text.bytes)) e holds.has_round).has_page_size
 
--- behind a round that waits its reader has given one more
+-- after a round that waits its reader has given one more
 pub stands_next : (given : Settings) (k : ℕ) (text : Text) (c : FedChannel) → HoldsChannel given k text c → c.round ≢ None → Stands given (channel_so_far text (k + 1)) c.reader
 stands_next given k text c holds some = go c.round some holds.stands
   where

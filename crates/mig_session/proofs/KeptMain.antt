@@ -1,4 +1,4 @@
--- What a session keeps of its main stream, and what that tells.
+-- What a session keeps of its main stream, and what that says.
 use Rattle.std.proofs.Common.{ℕ, ◌≡◌, ◌≢◌, ◌+◌, ◌<◌, ◌≤◌, true, false, List, [], ◌++◌, length, get_or, refl, sym, ap, subst, ◌∙◌, inl, inr, Option, Some, None, arith}
 use Rattle.std.specs.Prelude.{IfSome, IfNone, is_some}
 use Rattle.std.specs.List.{All}
@@ -57,7 +57,7 @@ fewer_wait (Some r) old now same fewer = sym fewer
 
 -- ---- a piece comes
 
--- the table of a text with a whole round is that of any longer one
+-- the table of a stream with a complete round is that of any longer one
 table_back : (given : Settings) (k : ℕ) (text more : List ℕ) (round : List PageRecord) (table : RamTable) → IsPageSize given.page_size → HasRound given text k round
     → HasTable given (text ++ more) (Some table) → HasTable given text (Some table)
 table_back given k text more round table size has now = go has.0.table refl
@@ -71,7 +71,7 @@ table_back given k text more round table size has now = go has.0.table refl
         let stays = longer_law given text more has.0 now.0 size has.1 now.1 in
         (has.0, has.1, now.2 ∙ stays.same_table t e ∙ sym e)
 
--- behind a round that waits
+-- after a round that waits
 pub fed_behind : (given : Settings) (k : ℕ) (text : Text) (piece : List ℕ) (old now : Reader) (r : RoundOfRecords) → IsPageSize given.page_size → StepsOn (read_piece piece) old now
     → HoldsMain given k text (kept old (Some r)) → HoldsMain given k (with_piece piece text) (kept now (Some r))
 fed_behind given k text piece old now r size step holds =
@@ -91,16 +91,16 @@ pub fed_open : (given : Settings) (k : ℕ) (text : Text) (piece : List ℕ) (ol
     → Stands given (main_so_far (with_piece piece text) k) now
 fed_open given k text piece old now step holds = step given (main_so_far text k) holds.stands
 
--- ---- the text is over
+-- ---- the stream has ended
 
 pub holds_over : (given : Settings) (k : ℕ) (text : Text) (old now : Reader) (round : Option RoundOfRecords) → StepsOn read_over old now
     → HoldsMain given k text (kept old round) → HoldsMain given k (over text) (kept now round)
 holds_over given k text old now None step holds = record { stands = step given (main_so_far text k) holds.stands; has_round = tt; has_none = holds.has_none }
 holds_over given k text old now (Some r) step holds = record { stands = step given (main_so_far text (k + 1)) holds.stands; has_round = holds.has_round; has_none = tt }
 
--- ---- what it tells
+-- ---- what it says
 
--- what is read of the text has the rounds of its reading
+-- what is read of the stream has the rounds of its reading
 pub same_found : (given : LoadSettings) (text : Text) (found : StreamReading) (reading : StreamReading) → IsPageSize given.page_size → IsReading (main_of given) text.bytes found → IsMainReading given text reading
     → reading ≡ record found { state = state_at text.ended found.state }
 same_found given text found reading size is_found is =
@@ -160,12 +160,12 @@ whole_waits given k text m reading size holds is whole none =
     let e = none_waits given k text m.reader reading size here is in
     let f : is_whole (main_status k reading) ≡ false = ap is_whole (status_end k (length reading.rounds) (stream_end reading.state) e) ∙ stream_ends reading.state in absurd cc
 
--- the table that the reader tells
+-- the table that the reader returns
 pub tells_table : (m : FedMain) (table : Option RamTable) → Tells m.reader (λ given so_far. HasTable given so_far.text table)
     → (given : Settings) (k : ℕ) (text : Text) → HoldsMain given k text m → HasTable given text.bytes table
 tells_table m table tells = λ given k text holds. tells given (main_so_far text (with_one k m.round)) holds.stands
 
--- behind a round that waits its reader has given one more
+-- after a round that waits its reader has given one more
 pub stands_next : (given : Settings) (k : ℕ) (text : Text) (m : FedMain) → HoldsMain given k text m → m.round ≢ None → Stands given (main_so_far text (k + 1)) m.reader
 stands_next given k text m holds some = go m.round some holds.stands
   where

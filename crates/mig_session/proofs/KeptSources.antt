@@ -1,4 +1,4 @@
--- What a session keeps of all its sources, and what they tell together.
+-- What a session keeps of all its sources, and what they say together.
 use Rattle.std.proofs.Common.{ℕ, zero, suc, ◌≡◌, ◌≢◌, ◌+◌, ◌<◌, ◌≤◌, List, [], ◌∷◌, ◌++◌, append_assoc, length, map, take, drop, set, get_or, replicate, refl, sym, ap, subst, ◌∙◌, Option, Some, None, arith}
 use Rattle.std.specs.Prelude.{slice_get, Result, Ok, Err, OnOk}
 use Rattle.std.specs.List.{All, AllZip, flat_map, enumerate_from}
@@ -63,7 +63,7 @@ zip_here R (a ∷ xs) (b ∷ ys) (suc j) x y zip is = zip_here R xs ys j x y zip
 pub set_beyond : (ns : List ℕ) (j n : ℕ) → length ns ≤ j → set ns j n ≡ ns
 set_beyond ns j n le = set_past ns j n le
 
--- ---- what is told
+-- ---- the verdict
 
 statuses_are : (given : Settings) (k : ℕ) (texts : List Text) (readings : List ChannelReading) (channels : List FedChannel) (statuses : List Status) → IsPageSize given.page_size
     → AllZip (HoldsChannel given k) texts channels → AllZip (λ (text : Text) (reading : ChannelReading). IsReading given text.bytes text.ended reading) texts readings
@@ -155,7 +155,7 @@ channel_noted given uuid j step texts places n have valid =
           (subst (λ (many : ℕ). AllZip (are_valid many) texts.channels places.channels) (sym (length-set texts.channels j text)) have.channels) valid;
     }
 
--- the channel that was read stands for the text with the step
+-- the channel that was read stands for the stream with the step
 pub channel_stands : (given : LoadSettings) (uuid : List ℕ) (k j : ℕ) (step : Text → Text) (texts : Texts) (s : FedSources) (c : FedChannel) → Holds given uuid k (at_source (source.Channel j) step texts) s → slice_get s.channels j ≡ Some c
     → HoldsChannel (settings given.page_size uuid (length (at_source (source.Channel j) step texts).channels)) k (step (get_or texts.channels j no_text)) c
 channel_stands given uuid k j step texts s c holds there =
@@ -199,7 +199,7 @@ channels_have given k from (text ∷ texts) (r ∷ readings) (c ∷ channels) si
     All-cons (λ c. c.round ≢ None) c channels (channel.whole_waits given k text c r size holds.0 are.0 (All-head IsWhole here rest whole))
     (channels_have given k (from + 1) texts readings channels size holds.1 are.1 (All-tail IsWhole here rest whole))
 
--- where no verdict is told the round is here of each
+-- where there is no verdict the round is here of each
 pub have_round : (given : LoadSettings) (uuid : List ℕ) (k : ℕ) (texts : Texts) (readings : Readings) (s : FedSources) → IsPageSize given.page_size → Holds given uuid k texts s
     → AreReadings given uuid texts readings → IsDue k readings → HaveRound s
 have_round given uuid k texts readings s size holds are due =
@@ -291,7 +291,7 @@ packets_more channels i c below is =
 pub zip_replicate : {X Y : Type 0} (R : X → Y → Type 0) (n : ℕ) (x : X) (y : Y) (ys : List Y) → AllZip R (replicate n x) ys → R x y → AllZip R (replicate (n + 1) x) (ys ++ y ∷ [])
 zip_replicate R n x y ys zip here = subst (λ l. AllZip R l (ys ++ y ∷ [])) (replicate_more n x) (zip_push R (replicate n x) ys x y zip here)
 
--- packets that lend these texts say what these say
+-- packets that lend these bytes say what these say
 pub lent_fields : (page_size : ℕ) (packets : List Packet) (texts : List (List ℕ)) → map (λ (p : Packet). p.bytes.now) packets ≡ texts → All (λ (p : Packet). p.page_size ≡ page_size) packets
     → map fields packets ≡ map (fields_of page_size) texts
 lent_fields page_size [] texts e all = ap (map (fields_of page_size)) e
@@ -326,7 +326,7 @@ channel_counts_step (c ∷ channels) zero p new by there same =
     ap (λ (x : Count). x ∷ map channel_count channels) (same ∙ ap (λ (q : FedChannel). by (channel_count q)) (sym is))
 channel_counts_step (c ∷ channels) (suc j) p new by there same = ap (λ (l : List Count). channel_count c ∷ l) (channel_counts_step channels j p new by there same)
 
--- one fewer waits behind a round that was here
+-- one fewer waits after a round that was here
 pub waits_one : (m : FedMain) → m.round ≢ None → main_waiting m ≡ stream_waiting m.reader + 1
 waits_one m some = go m.round some
   where

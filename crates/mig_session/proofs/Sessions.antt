@@ -1,4 +1,4 @@
--- What a session stands for: before the first piece, after each, and once a text is over.
+-- What a session stands for: before the first piece, after each, and once a source has ended.
 use Rattle.std.proofs.Common.{ℕ, zero, suc, ◌≡◌, ◌≢◌, ◌⊎◌, ◌+◌, ◌<◌, Bool, true, false, List, [], ◌∷◌, ◌++◌, append_assoc, length, map, set, get_or, replicate, refl, sym, ap, subst, ◌∙◌, cond, inl, inr, Option, Some, None, arith}
 use Rattle.std.specs.Prelude.{nat_lt, ◌==◌, IsFalse, slice_get, Result, Ok, Err, IfOk, OnOk, IfSome}
 use Rattle.std.specs.List.{AllZip, All, enumerate_from, range_with_len}
@@ -68,7 +68,7 @@ held_counts given uuid k texts s holds =
     ap (λ (x : Count). record { main = x; channels = map channel_count s.channels }) m
     ∙ ap (λ (l : List Count). record { main = count_in texts.main; channels = l }) (channels_counted (settings given.page_size uuid (length texts.channels)) k texts.channels s.channels holds.channels)
 
--- a text that takes a step has the count that does
+-- a stream that takes a step has the count that does
 channel_stepped : (j : ℕ) (step : Text → Text) (by : Count → Count) (texts : List Text) → ((text : Text) → count_in (step text) ≡ by (count_in text))
     → map count_in (set texts j (step (get_or texts j no_text))) ≡ set (map count_in texts) j (by (get_or (map count_in texts) j no_count))
 channel_stepped j step by [] same = refl
@@ -88,7 +88,7 @@ counts_fed from piece texts =
 pub counts_ended : (from : Source) (texts : Texts) → counts_in (end_step from texts) ≡ with_end (counts_in texts) from
 counts_ended from texts = counts_stepped from over (λ (c : Count). record c { ended = true }) texts (λ (text : Text). refl)
 
--- ---- texts go on
+-- ---- streams go on
 
 stays_same : (text : Text) → GoesOn text text
 stays_same text = record { more = []; has_bytes = sym (append-nil text.bytes); stays_ended = λ e. refl }
@@ -102,7 +102,7 @@ one_goes j step [] goes = tt
 one_goes zero step (text ∷ texts) goes = (goes, all_same texts)
 one_goes (suc j) step (text ∷ texts) goes = (stays_same text, one_goes j step texts goes)
 
--- a source's text
+-- a source's stream
 abbrev text_of : Texts → Source → Text
 text_of texts source.Main = texts.main
 text_of texts (source.Channel j) = get_or texts.channels j no_text
@@ -147,7 +147,7 @@ put_still before now (Some t) stays has =
       };
     }
 
--- the texts of a feeding, further on
+-- the streams of a feeding, further on
 abbrev pub further : Feeding → Texts → Readings → Feeding
 further f texts readings = record { given = f.given; uuid = f.uuid; texts = texts; readings = readings }
 
@@ -197,7 +197,7 @@ bases given uuid texts readings (Some t) size are has = record {
   is_few = has.has_put.is_few;
 }
 
--- the verdict is told: the session stands for the texts
+-- the verdict is found: the session stands for the streams
 pub stands_told : (given : LoadSettings) (uuid : List ℕ) (texts : Texts) (readings : Readings) (counts : Counts) (places : Option Places) (kept : Option FedSources) (sources : FedSources) (target : Option LoadTarget) (verdict : Verdict)
     → IsPageSize given.page_size → AreReadings given uuid texts readings → counts ≡ counts_in texts → Holds given uuid (rounds_loaded target) texts sources → HasRounds readings target
     → TellsVerdict readings target verdict → (kept ≡ Some sources) ⊎ (kept ≡ None) → HavePlaces given uuid texts places
@@ -236,7 +236,7 @@ lacks_of given uuid texts readings counts kept (Some t) size are counted has = r
 
 -- ---- before the first piece
 
--- what nothing tells
+-- what no bytes say
 abbrev nothing_read : StreamReading
 nothing_read = record { table = None; rounds = []; state = Reading }
 
@@ -359,7 +359,7 @@ lacking_steps given uuid texts now s counts lacks goes counted = record {
 pub lacks_is_settled : (given : LoadSettings) (uuid : List ℕ) (texts : Texts) (s : LoadSession) → LacksMemory given uuid texts s → s.verdict ≢ Running
 lacks_is_settled given uuid texts s lacks running = let bad : failed_without_memory (rounds_loaded s.target) ≡ Running = sym lacks.is_without.has_verdict ∙ running in absurd cc
 
--- ---- a text is over
+-- ---- a source has ended
 
 whole_below : (k n : ℕ) (end : Status) → is_whole end ≡ false → is_whole (status_at k n end) ≡ true → k < n
 whole_below k n end other whole = elim (cases_order k n) [
@@ -373,7 +373,7 @@ whole_below k n end other whole = elim (cases_order k n) [
   ]
 ]
 
--- a source that has a round once it is over had it before
+-- a source that has a round once it has ended had it before
 settled_before : (k n m : ℕ) (old new : Status) → n ≡ m → is_whole new ≡ false → is_whole (status_at k m new) ≡ true → is_pending (status_at k n old) ≡ false
 settled_before k n m old new same other whole =
     let below : k < m = whole_below k m new other whole in
@@ -437,7 +437,7 @@ as_many : (from : Source) (texts : Texts) → length (end_step from texts).chann
 as_many source.Main texts = refl
 as_many (source.Channel j) texts = length-set texts.channels j (over (get_or texts.channels j no_text))
 
--- where a source was pending something is told once a text is over
+-- where a source was pending there is a verdict once a source has ended
 pub still_told : (given : LoadSettings) (uuid : List ℕ) (k : ℕ) (from : Source) (texts : Texts) (before now : Readings) → IsPageSize given.page_size → AreReadings given uuid texts before
     → AreReadings given uuid (end_step from texts) now → IsFirstStop before k → Running ≡ verdict_at k before → IsDue k now → ⊥
 still_told given uuid k from texts before now size are_before are_now stop running due =
@@ -455,20 +455,20 @@ still_told given uuid k from texts before now size are_before are_now stop runni
 
 -- ---- a piece is taken
 
--- what advancing leaves, by what the texts tell
+-- what advancing leaves, by what the streams say
 pub taken_of : {E : Type 0} (f : Feeding) (s : FedSources) (target : Option LoadTarget) (result : Result Verdict E) → HasAdvanced f s target result
     → HasRounds f.readings target × IfOk result (λ verdict. Holds f.given f.uuid (rounds_loaded target) f.texts s × TellsVerdict f.readings target verdict)
 taken_of f s target (Ok verdict) has = (has.advances.has_rounds, (has.advances.holds, has.is_told))
 taken_of f s target (Err e) has = (has.advances.has_rounds, tt)
 
--- a piece of a source that isn't over
+-- a piece of a source that hasn't ended
 pub goes_fed : (f : Feeding) (s : FedSources) (target : Option LoadTarget) (from : Source) (piece : List ℕ) → Advances f s target → HasSource (counts_of s) from
     → IsFalse (count_of (counts_of s) from).ended → GoOn f.texts (feed_step from piece f.texts)
 goes_fed f s target from piece advances there open_ =
     let same = held_counts f.given f.uuid (rounds_loaded target) f.texts s advances.holds in
     fed_goes_on from piece f.texts (subst (λ (c : Counts). HasSource c from) same there) (subst (λ (c : Counts). IsFalse (count_of c from).ended) same open_)
 
--- some readings of texts that went on, and how far a session has come with them
+-- some readings of streams that went on, and how far a session has come with them
 pub next_feeding : (f : Feeding) (s new : FedSources) (target : Option LoadTarget) (texts : Texts) → Advances f s target → GoOn f.texts texts
     → Holds f.given f.uuid (rounds_loaded target) texts new → (next : Feeding) × Advances next new target
 next_feeding f s new target texts advances goes holds =
@@ -505,7 +505,7 @@ abbrev pub Notes : Source → List ℕ → FedSources → Option Places → Opti
 Notes from piece sources old new = (given : LoadSettings) (uuid : List ℕ) (k : ℕ) (texts : Texts) → IsPageSize given.page_size → Holds given uuid k texts sources
     → HavePlaces given uuid texts old → HavePlaces given uuid (feed_step from piece texts) new
 
--- those of a session that runs are of all its texts
+-- those of a session that runs are of all its streams
 places_now : (given : LoadSettings) (uuid : List ℕ) (texts : Texts) (s : LoadSession) (sources : FedSources) → s.sources ≡ Some sources → StandsFor given uuid texts s → HavePlaces given uuid texts s.places
 places_now given uuid texts s sources some stands =
     subst (λ (t : Texts). HavePlaces given uuid t s.places) (stands.has_read_all (λ none. let bad : Some sources ≡ None = sym some ∙ none in absurd cc)) stands.have_places
@@ -584,7 +584,7 @@ end_lacks given uuid texts s from counts lacks counted =
     lacking_steps given uuid texts (end_step from texts) s counts lacks (ended_goes_on from texts)
     (counted ∙ ap (λ (c : Counts). with_end c from) lacks.has_counts ∙ sym (counts_ended from texts))
 
--- a session that runs is told that a source is over
+-- a source of a session that runs is ended
 none_there : (readings : Readings) → None ≡ memory_at 0 readings → readings.main.table ≡ None
 none_there readings e = go readings.main.table e
   where
@@ -647,9 +647,9 @@ is_session_still counts places kept sources target verdict keeps counted some = 
     go Done k c = rw (k.1 (λ e. absurd cc)) tt
     go (Failed f) k c = rw (k.1 (λ e. absurd cc)) tt
 
--- ---- up to where the texts are valid
+-- ---- up to where the streams are valid
 
--- what is so of the texts that it stands for as read
+-- what is so of the streams that it stands for as read
 pub as_read : (given : LoadSettings) (uuid : List ℕ) (texts : Texts) (s t : LoadSession) (IsSo : Texts → Type 0) → t ≡ s → IsSession t → (stands : StandsFor given uuid texts s) → IsSo stands.read
     → AsRead given uuid texts s IsSo
 as_read given uuid texts s t IsSo same is stands so =
@@ -688,7 +688,7 @@ source_read given uuid texts s p (source.Channel j) stands some there =
     (omega (arith, below, length-map texts.channels count_in, as_many_texts read.channels texts.channels stands.goes_on.channels)) in
     subst (λ (o : Option ℕ). IsSourceValidUpTo given uuid read (source.Channel j) o) (sym here.1) here.2
 
--- a text that is closed is so where others follow
+-- a stream that is closed is so where other bytes follow
 closed_more : (given : StreamSettings) (text more : List ℕ) (n : ℕ) → stream.IsClosedAt given text n → stream.IsClosedAt given (text ++ more) n
 closed_more given text more n c = record {
   fits = omega (arith, c.fits, length-append text more);

@@ -1,4 +1,4 @@
--- What the verdict that sources tell at a round says of the answer on texts so far.
+-- What the verdict that sources give at a round says of the answer on streams so far.
 use Rattle.std.proofs.Common.{ℕ, ◌≡◌, Bool, true, false, List, [], ◌∷◌, refl, sym, ap, ◌∙◌, inl, inr, Option, Some, None}
 use Rattle.std.specs.Prelude.{IsTrue, IsFalse}
 use Rattle.std.specs.Bool.{then_some}
@@ -28,7 +28,7 @@ none_of_any test (x ∷ xs) e = elim (cases_Bool (test x)) [
   | inr f ↦ All-cons (λ y. test y ≡ false) x xs f (none_of_any test xs (let rest : list_any test (x ∷ xs) ≡ list_any test xs = rw f refl in sym rest ∙ e))
 ]
 
--- where nothing is told no source is pending
+-- where there is no verdict no source is pending
 settled_where_due : (k : ℕ) (m : Standing) (cs : List Standing) (repeated : Option ℕ) → first_some (verdicts_told k m cs repeated) ≡ None → All IsSettled (m ∷ cs)
 settled_where_due k m cs repeated none =
     none_of_any (λ (s : Standing). is_pending s.status) (m ∷ cs) (then_none (list_any (λ (s : Standing). is_pending s.status) (m ∷ cs)) Running (first_none
@@ -63,7 +63,7 @@ due_refused k readings f due refused =
     ∙ ap (λ (o : Option RoundFault). first_some (option_map (λ (x : RoundFault). failed k origin.Round (fault.Round x)) o ∷ [])) refused in
     (stops, sym (ap (λ (o : Option Verdict). unwrap_or o Running) first))
 
--- what is told is the verdict at a round that doesn't pass
+-- a verdict of the sources is that at a round that doesn't pass
 pub told_here : (k : ℕ) (readings : Readings) (v : Verdict) → Some v ≡ first_some (told_at k readings) → IsFalse (passes k readings) × (v ≡ verdict_at k readings)
 told_here k readings v e =
     let found = told_first_some k readings v (sym e) in

@@ -22,8 +22,9 @@ pub record IsPiece (piece : List ℕ) : Type 0 where
   pub is_some : 0 < length piece
   pub is_short : length piece ≤ piece_limit
 
--- What the reader's counts tell of an answer. Ok: one read was an end, and none failed. Read: one failed, and none was an end.
--- TooManyTurns: there were all the reads that were allowed, and each gave bytes. NoMemory: each gave bytes.
+-- What the reader's counts say of an answer. Ok: one read was an end, and none failed. Read: one
+-- failed, and none was an end. TooManyTurns: there were all the reads that were allowed, and each
+-- gave bytes. NoMemory: each gave bytes.
 abbrev pub Explains : ℕ → ReadsSoFar → ReadsSoFar → Result ℕ PumpFault → Type 0
 Explains turns old new (Ok len) = (new.ends ≡ old.ends + 1) × (new.failed ≡ old.failed)
 Explains turns old new (Err Read) = (new.ends ≡ old.ends) × (new.failed ≡ old.failed + 1)
@@ -37,7 +38,8 @@ reads_after old pieces (Err Read) = after_failure (after_pieces old pieces)
 reads_after old pieces (Err TooManyTurns) = after_pieces old pieces
 reads_after old pieces (Err NoMemory) = after_pieces old pieces
 
--- The reader gave these pieces, in this order. At Ok the number is that of their bytes, and no more are to come.
+-- The reader gave these pieces, in this order. At Ok the number is that of their bytes, and no more
+-- are to come.
 pub record HasRead (pieces : List (List ℕ)) (result : Result ℕ PumpFault) (before after : Option (List ℕ)) : Type 0 where
   pub are_pieces : All IsPiece pieces
   pub are_given : Consumes before after (concat pieces)
@@ -46,7 +48,7 @@ pub record HasRead (pieces : List (List ℕ)) (result : Result ℕ PumpFault) (b
 
 -- ---- what was fed
 
--- the texts with these pieces of a source fed, one after another
+-- the streams with these pieces of a source fed, one after another
 abbrev pub piece_steps : Source → List (List ℕ) → Texts → Texts
 piece_steps source [] texts = texts
 piece_steps source (piece ∷ pieces) texts = piece_steps source pieces (feed_step source piece texts)
@@ -66,8 +68,8 @@ pub record HasRunOut (source : Source) (pieces : List (List ℕ)) (old new : Loa
   pub runs_out : RunsOut (piece_steps source pieces) old new
   pub has_verdict : new.verdict ≡ failed_without_memory (answer_in new).rounds
 
--- What a pump that fed these pieces makes of the texts that a session stands for. At NoMemory it ran out in the last piece, or the pump's
--- buffer was refused, and nothing has changed.
+-- What a pump that fed these pieces makes of the streams that a session stands for. At NoMemory it
+-- ran out in the last piece, or the pump's buffer was refused, and nothing has changed.
 abbrev pub PumpsOn : Source → List (List ℕ) → Result ℕ PumpFault → LoadSession → LoadSession → Type 0
 PumpsOn source pieces (Ok len) old new = StepsOn (pump_step source pieces (Ok len)) old new
 PumpsOn source pieces (Err Read) old new = StepsOn (piece_steps source pieces) old new

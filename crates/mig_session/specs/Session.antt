@@ -1,4 +1,4 @@
--- A load whose texts come in pieces: what a session holds, and the texts that it stands for.
+-- A load whose streams come in pieces: what a session holds, and the streams that it stands for.
 use Rattle.std.specs.Prelude.{ℕ, ◌≡◌, ◌≢◌, ◌≤◌, ◌<◌, ◌+◌, ◌^◌, true, false, List, length, map, slice_get, slice_set, get_or, Option, None, Some, IfSome, ⊤}
 use Rattle.std.specs.List.{AllZip}
 use Rattle.std.specs.Option.{option_map, option_map_or}
@@ -28,7 +28,7 @@ use Rattle.mig_session.specs.Sources.{Counts, Places, FedSources, counts_of, Hol
 -- ---- what a session holds
 
 pub record LoadSession : Type 0 where
-  -- how much of each text has come
+  -- how much of each stream has come
   pub counts : Counts
   -- up to where each was valid, as far as it was read; None after a refused allocation
   pub places : Option Places
@@ -42,7 +42,7 @@ pub record LoadSession : Type 0 where
 abbrev pub rounds_loaded : Option LoadTarget → ℕ
 rounds_loaded target = option_map_or (λ t. t.rounds) target 0
 
--- what a session tells
+-- what a session answers
 abbrev pub answer_in : LoadSession → Answer
 answer_in s = record { memory = option_map (λ t. t.memory) s.target; rounds = rounds_loaded s.target; verdict = s.verdict }
 
@@ -56,7 +56,7 @@ HasSource counts (source.Channel j) = j < length counts.channels
 abbrev pub no_count : Count
 no_count = record { fed = 0; ended = false }
 
--- how much of a source's text has come
+-- how much of a source has come
 abbrev pub count_of : Counts → Source → Count
 count_of counts source.Main = counts.main
 count_of counts (source.Channel j) = get_or counts.channels j no_count
@@ -72,7 +72,7 @@ with_fed counts from len = with_count counts from (record (count_of counts from)
 abbrev pub with_end : Counts → Source → Counts
 with_end counts from = with_count counts from (record (count_of counts from) { ended = true })
 
--- ---- the texts that it stands for
+-- ---- the streams that it stands for
 
 abbrev pub count_in : Text → Count
 count_in text = record { fed = length text.bytes; ended = text.ended }
@@ -80,16 +80,16 @@ count_in text = record { fed = length text.bytes; ended = text.ended }
 abbrev pub counts_in : Texts → Counts
 counts_in texts = record { main = count_in texts.main; channels = map count_in texts.channels }
 
--- a source's text takes a step
+-- a source's stream takes a step
 abbrev pub at_source : Source → (Text → Text) → Texts → Texts
 at_source source.Main step texts = record texts { main = step texts.main }
 at_source (source.Channel j) step texts = record texts { channels = slice_set texts.channels j (step (get_or texts.channels j no_text)) }
 
--- a piece of a source's text has come
+-- a piece of a source has come
 abbrev pub feed_step : Source → List ℕ → Texts → Texts
 feed_step from piece texts = at_source from (with_piece piece) texts
 
--- a source's text has ended
+-- a source has ended
 abbrev pub end_step : Source → Texts → Texts
 end_step from texts = at_source from over texts
 
@@ -98,19 +98,19 @@ pub record HasBase (given : LoadSettings) (uuid : List ℕ) (texts : Texts) (t :
   pub has_base : (readings : Readings) → AreReadings given uuid texts readings → t.base ≡ base_at t.rounds readings
   pub is_few : t.base ≤ 2 ^ 63
 
--- As long as a load runs, all of the texts was read, and the rounds that it counts were judged.
+-- As long as a load runs, all of the streams was read, and the rounds that it counts were judged.
 pub record IsRunning (given : LoadSettings) (uuid : List ℕ) (texts : Texts) (target : Option LoadTarget) (sources : FedSources) : Type 0 where
   pub holds : Holds given uuid (rounds_loaded target) texts sources
   pub has_base : IfSome target (HasBase given uuid texts)
 
--- ---- up to where the texts are valid
+-- ---- up to where the streams are valid
 
 -- that of a source, None for a channel that there isn't
 abbrev pub place_of : Places → Source → Option ℕ
 place_of places source.Main = Some places.main
 place_of places (source.Channel j) = slice_get places.channels j
 
--- These are the places up to which the texts are valid, and where the main stream is closed.
+-- These are the places up to which the streams are valid, and where the main stream is closed.
 pub record HasPlaces (given : LoadSettings) (uuid : List ℕ) (texts : Texts) (places : Places) : Type 0 where
   pub main : stream.IsValidUpTo (main_of given) texts.main.bytes places.main
   pub closed : stream.HasClosedAt (main_of given) texts.main.bytes places.closed_at
@@ -120,17 +120,18 @@ abbrev pub HavePlaces : LoadSettings → List ℕ → Texts → Option Places �
 HavePlaces given uuid texts None = ⊥
 HavePlaces given uuid texts (Some places) = HasPlaces given uuid texts places
 
--- a source's text is valid up to there
+-- a source is valid up to there
 abbrev pub IsSourceValidUpTo : LoadSettings → List ℕ → Texts → Source → Option ℕ → Type 0
 IsSourceValidUpTo given uuid texts from None = ⊥
 IsSourceValidUpTo given uuid texts source.Main (Some n) = stream.IsValidUpTo (main_of given) texts.main.bytes n
 IsSourceValidUpTo given uuid texts (source.Channel j) (Some n) =
     channel.IsValidUpTo (settings given.page_size uuid (length texts.channels)) (get_or texts.channels j no_text).bytes n
 
--- ---- the texts, and how the session stands at them
+-- ---- the streams, and how the session stands at them
 
--- The session was made with these settings and UUID, and so much of the texts has come. It tells their answer.
--- It has read all of them as long as it runs. Once it doesn't, it has read so much as its answer rests on.
+-- The session was made with these settings and UUID, and so much of the streams has come. It gives
+-- their answer. It has read all of them as long as it runs. Once it doesn't, it has read so much as
+-- its answer rests on.
 pub record StandsFor (given : LoadSettings) (uuid : List ℕ) (texts : Texts) (s : LoadSession) : Type 0 where
   pub is_page_size : IsPageSize given.page_size
   pub has_counts : s.counts ≡ counts_in texts
@@ -142,24 +143,27 @@ pub record StandsFor (given : LoadSettings) (uuid : List ℕ) (texts : Texts) (s
   pub is_answer_there : IsAnswer given uuid read (answer_in s)
   pub have_places : HavePlaces given uuid read s.places
 
--- The session read so much of the texts: all of them as long as it runs, and later so much as its answer rests on.
+-- The session read so much of the streams: all of them as long as it runs, and later so much as its
+-- answer rests on.
 pub record HasRead (given : LoadSettings) (uuid : List ℕ) (texts : Texts) (s : LoadSession) (read : Texts) : Type 0 where
   pub goes_on : GoOn read texts
   pub has_read_all : s.verdict ≡ Running → read ≡ texts
   pub is_answer : IsAnswer given uuid read (answer_in s)
 
--- This is so of the texts as far as the session read them.
+-- This is so of the streams as far as the session read them.
 abbrev pub AsRead : LoadSettings → List ℕ → Texts → LoadSession → (Texts → Type 0) → Type 0
 AsRead given uuid texts s IsSo = (read : Texts) × HasRead given uuid texts s read × IsSo read
 
--- The same, where an allocation was refused: the answer is the one for that, and stays.
+-- The session stands for these streams where an allocation was refused: the answer is the one for
+-- that, and stays.
 pub record LacksMemory (given : LoadSettings) (uuid : List ℕ) (texts : Texts) (s : LoadSession) : Type 0 where
   pub is_page_size : IsPageSize given.page_size
   pub has_counts : s.counts ≡ counts_in texts
   pub is_without : IsWithoutMemory given uuid texts (answer_in s)
   pub has_no_places : s.places ≡ None
 
--- A call takes this step: whatever texts the session stood for before it, it stands for those with the step done.
+-- A call takes this step: whatever streams the session stood for before it, it stands for those
+-- with the step done.
 abbrev pub StepsOn : (Texts → Texts) → LoadSession → LoadSession → Type 0
 StepsOn step old new = (given : LoadSettings) (uuid : List ℕ) (texts : Texts) → StandsFor given uuid texts old → StandsFor given uuid (step texts) new
 
@@ -184,7 +188,8 @@ pub record StandsForSome (s : LoadSession) : Type 0 where
   pub texts : Texts
   pub stands : StandsFor given uuid texts s
 
--- It keeps its sources as long as it runs. Their readers were given what it counts, and it stands for some texts.
+-- It keeps its sources as long as it runs. Their readers were given what it counts, and it stands
+-- for some streams.
 pub record IsSession (s : LoadSession) : Type 0 where
   pub is_open : s.verdict ≡ Running → s.sources ≢ None
   pub is_settled : s.verdict ≢ Running → s.sources ≡ None

@@ -37,12 +37,12 @@ pub record FedSources : Type 0 where
   pub main : FedMain
   pub channels : List FedChannel
 
--- how much of each source's text has come
+-- how much of each source has come
 pub record Counts : Type 0 where
   pub main : Count
   pub channels : List Count
 
--- up to where each source's text is valid, and where the main stream is closed
+-- up to where each source is valid, and where the main stream is closed
 pub record Places : Type 0 where
   pub main : ℕ
   pub closed_at : Option ℕ
@@ -70,24 +70,26 @@ main_so_far text taken = record { text = text.bytes; ended = text.ended; taken =
 abbrev pub channel_so_far : Text → ℕ → channel_reader.SoFar
 channel_so_far text taken = record { text = text.bytes; ended = text.ended; taken = taken }
 
--- the records of round k of a main stream's text, which are of pages of its table
+-- the records of round k of a main stream, which are of pages of its table
 pub record IsMainRound (given : stream.Settings) (k : ℕ) (text : List ℕ) (round : RoundOfRecords) : Type 0 where
   pub has_page_size : round.page_size ≡ given.page_size
   pub has_records : stream_reader.HasRound given text k round.records
   pub has_places : (table : RamTable) → stream_reader.HasTable given text (Some table) → All (λ x. IsPlace table x.place) round.records
 
--- Of the main stream so much has come, and its first k rounds were judged; the next one is here, or isn't whole.
+-- Of the main stream so much has come, and its first k rounds were judged; the next one is here, or
+-- isn't complete.
 pub record HoldsMain (given : stream.Settings) (k : ℕ) (text : Text) (m : FedMain) : Type 0 where
   pub stands : stream_reader.Stands given (main_so_far text (with_one k m.round)) m.reader
   pub has_round : IfSome m.round (IsMainRound given k text.bytes)
   pub has_none : IfNone m.round ((i : ℕ) (records : List PageRecord) → stream_reader.HasRound given text.bytes i records → i < k)
 
--- the packets of round k of a channel's text
+-- the packets of round k of a channel
 pub record IsChannelRound (given : channel.Settings) (k : ℕ) (text : List ℕ) (round : channel_reader.RoundOfPackets) : Type 0 where
   pub has_page_size : round.page_size ≡ given.page_size
   pub has_packets : channel_reader.HasRound given text k round.packets
 
--- Of a channel so much has come, and its first k rounds were judged; the next one is here, or isn't whole.
+-- Of a channel so much has come, and its first k rounds were judged; the next one is here, or isn't
+-- complete.
 pub record HoldsChannel (given : channel.Settings) (k : ℕ) (text : Text) (c : FedChannel) : Type 0 where
   pub stands : channel_reader.Stands given (channel_so_far text (with_one k c.round)) c.reader
   pub has_round : IfSome c.round (IsChannelRound given k text.bytes)
@@ -98,7 +100,7 @@ pub record Holds (given : LoadSettings) (uuid : List ℕ) (k : ℕ) (texts : Tex
   pub main : HoldsMain (main_of given) k texts.main s.main
   pub channels : AllZip (HoldsChannel (channel.settings given.page_size uuid (length texts.channels)) k) texts.channels s.channels
 
--- ---- what is told of a source
+-- ---- what a source says
 
 -- this is how it stands at the round that is judged next
 abbrev pub TellsMainStatus : FedMain → Status → Type 0
@@ -114,7 +116,7 @@ abbrev pub TellsHello : FedChannel → Option ℕ → Type 0
 TellsHello c hello = (given : channel.Settings) (k : ℕ) (text : Text) (reading : channel.ChannelReading) → IsPageSize given.page_size
     → HoldsChannel given k text c → channel.IsReading given text.bytes text.ended reading → hello ≡ reading.hello
 
--- this is the verdict that the sources tell at round k, None where all have it
+-- this is the sources' verdict at round k; None where all have it, and no hello comes again
 abbrev pub TellsAll : ℕ → FedSources → Option Verdict → Type 0
 TellsAll k s told = (given : LoadSettings) (uuid : List ℕ) (texts : Texts) (readings : Readings) → IsPageSize given.page_size
     → Holds given uuid k texts s → AreReadings given uuid texts readings

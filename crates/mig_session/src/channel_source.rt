@@ -20,7 +20,7 @@ use uuid::Uuid;
 #[derive(Drop)]
 pub(crate) struct ChannelSource<A: Allocator = Global> {
     reader: ChannelReader<A>,
-    // where it is whole
+    // where it is complete
     round: Option<PacketRound<A>>,
 }
 
@@ -33,7 +33,7 @@ impl<A: Allocator> Model for ChannelSource<A> {
 }
 
 impl<A: Allocator + Copy> ChannelSource<A> {
-    /// Nothing of it.
+    /// Creates a channel of which nothing has come.
     pub(crate) fn new(alloc: A, page_size: u64, uuid: Uuid, channels: usize) -> ChannelSource<A>
         requires page_size { IsPageSize page_size }
         requires channels { (0 < channels) × (channels ≤ 255) }
@@ -48,7 +48,7 @@ impl<A: Allocator + Copy> ChannelSource<A> {
         source
     }
 
-    /// Takes a piece of the text. An `Err` changes nothing.
+    /// Takes a piece of the channel. An `Err` changes nothing.
     pub(crate) fn feed(&mut self, piece: &[u8]) -> Result<(), NoMemory>
         requires open { IsFalse self.old.reader.ended }
         requires room { self.old.reader.fed + length piece.now < 2 ^ 64 }
@@ -67,7 +67,7 @@ impl<A: Allocator + Copy> ChannelSource<A> {
         Ok(())
     }
 
-    /// Gathers the packets of the round that is judged next, where it is whole.
+    /// Gathers the packets of the round that is judged next, if it is complete.
     pub(crate) fn gather<'a>(&'a self, gathered: &mut Gathered<'a, A>) -> Result<(), NoMemory>
         ensures packets { OnOk result (map fields gathered.new ≡ map fields gathered.old ++ packets_of self.now) }
         ensures page_size { OnOk result ((page_size : ℕ) → IsOfSize page_size self.now → All (λ packet. packet.page_size ≡ page_size) gathered.old
@@ -97,7 +97,7 @@ impl<A: Allocator> ChannelSource<A> {
         }
     }
 
-    /// The text is over.
+    /// Ends the channel.
     pub(crate) fn end(&mut self)
         ensures holds { (given : Settings) (k : ℕ) (text : Text) → HoldsChannel given k text self.old → HoldsChannel given k (over text) self.new }
         ensures count { channel_count self.new ≡ record (channel_count self.old) { ended = true } }
@@ -105,7 +105,7 @@ impl<A: Allocator> ChannelSource<A> {
         self.reader.end();
     }
 
-    /// How the channel stands at the round that is judged next.
+    /// Returns the channel's status at the round that is judged next.
     pub(crate) fn status(&self) -> Status
         ensures { TellsChannelStatus self.now result }
     {
@@ -115,14 +115,15 @@ impl<A: Allocator> ChannelSource<A> {
         channel_end(self.reader.state())
     }
 
-    /// Returns up to where the text is valid.
+    /// Returns up to where the channel is valid.
     pub(crate) fn valid_up_to(&self) -> u64
         ensures { (given : Settings) (k : ℕ) (text : Text) → HoldsChannel given k text self.now → IsValidUpTo given text.bytes result }
     {
         self.reader.valid_up_to()
     }
 
-    /// The id that its hello names. None before the hello is whole, and where it has a fault.
+    /// Returns the id that its hello names. None before the hello is complete, or if the hello has
+    /// a fault.
     pub(crate) fn hello(&self) -> Option<u8>
         ensures { TellsHello self.now result }
     {

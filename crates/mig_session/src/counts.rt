@@ -1,4 +1,5 @@
-//! How much of each source's text has come, for `Session`, which tells it also once it has let go of its readers.
+//! How much of each source has come, for `Session`. It returns these counts also once it has
+//! dropped its readers.
 
 ghost use Rattle.std.specs.Prelude.{◌≡◌, ◌+◌, ◌<◌, ◌≤◌, ◌^◌, IfOk, length, replicate};
 ghost use Rattle.mig_session.specs.Session.{HasSource, count_of, no_count, with_fed, with_end};
@@ -8,12 +9,12 @@ use mig_mem::NoMemory;
 use std::alloc::{Allocator, Global};
 use std::marker::Model;
 
-/// How much of a source's text has come.
+/// How much of a source has come.
 #[derive(Clone, Copy)]
 pub struct Count {
     /// The number of bytes.
     pub(crate) fed: u64,
-    /// Whether the text is over.
+    /// Whether the source has ended.
     pub(crate) ended: bool,
 }
 
@@ -22,7 +23,7 @@ const NOTHING: Count = Count {
     ended: false,
 };
 
-/// How much of each source's text has come.
+/// How much of each source has come.
 #[derive(Drop)]
 pub(crate) struct SourceCounts<A: Allocator = Global> {
     main: Count,
@@ -38,7 +39,7 @@ impl<A: Allocator> Model for SourceCounts<A> {
 }
 
 impl<A: Allocator> SourceCounts<A> {
-    /// Nothing of a main stream and so many channels.
+    /// Creates zero counts for a main stream and `channels` channels.
     pub(crate) fn new(alloc: A, channels: usize) -> Result<SourceCounts<A>, NoMemory>
         ensures { IfOk result (λ c. c ≡ record { main = no_count; channels = replicate channels no_count }) }
     {
@@ -52,7 +53,7 @@ impl<A: Allocator> SourceCounts<A> {
         })
     }
 
-    /// The number of channels.
+    /// Returns the number of channels.
     pub(crate) fn channels(&self) -> usize
         ensures { result ≡ length self.now.channels }
     {
@@ -69,7 +70,7 @@ impl<A: Allocator> SourceCounts<A> {
         }
     }
 
-    /// A piece of so many bytes has come.
+    /// Counts a piece of `len` bytes of `source`.
     pub(crate) fn add(&mut self, source: Source, len: usize)
         requires source { HasSource self.old source }
         requires room { (count_of self.old source).fed + len < 2 ^ 64 }
@@ -81,7 +82,7 @@ impl<A: Allocator> SourceCounts<A> {
         }
     }
 
-    /// A text is over.
+    /// Notes that `source` has ended.
     pub(crate) fn end(&mut self, source: Source)
         requires { HasSource self.old source }
         ensures { self.new ≡ with_end self.old source }

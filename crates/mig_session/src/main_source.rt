@@ -1,4 +1,5 @@
-//! What a session keeps of its main stream, for `sources`: the reader, and the round that is judged next.
+//! What a session keeps of its main stream, for `sources`: the reader, and the round that is judged
+//! next.
 
 ghost use Rattle.std.specs.Prelude.{ℕ, true, false, ◌≡◌, ◌+◌, ◌<◌, ◌≤◌, ◌^◌, List, IsFalse, IfSome, OnOk, OnErr, length, Some};
 ghost use Rattle.std.specs.Option.{option_copied};
@@ -20,7 +21,7 @@ use std::marker::Model;
 #[derive(Drop)]
 pub(crate) struct MainSource<A: Allocator = Global> {
     reader: StreamReader<'static, A>,
-    // where it is whole
+    // where it is complete
     round: Option<StreamRound<'static, A>>,
 }
 
@@ -33,7 +34,7 @@ impl<A: Allocator> Model for MainSource<A> {
 }
 
 impl<A: Allocator + Copy> MainSource<A> {
-    /// Nothing of it.
+    /// Creates a main stream of which nothing has come.
     pub(crate) fn new(alloc: A, settings: LoadSettings) -> MainSource<A>
         requires page_size { IsPageSize settings.page_size }
         requires limit { settings.limit ≤ 2 ^ 40 }
@@ -55,7 +56,7 @@ impl<A: Allocator + Copy> MainSource<A> {
         source
     }
 
-    /// Takes a piece of the text. An `Err` changes nothing.
+    /// Takes a piece of the stream. An `Err` changes nothing.
     pub(crate) fn feed(&mut self, piece: &[u8]) -> Result<(), NoMemory>
         requires open { IsFalse self.old.reader.ended }
         requires room { self.old.reader.fed + length piece.now < 2 ^ 64 }
@@ -85,7 +86,7 @@ impl<A: Allocator> MainSource<A> {
         }
     }
 
-    /// The text is over.
+    /// Ends the stream.
     pub(crate) fn end(&mut self)
         ensures holds { (given : Settings) (k : ℕ) (text : Text) → HoldsMain given k text self.old → HoldsMain given k (over text) self.new }
         ensures count { main_count self.new ≡ record (main_count self.old) { ended = true } }
@@ -93,7 +94,7 @@ impl<A: Allocator> MainSource<A> {
         self.reader.end();
     }
 
-    /// How the main stream stands at the round that is judged next.
+    /// Returns the main stream's status at the round that is judged next.
     pub(crate) fn status(&self) -> Status
         ensures { TellsMainStatus self.now result }
     {
@@ -103,28 +104,28 @@ impl<A: Allocator> MainSource<A> {
         stream_end(self.reader.state())
     }
 
-    /// The table, as soon as the size list is whole.
+    /// Returns the table, as soon as the size list is complete.
     pub(crate) fn table(&self) -> Option<&Table<A>>
         ensures { (given : Settings) (k : ℕ) (text : Text) → HoldsMain given k text self.now → HasTable given text.bytes (option_copied result) }
     {
         self.reader.table()
     }
 
-    /// Returns up to where the text is valid.
+    /// Returns up to where the stream is valid.
     pub(crate) fn valid_up_to(&self) -> u64
         ensures { (given : Settings) (k : ℕ) (text : Text) → HoldsMain given k text self.now → IsValidUpTo given text.bytes result }
     {
         self.reader.valid_up_to()
     }
 
-    /// Returns where the text is closed, if it is.
+    /// Returns where the stream is closed, if it is.
     pub(crate) fn closed_at(&self) -> Option<u64>
         ensures { (given : Settings) (k : ℕ) (text : Text) → HoldsMain given k text self.now → HasClosedAt given text.bytes result }
     {
         self.reader.closed_at()
     }
 
-    /// The round that is judged next, where it is whole.
+    /// Returns the round that is judged next, if it is complete.
     pub(crate) fn round(&self) -> Option<&StreamRound<'static, A>>
         ensures { option_copied result ≡ self.now.round }
     {

@@ -1,4 +1,5 @@
-//! Readers of pieces: where a pump has its bytes from. Callers hand one in, mostly a `Counted` over a reader of theirs.
+//! Readers of pieces: where a pump has its bytes from. Callers pass one, mostly a `Counted` over a
+//! reader of theirs.
 
 ghost use Rattle.std.specs.Prelude.{ℕ, ◌≡◌, ◌+◌, ◌<◌, ◌≤◌, ◌^◌, List, length, Option, None, IfOk};
 ghost use Rattle.std.specs.Io.KnownBytes.{ReadConsumes};
@@ -8,7 +9,7 @@ use std::fmt::{self, Debug, Formatter};
 use std::io::Read;
 use std::marker::Model;
 
-/// A read failed. The reader says no more of it.
+/// A read failed. Why isn't reported.
 #[derive(Clone, Copy, Debug, PartialEq, Eq)]
 pub struct ReadFailed;
 
@@ -20,7 +21,12 @@ pub trait PieceReader {
     // The bytes that are still to come, where they are known.
     ghost remaining: { Self → Option (List ℕ) } = { λ _. None };
 
-    /// Reads into the beginning of a piece, and gives the number of bytes: 0 where the input is at its end, or the piece is empty.
+    /// Reads into the beginning of `piece`, and returns the number of bytes. It is 0 at the end of
+    /// the input, or if `piece` is empty.
+    ///
+    /// # Errors
+    ///
+    /// `ReadFailed`: the reader failed.
     fn read_piece(&mut self, piece: &mut [u8]) -> Result<usize, ReadFailed>
         requires room { (reads self.old).reads < 2 ^ 63 }
         ensures len { length piece.new ≡ length piece.old }
@@ -56,7 +62,7 @@ impl ReadCounts {
         }
     }
 
-    // A piece with this room was read.
+    // Counts a read of a piece with room for `room` bytes.
     fn count(&mut self, room: usize, read: Result<usize, ReadFailed>)
         requires { self.old.reads < 2 ^ 63 }
         ensures { self.new ≡ after_read self.old room read }
@@ -70,7 +76,8 @@ impl ReadCounts {
     }
 }
 
-/// A reader of pieces over any reader. Each error of that one is a failed read, an interrupted read too: what comes next is still to be read.
+/// A reader of pieces over any reader. Each error of that reader is a failed read, an interrupted
+/// read too. What comes next is still to be read.
 #[derive(Drop)]
 pub struct Counted<R> {
     reader: R,
@@ -85,7 +92,7 @@ impl<R> Debug for Counted<R> {
 }
 
 impl<R: Read> Counted<R> {
-    /// It was not read yet.
+    /// Wraps `reader`. All counts start at zero.
     pub fn new(reader: R) -> Counted<R>
         ensures reads { ⟦<Counted<R> as PieceReader>⟧.reads result ≡ no_reads }
         ensures bytes { ⟦<Counted<R> as PieceReader>⟧.remaining result ≡ R.remaining reader }

@@ -1,5 +1,5 @@
-//! Up to where each source's text is valid, for `Session`, which reports it also once it has let go
-//! of its readers.
+//! Up to where each source is valid, for `Session`. It returns these places also once it has
+//! dropped its readers.
 
 ghost use Rattle.std.specs.Prelude.{◌≡◌, None, IfOk, replicate, slice_set};
 ghost use Rattle.mig_session.specs.Session.{place_of};
@@ -9,7 +9,7 @@ use mig_mem::NoMemory;
 use std::alloc::{Allocator, Global};
 use std::marker::Model;
 
-/// Up to where each source's text is valid, and where the main stream is closed.
+/// Up to where each source is valid, and where the main stream is closed.
 #[derive(Drop)]
 pub(crate) struct SourcePlaces<A: Allocator = Global> {
     main: u64,
@@ -37,7 +37,7 @@ impl<A: Allocator> SourcePlaces<A> {
         })
     }
 
-    /// Sets the main stream's.
+    /// Sets the main stream's place.
     pub(crate) fn set_main(&mut self, valid_up_to: u64, closed_at: Option<u64>)
         ensures { self.new ≡ record self.old { main = valid_up_to; closed_at = closed_at } }
     {
@@ -45,7 +45,7 @@ impl<A: Allocator> SourcePlaces<A> {
         self.closed_at = closed_at;
     }
 
-    /// Sets that of channel `j`, if there is one.
+    /// Sets the place of channel `j`, if there is one.
     #[tactic(auto, using(crate::proofs::KeptSources::set_beyond))]
     pub(crate) fn set_channel(&mut self, j: usize, valid_up_to: u64)
         ensures { self.new ≡ record self.old { channels = slice_set self.old.channels j valid_up_to } }
@@ -55,7 +55,7 @@ impl<A: Allocator> SourcePlaces<A> {
         }
     }
 
-    /// Returns up to where the text of `source` is valid. None for a channel that there isn't.
+    /// Returns up to where `source` is valid. None for a channel that doesn't exist.
     pub(crate) fn of(&self, source: Source) -> Option<u64>
         ensures { result ≡ place_of self.now source }
     {

@@ -1,4 +1,5 @@
-//! The pump, for callers with a reader for each source: it reads one to its end, and feeds a session what it reads.
+//! The pump, for callers with a reader for each source: it reads one source to its end, and feeds a
+//! session what it reads.
 
 ghost use Rattle.std.specs.Prelude.{ℕ, ◌≡◌, ◌≢◌, ◌+◌, ◌*◌, ◌<◌, ◌≤◌, ◌^◌, List, length, IsFalse, IfOk};
 ghost use Rattle.mig_answer.specs.declared.verdict.Verdict.TheVariants.{Running as running};
@@ -15,16 +16,17 @@ use std::fmt::{self, Display, Formatter};
 /// Why a pump ended before the end of its input.
 #[derive(Clone, Copy, Debug, PartialEq, Eq)]
 pub enum PumpFault {
-    /// The reader answered an error.
+    /// The reader returned an error.
     Read,
     /// None of the reads found the end, and there were as many as were allowed.
     TooManyTurns,
-    /// An allocation was refused: one of the session's, or that of the pump's buffer, before the first read.
+    /// An allocation was refused: one of the session's, or that of the pump's buffer, before the
+    /// first read.
     NoMemory,
 }
 
 impl PumpFault {
-    /// The fault's number in documents and in the tool's output.
+    /// Returns the fault's number, as documents and the tool's output have it.
     pub fn number(self) -> u8
         ensures { result ≡ pump_fault_number self }
     {
@@ -36,7 +38,7 @@ impl PumpFault {
     }
 }
 
-/// The fault's number, and what it says.
+/// Writes the fault's number and its words.
 impl Display for PumpFault {
     fn fmt<W: fmt::Write>(&self, f: &mut Formatter<W>) -> fmt::Result {
         match self {
@@ -65,16 +67,23 @@ impl From<NoMemory> for PumpFault {
 
 const PIECE_LIMIT: usize = 65_536;
 
-// Room for a piece.
+// Allocates the buffer for a piece.
 fn room<A: Allocator>(alloc: A) -> Result<Vec<u8, A>, NoMemory>
     ensures { IfOk result (λ buffer. length buffer.items ≡ piece_limit) }
 {
     Ok(vec![in alloc; 0u8; PIECE_LIMIT]?)
 }
 
-/// Reads a source at most `turns` times, at most 65,536 bytes each, and feeds the session each piece. At the end of the input it ends the
-/// source, and gives the number of bytes that it read. On any fault what was read before is fed, and the source isn't ended: it can be
-/// pumped on. A session that is refused an allocation has counted the piece, and failed.
+/// Reads a source at most `turns` times, at most 65,536 bytes each, and feeds the session each
+/// piece. At the end of the input it ends the source, and returns the number of bytes that it read.
+///
+/// # Errors
+///
+/// `PumpFault::Read`: a read failed. `PumpFault::TooManyTurns`: no read found the end.
+/// `PumpFault::NoMemory`: the buffer, or an allocation of the session, was refused.
+///
+/// After each of them, what was read before is fed, and the source isn't ended: it can be pumped
+/// on. If the session was refused an allocation, it has counted the piece and failed.
 pub fn pump<A: Allocator + Copy, P: PieceReader>(
     alloc: A,
     reader: &mut P,

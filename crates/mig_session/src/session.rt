@@ -1,4 +1,5 @@
-//! The load of texts on several channels that come in pieces, in any order: for callers that read from connections, and for `pump`.
+//! The load of streams on several channels that come in pieces, in any order: for callers that read
+//! from connections, and for `pump`.
 
 ghost use Rattle.std.specs.Prelude.{ℕ, ◌≡◌, ◌≢◌, ◌+◌, ◌<◌, ◌≤◌, ◌^◌, ◌↔◌, IsTrue, List, Option, None, Some, IsOk, IsFalse, IfOk, IfSome, OnOk, OnErr, length, map, replicate};
 ghost use Rattle.std.specs.Option.{option_copied, unwrap_or};
@@ -27,15 +28,20 @@ use std::fmt::{self, Debug, Formatter};
 use std::marker::Model;
 use uuid::Uuid;
 
-/// Loads a guest from the pieces of a main stream and of its channels, as they come. A round is judged and put into the memory by the call
-/// that makes it whole of the last source, and its buffers are given back. So between calls it holds the guest, and of each source what came
-/// of rounds that not every source has yet. Until an allocation is refused, what it tells depends on the texts so far, and on which of them are over:
-/// not on where they were cut, nor on the order in which the sources were fed.
+/// Loads a guest from the pieces of a main stream and of its channels, as they come.
+///
+/// A round is checked and applied when its last source completes it, and its buffers are freed. So
+/// between calls a session holds the guest. It also buffers of each source what came of the rounds
+/// that not every source has completed yet.
+///
+/// Until an allocation is refused, what it returns depends on the bytes so far, and on which
+/// sources have ended. It doesn't depend on where the streams were cut, nor on the order in which
+/// the sources were fed.
 #[derive(Drop)]
 pub struct Session<A: Allocator = Global> {
     alloc: A,
     counts: SourceCounts<A>,
-    // up to where each text was valid, as far as it was read; None after a refused allocation
+    // up to where each source was valid, as far as it was read; None after a refused allocation
     places: Option<SourcePlaces<A>>,
     // as long as it runs
     sources: Option<Sources<A>>,
@@ -73,7 +79,7 @@ fn rounds_of<A: Allocator>(target: &Option<Target<A>>) -> u64
     }
 }
 
-// The verdict that a fault of a round gives. `Err` is `NoMemory`.
+// Returns the verdict that a fault of a round gives. `Err` is `NoMemory`.
 fn verdict_of(fault: LoadFault) -> Result<Verdict, NoMemory>
     ensures ok { IfOk result (λ verdict. (verdict ≡ failed_with fault) × (fault.fault ≢ fault_no_memory)) }
     ensures err { OnErr result (fault.fault ≡ fault_no_memory) }
@@ -84,7 +90,7 @@ fn verdict_of(fault: LoadFault) -> Result<Verdict, NoMemory>
     }
 }
 
-// Judges the rounds that all sources have, and puts them into the memory. Gives the verdict behind them.
+// Judges the rounds that all sources have, and applies them. Returns the verdict after them.
 fn judge_rounds<A: Allocator + Copy>(
     sources: &mut Sources<A>,
     target: &mut Target<A>,
@@ -133,7 +139,7 @@ fn make_target<A: Allocator + Copy>(
     }
 }
 
-// The verdict before the table is there.
+// Returns the verdict before the table is there.
 fn told_without_table<A: Allocator>(sources: &mut Sources<A>) -> Verdict
     requires { (f : Feeding) × Advances f sources.old None × (f.readings.main.table ≡ None) }
     ensures told { (f : Feeding) → Advances f sources.old None → f.readings.main.table ≡ None → TellsVerdict f.readings None result }
@@ -145,7 +151,7 @@ fn told_without_table<A: Allocator>(sources: &mut Sources<A>) -> Verdict
     }
 }
 
-// Judges what has come. Gives the verdict.
+// Judges what has come. Returns the verdict.
 fn advance<A: Allocator + Copy>(
     alloc: A,
     sources: &mut Sources<A>,
@@ -164,7 +170,7 @@ fn advance<A: Allocator + Copy>(
     }
 }
 
-// Notes up to where the text of `source` is valid, as long as no allocation was refused.
+// Notes up to where `source` is valid, as long as no allocation was refused.
 fn note<A: Allocator>(sources: &Sources<A>, source: Source, places: &mut Option<SourcePlaces<A>>)
     requires { HasSource (counts_of sources.now) source }
     ensures { (given : LoadSettings) (uuid : List ℕ) (k : ℕ) (step : Text → Text) (texts : Texts) → Holds given uuid k (at_source source step texts) sources.now
@@ -176,7 +182,7 @@ fn note<A: Allocator>(sources: &Sources<A>, source: Source, places: &mut Option<
     }
 }
 
-// Takes a piece, and judges what has come. Gives the verdict.
+// Takes a piece, and judges what has come. Returns the verdict.
 fn take<A: Allocator + Copy>(
     alloc: A,
     sources: &mut Sources<A>,
@@ -203,7 +209,7 @@ fn take<A: Allocator + Copy>(
     advance(alloc, sources, target)
 }
 
-// Ends a source. Gives the verdict behind so many rounds.
+// Ends a source. Returns the verdict after `rounds` rounds.
 fn end_source<A: Allocator>(sources: &mut Sources<A>, source: Source, rounds: u64) -> Verdict
     requires { HasSource (counts_of sources.old) source }
     ensures holds { (given : LoadSettings) (uuid : List ℕ) (k : ℕ) (texts : Texts) → Holds given uuid k texts sources.old
@@ -215,7 +221,7 @@ fn end_source<A: Allocator>(sources: &mut Sources<A>, source: Source, rounds: u6
     sources.told(rounds).unwrap_or(Verdict::Running)
 }
 
-// What is kept under a verdict: the sources go where the load is over.
+// Drops the sources if the load is over.
 fn keep<A: Allocator>(sources: &mut Option<Sources<A>>, verdict: Verdict)
     ensures running { verdict ≡ running → sources.new ≡ sources.old }
     ensures settled { verdict ≢ running → sources.new ≡ None }
@@ -234,8 +240,12 @@ impl<A: Allocator> Debug for Session<A> {
 }
 
 impl<A: Allocator + Copy> Session<A> {
-    /// A session that was fed nothing, of so many channels under this UUID, with pages of this size in bytes. The guest's blocks may have
-    /// `limit` bytes together.
+    /// Creates a session that was fed nothing, of `channels` channels under `uuid`, with pages of
+    /// `page_size` bytes. The guest's blocks may have `limit` bytes together.
+    ///
+    /// # Errors
+    ///
+    /// `NoMemory`: an allocation was refused.
     pub fn new(
         alloc: A,
         page_size: u64,
@@ -257,7 +267,7 @@ impl<A: Allocator + Copy> Session<A> {
     ///
     /// # Errors
     ///
-    /// An allocation was refused.
+    /// `NoMemory`: an allocation was refused.
     pub fn new_in(
         alloc: A,
         settings: LoadSettings,
@@ -283,9 +293,13 @@ impl<A: Allocator + Copy> Session<A> {
         })
     }
 
-    /// Takes the next piece of a source's text, and puts the rounds that it makes whole into the memory. Where the verdict isn't `Running` its
-    /// bytes are only counted, which is never refused. An `Err` counts them too, and the session has failed with `NoMemory` from then on: the
-    /// memory is that after the rounds counted.
+    /// Takes the next piece of a source, and applies the rounds that it completes. If the verdict
+    /// isn't `Running`, the piece's bytes are only counted, and the call never fails.
+    ///
+    /// # Errors
+    ///
+    /// `NoMemory`: an allocation was refused. The bytes are counted, and the session has failed
+    /// with `NoMemory` from then on. The memory is that after the rounds counted.
     pub fn feed(&mut self, source: Source, piece: &[u8]) -> Result<(), NoMemory>
         requires source { HasSource self.old.counts source }
         requires open { IsFalse (count_of self.old.counts source).ended }
@@ -327,7 +341,7 @@ impl<A: Allocator + Copy> Session<A> {
 }
 
 impl<A: Allocator> Session<A> {
-    /// The text of a source is over: no piece of it is fed from now on. A second call changes nothing.
+    /// Ends a source: no piece of it is fed from now on. A second call changes nothing.
     pub fn end(&mut self, source: Source)
         requires { HasSource self.old.counts source }
         ensures steps { StepsOn (end_step source) self.old self.new }
@@ -346,14 +360,14 @@ impl<A: Allocator> Session<A> {
         keep(&mut self.sources, verdict);
     }
 
-    /// The number of channels.
+    /// Returns the number of channels.
     pub fn channels(&self) -> usize
         ensures { result ≡ length self.now.counts.channels }
     {
         self.counts.channels()
     }
 
-    /// Returns whether the session has `source`: the main stream, or a channel that there is.
+    /// Returns whether the session has `source`: the main stream, or a channel that exists.
     pub fn has(&self, source: Source) -> bool
         ensures { IsTrue result ↔ HasSource self.now.counts source }
     {
@@ -363,8 +377,8 @@ impl<A: Allocator> Session<A> {
         }
     }
 
-    /// Returns whether a piece of `len` bytes of `source` has room: fewer than 2^64 bytes of it have
-    /// come with that piece.
+    /// Returns whether a piece of `len` bytes of `source` has room: fewer than 2^64 bytes of it
+    /// have come with that piece.
     pub fn has_room(&self, source: Source, len: usize) -> bool
         requires { HasSource self.now.counts source }
         ensures { IsTrue result ↔ (count_of self.now.counts source).fed + len < 2 ^ 64 }
@@ -372,7 +386,7 @@ impl<A: Allocator> Session<A> {
         len as u64 <= u64::MAX - self.counts.of(source).fed
     }
 
-    /// Whether the text of a source is over.
+    /// Returns whether a source was ended.
     pub fn ended(&self, source: Source) -> bool
         requires { HasSource self.now.counts source }
         ensures { result ≡ (count_of self.now.counts source).ended }
@@ -380,7 +394,7 @@ impl<A: Allocator> Session<A> {
         self.counts.of(source).ended
     }
 
-    /// How many bytes of a source were fed.
+    /// Returns how many bytes of a source were fed.
     pub fn fed(&self, source: Source) -> u64
         requires { HasSource self.now.counts source }
         ensures { result ≡ (count_of self.now.counts source).fed }
@@ -407,12 +421,12 @@ impl<A: Allocator> Session<A> {
     }
 
     /// Returns how many bytes of `source` are complete items without a fault, from the first byte
-    /// on. If the verdict is a fault of that source's text (`Fault::Stream`, `Fault::Channel`), the
-    /// item at fault begins after them. `HelloTwice`, `Extra` and `Short` are faults of what several
-    /// texts tell together, and 54 to 59 of a round: they belong to no item.
+    /// on. If the verdict is a fault of that source (`Fault::Stream`, `Fault::Channel`), the item
+    /// at fault begins after them. `HelloTwice`, `Extra` and `Short` are faults of what several
+    /// sources say together, and 54 to 59 of a round: they belong to no item.
     ///
-    /// A session reads no more of its sources once its verdict isn't `Running`: the bytes after that
-    /// aren't looked at. None after a refused allocation.
+    /// A session reads no more of its sources once its verdict isn't `Running`: the bytes after
+    /// that aren't looked at. None after a refused allocation.
     pub fn valid_up_to(&self, source: Source) -> Option<u64>
         requires { HasSource self.now.counts source }
         ensures stands { (given : LoadSettings) (uuid : List ℕ) (texts : Texts) → StandsFor given uuid texts self.now
@@ -425,14 +439,18 @@ impl<A: Allocator> Session<A> {
         }
     }
 
-    /// How the load stands on the texts so far. What a sender on several channels has sent, fed in any pieces and in any order of the sources
-    /// and ended, is done, with the memory after its rounds, where the session has the sender's page size and UUID, and a limit of at least
-    /// the table's bytes.
+    /// Returns how the load stands on the bytes so far.
     ///
-    /// A `Failed` has a fault of the main stream (`Fault::Stream`) or of a channel
-    /// (`Fault::Channel`), `HelloTwice`, `Extra` or `Short` of a channel, a refusal of a round
-    /// (`Fault::Round`, 54 to 59), or `NoMemory`, if an allocation was refused in a `feed`. It is
-    /// never `OtherTable`.
+    /// What a sender on several channels has sent is done, with the memory after its rounds, once
+    /// all sources were fed and ended. They may be fed in any pieces and in any order. The session
+    /// must have the sender's page size and UUID, and a limit of at least the table's bytes.
+    ///
+    /// A `Failed` has one of these, and never `OtherTable`:
+    ///
+    /// - `Fault::Stream`: a fault of the main stream.
+    /// - `Fault::Channel`, `HelloTwice`, `Extra` or `Short`: a fault of a channel.
+    /// - `Fault::Round`: a refusal of a round (54 to 59).
+    /// - `NoMemory`: an allocation was refused in a `feed`.
     pub fn verdict(&self) -> Verdict
         ensures value { result ≡ self.now.verdict }
         ensures sent { LoadsSent self.now }
@@ -441,14 +459,15 @@ impl<A: Allocator> Session<A> {
         self.verdict
     }
 
-    /// The memory after the rounds so far. None before the size list is whole, or where no memory was found for it.
+    /// Returns the memory after the rounds so far. None before the size list is complete, or if the
+    /// memory couldn't be allocated.
     pub fn memory(&self) -> Option<&Memory<A>>
         ensures { option_copied result ≡ (answer_in self.now).memory }
     {
         self.target.as_ref().map(|target| target.memory())
     }
 
-    /// How many rounds are in the memory.
+    /// Returns how many rounds are in the memory.
     pub fn rounds(&self) -> u64
         ensures { result ≡ (answer_in self.now).rounds }
     {

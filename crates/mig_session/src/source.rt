@@ -1,6 +1,6 @@
 //! The sources of a load on several channels, as callers name them to `Session` and `pump`.
 
-/// One of the texts of a load on several channels.
+/// One of the sources of a load on several channels.
 #[derive(Clone, Copy, Debug, PartialEq, Eq)]
 pub enum Source {
     /// The main stream.

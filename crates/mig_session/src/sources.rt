@@ -1,4 +1,5 @@
-//! What a session keeps of all its sources, and what they tell at the round that is judged next. `Session` has it as long as it runs.
+//! What a session keeps of all its sources, and their verdict at the round that is judged next.
+//! `Session` has it as long as it runs.
 
 ghost use Rattle.std.specs.Prelude.{ℕ, ◌≡◌, ◌≢◌, ◌+◌, ◌<◌, ◌≤◌, ◌^◌, ◌++◌, List, [], None, IsFalse, IfOk, OnOk, OnErr, All, length, map, replicate, vec_len, vec_capacity};
 ghost use Rattle.std.specs.List.{AllZip};
@@ -33,7 +34,7 @@ pub(crate) struct Sources<A: Allocator = Global> {
     alloc: A,
     main: MainSource<A>,
     channels: Vec<ChannelSource<A>, A>,
-    // what the channels told last, with room for all of them
+    // the channels' statuses, as looked at last, with room for all of them
     statuses: Vec<Status, A>,
     hellos: Vec<Option<u8>, A>,
 }
@@ -49,7 +50,7 @@ impl<A: Allocator> Model for Sources<A> {
     ghost invariant = { λ s. (length s.channels.items ≤ vec_capacity s.statuses) × (length s.channels.items ≤ vec_capacity s.hellos) };
 }
 
-// Channels of which nothing has come.
+// Creates channels of which nothing has come.
 fn no_channels<A: Allocator + Copy>(
     alloc: A,
     page_size: u64,
@@ -68,7 +69,7 @@ fn no_channels<A: Allocator + Copy>(
     Ok(sources)
 }
 
-// How the channels stand at the round that is judged next.
+// Looks at the channels' statuses for the round that is judged next.
 fn look_at_statuses<A: Allocator>(channels: &[ChannelSource<A>], statuses: &mut Vec<Status, A>)
     requires room { length channels.now ≤ vec_capacity statuses.old }
     ensures told { AllZip TellsChannelStatus channels.now statuses.new.items }
@@ -80,7 +81,7 @@ fn look_at_statuses<A: Allocator>(channels: &[ChannelSource<A>], statuses: &mut 
     }
 }
 
-// The ids that the channels' hellos name.
+// Looks at the ids that the channels' hellos name.
 fn look_at_hellos<A: Allocator>(channels: &[ChannelSource<A>], hellos: &mut Vec<Option<u8>, A>)
     requires room { length channels.now ≤ vec_capacity hellos.old }
     ensures told { AllZip TellsHello channels.now hellos.new.items }
@@ -107,7 +108,7 @@ fn gather_all<'a, A: Allocator + Copy>(
     Ok(())
 }
 
-// Each channel goes on to the next round.
+// Moves each channel on to the next round.
 fn next_of_all<A: Allocator>(channels: &mut Vec<ChannelSource<A>, A>)
     ensures take { AllZip TakesChannel channels.old.items channels.new.items }
     ensures counts { map channel_count channels.new.items ≡ map channel_count channels.old.items }
@@ -120,7 +121,7 @@ fn next_of_all<A: Allocator>(channels: &mut Vec<ChannelSource<A>, A>)
 }
 
 impl<A: Allocator + Copy> Sources<A> {
-    /// Nothing of any.
+    /// Creates sources of which nothing has come.
     pub(crate) fn new(
         alloc: A,
         settings: LoadSettings,
@@ -143,7 +144,7 @@ impl<A: Allocator + Copy> Sources<A> {
         })
     }
 
-    /// Takes a piece of a source's text. An `Err` changes nothing.
+    /// Takes a piece of a source. An `Err` changes nothing.
     pub(crate) fn feed(&mut self, source: Source, piece: &[u8]) -> Result<(), NoMemory>
         requires source { HasSource (counts_of self.old) source }
         requires open { IsFalse (count_of (counts_of self.old) source).ended }
@@ -162,7 +163,7 @@ impl<A: Allocator + Copy> Sources<A> {
         }
     }
 
-    /// Judges the round that is next, and puts it into the memory where it is lawful. An `Err` changes nothing.
+    /// Judges the next round, and applies it if it is lawful. An `Err` changes nothing.
     pub(crate) fn judge(&self, target: &mut Target<A>) -> Result<(), LoadFault>
         requires { (f : Feeding) × RoundIsDue f self.now target.old }
         ensures { (f : Feeding) → RoundIsDue f self.now target.old → PutsOrRefuses f target.old result target.new }
@@ -179,7 +180,7 @@ impl<A: Allocator + Copy> Sources<A> {
 }
 
 impl<A: Allocator> Sources<A> {
-    /// Goes on to the next round of each source, and drops those that were judged.
+    /// Moves each source on to the next round, and drops those that were judged.
     pub(crate) fn advance(&mut self)
         ensures holds { (given : LoadSettings) (uuid : List ℕ) (k : ℕ) (texts : Texts) → HaveRound self.old
             → Holds given uuid k texts self.old → Holds given uuid (k + 1) texts self.new }
@@ -190,7 +191,7 @@ impl<A: Allocator> Sources<A> {
         next_of_all(&mut self.channels);
     }
 
-    /// The text of a source is over.
+    /// Ends a source.
     pub(crate) fn end(&mut self, source: Source)
         requires { HasSource (counts_of self.old) source }
         ensures holds { (given : LoadSettings) (uuid : List ℕ) (k : ℕ) (texts : Texts) → Holds given uuid k texts self.old
@@ -206,7 +207,8 @@ impl<A: Allocator> Sources<A> {
         }
     }
 
-    /// The verdict that the sources tell at a round, up to which all were judged; None where all have it.
+    /// Returns the sources' verdict at round `round`, up to which all were judged. If all have it,
+    /// and no hello comes again, returns None.
     pub(crate) fn told(&mut self, round: u64) -> Option<Verdict>
         ensures told { TellsAll round self.old result }
         ensures same { self.new ≡ self.old }
@@ -217,7 +219,7 @@ impl<A: Allocator> Sources<A> {
         verdict_told(round, main, &self.statuses, repeated_id(&self.hellos))
     }
 
-    /// Notes up to where the text of `source` is valid, and where a main stream is closed.
+    /// Notes up to where `source` is valid, and where a main stream is closed.
     pub(crate) fn note(&self, source: Source, places: &mut SourcePlaces<A>)
         requires { HasSource (counts_of self.now) source }
         ensures { (given : LoadSettings) (uuid : List ℕ) (k : ℕ) (step : Text → Text) (texts : Texts) → Holds given uuid k (at_source source step texts) self.now
@@ -232,7 +234,7 @@ impl<A: Allocator> Sources<A> {
         }
     }
 
-    /// The main stream's table, as soon as the size list is whole.
+    /// Returns the main stream's table, as soon as the size list is complete.
     pub(crate) fn table(&self) -> Option<&Table<A>>
         ensures { (given : LoadSettings) (uuid : List ℕ) (k : ℕ) (texts : Texts) → Holds given uuid k texts self.now
             → HasTable (main_of given) texts.main.bytes (option_copied result) }
