@@ -1,4 +1,4 @@
--- The texts of all channels, by the channels' numbers.
+-- The bytes of all channels, by the channels' numbers.
 use Rattle.std.proofs.Common.{ℕ, ◌≡◌, ◌+◌, ◌<◌, List, [], ◌∷◌, ◌++◌, length, map, get_or, take, ap, sym, refl, ◌∙◌, arith, zero, suc, append-nil, append_assoc}
 use Rattle.std.specs.Prelude.{Vec, flat_map, vec_len}
 use Rattle.std.specs.List.{AllZip, range_with_len, slice_set}
@@ -32,7 +32,7 @@ hello_alone uuid channels texts is channel lt =
     let long = hellos_long uuid channels texts is in
     ap (λ (l : List (List ℕ)). get_or l channel []) is ∙ (get_or-map-range_with_len (written_hello uuid) 0 channels channel channel [] (omega (arith, lt, long)) (omega arith) ∙ sym (append-nil (written_hello uuid channel)))
 
--- a channel's text with one round more
+-- a channel's bytes with one round more
 pub text_push : (uuid : List ℕ) (rounds : List DealtRound) (round : DealtRound) (channel : ℕ)
     → channel_text uuid (rounds ++ round ∷ []) channel ≡ channel_text uuid rounds channel ++ round_text channel round
 text_push uuid rounds round channel =
@@ -40,7 +40,7 @@ text_push uuid rounds round channel =
     ∙ ap (λ (l : List ℕ). flat_map (round_text channel) rounds ++ l) (append-nil (round_text channel round)))
     ∙ sym (append_assoc (written_hello uuid channel) (flat_map (round_text channel) rounds) (round_text channel round))
 
--- ---- texts that are cut back
+-- ---- bytes that are cut back
 
 pub cut_more : (lens : List ℕ) (texts : List (List ℕ)) (i : ℕ) → i < length lens → i < length (cut_texts (take i lens) texts)
     → slice_set (cut_texts (take i lens) texts) i (take (get_or lens i 0) (get_or (cut_texts (take i lens) texts) i [])) ≡ cut_texts (take (suc i) lens) texts
@@ -55,7 +55,7 @@ prefix_long {A} before after zip =
     let items : Vec ℕ A → List ℕ = λ text. text.items in
     omega (arith, AllZip-long IsPrefix (texts_of before) (texts_of after) zip, length-map before items, length-map after items)
 
--- a text that goes on from what it had is that again, once it is cut to its length
+-- bytes that go on from what they were are that again, once they are cut to its length
 pub cut_whole : {A : Type 0} (before : List (Vec ℕ A)) (after : List (List ℕ)) → AllZip IsPrefix (texts_of before) after
     → cut_texts (map (λ (text : Vec ℕ A). vec_len text) before) after ≡ texts_of before
 cut_whole [] [] zip = refl

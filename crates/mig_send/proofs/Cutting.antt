@@ -1,4 +1,4 @@
--- Batches, one behind another.
+-- Batches, one after another.
 use Rattle.std.proofs.Common.{ℕ, ◌≡◌, ◌<◌, ◌≤◌, List, [], ◌∷◌, ◌++◌, length, map, get_or, refl, sym, ap}
 use Rattle.std.proofs.Common.{◌∙◌, inl, inr, arith, suc, subst, Option, Some, None, true, false}
 use Rattle.std.specs.Prelude.{◌≢◌, ◌⊎◌, IsTrue, nat_lt}
@@ -51,7 +51,7 @@ pub cut_all : (limit : ℕ) (places : List Place) (batches : List BatchOfPages) 
 cut_all limit places batches cut =
     record { has_all = sym (cut.has_all ∙ append-nil (flat_map batch_places batches)); has_sizes = cut.has_sizes; are_full = cut.are_full }
 
--- what holds of two lists, one behind the other, holds of the second
+-- what holds of two lists, one after the other, holds of the second
 pub All-behind : (P : Place → Type 0) (xs ys : List Place) → All P (xs ++ ys) → All P ys
 All-behind P [] ys all = all
 All-behind P (x ∷ xs) ys all = All-behind P xs ys (All-tail P x (xs ++ ys) all)
@@ -136,8 +136,8 @@ batch_ends limit marked first pages (Some p) order some all has few begins ends 
 
 -- ---- one cut alone
 
--- Where two runs of pages of a block begin the same places, they are the same, or one is shorter and the places behind it go on
--- with the block.
+-- Where two runs of pages of a block begin the same places, they are the same, or one is shorter
+-- and the places after it go on with the block.
 data Meets (block : ℕ) (xs ys : List ℕ) (left right : List Place) : Type 0 where
   same : xs ≡ ys → left ≡ right → Meets block xs ys left right
   shorter : length xs < length ys → (page : ℕ) (more : List Place) → left ≡ place_at block page ∷ more → Meets block xs ys left right
@@ -169,7 +169,7 @@ same_block : (a b : ℕ) (xs ys : List ℕ) (left right : List Place) → 0 < le
 same_block a b xs [] left right some others e = absurd (omega arith)
 same_block a b xs (y ∷ ys) left right some others e = first_block a xs left (place_at b y) (map (place_at b) ys ++ right) some e
 
--- a batch behind which the places go on with its block is full
+-- a batch after which the places go on with its block is full
 full_here : (limit : ℕ) (a : BatchOfPages) (more : List BatchOfPages) (page : ℕ) (places : List Place) → All (HasSize limit) more
     → AllPairs (IsFullBefore limit) (a ∷ more)
     → flat_map batch_places more ≡ place_at a.block page ∷ places → length a.pages ≡ limit

@@ -98,7 +98,8 @@ all_rise deal (s ∷ spents) [] zip = absurd zip
 all_rise deal (s ∷ spents) (x ∷ shares) zip =
     All-cons (λ (share : Share). AllPairs (λ a b. a < b) share.numbers) x shares zip.0.rise (all_rise deal spents shares zip.1)
 
--- Spent seats' shares are a dealing: where the seats had drawn nothing, are as many as the deal has, and together drew each number once.
+-- Spent seats' shares are a dealing: where the seats had drawn nothing, are as many as the deal
+-- has, and together drew each number once.
 pub shares_are_dealt : (deal : DealView) (spents : List SeatView) (shares : List Share) → AllZip (HasShare (new_seat deal)) spents shares
     → length spents ≡ deal.seats → HasEachOnce deal.base (end_of_deal deal) (all_drawn spents) → IsDealing deal.base deal.batches shares
 shares_are_dealt deal spents shares zip many once =
@@ -131,7 +132,7 @@ shares_are_dealt deal spents shares zip many once =
 
 -- ---- what is sent
 
--- the shares that the answers tell of
+-- the shares that the answers are of
 record Told {A : Type 0} (deal : DealView) (image : Image) (batches : List BatchOfPages) (answers : List (Worked A)) : Type 0 where
   shares : List Share
   have_shares : AllZip (HasShare (new_seat deal)) (map (λ (worked : Worked A). worked.spent) answers) shares

@@ -51,7 +51,7 @@ pub taken : {X : Type 0} (whole front back : List X) (x : X) → whole ≡ front
 taken whole front back x is =
     is ∙ (ap (λ l. front ++ l) (reverse-append back (x ∷ [])) ∙ sym (append_assoc front (x ∷ []) (reverse back)))
 
--- ---- the texts and seats that go into the slots
+-- ---- the bytes and seats that go into the slots
 
 pub seated_more : {A : Type 0} (olds : List (List ℕ)) (slots new_slots : List (Slot A)) (channels left : List (Vec ℕ A)) (slot : Slot A) (text : Vec ℕ A)
     → olds ≡ map slot_text slots ++ texts_of (reverse channels) → channels ≡ left ++ text ∷ [] → new_slots ≡ slots ++ slot ∷ [] → slot_text slot ≡ text.items
@@ -62,9 +62,10 @@ seated_more olds slots new_slots channels left slot text is from to same =
     ∙ (sym (append_assoc front (text.items ∷ []) (texts_of (reverse left)))
     ∙ ap (λ (l : List (List ℕ)). l ++ texts_of (reverse left)) (ap (λ (t : List ℕ). front ++ t ∷ []) (sym same) ∙ (sym (map_push slot_text slots slot) ∙ ap (map slot_text) (sym to)))))
 
--- ---- the texts and seats that come out of the slots
+-- ---- the bytes and seats that come out of the slots
 
--- From the slots, but for those that are left, came texts and seats, with or without memory.
+-- From the slots, but for those that are left, came channels' bytes and seats, with or without
+-- memory.
 pub record HaveReturned {A : Type 0} (slots left : List (Slot A)) (texts : List (Vec ℕ A)) (spents : List SeatView) (made : Result (Unit {0}) NoMemory) : Type 0 where
   pub done : List (Slot A)
   pub is_whole : slots ≡ done ++ reverse left
@@ -115,7 +116,7 @@ returned_all slots (x ∷ left) texts spents made have none = absurd (omega (ari
 
 -- ---- the dealing that they carry
 
--- The shares of the workers, and what their texts have of them.
+-- The shares of the workers, and what their channels have of them.
 pub record AreShared {A : Type 0} (deal : DealView) (image : Image) (batches : List BatchOfPages) (before : List (List ℕ)) (slots : List (Slot A)) (spents : List SeatView) : Type 0 where
   pub shares : List Share
   pub have_shares : AllZip (HasShare (new_seat deal)) spents shares
@@ -154,7 +155,7 @@ shared deal image batches (b ∷ before) (Done written ∷ slots) (s ∷ spents)
 shared deal image batches (b ∷ before) (Waiting seat text ∷ slots) (s ∷ spents) done spent = absurd done.0
 shared deal image batches (b ∷ before) (Running ∷ slots) (s ∷ spents) done spent = absurd done.0
 
--- where the deal is ended and all had memory, the texts carry a dealing
+-- where the deal is ended and all had memory, the channels carry a dealing
 pub carried : {A : Type 0} (deal : DealView) (image : Image) (batches : List BatchOfPages) (before after : List (List ℕ)) (slots : List (Slot A)) (spents : List SeatView)
     (made : Result (Unit {0}) NoMemory) (base next : ℕ) → AreShared deal image batches before slots spents → after ≡ map slot_text slots → OnOk made (All HadMemory slots)
     → deal.base ≡ base → deal.batches ≡ length batches → deal.seats ≡ length before → length spents ≡ length before

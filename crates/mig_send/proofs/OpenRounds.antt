@@ -1,4 +1,4 @@
--- An open round: begun, its workers handed out and given back, and ended.
+-- An open round: begun, its workers given out and given back, and ended.
 use Rattle.std.proofs.Common.{ℕ, ◌≡◌, ◌+◌, ◌<◌, List, [], ◌∷◌, ◌++◌, length, get_or, ap, sym, subst, refl, ◌∙◌, arith, inl, inr, append-nil, append_assoc}
 use Rattle.std.specs.List.{All, slice_set}
 use Rattle.std.proofs.lemmas.List.{length-append, length-set, length-replicate, get_or-set_other, get_or_append_left, get_or_push}
@@ -74,7 +74,7 @@ has_begun dirty sender terms seats spents same dealt none = record {
   has_come = λ image drained. begun image drained sender terms seats spents none;
 }
 
--- ---- a worker handed out
+-- ---- a worker given out
 
 -- one channel's bytes are out
 pub out : (image : Image) (drained : ℕ → List ℕ) (sender : MultiSending) (old : OpenMulti) (seats : List SeatView) (at : ℕ) → IsOpenMulti old
@@ -270,7 +270,7 @@ ended image drained old round main base rounds next is_image of_table is come al
           some sent;
     }
 
--- where nothing of it was drained, it is a round as any other
+-- where none of its bytes was drained, it is a round as any other
 pub undrained : (snapshot : Snapshot) (old new : MultiSending) → HasSentRound none_drained snapshot old new → HasSentOne snapshot old new
 undrained snapshot old new sent = record {
   round = sent.round;

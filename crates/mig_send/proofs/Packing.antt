@@ -90,7 +90,7 @@ contents_back test m b (n ∷ pages) some = elim (cases_Bool (test (content_at m
   | inr t ↦ rw t (contents_back test m b pages some)
 ]
 
--- ---- pages of one size, one behind the other
+-- ---- pages of one size, one after the other
 
 abbrev HasSize : ℕ → Page → Type 0
 HasSize size page = length page.content ≡ size
@@ -337,7 +337,7 @@ packet_is m batch number normal zeros some normal-is zeros-is =
     ∙ ap (λ (l : List ℕ). written_head m.table.page_size number false (block m.table.blocks batch.block).id n z ++ l)
     (contents_back (λ c. not (is_zero c)) m batch.block batch.pages some)
 
--- the packet that was appended to no text is the packed packet
+-- the packet that was appended to no bytes is the packed packet
 pub made : (m : Image) (batch : BatchOfPages) (number size : ℕ) (none bytes : List ℕ) → size ≡ m.table.page_size → none ≡ []
     → bytes ≡ none ++ (packed_of m batch number).bytes → record { page_size = size; number = number; bytes = bytes } ≡ packed_of m batch number
 made m batch number size none bytes size-is empty bytes-is =

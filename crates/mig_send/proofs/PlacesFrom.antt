@@ -14,7 +14,7 @@ use Rattle.mig_mem.proofs.TablePlaces.{find_place}
 use Rattle.mig_mem.proofs.Walks.{All-has, found_place, found_page}
 use Rattle.mig_send.specs.Batches.{IsInSet, places_from}
 
--- the place behind one in its block
+-- the place after one in its block
 abbrev pub behind : Place → Place
 behind p = place_at p.block (p.page + 1)
 
@@ -34,7 +34,7 @@ ge_behind p q lt = place_ge-from q (behind p) (elim (place_lt-true p q lt) [
 abbrev pub is_from : Place → Place → Bool
 is_from p q = not (place_lt q p)
 
--- from a place on: that place, and what is behind it
+-- from a place on: that place, and what is after it
 pub from_place : (p : Place) (ps : List Place) → InOrder place_lt ps → has_place ps p ≡ true → filter (is_from p) ps ≡ p ∷ filter (is_from (behind p)) ps
 from_place p [] order has = absurd cc
 from_place p (q ∷ qs) order has = elim (cases_Bool (place_eq q p)) [

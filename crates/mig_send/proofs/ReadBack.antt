@@ -1,4 +1,4 @@
--- What the texts of a sending are read as.
+-- What the streams of a sending are read as.
 use Rattle.std.proofs.Common.{ℕ, ◌≡◌, ◌+◌, ◌-◌, ◌<◌, ◌≤◌, ◌^◌, ◌≢◌, List, [], ◌∷◌, ◌++◌, length, map, get_or, ap, sym, subst, refl, ◌∙◌, arith, zero, suc, inl, inr, Bool, true, false, cond, Some, None, append-nil, append_assoc}
 use Rattle.std.specs.Prelude.{flat_map, sum_by, ◌==◌, replicate}
 use Rattle.std.specs.List.{All, concat}
@@ -42,7 +42,7 @@ use Rattle.mig_send.specs.ReadBack.{round_packets, channel_items, SendingsAreRea
 use Rattle.mig_send.proofs.Packing.{is_packed, batch_writable, normal_pages_are}
 use Rattle.mig_send.proofs.Cutting.{batches_fit}
 
--- ---- a channel behind its hello
+-- ---- a channel after its hello
 
 -- a channel that was read so far: these rounds, and these packets of the next one
 abbrev at : Settings → ℕ → List (List (List ℕ)) → List (List ℕ) → ChannelProgress
@@ -69,7 +69,7 @@ packets_read given id rounds packets (packet ∷ more) all =
     subst (λ (l : List (List ℕ)). Front (at given id rounds packets) (packet ++ concat more) (at given id rounds l)) (append_assoc packets (packet ∷ []) more)
     (Front-append (at given id rounds packets) (at given id rounds (packets ++ packet ∷ [])) (at given id rounds ((packets ++ packet ∷ []) ++ more)) packet (concat more) one others)
 
--- and one with SYNC behind them makes a round of them
+-- and one with SYNC after them makes a round of them
 round_read : (given : Settings) (id : ℕ) (rounds : List (List (List ℕ))) (packets : List (List ℕ)) (last : List ℕ) → All (IsPacketWith given.page_size false) packets
     → IsPacketWith given.page_size true last
     → Front (at given id rounds []) (concat packets ++ last) (at given id (rounds ++ (packets ++ last ∷ []) ∷ []) [])
@@ -215,7 +215,7 @@ rounds_read given id before channel (round ∷ rounds) all =
     (subst (λ (l : List (List (List ℕ))). Front (at given id before []) (round_text channel round ++ flat_map (round_text channel) rounds) (at given id l []))
     (append_assoc before (round_packets channel round ∷ []) (map (round_packets channel) rounds)) both)
 
--- ---- a whole text
+-- ---- a complete channel
 
 -- it is read from its start to its end
 whole_read : (given : Settings) (channel : ℕ) (rounds : List DealtRound) → length given.uuid ≡ 16 → channel < given.channels

@@ -28,11 +28,11 @@ replicate_push : {X : Type 0} (n : ℕ) (x : X) → replicate n x ++ x ∷ [] �
 replicate_push zero x = refl
 replicate_push (suc n) x = ap (λ l. x ∷ l) (replicate_push n x)
 
--- what the main stream's writer tells of a FLUSH more
+-- what a FLUSH more does to the main stream's writer
 abbrev pub HasFlushed : Writer → Writer → Type 0
 HasFlushed old new = (drained : List ℕ) (parts : List Part) → HasDrained drained old parts → HasDrained drained new (parts ++ FlushPart ∷ [])
 
--- each channel carries its part of the round behind what it had
+-- each channel carries its part of the round after what it had
 abbrev pub HaveRound : DealtRound → List (List ℕ) → List (List ℕ) → Type 0
 HaveRound round old new = (channel : ℕ) → channel < length old → get_or new channel [] ≡ get_or old channel [] ++ round_text channel round
 

@@ -16,7 +16,7 @@ use Rattle.mig_send.specs.ChannelWork.{RoundTerms, HasClaimed, HasPackedSoFar, H
 
 -- ---- what is packed
 
--- a draw changes nothing of what is packed
+-- a draw leaves what is packed
 pub claimed_packed : (image : Image) (terms : RoundTerms) (before whole : List ℕ) (old in_hand : Hand) → HasClaimed terms.deal old in_hand
     → HasPackedTo image terms before whole old → HasPackedTo image terms before whole in_hand
 claimed_packed image terms before whole (Drawing seat) (Claimed next number) has packed = (record { earlier = seat; has_packed = packed; has_drawn = has.0 }, has.1)

@@ -174,7 +174,7 @@ worked_of image batches seat packets filled all before none is are = record {
       (map (claimed_packet seat.deal.base image batches) is.share.numbers))) none is.has_packets) are;
 }
 
--- ---- or the text that it writes
+-- ---- or the bytes that it writes
 
 bytes_of : (f : ℕ → PackedBatch) (numbers : List ℕ) → flat_map (λ packet. packet.bytes) (map f numbers) ≡ flat_map (λ number. (f number).bytes) numbers
 bytes_of f [] = refl

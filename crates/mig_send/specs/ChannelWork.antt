@@ -1,5 +1,5 @@
--- A worker of one channel that its caller steps: what it shares with the other workers of its round,
--- what it has in hand, and what its channel's bytes have of the round.
+-- A worker of one channel that its caller steps: what it shares with the other workers of its
+-- round, what it has in hand, and what its channel's bytes have of the round.
 use Rattle.std.specs.Prelude.{ℕ, ◌≡◌, ◌<◌, ◌≤◌, List, [], ◌∷◌, ◌++◌, length, flat_map, All, AllPairs, Result, OnOk, OnErr, ⊤}
 use Rattle.mig_mem.specs.RamTable.{RamTable}
 use Rattle.mig_mem.specs.Image.{Image}
@@ -97,8 +97,9 @@ after_packet Moving = Moving
 
 -- ---- a step
 
--- One step: the worker has a number in hand, and writes its packet; or, for want of memory, it keeps
--- that number in hand. Once it has written its SYNC packet, a step changes nothing, and isn't refused.
+-- One step: the worker has a number in hand, and writes its packet; or, for want of memory, it
+-- keeps that number in hand. Once it has written its SYNC packet, a step changes nothing, and isn't
+-- refused.
 pub record IsStep (image : Image) (terms : RoundTerms) (made : Result (Unit {0}) NoMemory) (old new : Hand) (before after : List ℕ) : Type 0 where
   pub in_hand : Hand
   pub has_claimed : HasClaimed terms.deal old in_hand
@@ -141,7 +142,7 @@ HasPackedTo image terms before whole (Ending spent last) = HasOneInHand image te
 HasPackedTo image terms before whole (Ended spent) = HasPackedShare image terms spent before whole
 HasPackedTo image terms before whole Moving = ⊥
 
--- The worker has packed what it drew from the pages of this image. Its channel had some bytes before
--- the round; the whole of it are these and what was written since, drained or not.
+-- The worker has packed what it drew from the pages of this image. Its channel had some bytes
+-- before the round. All of its bytes are these and what was written since, drained or not.
 abbrev pub HasPacked : Image → (before whole : List ℕ) → ChannelWork → Type 0
 HasPacked image before whole work = HasPackedTo image work.terms before whole work.hand

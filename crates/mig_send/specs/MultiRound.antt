@@ -17,7 +17,7 @@ use Rattle.mig_send.specs.MultiSending.{MultiSending, Drained, KeepsSetting, Has
 use Rattle.mig_send.specs.ChannelWork.{RoundTerms, ChannelWork, HasPacked, seats_of}
 
 -- An open round: its sender, without the bytes of the channels whose workers are out; what the
--- workers share; the seats of those that weren't handed out, and what is left of the seats of those
+-- workers share; the seats of those that weren't given out, and what is left of the seats of those
 -- that were given back, channel 0 first.
 pub record OpenMulti : Type 0 where
   pub sender : MultiSending
@@ -29,7 +29,7 @@ pub record OpenMulti : Type 0 where
 abbrev pub dirty_of : RoundTerms → List Place
 dirty_of terms = flat_map batch_places terms.batches
 
--- how many workers were handed out
+-- how many workers were given out
 abbrev pub handed_out : OpenMulti → ℕ
 handed_out round = length round.sender.channels - length round.seats
 
@@ -55,7 +55,7 @@ none_drained = λ _. []
 
 -- The round was begun by a sender, and the workers that were given back packed what they drew from
 -- the pages of this image: each of their channels has, after what it had, what is sent of a share.
--- These bytes of it were drained in the round. The channels whose workers are still to be handed out
+-- These bytes of it were drained in the round. The channels whose workers are still to be given out
 -- have what they had.
 pub record IsRoundSoFar (image : Image) (drained : ℕ → List ℕ) (old : MultiSending) (round : OpenMulti) : Type 0 where
   pub same_sender : round.sender ≡ record old { channels = round.sender.channels }
@@ -70,7 +70,7 @@ pub record IsRoundSoFar (image : Image) (drained : ℕ → List ℕ) (old : Mult
 
 -- ---- its calls
 
--- The round of a dirty set is begun: no worker was handed out.
+-- The round of a dirty set is begun: no worker was given out.
 pub record HasBegun (dirty : PlaceSet) (old : MultiSending) (round : OpenMulti) : Type 0 where
   pub same_table : dirty.table ≡ old.main.table
   pub of_table : round.terms.table ≡ old.main.table
@@ -103,7 +103,7 @@ pub record IsDealtOut (dirty : PlaceSet) (sender : MultiSending) (terms : RoundT
   pub is_dealt : IsDealtTo sender.base sender.main.table terms.batches (length sender.channels) terms seats
   pub base_fits : sender.base ≤ 2 ^ 63
 
--- The next channel's worker is handed out, with the bytes that the channel had.
+-- The next channel's worker is given out, with the bytes that the channel had.
 pub record HandsOut (old new : OpenMulti) (worker : ChannelWork) : Type 0 where
   pub same_terms : new.terms ≡ old.terms
   pub worker_terms : worker.terms ≡ old.terms

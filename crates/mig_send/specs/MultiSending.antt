@@ -12,8 +12,8 @@ use Rattle.mig_send.specs.DealtRounds.{DealtRound, IsDealtRound, AreNumbered, Is
 
 -- ---- the sender
 
--- A sender: the main stream's writer, what it was made with, what of the channels' texts it holds, and its counts of packets and
--- rounds.
+-- A sender: the main stream's writer, what it was made with, the bytes that it holds of the
+-- channels, and its counts of packets and rounds.
 pub record MultiSending : Type 0 where
   pub main : Writer
   pub uuid : List ℕ
@@ -22,17 +22,18 @@ pub record MultiSending : Type 0 where
   pub base : ℕ
   pub rounds : ℕ
 
--- what the buffers of some texts hold
+-- what some buffers hold
 abbrev pub texts_of : {A : Type 0} → List (Vec ℕ A) → List (List ℕ)
 texts_of channels = map (λ text. text.items) channels
 
--- texts, each cut to the length of its place
+-- channels' bytes, each cut to the length of its place
 abbrev pub cut_texts : List ℕ → List (List ℕ) → List (List ℕ)
 cut_texts [] texts = texts
 cut_texts (len ∷ lens) [] = []
 cut_texts (len ∷ lens) (text ∷ texts) = take len text ∷ cut_texts lens texts
 
--- What holds of each: it was made within the limits, each round had a packet, and the packets are numbered within 64 bits.
+-- What holds of each: it was made within the limits, each round had a packet, and the packets are
+-- numbered within 64 bits.
 pub record IsMultiSending (sender : MultiSending) : Type 0 where
   pub is_set : IsSetting sender.main.table sender.uuid (length sender.channels) sender.limit
   pub has_rounds : sender.rounds ≤ sender.base
@@ -46,8 +47,9 @@ pub record Drained : Type 0 where
 abbrev pub nothing_drained : Drained
 nothing_drained = record { main = []; channel = λ _. [] }
 
--- The sender has sent these rounds, and these bytes of their texts were drained of it: each round was dealt over its channels, with
--- packets numbered from 0 on, its main stream has a FLUSH for each, and its channels carry them.
+-- The sender has sent these rounds, and these bytes of their streams were drained of it: each round
+-- was dealt over its channels, with packets numbered from 0 on, its main stream has a FLUSH for
+-- each, and its channels carry them.
 pub record HasSentRounds (drained : Drained) (sender : MultiSending) (rounds : List DealtRound) : Type 0 where
   pub are_dealt : All (IsDealtRound sender.main.table sender.limit (length sender.channels)) rounds
   pub are_numbered : AreNumbered 0 rounds
@@ -57,7 +59,7 @@ pub record HasSentRounds (drained : Drained) (sender : MultiSending) (rounds : L
   pub has_base : sender.base ≡ sum_by packet_count rounds
   pub has_rounds : sender.rounds ≡ length rounds
 
--- all of the channels' texts: what was drained of each, and what was left of it
+-- all bytes of the channels: what was drained of each, and what was left of it
 abbrev pub whole_texts : Drained → List (List ℕ) → List (List ℕ)
 whole_texts drained channels = map (λ channel. drained.channel channel ++ get_or channels channel []) (range_with_len 0 (length channels))
 
@@ -81,8 +83,9 @@ with_main drained bytes = record drained { main = drained.main ++ bytes }
 abbrev pub with_channel : Drained → ℕ → List ℕ → Drained
 with_channel drained channel bytes = record drained { channel = λ other. if other == channel then drained.channel other ++ bytes else drained.channel other }
 
--- The sender has sent one round more, of this image and its dirty places: it was dealt over its channels, its packets are numbered from
--- the sender's count of packets on, and that count rises by a packet for each batch and one for each channel.
+-- The sender has sent one round more, of this image and its dirty places. It was dealt over its
+-- channels. Its packets are numbered from the sender's count of packets on, and that count rises by
+-- a packet for each batch and one for each channel.
 pub record HasSentOne (snapshot : Snapshot) (old new : MultiSending) : Type 0 where
   pub round : DealtRound
   pub is_of : round.snapshot ≡ snapshot

@@ -23,7 +23,7 @@ zeros_of pages = filter (λ page. is_zero page.content) pages
 abbrev pub offsets_of : ℕ → List Page → List ℕ
 offsets_of page_size pages = map (λ page. page.place.page * page_size) pages
 
--- the contents of pages, one behind the other
+-- the contents of pages, one after the other
 abbrev pub contents_of : List Page → List ℕ
 contents_of pages = flat_map (λ page. page.content) pages
 
@@ -39,7 +39,7 @@ normal_offsets image places = offsets_of image.table.page_size (normals_of (roun
 abbrev pub zero_offsets : Image → List Place → List ℕ
 zero_offsets image places = offsets_of image.table.page_size (zeros_of (round_of image places))
 
--- the contents at some offsets in a block of a memory, one behind the other
+-- the contents at some offsets in a block of a memory, one after the other
 abbrev pub contents_at : Image → ℕ → List ℕ → List ℕ
 contents_at image b offsets = flat_map (λ offset. content_at image (place_at b (offset / image.table.page_size))) offsets
 
@@ -55,8 +55,9 @@ pub record PackedBatch : Type 0 where
   pub number : ℕ
   pub bytes : List ℕ
 
--- What the bytes of a packed packet show: the written packet of that number, without SYNC, of at least one page and no more
--- than a packet may have, none of its normal pages zeros, and both kinds ascending.
+-- What the bytes of a packed packet show: they are the written packet of that number, without SYNC,
+-- of at least one page and no more than a packet may have. None of its normal pages is zeros, and
+-- its normal and its zero pages ascend.
 pub record IsPacked (packed : PackedBatch) : Type 0 where
   pub id : List ℕ
   pub normal : List ℕ
@@ -77,7 +78,7 @@ packed_of image batch number = record {
   bytes = packet_of image.table.page_size number (block image.table.blocks batch.block).id (round_of image (batch_places batch));
 }
 
--- a text, or another list, goes on from what it had, or is that alone
+-- bytes, or another list, go on from what they were, or are that alone
 pub record IsPrefix {E : Type 0} (front text : List E) : Type 0 where
   pub rest : List E
   pub is_text : text ≡ front ++ rest

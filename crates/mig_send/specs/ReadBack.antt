@@ -1,4 +1,4 @@
--- What the texts of a sending are read as.
+-- What the streams of a sending are read as.
 use Rattle.std.specs.Prelude.{ℕ, ◌≡◌, ◌<◌, ◌≤◌, ◌^◌, ◌*◌, true, false, List, [], ◌∷◌, ◌++◌, length, map, flat_map, replicate, get_or, Option, Some, None, IfSome}
 use Rattle.mig_mem.specs.RamTable.{RamTable, IsTable, block}
 use Rattle.mig_mem.specs.Image.{Image, IsImage}
@@ -22,7 +22,8 @@ use Rattle.mig_send.specs.DealtRounds.{DealtRound, IsSending, IsMachineSending, 
 
 -- ---- channels
 
--- the packets of a share, each as its text: those that its numbers claim, in their order, and a SYNC packet of its last number
+-- the packets of a share, each as its bytes: those that its numbers claim, in their order, and a
+-- SYNC packet of its last number
 abbrev pub share_packets : ℕ → Image → List BatchOfPages → Share → List (List ℕ)
 share_packets base image batches share =
     map (λ number. (claimed_packet base image batches number).bytes) share.numbers ++ sync_packet image.table.page_size share.last ∷ []
@@ -31,7 +32,8 @@ share_packets base image batches share =
 abbrev pub round_packets : ℕ → DealtRound → List (List ℕ)
 round_packets channel round = share_packets round.base round.snapshot.image round.batches (get_or round.shares channel no_share)
 
--- what a channel's whole text tells: its own number in its hello, the packets of each round, and that it is closed
+-- what a complete channel says: its own number in its hello, the packets of each round, and that it
+-- is closed
 abbrev pub channel_told : List DealtRound → ℕ → ChannelReading
 channel_told rounds channel = record { hello = Some channel; rounds = map (round_packets channel) rounds; state = Closed }
 
@@ -42,8 +44,8 @@ channel_items page_size rounds channel =
 
 -- ---- the law
 
--- The texts of a sending are read back: the main stream as its table and so many rounds without a record, and each channel as the
--- packets that it carries of each round.
+-- The streams of a sending are read back: the main stream as its table and so many rounds without a
+-- record, and each channel as the packets that it carries of each round.
 pub record AreReadBack (table : RamTable) (uuid : List ℕ) (channels : ℕ) (rounds : List DealtRound) (main_text : List ℕ) (texts : List (List ℕ)) : Type 0 where
   pub main_is_read : (limit : ℕ) → total_bytes table ≤ limit
       → stream.IsReading (stream.settings Main table.page_size limit) main_text (closed table (replicate (length rounds) []))
@@ -56,8 +58,8 @@ abbrev pub SendingsAreReadBack : Type 0
 SendingsAreReadBack = (table : RamTable) (uuid : List ℕ) (limit channels : ℕ) (rounds : List DealtRound) (main_text : List ℕ) (texts : List (List ℕ))
     → IsSending table uuid limit channels rounds main_text texts → AreReadBack table uuid channels rounds main_text texts
 
--- So are those whose main stream is a machine's: it is read in a machine's frame as its table and so
--- many rounds without a record, whatever follows RAM's END.
+-- So are those whose main stream is a machine's: it is read in a machine's frame as its table and
+-- so many rounds without a record, whatever follows RAM's END.
 abbrev pub MachineSendingsAreReadBack : Type 0
 MachineSendingsAreReadBack = (name : Option (List ℕ)) (table : RamTable) (uuid : List ℕ) (limit channels : ℕ) (rounds : List DealtRound) (main_text : List ℕ) (texts : List (List ℕ))
     → IfSome name (λ bytes. length bytes ≤ most_name_bytes) → IsMachineSending name table uuid limit channels rounds main_text texts
@@ -67,7 +69,8 @@ MachineSendingsAreReadBack = (name : Option (List ℕ)) (table : RamTable) (uuid
 
 -- ---- what the packets say
 
--- what the packet of a batch says: its number, its block's id, and its pages, those that aren't zeros with their contents
+-- what the packet of a batch says: its number, its block's id, and its pages, those that aren't
+-- zeros with their contents
 abbrev pub batch_fields : Image → BatchOfPages → ℕ → Fields
 batch_fields image batch number = record {
   number = number;

@@ -12,7 +12,8 @@ use Rattle.mig_send.specs.declared.fault.SendFault.TheVariants.{Channels, Limit,
 abbrev pub HasSent : Writer → List (List Page) → Type 0
 HasSent sender rounds = HasWritten sender (map RoundPart rounds)
 
--- The sender has sent these rounds, and these bytes of their stream were drained of it. With no bytes that is `HasSent`.
+-- The sender has sent these rounds, and these bytes of their stream were drained of it. With no
+-- bytes that is `HasSent`.
 abbrev pub HasSentDrained : List ℕ → Writer → List (List Page) → Type 0
 HasSentDrained drained sender rounds = HasDrained drained sender (map RoundPart rounds)
 

@@ -1,4 +1,5 @@
--- What one worker does of a round: the numbers that it draws, and the packets that it makes of the batches that these claim.
+-- What one worker does of a round: the numbers that it draws, and the packets that it makes of the
+-- batches that these claim.
 use Rattle.std.specs.Prelude.{ℕ, ◌≡◌, ◌-◌, ◌<◌, ◌≤◌, List, [], ◌∷◌, ◌++◌, length, map, get_or, All, AllPairs, IfOk}
 use Rattle.mig_mem.specs.RamTable.{RamTable}
 use Rattle.mig_mem.specs.Image.{Image}
@@ -32,7 +33,8 @@ pub record HasShare (seat spent : SeatView) (share : Share) : Type 0 where
   pub rise : AllPairs (λ a b. a < b) share.numbers
   pub claims_none : (end_of_work seat.deal ≤ share.last) × (share.last < end_of_deal seat.deal)
 
--- What a worker answers: the share that it drew, and, where it answers packets, those that the share's numbers claim, in their order.
+-- What a worker returns: the share that it drew, and, where it returns packets, those that the
+-- share's numbers claim, in their order.
 pub record HasWorked {A : Type 0} (image : Image) (batches : List BatchOfPages) (seat : SeatView) (worked : Worked A) : Type 0 where
   pub share : Share
   pub has_share : HasShare seat worked.spent share

@@ -1,4 +1,5 @@
--- The workers of a round, each with a seat of its own and the text of its channel, and what they write together.
+-- The workers of a round, each with a seat of its own and the bytes of its channel, and what they
+-- write together.
 use Rattle.std.specs.Prelude.{ℕ, ◌≡◌, ◌<◌, List, [], ◌++◌, length, get_or, IsOk, OnOk}
 use Rattle.mig_mem.specs.Image.{Image}
 use Rattle.mig_deal.specs.Deal.{DealView, SeatView, new_seat}
@@ -13,8 +14,8 @@ use Rattle.mig_send.specs.DealtRounds.{no_share}
 
 -- ---- one worker
 
--- What a worker leaves that began with some text: that text, and behind it, where there was memory, what is sent of the share that
--- the worker drew; else a part of it, if any.
+-- What a worker leaves that began with some bytes: these, and after them, where there was memory,
+-- what is sent of the share that the worker drew; else a part of it, if any.
 pub record HasWritten {A : Type 0} (image : Image) (batches : List BatchOfPages) (seat : SeatView) (before : List ℕ) (written : Written A) : Type 0 where
   pub share : Share
   pub has_share : HasShare seat written.spent share
@@ -29,7 +30,7 @@ IsReady deal (Waiting seat text) = seat ≡ new_seat deal
 IsReady deal Running = ⊥
 IsReady deal (Done written) = ⊥
 
--- the text that stands here
+-- the bytes that stand here
 abbrev pub slot_text : {A : Type 0} → Slot A → List ℕ
 slot_text (Waiting seat text) = text.items
 slot_text Running = []
@@ -41,7 +42,7 @@ IsAnswer (Waiting seat text) = ⊥
 IsAnswer Running = ⊥
 IsAnswer (Done written) = Unit {0}
 
--- the worker of a new seat has written here behind a text
+-- the worker of a new seat has written here after some bytes
 abbrev pub IsDone : {A : Type 0} → DealView → Image → List BatchOfPages → List ℕ → Slot A → Type 0
 IsDone deal image batches before (Done written) = HasWritten image batches (new_seat deal) before written
 IsDone deal image batches before (Waiting seat text) = ⊥
@@ -61,7 +62,8 @@ HasSpent Running spent = ⊥
 
 -- ---- all workers
 
--- The channels' texts carry a dealing of the batches from a base on: each has, behind what it had, what is sent of its share.
+-- The channels carry a dealing of the batches from a base on: each has, after what it had, what is
+-- sent of its share.
 pub record CarryDealing (base : ℕ) (image : Image) (batches : List BatchOfPages) (before after : List (List ℕ)) : Type 0 where
   pub shares : List Share
   pub is_dealing : IsDealing base (length batches) shares

@@ -1,4 +1,5 @@
-//! Batches: the dirty pages of a round in groups, each for one packet. `MultiSender::round` cuts them.
+//! Batches: the dirty pages of a round in groups, each for one packet. `MultiSender::round` cuts
+//! them.
 
 ghost use Rattle.std.specs.Prelude.{◌≡◌, ◌<◌, ◌≤◌, ◌∷◌, All, IfOk, Some};
 ghost use Rattle.mig_mem.specs.PlaceSet.{IsPlaceSet};
@@ -34,8 +35,13 @@ impl<A: Allocator> Debug for Batch<A> {
     }
 }
 
-/// The dirty pages of a round in batches of at most `limit` pages: all of them in ascending order, each batch of one block, and
-/// all but a block's last one full. It walks the bitmap, and makes no list of all places.
+/// Cuts the dirty pages of a round into batches of at most `limit` pages. The batches have all of
+/// them in ascending order. Each is of one block, and all but a block's last one are full. The call
+/// walks the bitmap, and makes no list of all places.
+///
+/// # Errors
+///
+/// `NoMemory`: an allocation was refused.
 pub fn cut<A: Allocator + Copy, B: Allocator, C: Allocator>(
     alloc: A,
     table: &Table<B>,
@@ -59,7 +65,7 @@ pub fn cut<A: Allocator + Copy, B: Allocator, C: Allocator>(
     Ok(batches)
 }
 
-// The batch that begins with a dirty place, and the first dirty place behind it.
+// Returns the batch that begins with the dirty place `first`, and the first dirty place after it.
 fn batch_from<A: Allocator, C: Allocator>(
     alloc: A,
     dirty: &Dirty<C>,
@@ -90,7 +96,7 @@ fn batch_from<A: Allocator, C: Allocator>(
     ))
 }
 
-// The first dirty place behind another one.
+// Returns the first dirty place after another one.
 fn first_behind<C: Allocator>(dirty: &Dirty<C>, place: Place) -> Option<Place>
     requires set { IsPlaceSet dirty.now }
     requires place { IsInSet dirty.now.marked (Some place) }

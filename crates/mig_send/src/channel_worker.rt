@@ -1,5 +1,5 @@
 //! A worker of one channel, for callers with threads of their own: its caller steps it, and each
-//! step writes one packet. `MultiRound` hands out a worker for each channel of a sender.
+//! step writes one packet. `MultiRound` gives out a worker for each channel of a sender.
 //!
 //! A worker starts no thread and waits for nobody. It shares the round's deal with the other
 //! workers, and nothing else that is written.
@@ -31,7 +31,7 @@ pub(crate) enum Hand {
     Ending(Spent, u64),
     /// What is left of its seat.
     Ended(Spent),
-    /// Nothing, while a step runs.
+    /// No number, while a step runs.
     Moving,
 }
 
@@ -65,7 +65,7 @@ impl<A: Allocator> Debug for ChannelWorker<A> {
     }
 }
 
-// Draws a number, where none is in hand and one is left to draw.
+// Draws a number, if none is in hand and one is left to draw.
 fn claimed<A: Allocator>(deal: &Deal<A>, hand: Hand) -> Hand
     requires { IsHand deal.now hand }
     ensures hand { IsHand deal.now result }
@@ -109,7 +109,7 @@ fn put_in_hand<A: Allocator, M: GuestPages>(
     }
 }
 
-// What is in hand once the packet of what was is written.
+// Returns what is in hand once the packet of `hand` is written.
 fn written(hand: Hand) -> Hand
     ensures { result ≡ after_packet hand }
 {
@@ -122,7 +122,7 @@ fn written(hand: Hand) -> Hand
     }
 }
 
-// One step, on the parts of a worker.
+// Takes one step, on the parts of a worker.
 fn step_parts<A: Allocator, M: GuestPages>(
     work: &RoundWork<A>,
     hand: &mut Hand,
@@ -151,21 +151,21 @@ fn step_parts<A: Allocator, M: GuestPages>(
 }
 
 impl<A: Allocator> ChannelWorker<A> {
-    /// The table whose pages it sends.
+    /// Returns the table whose pages it sends.
     pub fn table(&self) -> &Table<A>
         ensures { result.now ≡ self.now.terms.table }
     {
         &self.shared.table
     }
 
-    /// The number of its channel.
+    /// Returns the number of its channel.
     pub fn channel(&self) -> usize
         ensures { result ≡ self.now.channel }
     {
         self.channel
     }
 
-    /// Whether it has written its SYNC packet, after which a step does nothing.
+    /// Returns whether it has written its SYNC packet, after which a step does nothing.
     pub fn has_ended(&self) -> bool
         ensures { IsTrue result ↔ HasEnded self.now.hand }
     {
@@ -194,8 +194,8 @@ impl<A: Allocator> ChannelWorker<A> {
         )
     }
 
-    /// Hands out the bytes of its channel that were written and not drained yet, into a buffer: what
-    /// it held is dropped, and its room is used for what is written next. It allocates nothing.
+    /// Moves the bytes of its channel that were written and not drained yet into `bytes`. What the
+    /// buffer held is dropped, and its room is used for what is written next. It allocates nothing.
     pub fn drain_into(&mut self, bytes: &mut Vec<u8, A>)
         ensures all { bytes.new.items ≡ self.old.text }
         ensures rest { self.new ≡ record self.old { text = [] } }

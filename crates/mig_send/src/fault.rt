@@ -21,7 +21,7 @@ pub enum SendFault {
 }
 
 impl SendFault {
-    /// The fault's number in documents and in the tool's output.
+    /// Returns the fault's number, as documents and the tool's output have it.
     pub fn number(self) -> u8
         ensures { result ≡ fault_number self }
     {
@@ -44,7 +44,7 @@ impl From<NoMemory> for SendFault {
     }
 }
 
-/// The fault's number, and what it says.
+/// Writes the fault's number and its words.
 impl Display for SendFault {
     fn fmt<W: fmt::Write>(&self, f: &mut Formatter<W>) -> fmt::Result {
         match self {

@@ -4,9 +4,11 @@
 //! `SingleSender` writes all rounds into one stream. `MultiSender` sends them on several channels
 //! beside a main stream: it cuts the dirty pages of a round into batches (`cut`), and runs a worker
 //! for each channel. A worker draws numbers from the round's deal, and appends the packets of the
-//! batches that these claim to its channel. A caller with threads of its own begins a round by
-//! `MultiSender::begin_round`, and steps the workers that the `MultiRound` hands out, each a packet at
-//! a time. `work` is a worker whose packets are returned as a list. `pack` makes a single packet.
+//! batches that these claim to its channel.
+//!
+//! A caller with threads of its own begins a round by `MultiSender::begin_round`, and steps the
+//! workers that the `MultiRound` gives out, each a packet at a time. `work` is a worker whose
+//! packets are returned as a list. `pack` makes a single packet.
 //!
 //! What the streams look like is `mig_stream`'s and `mig_packet`'s. Which pages are dirty, and when
 //! a round is sent, is for the caller.

@@ -1,5 +1,5 @@
-//! The sender on several channels, for hypervisors: a main stream with a FLUSH for each round, and the rounds' packets on the channels beside
-//! it.
+//! The sender on several channels, for hypervisors: a main stream with a FLUSH for each round, and
+//! the rounds' packets on the channels beside it.
 
 ghost use Rattle.std.specs.Prelude.{◌≡◌, ◌↔◌, ◌<◌, ◌≤◌, ◌++◌, ◌∷◌, [], List, ℕ, Option, Some, None, Err, length, map, replicate, IfOk, IfErr, OnOk, OnErr, vec_len};
 ghost use Rattle.std.specs.List.{range_with_len};
@@ -29,8 +29,9 @@ use uuid::Uuid;
 // The highest number that a round may begin with.
 pub(crate) const LAST_BASE: u64 = 1 << 63;
 
-/// Sends the rounds of one guest on several channels beside a main stream (QEMU's multifd migration, without compression). Each
-/// round is dealt to as many workers as there are channels, each on a thread of its own.
+/// Sends the rounds of one guest on several channels beside a main stream (QEMU's multifd
+/// migration, without compression). Each round is dealt to as many workers as there are channels,
+/// each on a thread of its own.
 #[derive(Drop)]
 pub struct MultiSender<A: Allocator = Global> {
     pub(crate) alloc: A,
@@ -58,7 +59,8 @@ impl<A: Allocator> Debug for MultiSender<A> {
     }
 }
 
-/// The texts of a migration, or what of them wasn't drained: the main stream's, and those of the channels, channel 0 first.
+/// The bytes of a migration that weren't drained: the main stream's, and those of the channels,
+/// channel 0 first.
 #[derive(Drop)]
 pub struct Sent<A: Allocator = Global> {
     pub main: Vec<u8, A>,
@@ -71,7 +73,7 @@ impl<A: Allocator> Debug for Sent<A> {
     }
 }
 
-// The hellos of so many channels.
+// Returns the hellos of `channels` channels.
 fn hellos<A: Allocator + Copy>(
     alloc: A,
     uuid: &Uuid,
@@ -87,7 +89,7 @@ fn hellos<A: Allocator + Copy>(
     Ok(texts)
 }
 
-// Whether a sender may have so many channels and this batch limit.
+// Tests whether a sender may have `channels` channels and the batch limit `limit`.
 fn test_setting<B: Allocator>(
     table: &Table<B>,
     channels: usize,
@@ -107,7 +109,7 @@ fn test_setting<B: Allocator>(
     Ok(())
 }
 
-// The lengths of some texts.
+// Returns the length of each channel's bytes.
 fn lengths<A: Allocator>(alloc: A, texts: &[Vec<u8, A>]) -> Result<Vec<usize, A>, NoMemory>
     ensures { IfOk result (λ lens. lens.items ≡ map vec_len texts.now) }
 {
@@ -118,7 +120,7 @@ fn lengths<A: Allocator>(alloc: A, texts: &[Vec<u8, A>]) -> Result<Vec<usize, A>
     Ok(lens)
 }
 
-// Cuts each text to the length of its place.
+// Cuts each channel's bytes to the length of the same place in `lens`.
 fn cut_back<A: Allocator>(channels: &mut Vec<Vec<u8, A>, A>, lens: &[usize])
     requires { length lens.now ≡ vec_len channels.old }
     ensures { texts_of channels.new.items ≡ cut_texts lens.now (texts_of channels.old.items) }
@@ -129,8 +131,14 @@ fn cut_back<A: Allocator>(channels: &mut Vec<Vec<u8, A>, A>, lens: &[usize])
 }
 
 impl<A: Allocator + Copy> MultiSender<A> {
-    /// A sender on so many channels, with at most `limit` pages to a packet. It has sent no round yet, and each channel has its
-    /// hello. It keeps a copy of the table.
+    /// Creates a sender on `channels` channels, with at most `limit` pages to a packet. It has sent
+    /// no round yet, and each channel has its hello. It keeps a copy of the table.
+    ///
+    /// # Errors
+    ///
+    /// - `Channels`: there is no channel, or there are more than 255.
+    /// - `Limit`: `limit` is 0, or above what a packet has room for.
+    /// - `NoMemory`: an allocation was refused.
     pub fn new<B: Allocator>(
         alloc: A,
         table: &Table<B>,
@@ -174,7 +182,7 @@ impl<A: Allocator + Copy> MultiSender<A> {
         Ok((first, sender))
     }
 
-    // The sender whose main stream this writer writes, which was given no part yet.
+    // Creates the sender whose main stream `main` writes, which was given no part yet.
     fn of_writer(
         alloc: A,
         main: StreamWriter<A>,
@@ -202,10 +210,19 @@ impl<A: Allocator + Copy> MultiSender<A> {
 }
 
 impl<A: Allocator + Copy + Send + Sync> MultiSender<A> {
-    /// Sends a round: cuts the dirty pages into batches and deals these to the workers, each of which puts its packets, with a SYNC
-    /// packet behind them, on its channel, and puts a FLUSH on the main stream. An `Err` changes nothing, so the round can be sent
-    /// again. It returns when all workers are done; where no thread can be made, a worker runs on the caller's. Once more than
-    /// 2^63 packets were numbered, each round is refused with `NoMemory`.
+    /// Sends a round: cuts the dirty pages into batches and deals these to the workers. Each worker
+    /// appends its packets, and after them a SYNC packet, to its channel. The main stream gets a
+    /// FLUSH.
+    ///
+    /// The call returns when all workers are done. If no thread can be made, a worker runs on the
+    /// caller's.
+    ///
+    /// # Errors
+    ///
+    /// - `OtherTable`: the image or `dirty` is of another table than the sender's.
+    /// - `NoMemory`: an allocation was refused, or more than 2^63 packets were numbered before.
+    ///
+    /// Nothing changes, so the round can be sent again.
     pub fn round<
         R: Threads + Sync,
         M: GuestPages<Alloc: Sync> + Sync,
@@ -250,36 +267,37 @@ impl<A: Allocator + Copy + Send + Sync> MultiSender<A> {
 }
 
 impl<A: Allocator> MultiSender<A> {
-    /// The table whose pages it sends.
+    /// Returns the table whose pages it sends.
     pub fn table(&self) -> &Table<A>
         ensures { result.now ≡ self.now.main.table }
     {
         self.main.table()
     }
 
-    /// How many channels it has.
+    /// Returns how many channels it has.
     pub fn channels(&self) -> usize
         ensures { result ≡ length self.now.channels }
     {
         self.channels.len()
     }
 
-    /// How many packets all channels have so far. It is the number of the next one.
+    /// Returns how many packets all channels have so far. It is the number of the next one.
     pub fn base(&self) -> u64
         ensures { result ≡ self.now.base }
     {
         self.base
     }
 
-    /// How many rounds were sent.
+    /// Returns how many rounds were sent.
     pub fn rounds(&self) -> u64
         ensures { result ≡ self.now.rounds }
     {
         self.rounds
     }
 
-    /// Hands out the bytes of the main stream that were written and not drained yet, into a buffer: what it held is dropped, and
-    /// its room is used for what is written next. It allocates nothing.
+    /// Moves the bytes of the main stream that were written and not drained yet into `bytes`. What
+    /// the buffer held is dropped, and its room is used for what is written next. It allocates
+    /// nothing.
     pub fn drain_main(&mut self, bytes: &mut Vec<u8, A>)
         ensures counts { KeepsCounts self.old self.new }
         ensures all { (drained : Drained) (rounds : List DealtRound) → HasSentRounds drained self.old rounds
@@ -290,7 +308,8 @@ impl<A: Allocator> MultiSender<A> {
         self.main.drain_into(bytes);
     }
 
-    /// Hands out the bytes of a channel that were written and not drained yet, into a buffer, as `drain_main`.
+    /// Moves the bytes of a channel that were written and not drained yet into `bytes`, as
+    /// `drain_main` does.
     pub fn drain_channel(&mut self, channel: usize, bytes: &mut Vec<u8, A>)
         requires { channel < length self.old.channels }
         ensures counts { KeepsCounts self.old self.new }
@@ -303,7 +322,11 @@ impl<A: Allocator> MultiSender<A> {
         mem::swap(&mut self.channels[channel], bytes);
     }
 
-    /// Ends the main stream and gives all texts, or what of them wasn't drained; an `Err` gives the sender back as it was.
+    /// Ends the main stream, and returns of each stream the bytes that weren't drained.
+    ///
+    /// # Errors
+    ///
+    /// The sender, as it was: an allocation was refused.
     pub fn finish(self) -> Result<Sent<A>, MultiSender<A>>
         ensures ok { IfOk result (λ sent. (drained : Drained) (rounds : List DealtRound) → HasSentRounds drained self rounds
             → IsSending self.main.table self.uuid self.limit (length self.channels) rounds (drained.main ++ sent.main.items) (whole_texts drained (texts_of sent.channels.items))) }
@@ -332,10 +355,10 @@ impl<A: Allocator> MultiSender<A> {
         }
     }
 
-    /// Ends RAM's sections of the main stream without the stream's end byte, and returns all
-    /// streams, or what of them wasn't drained. The caller goes on with the sections of devices and
-    /// the end byte on the main stream. That is a machine's then, up to the footer of RAM's END; with
-    /// a configuration after the file header, that of a machine of that name.
+    /// Ends RAM's sections of the main stream without the stream's end byte, and returns of each
+    /// stream the bytes that weren't drained. The caller goes on with the sections of devices and
+    /// the end byte on the main stream. That is a machine's then, up to the footer of RAM's END.
+    /// With a configuration after the file header, it is that of a machine of that name.
     ///
     /// # Errors
     ///

@@ -1,4 +1,4 @@
-//! A round of a sender on several channels whose workers run on threads of the caller's: it hands
+//! A round of a sender on several channels whose workers run on threads of the caller's. It gives
 //! out a worker for each channel, takes them back once they have ended, and ends with a FLUSH.
 
 ghost use Rattle.std.specs.Prelude.{◌≡◌, ◌<◌, [], length, get_or, slice_set, All, IfOk, IfErr, OnOk, OnErr};
@@ -23,14 +23,14 @@ use std::marker::Model;
 use std::mem;
 use std::sync::Arc;
 
-/// A round that is being sent on several channels, by workers on threads of the caller's. It has the
-/// sender until the round is ended; whoever drops it drops the sender too, and so gives up the
+/// A round that is being sent on several channels, by workers on threads of the caller's. It has
+/// the sender until the round is ended. Whoever drops it drops the sender too, and so gives up the
 /// streams.
 #[derive(Drop)]
 pub struct MultiRound<A: Allocator = Global> {
     sender: MultiSender<A>,
     shared: Arc<RoundWork<A>, A>,
-    // of the workers that weren't handed out yet
+    // of the workers that weren't given out yet
     seats: Vec<Seat, A>,
     // of those that were given back
     spents: Vec<Spent, A>,
@@ -53,7 +53,7 @@ impl<A: Allocator> Debug for MultiRound<A> {
     }
 }
 
-// Deals batches of a table to so many seats.
+// Deals batches of a table to `seats` seats.
 fn deal_out<A: Allocator + Copy>(
     alloc: A,
     base: u64,
@@ -115,7 +115,7 @@ impl<A: Allocator + Copy> MultiSender<A> {
         }
     }
 
-    // What the workers of a round share, and their seats.
+    // Returns what the workers of a round share, and their seats.
     fn dealt_out<C: Allocator>(
         &self,
         dirty: &Dirty<C>,
@@ -132,7 +132,7 @@ impl<A: Allocator + Copy> MultiSender<A> {
         deal_out(self.alloc, self.base, table, batches, self.channels.len())
     }
 
-    // Hands out the bytes that it holds of a channel.
+    // Takes the bytes that it holds of a channel.
     fn take_channel(&mut self, channel: usize) -> Vec<u8, A>
         requires { channel < length self.old.channels }
         ensures text { result.items ≡ get_or self.old.channels channel [] }
@@ -144,7 +144,7 @@ impl<A: Allocator + Copy> MultiSender<A> {
 }
 
 impl<A: Allocator> MultiSender<A> {
-    // Gives it bytes to hold of a channel, in place of what it held.
+    // Sets the bytes that it holds of a channel. What it held is dropped.
     fn put_channel(&mut self, channel: usize, text: Vec<u8, A>)
         requires { channel < length self.old.channels }
         ensures { self.new ≡ record self.old { channels = slice_set self.old.channels channel text.items } }
@@ -154,12 +154,13 @@ impl<A: Allocator> MultiSender<A> {
 }
 
 impl<A: Allocator + Copy> MultiRound<A> {
-    /// Hands out the worker of the next channel, beginning with channel 0. Its bytes begin with
+    /// Gives out the worker of the next channel, beginning with channel 0. Its bytes begin with
     /// those of its channel that the sender wrote before and that weren't drained.
     ///
     /// # Errors
     ///
-    /// `NoMemory`: there are more than 2^63 owners of what the workers share. The round is as it was.
+    /// `NoMemory`: there are more than 2^63 owners of what the workers share. The round is as it
+    /// was.
     pub fn worker(&mut self) -> Result<ChannelWorker<A>, NoMemory>
         requires left { 0 < length self.old.seats }
         ensures ok { IfOk result (λ worker. HandsOut self.old self.new worker) }
@@ -185,28 +186,28 @@ impl<A: Allocator + Copy> MultiRound<A> {
 }
 
 impl<A: Allocator> MultiRound<A> {
-    /// The table whose pages it sends.
+    /// Returns the table whose pages it sends.
     pub fn table(&self) -> &Table<A>
         ensures { result.now ≡ self.now.sender.main.table }
     {
         self.sender.main.table()
     }
 
-    /// How many channels its sender has.
+    /// Returns how many channels its sender has.
     pub fn channels(&self) -> usize
         ensures { result ≡ length self.now.sender.channels }
     {
         self.sender.channels.len()
     }
 
-    /// How many workers weren't handed out yet.
+    /// Returns how many workers weren't given out yet.
     pub fn workers_left(&self) -> usize
         ensures { result ≡ length self.now.seats }
     {
         self.seats.len()
     }
 
-    /// How many workers were given back. It is the channel of the next one that is.
+    /// Returns how many workers were given back. It is the channel of the next one that is.
     pub fn given_back(&self) -> usize
         ensures { result ≡ length self.now.spents }
     {

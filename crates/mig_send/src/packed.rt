@@ -1,4 +1,4 @@
-//! Packing: the packet of a batch, alone for `worker`, and behind a channel's bytes for `share`.
+//! Packing: the packet of a batch, alone for `worker`, and after a channel's bytes for `share`.
 
 ghost use Rattle.std.specs.Prelude.{◌≡◌, ◌+◌, ◌<◌, ◌≤◌, ◌++◌, length, map, All, IfOk, OnOk};
 ghost use Rattle.mig_mem.specs.RamTable.{IsTable};
@@ -17,7 +17,8 @@ use std::alloc::{Allocator, Global};
 use std::fmt::{self, Debug, Formatter};
 use std::marker::Model;
 
-/// The packet of a batch. The type keeps what its bytes show, so that nobody who sends it on has to test it again.
+/// The packet of a batch. The type keeps what its bytes show, so that nobody who sends it on has to
+/// test it again.
 #[derive(Drop)]
 pub struct Packed<A: Allocator = Global> {
     page_size: u64,
@@ -36,14 +37,14 @@ impl<A: Allocator> Model for Packed<A> {
 }
 
 impl<A: Allocator> Packed<A> {
-    /// The packet's number.
+    /// Returns the packet's number.
     pub fn number(&self) -> u64
         ensures { result ≡ self.now.number }
     {
         self.number
     }
 
-    /// The packet's text. It also says what such a packet keeps.
+    /// Returns the packet's bytes. The contract also says what such a packet keeps.
     pub fn bytes(&self) -> &[u8]
         ensures bytes { result.now ≡ self.now.bytes }
         ensures packed { IsPacked self.now }
@@ -61,8 +62,12 @@ impl<A: Allocator> Debug for Packed<A> {
     }
 }
 
-/// Packs the pages of a batch into the packet of a number: those that aren't zeros with their contents, the others by their
-/// offsets alone. Each page is tested once, and copied at most once.
+/// Packs the pages of a batch into packet `number`: those that aren't zeros with their contents,
+/// the others by their offsets alone. Each page is tested once, and copied at most once.
+///
+/// # Errors
+///
+/// `NoMemory`: an allocation was refused.
 pub fn pack<A: Allocator + Copy, M: GuestPages, C: Allocator>(
     alloc: A,
     memory: &M,
@@ -83,8 +88,8 @@ pub fn pack<A: Allocator + Copy, M: GuestPages, C: Allocator>(
     })
 }
 
-/// The offsets of some pages of a block, in bytes: of those that aren't zeros, and of those that are. Who packs several batches keeps
-/// one, so that the lists' memory is used again.
+/// The offsets of some pages of a block, in bytes: of those that aren't zeros, and of those that
+/// are. Who packs several batches keeps one, so that the lists' memory is used again.
 #[derive(Drop)]
 pub(crate) struct Offsets<A: Allocator> {
     normal: Vec<u64, A>,
@@ -92,7 +97,7 @@ pub(crate) struct Offsets<A: Allocator> {
 }
 
 impl<A: Allocator + Copy> Offsets<A> {
-    /// Those of no page.
+    /// Creates the offsets of no page.
     pub(crate) fn new(alloc: A) -> Offsets<A> {
         Offsets {
             normal: Vec::new(alloc),
@@ -101,7 +106,8 @@ impl<A: Allocator + Copy> Offsets<A> {
     }
 }
 
-/// Appends the packet of a batch to a text, with room made for all of it at once. After an `Err` a part of it may have been appended.
+/// Appends the packet of a batch to `text`, with room made for all of it at once. After an `Err` a
+/// part of it may have been appended.
 pub(crate) fn append_packet<A: Allocator, M: GuestPages, C: Allocator>(
     text: &mut Vec<u8, A>,
     offsets: &mut Offsets<A>,
@@ -150,7 +156,7 @@ fn put_offsets<A: Allocator, M: GuestPages>(
     Ok(())
 }
 
-// Whether a page is of zeros; a place that the memory lacks is one of no bytes at all.
+// Returns whether a page is of zeros. A place that the memory lacks is one of no bytes at all.
 fn is_zero_page<M: GuestPages>(memory: &M, place: Place) -> bool
     ensures { result ≡ zero_test (content_at (M.image memory.now) place) }
 {
@@ -160,7 +166,8 @@ fn is_zero_page<M: GuestPages>(memory: &M, place: Place) -> bool
     }
 }
 
-// Appends the packet of a number with pages of a block: the normal pages and the zero pages by their offsets.
+// Appends packet `number` with pages of a block: the normal pages and the zero pages by their
+// offsets.
 fn append_pages<A: Allocator, M: GuestPages>(
     text: &mut Vec<u8, A>,
     memory: &M,
@@ -185,7 +192,8 @@ fn append_pages<A: Allocator, M: GuestPages>(
     append_contents(text, memory, block, normal)
 }
 
-// Appends the contents of the pages of a block that are at these offsets. After an `Err` some of them may have been appended.
+// Appends the contents of the pages of a block that are at `offsets`. After an `Err` some of them
+// may have been appended.
 fn append_contents<A: Allocator, M: GuestPages>(
     text: &mut Vec<u8, A>,
     memory: &M,

@@ -1,4 +1,5 @@
-//! A worker of a round on several channels: it writes the packets of its share to its channel's text. `workers` runs one on each thread.
+//! A worker of a round on several channels: it writes the packets of its share to its channel.
+//! `workers` runs one on each thread.
 
 ghost use Rattle.std.specs.Prelude.{◌≡◌, ◌++◌, IsOk, OnOk};
 ghost use Rattle.mig_send.specs.Packing.{IsPrefix};
@@ -14,15 +15,17 @@ use mig_mem::{GuestPages, NoMemory};
 use mig_packet::{Gate, Step, put_packet};
 use std::alloc::Allocator;
 
-/// What a worker leaves: its channel's text, whether there was memory for all of its share, and what is left of its seat.
+/// What a worker leaves: its channel's bytes, whether there was memory for all of its share, and
+/// what is left of its seat.
 pub(crate) struct Written<A: Allocator> {
     pub(crate) text: Vec<u8, A>,
     pub(crate) made: Result<(), NoMemory>,
     pub(crate) spent: Spent,
 }
 
-/// Draws as `work` does, and appends the packets to the text of the worker's channel, with a SYNC packet behind them. Once an allocation
-/// was refused it draws on without packing; then the text goes on from what it had by a part of the share.
+/// Draws as `work` does, and appends the packets to `text`, the bytes of the worker's channel, and
+/// after them a SYNC packet. Once an allocation was refused it draws on without packing. Then a
+/// part of the share may have been appended.
 pub(crate) fn write_share<A: Allocator + Copy, M: GuestPages, C: Allocator, D: Allocator, G: Gate>(
     alloc: A,
     deal: &Deal<D>,
@@ -48,7 +51,7 @@ pub(crate) fn write_share<A: Allocator + Copy, M: GuestPages, C: Allocator, D: A
     Written { text, made, spent }
 }
 
-// The text of a channel, and the lists that the packing of its batches uses again.
+// The bytes of a channel, and the lists that the packing of its batches uses again.
 struct ChannelText<A: Allocator> {
     text: Vec<u8, A>,
     offsets: Offsets<A>,
@@ -75,7 +78,7 @@ impl<A: Allocator> Sink for ChannelText<A> {
     }
 }
 
-// Appends the SYNC packet of a number; nothing where an allocation was refused before.
+// Appends the SYNC packet of a number, or nothing if an allocation was refused before.
 fn end<A: Allocator, M: GuestPages>(
     made: Result<(), NoMemory>,
     text: &mut Vec<u8, A>,

@@ -1,4 +1,5 @@
-//! The sender of a single stream, for hypervisors and the tool: each round becomes one section of page records.
+//! The sender of a single stream, for hypervisors and the tool: each round becomes one section of
+//! page records.
 
 ghost use Rattle.std.specs.Prelude.{◌≡◌, ◌≤◌, ◌++◌, ◌↔◌, ℕ, [], ◌∷◌, List, length, map, Option, Some, None, Err, IfOk, IfErr, OnOk, OnErr};
 ghost use Rattle.mig_mem.specs.Place.{IsPlace};
@@ -39,7 +40,11 @@ impl<A: Allocator> Debug for SingleSender<A> {
 }
 
 impl<A: Allocator + Copy> SingleSender<A> {
-    /// A sender that has sent no round yet. It keeps a copy of the table.
+    /// Creates a sender that has sent no round yet. It keeps a copy of the table.
+    ///
+    /// # Errors
+    ///
+    /// `NoMemory`: an allocation was refused.
     pub fn new<B: Allocator>(alloc: A, table: &Table<B>) -> Result<SingleSender<A>, NoMemory>
         ensures table { IfOk result (λ s. s.table ≡ table.now) }
         ensures none { IfOk result (λ s. HasSent s []) }
@@ -71,8 +76,14 @@ impl<A: Allocator + Copy> SingleSender<A> {
 }
 
 impl<A: Allocator> SingleSender<A> {
-    /// Sends a round: the dirty pages, each with its content in the image. An `Err` changes nothing, so the round can be sent
-    /// again.
+    /// Sends a round: the dirty pages, each with its content in the image.
+    ///
+    /// # Errors
+    ///
+    /// - `OtherTable`: the image or `dirty` is of another table than the sender's.
+    /// - `NoMemory`: an allocation was refused.
+    ///
+    /// Nothing changes, so the round can be sent again.
     pub fn round<G: GuestPages, C: Allocator>(
         &mut self,
         image: &G,
@@ -93,7 +104,11 @@ impl<A: Allocator> SingleSender<A> {
         Ok(())
     }
 
-    /// Begins a round whose pages are put one by one. An `Err` gives the sender back as it was.
+    /// Begins a round whose pages are put one by one.
+    ///
+    /// # Errors
+    ///
+    /// The sender, as it was: an allocation was refused.
     pub fn begin_round(self) -> Result<OpenRound<A>, SingleSender<A>>
         ensures before { IfOk result (λ round. round.before ≡ self) }
         ensures none { IfOk result (λ round. HasPut round []) }
@@ -105,8 +120,9 @@ impl<A: Allocator> SingleSender<A> {
         }
     }
 
-    /// Hands out the bytes that were written and not drained yet: all that stands of the stream so far is what was drained in
-    /// all. What is drained, piece after piece, and then what `finish` gives is the stream. It allocates nothing.
+    /// Returns the bytes that were written and not drained yet. All that stands of the stream so
+    /// far is what was drained in all. The pieces that were drained, and then what `finish`
+    /// returns, are the stream. It allocates nothing.
     pub fn drain(&mut self) -> Vec<u8, A>
     where
         A: Copy,
@@ -119,8 +135,8 @@ impl<A: Allocator> SingleSender<A> {
         self.writer.drain()
     }
 
-    /// As `drain`, into a buffer: what it held is dropped, and its room is used for what is written next. So two buffers serve
-    /// for a stream of any length.
+    /// Drains into `bytes`, as `drain` does. What the buffer held is dropped, and its room is used
+    /// for what is written next. So two buffers serve for a stream of any length.
     pub fn drain_into(&mut self, bytes: &mut Vec<u8, A>)
         ensures table { self.new.table ≡ self.old.table }
         ensures all { (drained : List ℕ) (rounds : List (List Page)) → HasSentDrained drained self.old rounds
@@ -131,7 +147,11 @@ impl<A: Allocator> SingleSender<A> {
         self.writer.drain_into(bytes);
     }
 
-    /// Ends the stream and gives its text, or what of it wasn't drained; an `Err` gives the sender back as it was.
+    /// Ends the stream, and returns the bytes that weren't drained.
+    ///
+    /// # Errors
+    ///
+    /// The sender, as it was: an allocation was refused.
     pub fn finish(self) -> Result<Vec<u8, A>, SingleSender<A>>
         ensures ok { IfOk result (λ text. (drained : List ℕ) (rounds : List (List Page)) → HasSentDrained drained self rounds
             → drained ++ text.items ≡ single self.table rounds) }
@@ -145,8 +165,8 @@ impl<A: Allocator> SingleSender<A> {
 
     /// Ends RAM's sections without the stream's end byte, and returns the bytes that weren't
     /// drained. The caller goes on with the sections of devices and the end byte. The drained bytes
-    /// and these are a machine's stream of the rounds, up to the footer of RAM's END; with a
-    /// configuration after the file header, that of a machine of that name.
+    /// and these are a machine's stream of the rounds, up to the footer of RAM's END. With a
+    /// configuration after the file header, they are that of a machine of that name.
     ///
     /// # Errors
     ///
@@ -167,8 +187,9 @@ impl<A: Allocator> SingleSender<A> {
     }
 }
 
-/// A round that is being sent, page after page, with what its caller read of a guest that runs on. It has the sender until the
-/// round is ended or cancelled; whoever drops it drops the sender too, and so gives up the stream.
+/// A round that is being sent, page after page, with what its caller read of a guest that runs on.
+/// It has the sender until the round is ended or cancelled. Whoever drops it drops the sender too,
+/// and so gives up the stream.
 #[derive(Drop)]
 pub struct OpenRound<A: Allocator = Global> {
     part: OpenPart<A>,
@@ -189,15 +210,19 @@ impl<A: Allocator> Debug for OpenRound<A> {
 }
 
 impl<A: Allocator> OpenRound<A> {
-    /// The table whose pages it sends.
+    /// Returns the table whose pages it sends.
     pub fn table(&self) -> &Table<A>
         ensures { result.now ≡ self.now.before.table }
     {
         self.part.table()
     }
 
-    /// Sends a page: a place of the table, for which `Table::holds` is the test, and its bytes. Places come in any order, and of
-    /// several pages at one place the last one counts. An `Err` changes nothing, so the page can be put again.
+    /// Sends a page: a place of the table, for which `Table::holds` is the test, and its bytes.
+    /// Places come in any order. Of several pages at one place the last one counts.
+    ///
+    /// # Errors
+    ///
+    /// `NoMemory`: an allocation was refused. Nothing changes, so the page can be put again.
     pub fn put_page(&mut self, place: Place, bytes: &[u8]) -> Result<(), NoMemory>
         requires place { IsPlace self.old.before.table place }
         requires bytes { length bytes.now ≡ self.old.before.table.page_size }
@@ -209,7 +234,11 @@ impl<A: Allocator> OpenRound<A> {
         self.part.put_page(place, bytes)
     }
 
-    /// Ends the round: it has the pages that were put, in the order in which they were. An `Err` gives it back as it was.
+    /// Ends the round. It has the pages that were put, in the order in which they were.
+    ///
+    /// # Errors
+    ///
+    /// The round, as it was: an allocation was refused.
     pub fn end_round(self) -> Result<SingleSender<A>, OpenRound<A>>
         ensures table { IfOk result (λ s. s.table ≡ self.before.table) }
         ensures ok { IfOk result (λ s. (pages : List Page) → HasPut self pages → (drained : List ℕ) (rounds : List (List Page)) → HasSentDrained drained self.before rounds
@@ -222,7 +251,7 @@ impl<A: Allocator> OpenRound<A> {
         }
     }
 
-    /// Leaves out the round: the sender as it was before.
+    /// Leaves out the round, and returns the sender as it was before.
     pub fn cancel(self) -> SingleSender<A>
         ensures { result ≡ self.before }
     {

@@ -50,10 +50,10 @@ pub(crate) struct Filled {
     pub(crate) spent: Spent,
 }
 
-/// Draws from a deal until the seat's last number, and adds to the sink the packet of the batch that
-/// each number before it claims: base + i claims batch i. It passes the gate after each draw, the
-/// last one too. Once an allocation is refused it draws on without packing, so that no number is
-/// left out.
+/// Draws from `deal` until the seat's last number, and adds to the sink the packet of the batch
+/// that each number before it claims: base + i claims batch i. It passes the gate after each draw,
+/// the last one too. Once an allocation is refused it draws on without packing, so that no number
+/// is left out.
 pub(crate) fn fill<S: Sink, M: GuestPages, C: Allocator, D: Allocator, G: Gate>(
     sink: &mut S,
     deal: &Deal<D>,
@@ -85,7 +85,7 @@ pub(crate) fn fill<S: Sink, M: GuestPages, C: Allocator, D: Allocator, G: Gate>(
     }
 }
 
-// Adds the packet of one more batch to the sink; nothing if an allocation was refused before.
+// Adds the packet of one more batch to the sink, or nothing if an allocation was refused before.
 fn add_after<S: Sink, M: GuestPages, C: Allocator, G: Gate>(
     made: Result<(), NoMemory>,
     sink: &mut S,

@@ -1,7 +1,9 @@
-//! Workers whose packets stand alone, for callers with threads of their own: each draws numbers from the deal of a round, and packs the
-//! batches that these claim. `MultiSender::round` runs those of `share`, over the same loop (`sink`).
+//! Workers whose packets stand alone, for callers with threads of their own. Each draws numbers
+//! from the deal of a round, and packs the batches that these claim. `MultiSender::round` runs
+//! those of `share`, over the same loop (`sink`).
 //!
-//! A worker starts no thread and waits for nobody. Who runs several of them gives each a seat of its own.
+//! A worker starts no thread and waits for nobody. Who runs several of them gives each a seat of
+//! its own.
 
 ghost use Rattle.std.specs.Prelude.{◌≡◌, ◌∷◌, [], IfOk, IsOk};
 ghost use Rattle.mig_send.specs.Work.{ClaimsBatches, HasWorked};
@@ -16,9 +18,9 @@ use mig_packet::{Gate, Step};
 use std::alloc::{Allocator, Global};
 use std::fmt::{self, Debug, Formatter};
 
-/// What a worker answers: its packets in the order of their numbers, or `NoMemory`; its last number, which claims no batch;
-/// and what is left of its seat. `Deal::close` and `Deal::end_number` take that of each worker, so where one is dropped, neither
-/// can be called.
+/// What a worker returns: its packets in the order of their numbers, or `NoMemory`; its last
+/// number, which claims no batch; and what is left of its seat. `Deal::close` and
+/// `Deal::end_number` take that of each worker, so where one is dropped, neither can be called.
 #[derive(Drop)]
 pub struct Worked<A: Allocator = Global> {
     pub packets: Result<Vec<Packed<A>, A>, NoMemory>,
@@ -34,9 +36,10 @@ impl<A: Allocator> Debug for Worked<A> {
     }
 }
 
-/// Draws from a deal until the seat's last number, and packs the batch that each number before it claims: base + i claims batch i.
-/// It tells the gate each draw, the last one too, and each packet that it made. Once an allocation was refused it draws on without
-/// packing, so that no number is left out, and answers `NoMemory`.
+/// Draws from `deal` until the seat's last number, and packs the batch that each number before it
+/// claims: base + i claims batch i. It passes the gate after each draw, the last one too, and after
+/// each packet that it made. Once an allocation was refused it draws on without packing, so that no
+/// number is left out, and returns `NoMemory` in place of the packets.
 pub fn work<A: Allocator + Copy, M: GuestPages, C: Allocator, D: Allocator, G: Gate>(
     alloc: A,
     deal: &Deal<D>,
@@ -67,7 +70,7 @@ pub fn work<A: Allocator + Copy, M: GuestPages, C: Allocator, D: Allocator, G: G
     }
 }
 
-// The packets, if there was memory for all of them.
+// Returns the packets, if there was memory for all of them.
 fn all_of<A: Allocator>(
     made: Result<(), NoMemory>,
     packets: Vec<Packed<A>, A>,
@@ -100,9 +103,12 @@ impl<A: Allocator + Copy> Sink for Vec<Packed<A>, A> {
     }
 }
 
-/// What workers answer makes a dealing, where each had a seat of one deal that had drawn nothing, all seats were had, all workers
-/// answered packets, and the deal had as many batches as there are: each batch is in one worker's packets, once, and each number
-/// behind the batches' is one worker's last, by which its SYNC packet is numbered.
+/// What workers return makes a dealing, under these conditions. Each worker had a seat of one deal
+/// that had drawn nothing. All seats were used. All workers returned packets. The deal had as many
+/// batches as there are.
+///
+/// Then each batch is in one worker's packets, once. Each number after the batches' is one worker's
+/// last, by which its SYNC packet is numbered.
 pub fn workers_make_a_dealing<A: Allocator>()
     ensures { WorkersMakeADealing A }
 {}

@@ -1,5 +1,5 @@
-//! The workers of a round, each with a seat of its own and on a thread of its own, and what they write together. `MultiSender::round` runs
-//! them.
+//! The workers of a round, each with a seat of its own and on a thread of its own, and what they
+//! write together. `MultiSender::round` runs them.
 
 ghost use Rattle.std.specs.Prelude.{◌≡◌, ◌+◌, ◌<◌, ◌≤◌, ◌∷◌, ◌++◌, [], All, IsOk, OnOk, length, map, vec_len, vec_capacity};
 ghost use Rattle.std.specs.List.{AllZip};
@@ -19,7 +19,7 @@ use std::alloc::{AllocFailed, Allocator};
 use std::mem;
 use std::thread::{Threads, for_each_mut};
 
-/// A seat and the text of its channel before its worker ran, and what the worker left afterwards.
+/// A seat and the bytes of its channel before its worker ran, and what the worker left afterwards.
 pub(crate) enum Slot<A: Allocator> {
     Waiting(Seat, Vec<u8, A>),
     Running,
@@ -54,7 +54,8 @@ fn run_one<A: Allocator + Copy, M: GuestPages, G: Gate>(
     }
 }
 
-// Runs the workers of all slots, each on a thread of its own. A slot's place is its worker's channel.
+// Runs the workers of all slots, each on a thread of its own. A slot's place is its worker's
+// channel.
 fn run_all<
     R: Threads + Sync,
     A: Allocator + Copy + Send + Sync,
@@ -99,7 +100,7 @@ fn put<T, A: Allocator>(list: &mut Vec<T, A>, item: T)
     }
 }
 
-// Each seat into a slot, with the text of its channel.
+// Puts each seat into a slot, with the bytes of its channel.
 fn seat_all<A: Allocator>(
     deal: &Deal<A>,
     mut seats: Vec<Seat, A>,
@@ -125,7 +126,7 @@ fn seat_all<A: Allocator>(
     seats.destroy_empty();
 }
 
-// Whether both had memory.
+// Returns whether two workers had memory.
 fn both(made: Result<(), NoMemory>, other: Result<(), NoMemory>) -> Result<(), NoMemory>
     ensures { OnOk result (IsOk made × IsOk other) }
 {
@@ -133,8 +134,8 @@ fn both(made: Result<(), NoMemory>, other: Result<(), NoMemory>) -> Result<(), N
     other
 }
 
-// Puts the texts that all workers left back, in the order of the slots, and what is left of their seats into a list. It answers
-// whether all had memory.
+// Puts the bytes that all workers left back, in the order of the slots, and what is left of their
+// seats into `spents`. Returns whether all had memory.
 fn put_back<A: Allocator>(
     mut slots: Vec<Slot<A>, A>,
     channels: &mut Vec<Vec<u8, A>, A>,
@@ -189,8 +190,9 @@ fn run_slots<
     run_all(rt, alloc, deal, memory, batches, gate, slots.as_mut_slice());
 }
 
-/// Deals the batches of a round to as many workers as there are channels, each on a thread of its own, which append what they draw to
-/// the channels' texts. After an `Err` parts of it may have been appended.
+/// Deals the batches of a round to as many workers as there are channels, each on a thread of its
+/// own. The workers append what they draw to the channels. After an `Err` parts of it may have been
+/// appended.
 pub(crate) fn deal_round<
     R: Threads + Sync,
     A: Allocator + Copy + Send + Sync,
