@@ -213,7 +213,7 @@ module _ (table : RamTable) (base : ℕ) (came : List Arrival) (r : RoundSoFar) 
   judged_none : number_refusal base r.numbers ≡ None → r.misplaced ≡ None → r.double ≡ None → refusal_of table base came ≡ None
   judged_none none placed once = by_none table base records packets (number_none none) (no_fault placed) (same_least placed ∙ once)
 
-  -- all that is kept tells why the round is refused
+  -- all that is kept says why the round is refused
   pub judged : refusal_of table base came ≡ first_some (number_refusal base r.numbers ∷ option_map (λ m. m.fault) r.misplaced ∷ option_map DoublePage r.double ∷ [])
   judged = go (number_refusal base r.numbers) refl r.misplaced refl r.double refl
     where

@@ -8,8 +8,8 @@ use Rattle.std.proofs.lemmas.List.Sums.{sum_by-cons, sum_by-append}
 use Rattle.std.proofs.lemmas.List.Sorted.{IsPermutation-sym, Contains-permutation, sum_by-IsPermutation}
 use Rattle.mig_assemble.proofs.Elements.{contains_map, map_contains, contains_flat_map, flat_map_contains, sum_by-map, sum_by-flat_map}
 
--- Each element of the one is in the other, and each sum over them is the same. What is made of the elements one by one keeps
--- this, which is why it is easier to handle than a list of exchanges.
+-- Each element of the one is in the other, and each sum over them is the same. What is made of the
+-- elements one by one keeps this, which is why it is easier to handle than a list of exchanges.
 pub record SameBag {X : Type 0} (xs ys : List X) : Type 0 where
   pub there : (x : X) → Contains xs x → Contains ys x
   pub back : (x : X) → Contains ys x → Contains xs x

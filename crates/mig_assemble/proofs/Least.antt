@@ -26,7 +26,7 @@ abbrev pub newer : {X : Type 0} → (X → X → Bool) → Option X → X → X
 newer lt None y = y
 newer lt (Some m) y = cond (lt y m) y m
 
--- ---- elements that a key tells apart
+-- ---- elements that a key distinguishes
 
 module _ {X K : Type 0} (key : X → K) (eq : K → K → Bool) (same : (k l : K) → k ≡ l → eq k l ≡ true) where
   one_or_two : (xs : List X) (x y : X) → Contains xs x → Contains xs y → key x ≡ key y → (x ≡ y) ⊎ (2 ≤ count_by (λ k. eq k (key x)) (map key xs))
@@ -150,7 +150,7 @@ module _ {X : Type 0} (lt : X → X → Bool) (o : IsStrictWeakOrder lt) where
         let k = filter_contains (λ x. nat_le 2 (count_by (λ y. eq y x) xs)) xs x h in
         (k.0, leb-true 2 (count_by (λ y. eq y x) xs) k.1)
 
-    -- what comes twice still does with one more behind
+    -- what comes twice still does with one more at the end
     twice_push : (xs : List X) (y x : X) → Contains (twice eq xs) x → Contains (twice eq (xs ++ y ∷ [])) x
     twice_push xs y x h =
         let k = twice_cases xs x h in
@@ -158,7 +158,7 @@ module _ {X : Type 0} (lt : X → X → Bool) (o : IsStrictWeakOrder lt) where
         let parts = count-push (λ z. eq z x) xs y in
         twice_from (xs ++ y ∷ []) x (Contains-append_left xs (y ∷ []) x k.0) (omega arith)
 
-    -- and else it is the one behind
+    -- and else it is the one at the end
     push_twice : (xs : List X) (y x : X) → Contains (twice eq (xs ++ y ∷ [])) x → (Contains (twice eq xs) x) ⊎ ((y ≡ x) × (1 ≤ count_by (λ z. eq z x) xs))
     push_twice xs y x h =
         let k = twice_cases (xs ++ y ∷ []) x h in

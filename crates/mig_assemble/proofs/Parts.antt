@@ -1,4 +1,5 @@
--- The parts of a round's refusal, in the order in which they are judged: the numbers, where pages lie, and what comes twice.
+-- The parts of a round's refusal, in the order in which they are judged: the numbers, where pages
+-- lie, and what comes twice.
 use Rattle.std.proofs.Common.{ℕ, ◌≡◌, List, [], ◌∷◌, refl, sym, ◌∙◌, Option, Some, None}
 use Rattle.std.specs.Prelude.{filter, nat_lt, nat_eq}
 use Rattle.std.specs.Option.{option_map, option_or}

@@ -22,8 +22,8 @@ with_normal id number offset zero = record { number = number; sync = false; id =
 abbrev page : ℕ → ℕ → Page
 page b p = record { place = place_at b p; content = [] }
 
--- Lawful: the numbers are a run in any order, and records and packets bring each place once. A packet without pages may
--- have any id.
+-- Lawful: the numbers are a run in any order, and records and packets bring each place once. A
+-- packet without pages may have any id.
 lawful : refusal ram 5 (page 0 1 ∷ []) (packet 0x63 7 [] ∷ packet 0x62 6 (4096 ∷ []) ∷ with_normal 0x61 5 0 [] ∷ []) ≡ None
 lawful = refl
 
@@ -49,7 +49,7 @@ unknown = refl
 least_packet : refusal ram 0 [] (packet 0x63 2 (0 ∷ []) ∷ packet 0x61 1 (0 ∷ 9 ∷ []) ∷ packet 0x63 0 [] ∷ []) ≡ Some (Offset 1 1)
 least_packet = refl
 
--- the first offset behind the block, the normal page being number 0
+-- the first offset after the block, the normal page being number 0
 outside : refusal ram 0 [] (with_normal 0x61 0 4096 (0 ∷ 8192 ∷ 9 ∷ []) ∷ []) ≡ Some (Offset 0 2)
 outside = refl
 

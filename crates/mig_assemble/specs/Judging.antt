@@ -1,5 +1,5 @@
--- Which rounds are lawful, and why others are refused. All of it is said of the list of page records and of the packets in
--- any order.
+-- Which rounds are lawful, and why others are refused. All of it is said of the list of page
+-- records and of the packets in any order.
 use Rattle.std.specs.Prelude.{ℕ, ◌/◌, ◌%◌, Bool, not, nat_eq, nat_lt, nat_le, ◌==◌, ◌||◌, if◌then◌else◌, List, []}
 use Rattle.std.specs.Prelude.{◌∷◌, ◌++◌, length, map, flat_map, count_by, position, Option, Some, None}
 use Rattle.std.specs.List.{filter, list_any, range_with_len}
@@ -38,14 +38,14 @@ offsets packet = map (λ page. page.offset) packet.normal ++ packet.zero
 abbrev pub is_outside : ℕ → ℕ → ℕ → Bool
 is_outside page_size pages offset = not (offset % page_size == 0) || nat_le pages (offset / page_size)
 
--- What is wrong with a packet that has pages, by the block that its id names, if it names one: it names none, or else the
--- first offset, by its number among all, at which that block has no page.
+-- What is wrong with a packet that has pages, by the block that its id names, if it names one: it
+-- names none, or else the first offset, by its number among all, at which that block has no page.
 abbrev pub offset_fault : RamTable → Fields → Option ℕ → Option RoundFault
 offset_fault table packet None = Some (UnknownBlock packet.number)
 offset_fault table packet (Some b) = option_map (Offset packet.number) (position (is_outside table.page_size (block table.blocks b).pages) (offsets packet))
 
--- What is wrong with where a packet's pages lie: its id is no block's, or one of its offsets is no page's. The id of a packet
--- without pages isn't looked at.
+-- What is wrong with where a packet's pages lie: its id is no block's, or one of its offsets is no
+-- page's. The id of a packet without pages isn't looked at.
 abbrev pub place_fault : RamTable → Fields → Option RoundFault
 place_fault table packet = if length (offsets packet) == 0 then None else offset_fault table packet (block_of table.blocks packet.id)
 
@@ -53,7 +53,8 @@ place_fault table packet = if length (offsets packet) == 0 then None else offset
 abbrev pub page_in : RamTable → ℕ → ℕ → List ℕ → Page
 page_in table b offset content = record { place = place_at b (offset / table.page_size); content = content }
 
--- the pages that a packet brings into a block: the normal ones with their contents, and then the others as zeros
+-- the pages that a packet brings into a block: the normal ones with their contents, and then the
+-- others as zeros
 abbrev pub pages_in : RamTable → Fields → ℕ → List Page
 pages_in table packet b =
     map (λ page. page_in table b page.offset page.content) packet.normal
@@ -86,7 +87,7 @@ all_round_pages table records packets = records ++ flat_map (packet_pages table)
 abbrev pub places_of : List Page → List Place
 places_of pages = map (λ page. page.place) pages
 
--- Why a round is refused whose packets are to be numbered from the base on: the first that applies of
+-- Why a round is refused whose packets are to be numbered from the base on: the first that applies.
 --   the least number below the base,
 --   the least number that comes twice,
 --   the least number of the run that is missing,

@@ -13,7 +13,8 @@ abbrev pub RoundIsLawful : Type 0
 RoundIsLawful = (table : RamTable) (base : ℕ) (records : List Page) (packets : List Fields)
     → (refusal table base records packets ≡ None) ↔ IsLawful table base records packets
 
--- The order of a round's packets changes neither whether it is refused, and why, nor the memory that a lawful one leaves.
+-- The order of a round's packets changes neither whether it is refused, and why, nor the memory
+-- that a lawful one leaves.
 pub record IsOrderFree (table : RamTable) (base : ℕ) (records : List Page) (packets others : List Fields) : Type 0 where
   pub same_refusal : refusal table base records packets ≡ refusal table base records others
   pub same_memory : refusal table base records packets ≡ None → (m : Image)

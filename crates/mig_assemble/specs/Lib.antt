@@ -1,4 +1,5 @@
--- To read first, in this order: why a round is refused, which rounds are lawful, the memory that a load builds, and the laws
+-- To read first, in this order: why a round is refused, which rounds are lawful, the memory that a
+-- load builds, and the laws.
 pub mod Judging
 pub mod Lawful
 pub mod Target

@@ -6,12 +6,13 @@ use Rattle.mig_mem.specs.Place.{place_eq, place_lt, has_place}
 use Rattle.mig_mem.specs.PlaceSet.{PlaceSet, places_where}
 use Rattle.mig_assemble.specs.Judging.{least, twice}
 
--- Of a list of places each is marked, and no other, and the least that comes twice is known, if one does.
+-- Of a list of places each is marked, and no other, and the least that comes twice is known, if one
+-- does.
 pub record HasSeen (table : RamTable) (places : List Place) (seen : PlaceSet) (double : Option Place) : Type 0 where
   pub marks : seen ≡ record { table = table; marked = places_where table (has_place places) }
   pub least : double ≡ least place_lt (twice place_eq places)
 
--- whatever places were seen before, these are seen behind them
+-- whatever places were seen before, these are seen after them
 abbrev pub SeesMore : List Place → PlaceSet → Option Place → PlaceSet → Option Place → Type 0
 SeesMore more old before new after =
     (places : List Place) → HasSeen old.table places old before → HasSeen old.table (places ++ more) new after

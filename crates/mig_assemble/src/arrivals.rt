@@ -1,8 +1,8 @@
 //! Judging a round from what arrives of it, part by part, for a load that writes each page as it
 //! arrives and keeps none.
 //!
-//! `Target::round` is given a whole round and writes it only after judging it. `Arrivals` is told
-//! of each group of page records and of each packet, in any order, and gives the verdict of
+//! `Target::round` takes a complete round and writes it only after judging it. `Arrivals` takes
+//! each group of page records and each packet, in any order, and gives the verdict of
 //! `Target::round` once the last one is there. Its caller writes the pages himself.
 
 ghost use Rattle.std.specs.Prelude.{◌≡◌, ◌+◌, ◌≤◌, ◌^◌, ◌↔◌, [], ◌∷◌, length, None, Some, IsTrue, OnOk, OnErr, IfOk, IfErr};
@@ -163,8 +163,8 @@ impl<A: Allocator> Arrivals<A> {
     }
 }
 
-// The first of what is wrong with a round: with its numbers, with where a packet's pages lie, and
-// with what arrived twice.
+// Returns the first of what is wrong with a round: with its numbers, with where a packet's pages
+// lie, or with what arrived twice.
 fn first_fault(
     wrong_number: Option<RoundFault>,
     misplaced: Option<WrongPacket>,
@@ -181,7 +181,7 @@ fn first_fault(
     }
 }
 
-// The one of lesser number.
+// Returns the packet of lesser number.
 fn lesser_misplaced(found: Option<WrongPacket>, new: WrongPacket) -> Option<WrongPacket>
     ensures { result ≡ lesser_misplaced found new }
 {

@@ -1,5 +1,5 @@
-//! Looking for places that a round brings twice, for `judge`, by marking each that it brings. The marks are taken away one by one, so a small
-//! round costs little, however large the table is.
+//! Looks for places that a round brings twice, for `judge`, by marking each that it brings. The
+//! marks are removed one by one, so a small round costs little, however large the table is.
 
 ghost use Rattle.std.specs.Prelude.{◌≡◌, ◌<◌, ◌∷◌, [], map, length, All, None, false};
 ghost use Rattle.mig_mem.specs.RamTable.{block as block_at};
@@ -15,8 +15,8 @@ use mig_packet::Packet;
 use mig_stream::StreamRound;
 use std::alloc::Allocator;
 
-/// The least place that comes twice, among the records of a round and the pages of its packets together. `seen` has no mark
-/// before and after.
+/// Returns the least place that comes twice, among the records of a round and the pages of its
+/// packets together. `seen` has no mark before and after.
 pub(crate) fn double_place<A: Allocator, B: Allocator>(
     seen: &mut Dirty<A>,
     round: &StreamRound<B>,
@@ -35,7 +35,7 @@ pub(crate) fn double_place<A: Allocator, B: Allocator>(
     double
 }
 
-// Marks the places of a round. The least that comes twice is the answer.
+// Marks the places of a round. Returns the least that comes twice.
 fn mark_all<A: Allocator, B: Allocator>(
     seen: &mut Dirty<A>,
     round: &StreamRound<B>,
@@ -54,7 +54,7 @@ fn mark_all<A: Allocator, B: Allocator>(
     double
 }
 
-// Takes the marks of records away.
+// Removes the marks of records.
 fn unmark_records<A: Allocator, B: Allocator>(seen: &mut Dirty<A>, round: &StreamRound<B>)
     requires fits { FitsTable seen.old.table round.now }
     ensures table { seen.new.table ≡ seen.old.table }
@@ -65,7 +65,7 @@ fn unmark_records<A: Allocator, B: Allocator>(seen: &mut Dirty<A>, round: &Strea
     }
 }
 
-// Takes the marks of packets' pages away.
+// Removes the marks of packets' pages.
 fn unmark_packets<A: Allocator>(seen: &mut Dirty<A>, packets: &[Packet<'_>])
     requires page_sizes { All (λ p. p.page_size ≡ seen.old.table.page_size) packets.now }
     requires lawful { All (λ p. place_fault seen.old.table p ≡ None) (map fields packets.now) }
@@ -77,7 +77,7 @@ fn unmark_packets<A: Allocator>(seen: &mut Dirty<A>, packets: &[Packet<'_>])
     }
 }
 
-// Takes the marks of a packet's pages away.
+// Removes the marks of a packet's pages.
 fn unmark_packet<A: Allocator>(seen: &mut Dirty<A>, packet: &Packet<'_>)
     requires page_size { packet.now.page_size ≡ seen.old.table.page_size }
     requires lawful { place_fault seen.old.table (fields packet.now) ≡ None }
@@ -90,7 +90,7 @@ fn unmark_packet<A: Allocator>(seen: &mut Dirty<A>, packet: &Packet<'_>)
     }
 }
 
-// Takes the marks of a packet's pages away, in the block of a number.
+// Removes the marks of a packet's pages, in block `block`.
 fn unmark_pages<A: Allocator>(seen: &mut Dirty<A>, packet: &Packet<'_>, block: usize)
     requires page_size { packet.now.page_size ≡ seen.old.table.page_size }
     requires block { block < length seen.old.table.blocks }
@@ -104,7 +104,7 @@ fn unmark_pages<A: Allocator>(seen: &mut Dirty<A>, packet: &Packet<'_>, block: u
     }
 }
 
-// Takes the mark of a place away.
+// Removes the mark of a place.
 fn unmark<A: Allocator>(seen: &mut Dirty<A>, place: Place)
     requires { IsPlace seen.old.table place }
     ensures table { seen.new.table ≡ seen.old.table }
@@ -113,7 +113,8 @@ fn unmark<A: Allocator>(seen: &mut Dirty<A>, place: Place)
     seen.unmark(place);
 }
 
-/// Marks the places of records. The least that comes twice so far is handed in and answered.
+/// Marks the places of records. `double` is the least place that came twice so far. Returns that
+/// place with the records.
 pub(crate) fn mark_records<A: Allocator, B: Allocator>(
     seen: &mut Dirty<A>,
     double: Option<Place>,
@@ -130,7 +131,8 @@ pub(crate) fn mark_records<A: Allocator, B: Allocator>(
     double
 }
 
-/// Marks the places of a packet's pages. The least that comes twice so far is handed in and answered.
+/// Marks the places of a packet's pages. `double` is the least place that came twice so far.
+/// Returns that place with the packet.
 pub(crate) fn mark_packet<A: Allocator>(
     seen: &mut Dirty<A>,
     double: Option<Place>,
@@ -148,7 +150,7 @@ pub(crate) fn mark_packet<A: Allocator>(
     }
 }
 
-// Marks the places of a packet's pages in the block of a number.
+// Marks the places of a packet's pages in block `block`.
 fn mark_pages<A: Allocator>(
     seen: &mut Dirty<A>,
     double: Option<Place>,
@@ -169,7 +171,8 @@ fn mark_pages<A: Allocator>(
     double
 }
 
-// Marks a place. The least that comes twice so far is handed in and answered.
+// Marks a place. `double` is the least place that came twice so far. Returns that place with this
+// one.
 fn mark<A: Allocator>(seen: &mut Dirty<A>, double: Option<Place>, place: Place) -> Option<Place>
     requires { IsPlace seen.old.table place }
     ensures table { seen.new.table ≡ seen.old.table }
@@ -182,7 +185,7 @@ fn mark<A: Allocator>(seen: &mut Dirty<A>, double: Option<Place>, place: Place) 
     }
 }
 
-// The lesser of a place and the one beside it, if there is one.
+// Returns the lesser of a place and the one beside it, if there is one.
 fn lesser(place: Place, beside: Option<Place>) -> Place
     ensures { result ≡ lesser place_lt place beside }
 {

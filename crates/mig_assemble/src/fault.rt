@@ -14,12 +14,15 @@ pub enum RoundFault {
     Foreign(u64),
     /// The least packet number that comes twice.
     Doubled(u64),
-    /// The least packet number that is missing: as many numbers as packets, from the base on, are each to come once.
+    /// The least packet number that is missing: as many numbers as packets, from the base on, are
+    /// each to come once.
     Missing(u64),
-    /// Of the packets whose pages lie wrong, the one of this number, which is the least, names no block of the table.
+    /// Of the packets whose pages lie wrong, the one of this number, which is the least, names no
+    /// block of the table.
     UnknownBlock(u64),
-    /// Of those packets the one of this number, which is the least, names a block, and offset `i` of it, the first such one, is
-    /// not of a page of that block. The normal pages count first.
+    /// Of the packets whose pages lie wrong, the one of this number, which is the least, names a
+    /// block. Its offset of this index, the first such one, is not of a page of that block. The
+    /// normal pages count first.
     Offset(u64, usize),
     /// The least place that comes twice, among the page records and the packets' pages together.
     DoublePage(Place),
@@ -28,7 +31,7 @@ pub enum RoundFault {
 }
 
 impl RoundFault {
-    /// The fault's number in documents and in the tool's output.
+    /// Returns the fault's number, as documents and the tool's output have it.
     pub fn number(self) -> u8
         ensures { result ≡ fault_number self }
     {
@@ -54,7 +57,7 @@ impl From<NoMemory> for RoundFault {
     }
 }
 
-/// The fault's number, and what it says.
+/// Writes the fault's number and its words.
 impl Display for RoundFault {
     fn fmt<W: fmt::Write>(&self, f: &mut Formatter<W>) -> fmt::Result {
         if let RoundFault::NoMemory = self {

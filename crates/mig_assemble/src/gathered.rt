@@ -1,4 +1,5 @@
-//! The packets of one round, gathered from the channels in any order by the loads of `mig_load`, for `Target::round`.
+//! The packets of one round, gathered from the channels in any order by `mig_relay` and
+//! `mig_session`, for `Target::round`.
 
 ghost use Rattle.std.specs.Prelude.{◌≡◌, ◌++◌, [], ◌∷◌, length, OnOk, OnErr};
 
@@ -8,7 +9,8 @@ use std::alloc::{Allocator, Global};
 use std::fmt;
 use std::marker::Model;
 
-/// The packets of one round, from whatever texts, in the order in which they were pushed. It borrows them.
+/// The packets of one round, from whatever channels, in the order in which they were pushed. It
+/// borrows them.
 #[derive(Drop)]
 pub struct Gathered<'a, A: Allocator = Global> {
     packets: Vec<Packet<'a>, A>,
@@ -30,7 +32,7 @@ impl<'a, A: Allocator> fmt::Debug for Gathered<'a, A> {
 }
 
 impl<'a, A: Allocator> Gathered<'a, A> {
-    /// No packets yet.
+    /// Creates a list without packets.
     pub fn new(alloc: A) -> Gathered<'a, A>
         ensures { result ≡ [] }
     {
@@ -39,7 +41,11 @@ impl<'a, A: Allocator> Gathered<'a, A> {
         }
     }
 
-    /// Adds a packet. An `Err` changes nothing.
+    /// Adds a packet.
+    ///
+    /// # Errors
+    ///
+    /// `NoMemory`: an allocation was refused. Nothing changes.
     pub fn push(&mut self, packet: Packet<'a>) -> Result<(), NoMemory>
         ensures ok { OnOk result (self.new ≡ self.old ++ packet.entry ∷ []) }
         ensures err { OnErr result (self.new ≡ self.old) }
@@ -48,7 +54,7 @@ impl<'a, A: Allocator> Gathered<'a, A> {
         Ok(())
     }
 
-    /// The number of packets. It may be 0.
+    /// Returns the number of packets. It may be 0.
     #[allow(clippy::len_without_is_empty)]
     pub fn len(&self) -> usize
         ensures { result ≡ length self.now }

@@ -1,4 +1,4 @@
-//! Judging a round, for `Target::round`: whether it is lawful, before anything of it is written.
+//! Judges a round, for `Target::round`: whether it is lawful, before any page of it is written.
 
 ghost use Rattle.std.specs.Prelude.{◌≡◌, ◌+◌, ◌≤◌, ◌^◌, ◌⊎◌, [], map, length, None, Some, All, OnOk, IfErr};
 ghost use Rattle.mig_packet.specs.Lent.{fields};
@@ -15,8 +15,9 @@ use mig_packet::Packet;
 use mig_stream::StreamRound;
 use std::alloc::Allocator;
 
-/// Why a round is refused. An `Ok` says that it is lawful; `NoMemory` may come in place of any answer, for it allocates for
-/// the packets' numbers. `seen` has no mark before and after; it marks the places that the round brings.
+/// Returns why a round is refused. An `Ok` says that it is lawful. `NoMemory` may come in place of
+/// any answer, for the call allocates for the packets' numbers. `seen` has no mark before and
+/// after. It marks the places that the round brings.
 #[tactic(auto, using(crate::proofs::Parts::wholes))]
 pub(crate) fn judge<A: Allocator + Copy, B: Allocator>(
     alloc: A,

@@ -1,15 +1,16 @@
-//! The memory that a load builds: rounds are put into it one after another, each as a whole.
+//! The memory that a load builds: rounds are applied to it one after another, each in one step.
 //!
-//! A `Target` takes rounds as readers give them. A round of a single stream is a section, put in as it comes. A round of multifd
-//! is the page records of the main stream and the packets of all channels, `Gathered` in any order: it is judged as a whole
-//! (`specs/Judging`), and a round that isn't lawful (`specs/Lawful`) leaves nothing behind. Which texts rounds come from, and what
-//! is answered of a whole load, is for the crates above.
+//! A `Target` takes rounds as readers give them. A round of a single stream is a section, applied
+//! as it comes. A round of multifd is the page records of the main stream and the packets of all
+//! channels, `Gathered` in any order. It is judged in one step (`specs/Judging`), and a round that
+//! isn't lawful (`specs/Lawful`) changes nothing. Which streams rounds come from, and what is
+//! answered of a complete load, is for the crates above.
 //!
-//! `Arrivals` is for a load that keeps no round: its caller writes each page as it arrives, and `Arrivals` judges the round as
-//! `Target::round` would.
+//! `Arrivals` is for a load that keeps no round: its caller writes each page as it arrives, and
+//! `Arrivals` judges the round as `Target::round` would.
 //!
-//! Definitions to read first, in this order: `Judging`, `Lawful`, `Target`, `Law`, `Arrivals` (`specs/`). `Sorted`, `Seen` and
-//! `PacketPages` are of the inside: only contracts of private functions name them.
+//! Definitions to read first, in this order: `Judging`, `Lawful`, `Target`, `Law`, `Arrivals`
+//! (`specs/`). Only contracts of private functions name `Sorted`, `Seen` and `PacketPages`.
 #![tactic(auto)]
 
 mod arrivals;

@@ -1,4 +1,5 @@
-//! Judging where the pages of a round's packets lie, for `judge`; `doubles` takes from it where a page lies.
+//! Judges where the pages of a round's packets lie, for `judge`. `doubles` takes from it where a
+//! page lies.
 
 ghost use Rattle.std.specs.Prelude.{◌≡◌, ◌<◌, ◌++◌, ◌∷◌, [], List, map, length, slice_index, position, All, IfSome};
 ghost use Rattle.std.specs.Option.{option_map};
@@ -11,7 +12,7 @@ use mig_mem::Table;
 use mig_packet::Packet;
 use std::alloc::Allocator;
 
-/// The fault of the packet of least number among those whose pages lie wrong.
+/// Returns the fault of the packet of least number among those whose pages lie wrong.
 pub(crate) fn least_place_fault<A: Allocator>(
     table: &Table<A>,
     packets: &[Packet<'_>],
@@ -26,7 +27,8 @@ pub(crate) fn least_place_fault<A: Allocator>(
     place_fault(table, &found?)
 }
 
-// The packet of least number among those whose pages lie wrong: the one that was found so far, or this one.
+// Returns the packet of least number among those whose pages lie wrong: the one that was found so
+// far, or this one.
 fn lesser_misplaced<'a, A: Allocator>(
     table: &Table<A>,
     found: Option<Packet<'a>>,
@@ -50,7 +52,8 @@ fn lesser_misplaced<'a, A: Allocator>(
     }
 }
 
-// What is wrong with where a packet's pages lie. The id of a packet without pages isn't looked at.
+// Returns what is wrong with where a packet's pages lie. The id of a packet without pages isn't
+// looked at.
 #[tactic(auto, using(crate::proofs::PacketPlaces::faults))]
 pub(crate) fn place_fault<A: Allocator>(table: &Table<A>, packet: &Packet<'_>) -> Option<RoundFault>
     requires { packet.now.page_size ≡ table.now.page_size }
@@ -69,7 +72,7 @@ pub(crate) fn place_fault<A: Allocator>(table: &Table<A>, packet: &Packet<'_>) -
     }
 }
 
-/// The number of all pages of a packet.
+/// Returns the number of all pages of a packet.
 #[tactic(auto, using(crate::proofs::PacketPlaces::offsets_len))]
 pub(crate) fn page_count(packet: &Packet<'_>) -> usize
     ensures { result ≡ length (offsets (fields packet.now)) }
@@ -77,7 +80,7 @@ pub(crate) fn page_count(packet: &Packet<'_>) -> usize
     packet.normal_len() + packet.zero_len()
 }
 
-/// An offset of a packet, the normal pages' first.
+/// Returns an offset of a packet, the normal pages' first.
 #[tactic(auto, using(crate::proofs::PacketPlaces::offsets_len, crate::proofs::PacketPlaces::offset_is))]
 pub(crate) fn offset(packet: &Packet<'_>, i: usize) -> u64
     requires { i < length (offsets (fields packet.now)) }
@@ -86,7 +89,7 @@ pub(crate) fn offset(packet: &Packet<'_>, i: usize) -> u64
     packet.offset(i)
 }
 
-// The first offset of a packet at which a block of so many pages has none.
+// Returns the first offset of a packet at which a block of `pages` pages has none.
 #[tactic(auto, using(mig_mem::proofs::Lists::position_at, mig_mem::proofs::Lists::position_past))]
 fn first_outside(pages: u64, packet: &Packet<'_>) -> Option<usize>
     ensures { result ≡ position (is_outside packet.now.page_size pages) (offsets (fields packet.now)) }
@@ -99,7 +102,7 @@ fn first_outside(pages: u64, packet: &Packet<'_>) -> Option<usize>
     None
 }
 
-// Whether no page of a block of so many pages begins at the offset.
+// Returns whether no page of a block of `pages` pages begins at `offset`.
 fn is_outside(page_size: u64, pages: u64, offset: u64) -> bool
     requires { 0 < page_size }
     ensures { result ≡ is_outside page_size pages offset }

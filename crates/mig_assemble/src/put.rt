@@ -1,4 +1,5 @@
-//! Writing pages into a memory, each over what was there, for `Target`. It allocates nothing and can't fail: whoever calls has judged.
+//! Writes pages into a memory, each over what was there, for `Target` and for loads that write
+//! pages themselves. It allocates nothing and can't fail: whoever calls has judged.
 
 ghost use Rattle.std.specs.Prelude.{◌≡◌, None, All, map, length, IfSome};
 ghost use Rattle.std.specs.Option.{option_copied, unwrap_or};
@@ -16,13 +17,15 @@ use mig_packet::Packet;
 use mig_stream::StreamRound;
 use std::alloc::Allocator;
 
-/// Puts a round of page records into a memory, in the order of the text, as `Target::section` does. It counts nothing: it is for a load
-/// whose memory is handed to each call. The round is of that memory, as `Target::fits` tests it.
+/// Writes a round of page records into a memory, in the order of the stream, as `Target::section`
+/// does. It counts nothing: it is for a load whose memory is passed to each call. The round is of
+/// that memory, as `Target::fits` tests it.
 pub fn put_records<M: GuestTarget, B: Allocator>(memory: &mut M, round: &StreamRound<B>)
     requires { FitsTable (M.image memory.old).table round.now }
     ensures { M.image memory.new ≡ with_round (M.image memory.old) (pages_of_round round.now) }
 {
-    // for what `table` tells of the memory (`IsImage`): each of its contents has the page size
+    // for what the contract of `table` says of the memory (`IsImage`): each content has the page
+    // size
     let _table = memory.table();
     let count = round.len();
     for i in 0..count {
@@ -49,14 +52,16 @@ pub(crate) fn put_packets<M: GuestTarget>(memory: &mut M, packets: &[Packet<'_>]
     requires lawful { All (λ p. place_fault (M.image memory.old).table (fields p) ≡ None) packets.now }
     ensures { M.image memory.new ≡ with_round (M.image memory.old) (flat_map (packet_pages (M.image memory.old).table) (map fields packets.now)) }
 {
-    // for what `table` tells of the memory (`IsImage`): each of its contents has the page size
+    // for what the contract of `table` says of the memory (`IsImage`): each content has the page
+    // size
     let _table = memory.table();
     for packet in packets {
         put_packet(memory, packet);
     }
 }
 
-// Writes the pages of a packet into the block that it names. Where there is no such block it has no pages.
+// Writes the pages of a packet into the block that it names. A packet that names no block has no
+// pages.
 fn put_packet<M: GuestTarget>(memory: &mut M, packet: &Packet<'_>)
     requires page_size { packet.now.page_size ≡ (M.image memory.old).table.page_size }
     requires lawful { place_fault (M.image memory.old).table (fields packet.now) ≡ None }

@@ -1,4 +1,5 @@
-//! The memory of a guest that is being loaded. Every loader of `mig_load` puts its rounds into one.
+//! The memory of a guest that is being loaded. `mig_relay` and `mig_session` apply their rounds to
+//! one.
 
 ghost use Rattle.std.specs.Prelude.{◌≡◌, ◌+◌, ◌<◌, ◌≤◌, ◌^◌, ◌↔◌, ◌⊎◌, IsTrue, IfOk, IfErr, OnOk, OnErr, None, Some, All, length, map};
 ghost use Rattle.mig_mem.specs.Round.{with_round};
@@ -16,8 +17,8 @@ use std::alloc::{Allocator, Global};
 use std::fmt;
 use std::marker::Model;
 
-/// The memory of a guest as far as it is loaded: what it holds at first, which is zeros where `new` makes it, and then what each
-/// round leaves.
+/// The memory of a guest as far as it is loaded: what it holds at first, which is zeros where `new`
+/// makes it, and then what each round leaves.
 #[derive(Drop)]
 pub struct Target<A: Allocator = Global, M: GuestTarget = Memory<A>> {
     memory: M,
@@ -47,7 +48,12 @@ impl<A: Allocator, M: GuestTarget> fmt::Debug for Target<A, M> {
 }
 
 impl<A: Allocator + Copy> Target<A> {
-    /// A memory of zeros, without a round. It takes the whole guest's memory at once, and a bit for each page.
+    /// Creates a memory of zeros, without a round. It allocates the guest's complete memory at
+    /// once, and a bit for each page.
+    ///
+    /// # Errors
+    ///
+    /// `NoMemory`: an allocation was refused.
     pub fn new<B: Allocator>(alloc: A, table: &Table<B>) -> Result<Target<A>, NoMemory>
         ensures { IfOk result (λ t. t ≡ new_target table.now) }
     {
@@ -59,8 +65,12 @@ impl<A: Allocator + Copy> Target<A> {
 }
 
 impl<A: Allocator + Copy, M: GuestTarget> Target<A, M> {
-    /// A memory that is there already, with what it holds, without a round. It takes a bit for each page. An `Err` gives the memory
-    /// back: an allocation was refused.
+    /// Takes a memory that is there already, with what it holds, without a round. It allocates a
+    /// bit for each page.
+    ///
+    /// # Errors
+    ///
+    /// The memory, as it was: an allocation was refused.
     pub fn over(alloc: A, memory: M) -> Result<Target<A, M>, M>
         ensures ok { IfOk result (λ t. t ≡ target_over (M.image memory)) }
         ensures err { IfErr result (λ m. M.image m ≡ M.image memory) }
@@ -77,8 +87,13 @@ impl<A: Allocator + Copy, M: GuestTarget> Target<A, M> {
         })
     }
 
-    /// Judges a round of page records and packets, and puts it into the memory. The packets may have been gathered in any
-    /// order. `fits` is the test of the records. A refusal changes nothing, and `NoMemory` may come in place of any.
+    /// Judges a round of page records and packets, and applies it. The packets may have been
+    /// gathered in any order. `fits` is the test of the records.
+    ///
+    /// # Errors
+    ///
+    /// The first refusal that applies, in the order of `RoundFault`, or in place of any `NoMemory`:
+    /// an allocation was refused. Nothing changes.
     pub fn round<B: Allocator, C: Allocator>(
         &mut self,
         round: &StreamRound<B>,
@@ -104,43 +119,45 @@ impl<A: Allocator + Copy, M: GuestTarget> Target<A, M> {
 }
 
 impl<A: Allocator, M: GuestTarget> Target<A, M> {
-    /// The memory after the rounds so far.
+    /// Returns the memory after the rounds so far.
     pub fn memory(&self) -> &M
         ensures { M.image result.now ≡ self.now.memory }
     {
         &self.memory
     }
 
-    /// How many rounds were put into it.
+    /// Returns how many rounds were applied.
     pub fn rounds(&self) -> u64
         ensures { result ≡ self.now.rounds }
     {
         self.rounds
     }
 
-    /// The number that the first packet of the next round is to have: how many packets all rounds so far had together.
+    /// Returns the number that the first packet of the next round is to have: how many packets all
+    /// rounds so far had together.
     pub fn base(&self) -> u64
         ensures { result ≡ self.now.base }
     {
         self.base
     }
 
-    /// Gives the memory.
+    /// Returns the memory.
     pub fn into_memory(self) -> M
         ensures { M.image result ≡ self.memory }
     {
         self.memory
     }
 
-    /// Whether a round is of this memory: its pages have the table's page size, and lie in the table.
+    /// Returns whether a round is of this memory: its pages have the table's page size, and lie in
+    /// the table.
     pub fn fits<B: Allocator>(&self, round: &StreamRound<B>) -> bool
         ensures { IsTrue result ↔ FitsTable self.now.memory.table round.now }
     {
         fits(self.memory.table(), round)
     }
 
-    /// Puts a round of page records into the memory, in the order of the text: of a page that comes more than once the last one
-    /// counts. `fits` is the test of the round.
+    /// Applies a round of page records, in the order of the stream: of a page that comes more than
+    /// once the last one counts. `fits` is the test of the round.
     pub fn section<B: Allocator>(&mut self, round: &StreamRound<B>)
         requires fits { FitsTable self.old.memory.table round.now }
         requires room { self.old.rounds < 2 ^ 63 }
@@ -153,7 +170,8 @@ impl<A: Allocator, M: GuestTarget> Target<A, M> {
     }
 }
 
-/// Whether a round of page records is of a table: it has the table's page size, and its places are the table's.
+/// Returns whether a round of page records is of `table`: it has the table's page size, and its
+/// places are the table's.
 pub(crate) fn fits<A: Allocator, B: Allocator>(table: &Table<A>, round: &StreamRound<B>) -> bool
     ensures { IsTrue result ↔ FitsTable table.now round.now }
 {
