@@ -1,4 +1,5 @@
--- A load in place that writes each page as it comes: its loops, and what it stands for between calls.
+-- A load in place that writes each page as it comes: its loops, and what it stands for between
+-- calls.
 use Rattle.std.proofs.Common.{ℕ, suc, cond, ◌≡◌, ◌≢◌, ◌⊎◌, ◌+◌, ◌<◌, ◌^◌, false, arith, List, [], ◌∷◌, ◌++◌, length, map, Option, Some, None, All, refl, sym, ap, ◌∙◌, subst, inl, inr, append_assoc}
 use Rattle.std.specs.Prelude.{IfSome, Result, Ok, Err, OnErr, ⊤}
 use Rattle.std.specs.Option.{option_map_or, option_or}
@@ -150,7 +151,8 @@ memory_more first so_far gave r m new more size before is =
     ∙ put_behind first (given_pages first so_far) (pages_on first r.records)
     ∙ ap (with_round first) (given_pages_more first gave r.records so_far more)
 
--- what is put of the records that were given last, and of those that follow, by a loop that has come from there to here
+-- what is written of the records that were given last, and of those that follow, by a loop that has
+-- come from there to here
 abbrev pub PutsSoFar : Given → Giver → Image → ℕ → Given → Giver → Image → ℕ → Type 0
 PutsSoFar gave r memory sections next s after more = (given : LoadSettings) (first : Image) (text : List ℕ) (so_far : GivenSoFar) → PutsNext given first.table text so_far gave r sections
     → memory ≡ with_round first (given_pages first so_far)
@@ -233,7 +235,7 @@ fewer (End found) next r s more less = absurd (more tt)
 
 -- ---- where a piece was read
 
--- the text has the memory's table, or none
+-- the stream has the memory's table, or none
 pub own_of : (given : LoadSettings) (first : Image) (text : List ℕ) (reading : StreamReading) → IsPageSize first.table.page_size → IsReading (settings_of first given) text reading → IsOfTable given first.table text
     → IsOfOwnTable first reading
 own_of given first text reading size is (inl has) =
@@ -241,7 +243,7 @@ own_of given first text reading size is (inl has) =
 own_of given first text reading size is (inr has) =
     inr (ap (λ (x : StreamReading). x.table) (same_reading (for_table first.table given) text reading has.0 size is has.1) ∙ sym has.2)
 
--- what was given is what the text has
+-- what was given is what the stream has
 pub records_onto : (given : LoadSettings) (first : Image) (text : List ℕ) (so_far : GivenSoFar) (found : StreamState) (m : Image) (n : ℕ) → IsPageSize first.table.page_size → IsOfTable given first.table text
     → HasReading (settings_of first given) text so_far found → m ≡ with_round first (given_pages first so_far) → n ≡ length so_far.sections → HasRecordsOnto given first text m n
 records_onto given first text so_far found m n size own has memory count = record {
@@ -258,7 +260,7 @@ records_onto given first text so_far found m n size own has memory count = recor
   other = λ o. absurd (apart first has.reading (own_of given first text has.reading size has.is_reading own) o);
 }
 
--- ---- how the text stands then
+-- ---- how the stream stands then
 
 -- it goes on, and was paused
 pub stands_at : (given : LoadSettings) (first : Image) (text : List ℕ) (so_far : GivenSoFar) (p : Paused) (m : Image) (n : ℕ) → IsPageSize first.table.page_size → IsOfTable given first.table text
@@ -284,7 +286,7 @@ stands_off given first text so_far found m n size own has over memory count k va
   is_read_to = valid;
 }
 
--- the table of a text, all of which was given
+-- the table of a stream, all of which was given
 pub all_table : (given : Settings) (text : List ℕ) (so_far : GivenSoFar) (found : StreamState) (r : Giver) → Gives given text so_far r → r.found ≡ Some found → HasTable given text (whole_table r.progress)
 all_table given text so_far found r g is =
     let to : StreamProgress = all_read so_far r.progress in
@@ -294,7 +296,7 @@ all_table given text so_far found r g is =
       refl,
     )
 
--- what a reader tells of it
+-- what a reader returns of it
 table_told : (given : Settings) (text : List ℕ) (so_far : GivenSoFar) (r : Giver) (table : RamTable) → Gives given text so_far r → whole_table r.progress ≡ Some table → HasTable given text (Some table)
 table_told given text so_far r table g whole = table_each r (Some table) (Some table) refl (sym whole) given text so_far g
 
@@ -305,7 +307,7 @@ end_table given table text so_far Section r end next none = absurd end
 end_table given table text so_far (End found) r end next none =
     subst (λ (o : Option RamTable). HasTable (settings_for table given) text o) none (all_table (settings_for table given) text so_far found r next.gives next.leaves_none.has_found)
 
--- the table of the text is the memory's, as far as it has one
+-- the table of the stream is the memory's, as far as it has one
 pub own_text : (given : LoadSettings) (table : RamTable) (text : List ℕ) (so_far : GivenSoFar) (gave : Given) (r : Giver) → GaveNext given table text so_far gave r → IsEnd gave ⊎ (whole_table r.progress ≢ None)
     → (whole_table r.progress ≡ None) ⊎ (whole_table r.progress ≡ Some table) → IsOfTable given table text
 own_text given table text so_far gave r next there (inr some) = inr (table_told (settings_for table given) text (with_given gave r.given.records so_far) r table next.gives some)
@@ -324,7 +326,7 @@ puts_first given table text so_far gave r n next there own count = record { gave
 
 -- ---- another table
 
--- a longer text keeps its table
+-- a longer stream keeps its table
 table_longer : (given : LoadSettings) (table : RamTable) (text piece : List ℕ) (t : RamTable) → IsPageSize table.page_size → HasTable (settings_for table given) text (Some t) → (now : StreamReading)
     → IsReading (settings_for table given) (text ++ piece) now → now.table ≡ Some t
 table_longer given table text piece t size has now is_now = (longer_law (settings_for table given) text piece has.0 now size has.1 is_now).same_table t (sym has.2)
@@ -485,9 +487,9 @@ valid_told given first text m n pause (load_state.Stream found at) st = valid_on
 valid_told given first text m n pause load_state.OtherTable st = unread_onto given first text m n pause st
 valid_told given first text m n pause load_state.NoMemory st = absurd (of_none first st.has_records.reading pause st.is_in_state)
 
--- ---- a text that isn't read on
+-- ---- a stream that isn't read on
 
--- how a text stands stays, where it is at its end or has a fault
+-- how a stream stands stays, where it is at its end or has a fault
 ends_more : (c : StreamProgress) (rest piece : List ℕ) (s : StreamState) → s ≢ Reading → Ends c rest s → Ends c (rest ++ piece) s
 ends_more c rest piece Reading over e = absurd (over refl)
 ends_more c rest piece Closed over e = e
@@ -607,7 +609,7 @@ found_other given first text piece p m n fresh r gave t image f at whole differ 
     stands_other given first text piece p m n (with_given gave r.given.records at.so_far) r t image at
     (found_next given first.table text piece at.so_far p fresh r gave f at.pauses).gives whole differ
 
--- what a reader tells, once it reads no further, of a text of fewer than 2^64 bytes
+-- what a reader returns, once it reads no further, of a stream of fewer than 2^64 bytes
 abbrev pub TellsValid : Giver → ℕ → Type 0
 TellsValid r at = r.found ≢ None → GiverTells r (λ given text so_far. length text < 2 ^ 64 → IsValidUpTo given text at)
 
@@ -643,7 +645,7 @@ found_on given first text piece p q m new n more fresh r s gave found f at own p
     (stands_at given first (text ++ piece) all.0 q new more all.1.gives.is_page_size all.3 has (pauses (settings_of first given) (text ++ piece) all.0 all.1.gives) all.2 all.1.has_sections k
     (tells (λ none. let bad : Some found ≡ None = sym all.1.has_none_left.has_found ∙ none in absurd cc) (settings_of first given) (text ++ piece) all.0 all.1.gives few))
 
--- and of any text so much was given
+-- and of any stream so much was given
 pub found_on_some : (given : LoadSettings) (fed : ℕ) (table : RamTable) (piece : List ℕ) (p q : Paused) (n more : ℕ) (fresh r s : Giver) (gave : Given) (found : StreamState) → Found p piece fresh r gave
     → PausesSome given table p n fed → (whole_table r.progress ≡ None) ⊎ (whole_table r.progress ≡ Some table) → GivesAll gave r n found s more
     → ((single : Settings) (text : List ℕ) (so_far : GivenSoFar) → Gives single text so_far s → PausesAt single text so_far q) → PausesSome given table q more (fed + length piece)
@@ -658,7 +660,7 @@ found_on_some given fed table piece p q n more fresh r s gave found f some own g
       has_sections = all.1.has_sections;
     }
 
--- what some text says, all of which was given
+-- what some stream says, all of which was given
 pub found_none_left : (given : LoadSettings) (fed : ℕ) (table : RamTable) (piece : List ℕ) (p : Paused) (n more : ℕ) (fresh r s : Giver) (gave : Given) (found : StreamState) → Found p piece fresh r gave
     → PausesSome given table p n fed → (whole_table r.progress ≡ None) ⊎ (whole_table r.progress ≡ Some table) → GivesAll gave r n found s more → HasNoneLeft found s
 found_none_left given fed table piece p n more fresh r s gave found f some own gives =
@@ -730,7 +732,7 @@ some_all given first text piece p m new n more fresh r s gave found f at own put
     let all = found_all given first text piece p m new n more fresh r s gave found f at own puts in
     some_so_far given first (text ++ piece) all.0 s new more all.1.gives all.2 all.1.has_sections
 
--- a text that is longer
+-- a stream that is longer
 some_longer : (given : LoadSettings) (first : Image) (text piece : List ℕ) (m : Image) (n : ℕ) → HasSomeOnto given first text m n → HasSomeOnto given first (text ++ piece) m n
 some_longer given first text piece m n has =
     let g = has.gives in record {

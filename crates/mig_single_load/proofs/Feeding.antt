@@ -21,7 +21,7 @@ use Rattle.mig_single_load.specs.declared.settings.LoadSettings.{LoadSettings}
 use Rattle.mig_single_load.specs.Loader.{loader, sections_loaded, put_so_far, HasAllSections, Waits, Loads, HasFirst, WasFed, LoadsSome, WasFedSome}
 use Rattle.mig_single_load.proofs.Sections.{pages_in, same_reading, are_given, none_there, fed_of}
 
--- what is in the memory stays the front of the text, where more bytes follow
+-- what is in the memory stays the front of the stream, where more bytes follow
 first_stays : (given : LoadSettings) (first : Image) (text piece : List ℕ) (ended : Bool) (r : Reader) (t : LoadTarget) → IsPageSize given.page_size
     → Stands (single_of given) (put_so_far text ended t.rounds) r → HasFirst given first text t → HasFirst given first (text ++ piece) t
 first_stays given first text piece ended r t size stands has =
@@ -55,7 +55,7 @@ fed_longer given r s (Some t) text piece ended step fed = record {
   has_first = first_stays given (zero_image t.memory.table) text piece ended r t fed.is_page_size fed.stands fed.has_first;
 }
 
--- some text that it was fed
+-- some stream that it was fed
 pub fed_some : (r : Reader) (o : Option LoadTarget) → LoadsSome (loader r o) → WasFedSome (loader r o)
 fed_some r o some = record {
   given = some.given;
@@ -85,7 +85,7 @@ all_stays given r s o text all = record { reading = all.reading; is_reading = al
 waits_stays : (given : LoadSettings) (r s : Reader) (o : Option LoadTarget) (text : List ℕ) → Waits given (loader r o) text → Waits given (loader s o) text
 waits_stays given r s o text waits = record { table = waits.table; has_table = waits.has_table; has_no_memory = waits.has_no_memory }
 
--- the text is over
+-- the stream has ended
 pub loads_over : (given : LoadSettings) (r s : Reader) (o : Option LoadTarget) (text : List ℕ) (ended : Bool) → StepsOn over r s → Loads given (loader r o) text ended → Loads given (loader s o) text true
 loads_over given r s o text ended step loads = record {
   is_page_size = loads.is_page_size;
@@ -123,7 +123,7 @@ waits_now given r s o u text ended fed wait same =
     (subst (λ (x : Option LoadTarget). Loads given (loader r x) text ended × Waits given (loader r x) text) (sym same.1)
     (record { is_page_size = fed.is_page_size; stands = fed.stands; has_sections = inr wait }, wait))
 
--- some text that it stands for, after its sections were put or couldn't be
+-- some stream that it stands for, after its sections were applied or couldn't be
 pub settled_some : {E : Type 0} (result : Result ⊤ E) (r s : Reader) (o u : Option LoadTarget) → WasFedSome (loader r o)
     → OnOk result ((given : LoadSettings) (text : List ℕ) (ended : Bool) → WasFed given (loader r o) text ended → Loads given (loader s u) text ended × HasAllSections given (loader s u) text)
     → OnErr result ((given : LoadSettings) (text : List ℕ) (ended : Bool) → WasFed given (loader r o) text ended → Waits given (loader r o) text)

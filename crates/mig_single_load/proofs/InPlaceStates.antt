@@ -1,4 +1,4 @@
--- A load in place whose memory is handed to each call.
+-- A load in place whose memory is passed to each call.
 use Rattle.std.proofs.Common.{ℕ, ◌≡◌, ◌+◌, ◌<◌, ◌≤◌, ◌^◌, Bool, true, false, arith, List, [], ◌∷◌, ◌++◌, length, map, take, Some, None, refl, sym, ap, ◌∙◌, subst}
 use Rattle.std.specs.Prelude.{IsFalse, slice_index_or}
 use Rattle.std.specs.List.{All, fold}
@@ -58,7 +58,7 @@ alike_so before now IsSo IsNow was so = record { rounds = was.rounds; puts = was
 pub alike_none : (m : Image) (IsSo : List (List Page) → Image → Image → Type 0) → ((kept : Image) → IsSo [] kept kept) → PutsAlike m m IsSo
 alike_none m IsSo same = record { rounds = []; puts = refl; alike = same }
 
--- and so into the memory that was handed in
+-- and so into the memory that was passed
 pub alike_here : (before after : Image) (Goes : Image → Image → Type 0) → PutsAlike before after (λ rounds. Goes) → Goes before after
 alike_here before after Goes put = subst (Goes before) (sym put.puts) (put.alike before)
 
@@ -133,7 +133,7 @@ sections_more memory m given first s text ended rounds n section fed are is_roun
           absurd (omega (arith, none, more));
     }
 
--- ---- what a longer text has
+-- ---- what a longer stream has
 
 pub round_longer : (given : LoadSettings) (first : Image) (text piece : List ℕ) (i : ℕ) (records : List PageRecord) → IsPageSize first.table.page_size
     → HasRound (settings_of first given) text i records → HasRound (settings_of first given) (text ++ piece) i records
@@ -188,7 +188,7 @@ GivesSection r section = Tells r (λ given so_far. (section.page_size ≡ given.
 abbrev pub GivesPlaces : Reader → RoundOfRecords → Type 0
 GivesPlaces r section = Tells r (λ given so_far. (table : RamTable) → HasTable given so_far.text (Some table) → All (λ x. IsPlace table x.place) section.records)
 
--- the text is of the table
+-- the stream is of the table
 abbrev pub TellsTable : Reader → RamTable → Type 0
 TellsTable r table = Tells r (λ given so_far. HasTable given so_far.text (Some table))
 

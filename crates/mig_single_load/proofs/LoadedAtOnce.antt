@@ -1,4 +1,5 @@
--- Records that are put into memory as they come, and what that leaves where the text is closed.
+-- Records that are written into memory as they come, and what that leaves where the stream is
+-- closed.
 use Rattle.std.proofs.Common.{ℕ, ◌≡◌, ◌+◌, ◌*◌, ◌<◌, ◌≤◌, List, [], ◌∷◌, ◌++◌, length, map, refl, sym, ap, ◌∙◌, subst, append_assoc, Option, Some, None, arith, All}
 use Rattle.std.specs.Prelude.{IfSome, Ok}
 use Rattle.std.proofs.lemmas.List.{map-append, append-nil, length-append}
@@ -26,7 +27,7 @@ use Rattle.mig_single_load.proofs.Sections.{pages_in, same_reading, size_is}
 
 -- ---- the pages of what was given
 
--- all pages that were given so far, in the order of the text
+-- all pages that were given so far, in the order of the stream
 abbrev pub pages_given : ℕ → GivenSoFar → List Page
 pages_given p so_far = all_pages (pages_in p so_far.sections) ++ map (page_of p) so_far.open_section
 
@@ -43,7 +44,7 @@ given_last p so_far records =
     ∙ ap all_pages (sym (map-append (map (page_of p)) so_far.sections (last ∷ [])))
     ∙ sym (append-nil (all_pages (pages_in p (so_far.sections ++ last ∷ []))))
 
--- pages that are put behind others
+-- pages that are written after others
 pub put_behind : (m : Image) (before pages : List Page) → with_round (with_round m before) pages ≡ with_round m (before ++ pages)
 put_behind m before pages =
     ap (λ (x : List Page). with_round (with_round m x) pages) (sym (append-nil before))
@@ -164,7 +165,7 @@ fewer_section gave next r s are less = subst (λ (x : Given). calls next s < cal
 
 -- ---- the end
 
--- Where the text is closed the memory is that after its sections.
+-- Where the stream is closed the memory is that after its sections.
 closed_answer : {A : Type 0} (given : LoadSettings) (text : List ℕ) (table : RamTable) (r : Giver) (m : Image) (sections : ℕ) → HasPut given text table (End Closed) r m sections
     → IsSingleAnswer {A = A} given text (record { memory = Some m; rounds = sections; verdict = Ok _ })
 closed_answer given text table r m sections h =

@@ -32,7 +32,7 @@ use Rattle.mig_single_load.specs.Loader.{put_so_far, HasPutSections, HasPutAllSe
 use Rattle.mig_single_load.specs.InPlace.{in_place, settings_of, IsOfOtherTable, IsOfOwnTable, HasSectionsOnto, LoadsOnto, HasVerdictOnto, HasVerdictBehind, SentIsLoadedInPlace, WasFedOnto, WasFedOntoSome, LoadsOntoSome, StandsAtAll}
 use Rattle.mig_single_load.proofs.Sections.{pages_in, same_reading, put_table, are_given, verdict_over, empty_ends, pages_sent, counted}
 
--- ---- whose table a text has
+-- ---- whose table a stream has
 
 -- not both
 pub apart : (first : Image) (reading : StreamReading) → IsOfOwnTable first reading → IsOfOtherTable first reading → ⊥
@@ -45,7 +45,7 @@ own_before first before now None is stays own = inl is
 own_before first before now (Some x) is stays (inl none) = absurd (let both : Some x ≡ None = sym (stays.same_table x is) ∙ none in cc)
 own_before first before now (Some x) is stays (inr own) = inr (is ∙ (sym (stays.same_table x is) ∙ own))
 
--- a text without a table has no section
+-- a stream without a table has no section
 no_rounds : (first : Image) (given : LoadSettings) (text : List ℕ) (reading : StreamReading) → IsTable first.table → IsReading (settings_of first given) text reading → reading.table ≡ None → reading.rounds ≡ []
 no_rounds first given text reading table is none = (limits_law (settings_of first given) text reading table.has_page_size is).has_table_first none
 
@@ -129,7 +129,7 @@ onto_piece r s t piece step some room =
       has_fed = onto_longer some.given some.first r s t some.text piece some.ended step some.has_fed;
     }
 
--- the text is over
+-- the stream has ended
 pub onto_over : (given : LoadSettings) (first : Image) (r s : Reader) (t : LoadTarget) (text : List ℕ) (ended : Bool) → StepsOn over r s → LoadsOnto given first (in_place r t) text ended
     → LoadsOnto given first (in_place s t) text true
 onto_over given first r s t text ended step loads = record {
@@ -286,7 +286,7 @@ loads_own given first s u text ended table image put all =
       };
     }
 
--- the text is of another table
+-- the stream is of another table
 others : (given : LoadSettings) (first : Image) (t : LoadTarget) (text : List ℕ) (table : RamTable) (reading : StreamReading) → IsTable first.table → t.memory.table ≡ first.table
     → IsReading (settings_of first given) text reading → HasTable (settings_of first given) text (Some table) → (table ≡ t.memory.table → ⊥) → IsOfOtherTable first reading
 others given first t text table reading is same is_reading has differ =
@@ -313,7 +313,7 @@ loads_other given first r s t text ended table fed has differ stands =
 
 -- ---- the verdict
 
--- on a text of no other table
+-- on a stream of no other table
 pub judged_own : (given : LoadSettings) (first : Image) (r : Reader) (t : LoadTarget) (text : List ℕ) (ended : Bool) (table : RamTable) (state : StreamState) (v : Result ⊤ LoadFault)
     → WasFedOnto given first (in_place r t) text ended → HasTable (settings_of first given) text (Some table) → table ≡ t.memory.table
     → HasState (settings_of first given) text ended state → v ≡ verdict_of t.rounds state → HasVerdictBehind t.rounds given first text v
@@ -363,7 +363,7 @@ judged_other given first r t text ended table v fed has differ is =
     let o : IsOfOtherTable first fed.reading = others given first t text table fed.reading fed.is_table fed.same_table fed.is_reading has differ in
     record { reading = fed.reading; is_reading = fed.is_reading; own = λ own. absurd (apart first fed.reading own o); other = λ _. is }
 
--- where no section waits it is the verdict on the text
+-- where no section waits it is the verdict on the stream
 pub judged_all : (given : LoadSettings) (first : Image) (r : Reader) (t : LoadTarget) (text : List ℕ) (ended : Bool) (v : Result ⊤ LoadFault) → LoadsOnto given first (in_place r t) text ended
     → HasVerdictBehind t.rounds given first text v → HasVerdictOnto given first text v
 judged_all given first r t text ended v loads judged =
@@ -379,7 +379,7 @@ judged_all given first r t text ended v loads judged =
       other = judged.other;
     }
 
--- ---- the text of a sender
+-- ---- the stream of a sender
 
 pub sent_onto : SentIsLoadedInPlace
 sent_onto limit first rounds t verdict is room all onto v =

@@ -1,4 +1,5 @@
--- The sections of a text that are put into a memory, one after another, and the answer that they make.
+-- The sections of a stream that are applied to a memory, one after another, and the answer that
+-- they make.
 use Rattle.std.proofs.Common.{ℕ, ◌≡◌, ◌+◌, ◌<◌, ◌≤◌, Bool, true, false, List, [], ◌∷◌, ◌++◌, length, map, take, refl, sym, ap, ◌∙◌, inl, inr, Option, Some, None, arith, rules, subst}
 use Rattle.std.specs.Prelude.{◌⊎◌, ⊤, IfSome, IfNone, IfOk, IsOk, OnErr, Result, Ok, Err, slice_index_or}
 use Rattle.std.specs.List.{All}
@@ -119,7 +120,7 @@ not_more given text reading n is last = elim (cases_lt n (length reading.rounds)
   | inr le ↦ le
 ]
 
--- those that were given are the text's
+-- those that were given are the stream's
 pub are_given : (given : LoadSettings) (text : List ℕ) (ended : Bool) (r : Reader) (n : ℕ) (reading : StreamReading) → IsPageSize given.page_size → IsReading (single_of given) text reading
     → Stands (single_of given) (put_so_far text ended n) r → n ≤ length reading.rounds
 are_given given text ended r n reading size is stands =
@@ -172,7 +173,7 @@ loads_put given text ended r table t put all =
     } in
     (record { is_page_size = put.is_page_size; stands = put.stands; has_sections = inl has }, has)
 
--- a text without a table has no section
+-- a stream without a table has no section
 pub none_there : (given : LoadSettings) (text : List ℕ) (r : Reader) → IsPageSize given.page_size → HasTable (single_of given) text None → HasAllSections given (loader r None) text
 none_there given text r size has =
     let reading : StreamReading = has.0 in
@@ -189,7 +190,7 @@ loads_all given l text ended fed all = (record { is_page_size = fed.is_page_size
 
 -- ---- what a loader stands for
 
--- a memory after whole sections is one of the text's table
+-- a memory after complete sections is one of the stream's table
 table_there : (p : ℕ) (m : Image) (o : Option RamTable) (sections : List (List PageRecord)) → Some m ≡ memory_after p o sections
     → (Some m.table ≡ o) × (m ≡ after m.table (pages_in p sections))
 table_there p m None sections e = absurd cc
@@ -212,7 +213,7 @@ first_of_all given text r t size all =
           ∙ onto-zeros t.memory.table (pages_in given.page_size (take t.rounds reading.rounds));
     }
 
--- a loader that stands for a text was fed it
+-- a loader that stands for a stream was fed it
 pub fed_of : (given : LoadSettings) (r : Reader) (o : Option LoadTarget) (text : List ℕ) (ended : Bool) → Loads given (loader r o) text ended → WasFed given (loader r o) text ended
 fed_of given r None text ended loads = record { is_page_size = loads.is_page_size; stands = loads.stands; has_first = tt }
 fed_of given r (Some t) text ended loads = record {
@@ -234,7 +235,7 @@ all_there given r o t text ended is loads = elim loads.has_sections [
 
 -- ---- the answer
 
--- how a text stands, as a verdict, whether or not it is over
+-- how a stream stands, as a verdict, whether or not it has ended
 pub verdict_over : (ended : Bool) (n : ℕ) (s : StreamState) → verdict_of n (state_at ended s) ≡ verdict_of n s
 verdict_over false n s = refl
 verdict_over true n state.Reading = refl
@@ -302,7 +303,7 @@ pub load_answers : {A : Type 0} (given : LoadSettings) (l : Loader) (text : List
 load_answers given l text a size (inl both) = inl both.1
 load_answers given l text a size (inr both) = inr (rw both.1 (none_put given text size))
 
--- ---- the text of a sender
+-- ---- the stream of a sender
 
 -- START and END bring no page
 pub empty_ends : (rounds : List (List Page)) → all_pages ([] ∷ rounds ++ [] ∷ []) ≡ all_pages rounds
@@ -333,7 +334,7 @@ counted rounds =
     let same = length-map rounds (map written_record) in
     omega (arith, both, same)
 
--- THE TEXT OF A SENDER is loaded whole.
+-- THE STREAM OF A SENDER is loaded completely.
 pub sent_answer_is : {A : Type 0} (p limit : ℕ) (text : List ℕ) (a : Loaded A) → IsPageSize p → IsSingleAnswer (ram_settings p limit) text a
     → (table : RamTable) (rounds : List (List Page)) → IsTable table → table.page_size ≡ p → total_bytes table ≤ limit
     → All (IsRound table) rounds → text ≡ single table rounds → a ≡ loaded table rounds

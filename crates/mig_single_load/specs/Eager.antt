@@ -27,9 +27,9 @@ use Rattle.mig_single_load.specs.InPlaceState.{memory_with}
 abbrev pub pages_on : Image → List PageRecord → List Page
 pages_on first records = map (page_of first.table.page_size) records
 
--- The memory has all page records of the text so far, on top of what it held first: those of its
+-- The memory has all page records of the stream so far, on top of what it held first: those of its
 -- complete sections, `sections` of them, and then those of the section that isn't complete. Of a
--- text of another table it has none.
+-- stream of another table it has none.
 pub record HasRecordsOnto (given : LoadSettings) (first : Image) (text : List ℕ) (memory : Image) (sections : ℕ) : Type 0 where
   pub reading : StreamReading
   pub is_reading : IsReading (settings_of first given) text reading
@@ -54,7 +54,7 @@ EagerOkIsBySections = (given : LoadSettings) (first : Image) (text : List ℕ) (
 -- ---- what such a load keeps
 
 pub record EagerLoad : Type 0 where
-  -- where the text is read on, as long as it is
+  -- where the stream is read on, as long as it is
   pub pause : Option Paused
   pub state : LoadState
   -- the memory's table, and how many sections are complete
@@ -70,16 +70,16 @@ eager_load pause state table rounds fed ended = record { pause = pause; state = 
 abbrev pub settings_for : RamTable → LoadSettings → Settings
 settings_for table given = single_of (for_table table given)
 
--- the text has this table, or its table isn't known yet
+-- the stream has this table, or its table isn't known yet
 abbrev pub IsOfTable : LoadSettings → RamTable → List ℕ → Type 0
 IsOfTable given table text = HasTable (settings_for table given) text None ⊎ HasTable (settings_for table given) text (Some table)
 
--- all pages that a reader gave so far, in the order of the text
+-- all pages that a reader gave so far, in the order of the stream
 abbrev pub given_pages : Image → GivenSoFar → List Page
 given_pages first so_far = all_pages (map (pages_on first) so_far.sections) ++ pages_on first so_far.open_section
 
--- The pause is at the end of the text, all records of which are in the memory. The text's table is
--- the memory's, or isn't known yet.
+-- The pause is at the end of the stream so far, all records of which are in the memory. The
+-- stream's table is the memory's, or isn't known yet.
 pub record PausesOnto (given : LoadSettings) (first : Image) (text : List ℕ) (p : Paused) (memory : Image) (sections : ℕ) : Type 0 where
   pub so_far : GivenSoFar
   pub pauses : PausesAt (settings_of first given) text so_far p
@@ -87,7 +87,7 @@ pub record PausesOnto (given : LoadSettings) (first : Image) (text : List ℕ) (
   pub has_memory : memory ≡ with_round first (given_pages first so_far)
   pub has_sections : sections ≡ length so_far.sections
 
--- the state that a reading of the text gives: it goes on, is closed, has a fault, or has another
+-- the state that a reading of the stream gives: it goes on, is closed, has a fault, or has another
 -- table
 abbrev pub IsInState : Image → StreamReading → Option Paused → LoadState → Type 0
 IsInState first reading (Some p) (load_state.Stream found at) = IsOfOwnTable first reading × (found ≡ state.Reading) × (reading.state ≡ found)
@@ -95,21 +95,21 @@ IsInState first reading None (load_state.Stream found at) = IsOfOwnTable first r
 IsInState first reading None load_state.OtherTable = IsOfOtherTable first reading
 IsInState first reading pause other = ⊥
 
--- up to where the text is valid, as long as the load reads it as that of its memory
+-- up to where the stream is valid, as long as the load reads it as that of its memory
 abbrev pub IsReadTo : LoadSettings → Image → List ℕ → LoadState → Type 0
 IsReadTo given first text (load_state.Stream found at) = IsValidUpTo (settings_of first given) text at
 IsReadTo given first text other = ⊤
 
--- The memory has all records of the text so far, and `pause` and `found` are what the load keeps of
--- it.
+-- The memory has all records of the stream so far, and `pause` and `found` are what the load keeps
+-- of it.
 pub record StandsOnto (given : LoadSettings) (first : Image) (text : List ℕ) (memory : Image) (sections : ℕ) (pause : Option Paused) (found : LoadState) : Type 0 where
   pub has_records : HasRecordsOnto given first text memory sections
   pub pauses : IfSome pause (λ p. PausesOnto given first text p memory sections)
   pub is_in_state : IsInState first has_records.reading pause found
   pub is_read_to : IsReadTo given first text found
 
--- A load that was made for the memory `first` with these settings, and fed this text, which may be over.
--- The memory is now what all page records of the text make of `first`.
+-- A load that was made for the memory `first` with these settings, and fed this stream, which may
+-- have ended. The memory is now what all page records of the stream make of `first`.
 pub record EagerlyLoads (memory : Image) (given : LoadSettings) (first : Image) (s : EagerLoad) (text : List ℕ) (ended : Bool) : Type 0 where
   pub is_table : IsTable first.table
   pub is_image : IsImage first
@@ -118,9 +118,9 @@ pub record EagerlyLoads (memory : Image) (given : LoadSettings) (first : Image) 
   pub has_ended : s.ended ≡ ended
   pub stands : StandsOnto given first text memory s.rounds s.pause s.state
 
--- ---- where the text is closed, and up to where it is valid
+-- ---- where the stream is closed, and up to where it is valid
 
--- what the state of a load tells of them
+-- what the state of a load says of these places
 abbrev pub closed_place : LoadState → Option ℕ
 closed_place (load_state.Stream state.Closed at) = Some at
 closed_place (load_state.Stream state.Reading at) = None
@@ -133,14 +133,14 @@ valid_place (load_state.Stream found at) = Some at
 valid_place load_state.OtherTable = None
 valid_place load_state.NoMemory = None
 
--- Where the text is closed, if it is. Of a text of another table nothing is told.
+-- Where the stream is closed, if it is. Of a stream of another table it is None.
 pub record HasClosedAtOnto (given : LoadSettings) (first : Image) (text : List ℕ) (n : Option ℕ) : Type 0 where
   pub reading : StreamReading
   pub is_reading : IsReading (settings_of first given) text reading
   pub own : IsOfOwnTable first reading → HasClosedAt (settings_of first given) text n
   pub other : IsOfOtherTable first reading → n ≡ None
 
--- Up to where the text is valid. Of a text of another table nothing is told.
+-- Up to where the stream is valid. Of a stream of another table it is None.
 pub record IsValidUpToOnto (given : LoadSettings) (first : Image) (text : List ℕ) (n : Option ℕ) : Type 0 where
   pub reading : StreamReading
   pub is_reading : IsReading (settings_of first given) text reading
@@ -149,7 +149,7 @@ pub record IsValidUpToOnto (given : LoadSettings) (first : Image) (text : List �
 
 -- ---- where an allocation was refused
 
--- The memory has the first of the text's page records, in their order, on top of what it held
+-- The memory has the first of the stream's page records, in their order, on top of what it held
 -- first. Those of the sections counted are among them.
 pub record HasSomeOnto (given : LoadSettings) (first : Image) (text : List ℕ) (memory : Image) (sections : ℕ) : Type 0 where
   pub so_far : GivenSoFar
@@ -185,14 +185,14 @@ pub record GaveNext (given : LoadSettings) (table : RamTable) (text : List ℕ) 
   pub ends : EndsSo gave (settings_for table given) text so_far
   pub leaves_none : LeavesNone gave r
 
--- In addition the sections before are counted, and the text has this table, so the records fit a
+-- In addition the sections before are counted, and the stream has this table, so the records fit a
 -- memory.
 pub record PutsNext (given : LoadSettings) (table : RamTable) (text : List ℕ) (so_far : GivenSoFar) (gave : Given) (r : Giver) (sections : ℕ) : Type 0 where
   pub gave_next : GaveNext given table text so_far gave r
   pub has_sections : sections ≡ length so_far.sections
   pub has_table : IsEnd gave ⊎ HasTable (settings_for table given) text (Some table)
 
--- There is such a text, of fewer than 2^63 bytes.
+-- There is such a stream, of fewer than 2^63 bytes.
 pub record PutsNextSome (table : RamTable) (gave : Given) (r : Giver) (sections : ℕ) : Type 0 where
   pub given : LoadSettings
   pub text : List ℕ
@@ -200,7 +200,7 @@ pub record PutsNextSome (table : RamTable) (gave : Given) (r : Giver) (sections 
   pub so_far : GivenSoFar
   pub puts : PutsNext given table text so_far gave r sections
 
--- All records of the text were given, and this is its state.
+-- All records of the stream were given, and this is its state.
 pub record GaveAll (given : LoadSettings) (table : RamTable) (text : List ℕ) (so_far : GivenSoFar) (found : StreamState) (r : Giver) (sections : ℕ) : Type 0 where
   pub gives : Gives (settings_for table given) text so_far r
   pub has_reading : HasReading (settings_for table given) text so_far found
@@ -223,7 +223,8 @@ abbrev pub PutsSome : Given → Giver → Image → ℕ → Image → ℕ → Ty
 PutsSome gave r memory sections after more = (given : LoadSettings) (first : Image) (text : List ℕ) (so_far : GivenSoFar) → PutsNext given first.table text so_far gave r sections
     → memory ≡ with_round first (given_pages first so_far) → HasSomeOnto given first text after more
 
--- A pause at the end of some text of `fed` bytes and this table, with `sections` complete sections.
+-- A pause at the end of some `fed` bytes of a stream of this table, with `sections` complete
+-- sections.
 pub record PausesSome (given : LoadSettings) (table : RamTable) (p : Paused) (sections fed : ℕ) : Type 0 where
   pub text : List ℕ
   pub has_fed : fed ≡ length text

@@ -15,7 +15,8 @@ use Rattle.mig_single_load.specs.declared.loaded.Loaded.{Loaded}
 use Rattle.mig_single_load.specs.declared.fault.LoadFault.{LoadFault}
 use Rattle.mig_single_load.specs.SingleLoad.{memory_after, verdict_of, no_memory_at, IsSingleAnswer, unloaded}
 
--- what a loader holds: the reader of its text, and the memory that it loads, once that could be had
+-- what a loader holds: the reader of its stream, and the memory that it loads, once that was
+-- allocated
 pub record Loader : Type 0 where
   pub reader : Reader
   pub target : Option LoadTarget
@@ -30,27 +31,29 @@ memory_of l = option_map (λ t. t.memory) l.target
 abbrev pub sections_loaded : Loader → ℕ
 sections_loaded l = option_map_or (λ t. t.rounds) l.target 0
 
--- ---- the sections of a text
+-- ---- the sections of a stream
 
--- All whole sections of the text are in the memory, which is there exactly where the text's size list is whole.
+-- All complete sections of the stream are in the memory, which is there exactly where the stream's
+-- size list is complete.
 pub record HasAllSections (given : LoadSettings) (l : Loader) (text : List ℕ) : Type 0 where
   pub reading : StreamReading
   pub is_reading : IsReading (single_of given) text reading
   pub has_memory : memory_of l ≡ memory_after given.page_size reading.table reading.rounds
   pub has_rounds : sections_loaded l ≡ length reading.rounds
 
--- The text has a table, and the loader no memory, since none was found for it: all sections wait.
+-- The stream has a table, and the loader no memory, since it couldn't be allocated: all sections
+-- wait.
 pub record Waits (given : LoadSettings) (l : Loader) (text : List ℕ) : Type 0 where
   pub table : RamTable
   pub has_table : HasTable (single_of given) text (Some table)
   pub has_no_memory : l.target ≡ None
 
--- a text, whether the loader was told that it is over, and how many of its sections are in the memory
+-- a stream, whether it was ended, and how many of its sections are in the memory
 abbrev pub put_so_far : List ℕ → Bool → ℕ → SoFar
 put_so_far text ended n = record { text = text; ended = ended; taken = n }
 
--- The loader was made with these settings, and fed this text, which may be over. It has all sections that are whole so far,
--- or they wait.
+-- The loader was made with these settings, and fed this stream, which may have ended. It has all
+-- sections that are complete so far, or they wait.
 pub record Loads (given : LoadSettings) (l : Loader) (text : List ℕ) (ended : Bool) : Type 0 where
   pub is_page_size : IsPageSize given.page_size
   pub stands : Stands (single_of given) (put_so_far text ended (sections_loaded l)) l.reader
@@ -58,37 +61,38 @@ pub record Loads (given : LoadSettings) (l : Loader) (text : List ℕ) (ended : 
 
 -- ---- its answers
 
--- the verdict on a text as far as it is there: as if it were over
+-- the verdict on a stream so far: as if it ended here
 pub record HasVerdict (given : LoadSettings) (text : List ℕ) (verdict : Result ⊤ LoadFault) : Type 0 where
   pub reading : StreamReading
   pub is_reading : IsReading (single_of given) text reading
   pub is_verdict : verdict ≡ verdict_of (length reading.rounds) reading.state
 
--- the verdict of a loader: that on its text; or `NoMemory`, where its sections wait
+-- the verdict of a loader: that on its stream; or `NoMemory`, where its sections wait
 abbrev pub Judges : LoadSettings → Loader → List ℕ → Result ⊤ LoadFault → Type 0
 Judges given l text verdict =
     (HasAllSections given l text × HasVerdict given text verdict) ⊎ (Waits given l text × (verdict ≡ no_memory_at 0))
 
--- the answer of a loader: that on its text; or `NoMemory`, where its sections wait
+-- the answer of a loader: that on its stream; or `NoMemory`, where its sections wait
 abbrev pub Answers : {A : Type 0} → LoadSettings → Loader → List ℕ → Loaded A → Type 0
 Answers given l text a =
     (HasAllSections given l text × IsSingleAnswer given text a) ⊎ (Waits given l text × (a ≡ unloaded))
 
 -- ---- in the midst of a call
 
--- The first sections of the text are in the memory, on top of what it held at first: as many as it counts.
+-- The first sections of the stream are in the memory, on top of what it held at first: as many as
+-- it counts.
 pub record HasFirst (given : LoadSettings) (first : Image) (text : List ℕ) (t : LoadTarget) : Type 0 where
   pub has_table : HasTable (single_of given) text (Some first.table)
   pub has_memory : (reading : StreamReading) → IsReading (single_of given) text reading
       → t.memory ≡ with_rounds first (map (map (page_of given.page_size)) (take t.rounds reading.rounds))
 
--- A reader was given this text, and the sections that it gave are in the memory. Others may wait.
+-- A reader was given this stream, and the sections that it gave are in the memory. Others may wait.
 pub record HasPutSections (given : LoadSettings) (first : Image) (text : List ℕ) (ended : Bool) (r : Reader) (t : LoadTarget) : Type 0 where
   pub is_page_size : IsPageSize given.page_size
   pub stands : Stands (single_of given) (put_so_far text ended t.rounds) r
   pub has_first : HasFirst given first text t
 
--- It was given some text, of fewer than 2^63 bytes.
+-- It was given some stream, of fewer than 2^63 bytes.
 pub record HasPutSectionsSome (r : Reader) (t : LoadTarget) : Type 0 where
   pub given : LoadSettings
   pub first : Image
@@ -104,13 +108,14 @@ pub record HasPutAllSections (given : LoadSettings) (first : Image) (text : List
   pub has_memory : t.memory ≡ with_rounds first (map (map (page_of given.page_size)) reading.rounds)
   pub has_rounds : t.rounds ≡ length reading.rounds
 
--- The loader was fed this text, and the sections that its reader gave are in the memory, which began with zeros. Others may wait.
+-- The loader was fed this stream, and the sections that its reader gave are in the memory, which
+-- began with zeros. Others may wait.
 pub record WasFed (given : LoadSettings) (l : Loader) (text : List ℕ) (ended : Bool) : Type 0 where
   pub is_page_size : IsPageSize given.page_size
   pub stands : Stands (single_of given) (put_so_far text ended (sections_loaded l)) l.reader
   pub has_first : IfSome l.target (λ t. HasFirst given (zero_image t.memory.table) text t)
 
--- It was fed some text, of fewer than 2^63 bytes.
+-- It was fed some stream, of fewer than 2^63 bytes.
 pub record WasFedSome (l : Loader) : Type 0 where
   pub given : LoadSettings
   pub text : List ℕ
@@ -118,7 +123,7 @@ pub record WasFedSome (l : Loader) : Type 0 where
   pub is_short : length text < 2 ^ 63
   pub has_fed : WasFed given l text ended
 
--- It stands for some text, of fewer than 2^63 bytes.
+-- It stands for some stream, of fewer than 2^63 bytes.
 pub record LoadsSome (l : Loader) : Type 0 where
   pub given : LoadSettings
   pub text : List ℕ

@@ -1,4 +1,4 @@
--- What a caller passes to a load beside its texts, and what the readers of these have of it.
+-- What a caller passes to a load beside its streams, and what the readers of these have of it.
 use Rattle.std.specs.Prelude.{ℕ, None}
 use Rattle.mig_mem.specs.RamTable.{RamTable}
 use Rattle.mig_stream.specs.declared.item.Frame.TheVariants.{Ram}

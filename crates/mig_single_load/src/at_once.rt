@@ -1,7 +1,7 @@
-//! The load of a single stream without a fault in one pass over its text, for `load_single`.
+//! The load of a single stream without a fault in one pass over its bytes, for `load_single`.
 //!
-//! A page is copied as soon as it was read, so that no record waits for its section to end. What a text with a fault leaves isn't to
-//! be had so: `load_single` reads it again, section by section.
+//! A page is copied as soon as it was read, so that no record waits for its section to end. What a
+//! stream with a fault leaves can't be found so: `load_single` reads it again, section by section.
 
 ghost use Rattle.std.specs.Prelude.{◌≡◌, ◌≤◌, ◌^◌, Some, IfSome, Ok, IfOk};
 ghost use Rattle.mig_mem.specs.PageSize.{IsPageSize};
@@ -14,7 +14,8 @@ use mig_mem::{Memory, NoMemory};
 use mig_stream::{Given, RecordReader, StreamState};
 use std::alloc::Allocator;
 
-/// Loads a guest from a text that is read to its end byte. None where the text has a fault.
+/// Loads a guest from a stream that is read to its end byte. Returns None if the stream has a
+/// fault.
 pub(crate) fn load_at_once<A: Allocator + Copy>(
     alloc: A,
     settings: LoadSettings,
@@ -49,7 +50,7 @@ pub(crate) fn load_at_once<A: Allocator + Copy>(
     }
 }
 
-// The answer where the text is closed, after so many sections.
+// Returns the answer after `sections` sections, if the stream is closed.
 fn answer_if_closed<A: Allocator>(
     found: StreamState,
     memory: Memory<A>,

@@ -37,13 +37,13 @@ pub(crate) enum LoadState {
     NoMemory,
 }
 
-/// Loads a guest from the pieces of a single stream into memory that is passed with each piece, and
+/// Loads a guest from the pieces of a single stream into memory that is passed with each piece. It
 /// writes each page once, when its bytes have come. No section is kept: between two calls the load
 /// holds the beginning of one item of the stream at most.
 ///
-/// At any time the memory has all page records read so far, on top of what it held at first, those
-/// of a section that isn't complete too. They stay there if the stream turns out to be bad or cut.
-/// An `InPlaceState` writes complete sections only.
+/// At any time the memory has all page records read so far, on top of what it held at first. Those
+/// of a section that isn't complete are there, too. They stay there if the stream turns out to be
+/// bad or cut. An `InPlaceState` writes complete sections only.
 ///
 /// Each piece is fed with the memory as the piece before left it. The stream must have the memory's
 /// table: the same blocks in the same order. Of a stream of another table nothing is written, and
@@ -96,7 +96,7 @@ fn find_table<A: Allocator + Copy>(reader: &mut RecordReader<'_, A>) -> Result<G
     Ok(gave)
 }
 
-// Whether the stream has another table than the memory. False while its table isn't known.
+// Returns whether the stream has another table than the memory. False while its table isn't known.
 fn is_of_other_table<A: Allocator, M: GuestTarget>(reader: &RecordReader<'_, A>, memory: &M) -> bool
     ensures other { IsTrue result → (table : RamTable) × (whole_table reader.now.progress ≡ Some table) × (table ≢ (M.image memory.now).table) }
     ensures own { IsFalse result → (whole_table reader.now.progress ≡ None) ⊎ (whole_table reader.now.progress ≡ Some (M.image memory.now).table) }
@@ -185,8 +185,12 @@ fn valid_in(state: LoadState) -> Option<u64>
 
 impl<A: Allocator + Copy> EagerState<A> {
     /// Creates a load into a memory of `table`, of which it takes a copy. A stream whose blocks
-    /// have more than `limit` bytes together is refused, so `limit` must be at least the table's
-    /// own total.
+    /// have more than `limit` bytes together is refused, so `limit` must be at least what the
+    /// table's blocks have together.
+    ///
+    /// # Errors
+    ///
+    /// `NoMemory`: an allocation was refused.
     pub fn new<B: Allocator>(
         alloc: A,
         table: &Table<B>,
@@ -203,7 +207,11 @@ impl<A: Allocator + Copy> EagerState<A> {
 
     /// Creates a load into a memory of `table`, of which it takes a copy. Of `settings` the limit
     /// and the frame count: the pages have the size that `table` has. The limit must be at least
-    /// the table's own total.
+    /// what the table's blocks have together.
+    ///
+    /// # Errors
+    ///
+    /// `NoMemory`: an allocation was refused.
     pub fn new_in<B: Allocator>(
         alloc: A,
         table: &Table<B>,

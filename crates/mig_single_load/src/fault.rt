@@ -1,4 +1,4 @@
-//! Why a load didn't come to its end, by name and number, and where: what every loader answers.
+//! Why a load didn't come to its end, by name and number, and where: what every loader returns.
 
 ghost use Rattle.std.specs.Prelude.{◌≡◌};
 ghost use Rattle.mig_mem.specs.Refusal.{no_memory_number};
@@ -16,9 +16,10 @@ use std::fmt::{self, Display, Formatter};
 pub enum Origin {
     /// In the stream: the single stream, or the main stream of multifd.
     Main,
-    /// In a channel, by its place among the texts that were handed in.
+    /// In a channel, by its place among the channels that were passed.
     Channel(usize),
-    /// In no one text: what all texts bring of a round together, and refused allocations, are told there.
+    /// In no one source: what all sources bring of a round together, and refused allocations, are
+    /// reported there.
     Round,
 }
 
@@ -34,19 +35,19 @@ pub enum Fault {
     Round(RoundFault),
     /// The channel's hello names the id of an earlier channel.
     HelloTwice,
-    /// The channel goes on where the main stream is over.
+    /// The channel goes on where the main stream has ended.
     Extra,
-    /// The channel is over where the main stream goes on.
+    /// The channel has ended where the main stream goes on.
     Short,
-    /// The stream is of another table than the memory that was handed in for it. Only loads in
-    /// place report it.
+    /// The stream is of another table than the memory that was passed for it. Only loads in place
+    /// report it.
     OtherTable,
     /// An allocation was refused.
     NoMemory,
 }
 
 impl Fault {
-    /// The fault's number in documents and in the tool's output.
+    /// Returns the fault's number, as documents and the tool's output have it.
     pub fn number(self) -> u8
         ensures { result ≡ fault_number self }
     {
@@ -63,7 +64,7 @@ impl Fault {
     }
 }
 
-/// Why a load ended before its texts did.
+/// Why a load ended before its sources did.
 #[derive(Clone, Copy, Debug, PartialEq, Eq)]
 pub struct LoadFault {
     /// How many rounds were counted before it: the number of the round that it is in, from 0.
@@ -84,7 +85,7 @@ impl Display for Origin {
     }
 }
 
-/// The fault's number, and what it says.
+/// Writes the fault's number and its words.
 impl Display for Fault {
     fn fmt<W: fmt::Write>(&self, f: &mut Formatter<W>) -> fmt::Result {
         match self {
@@ -118,7 +119,7 @@ impl Display for Fault {
 
 impl Error for Fault {}
 
-/// Where the fault is, and what it says.
+/// Writes where the fault is, and its words.
 impl Display for LoadFault {
     fn fmt<W: fmt::Write>(&self, f: &mut Formatter<W>) -> fmt::Result {
         write!(
@@ -131,17 +132,19 @@ impl Display for LoadFault {
 
 impl Error for LoadFault {}
 
-/// Why a piece wasn't loaded: `NoMemory`, with what stands after it.
+/// Why a piece wasn't loaded: no memory, with the state after it.
 #[derive(Clone, Copy, Debug, PartialEq, Eq)]
 pub enum FeedFault {
     /// An allocation was refused, and nothing has changed: the piece can be fed again.
     NoMemory,
-    /// The piece was taken, and no memory was found for the guest: `settle` tries again, and the next piece may be fed too.
+    /// The piece was taken, and the guest's memory couldn't be allocated: `settle` tries again, and
+    /// the next piece may be fed too.
     NoGuestMemory,
 }
 
 impl FeedFault {
-    /// The fault's number in documents and in the tool's output: that of `NoMemory`, of both.
+    /// Returns the fault's number, as documents and the tool's output have it: for each variant
+    /// that of `Fault::NoMemory`.
     pub fn number(self) -> u8
         ensures { result ≡ no_memory_number }
     {
@@ -151,7 +154,7 @@ impl FeedFault {
     }
 }
 
-/// The fault's number, and what it says.
+/// Writes the fault's number and its words.
 impl Display for FeedFault {
     fn fmt<W: fmt::Write>(&self, f: &mut Formatter<W>) -> fmt::Result {
         match self {
@@ -168,7 +171,8 @@ impl Display for FeedFault {
 impl Error for FeedFault {}
 
 /// Why a piece wasn't loaded into the memory that it was passed with. For an `InPlaceState` nothing
-/// has changed, and the piece can be fed again. An `EagerState` has failed for good with `NoMemory`.
+/// has changed, and the piece can be fed again. An `EagerState` has failed for good with
+/// `NoMemory`.
 #[derive(Clone, Copy, Debug, PartialEq, Eq)]
 pub enum InPlaceFault {
     /// The memory is of another table than the load.
@@ -178,7 +182,7 @@ pub enum InPlaceFault {
 }
 
 impl InPlaceFault {
-    /// The fault's number in documents and in the tool's output.
+    /// Returns the fault's number, as documents and the tool's output have it.
     pub fn number(self) -> u8
         ensures { result ≡ in_place_fault_number self }
     {
@@ -189,7 +193,7 @@ impl InPlaceFault {
     }
 }
 
-/// The fault's number, and what it says.
+/// Writes the fault's number and its words.
 impl Display for InPlaceFault {
     fn fmt<W: fmt::Write>(&self, f: &mut Formatter<W>) -> fmt::Result {
         match self {

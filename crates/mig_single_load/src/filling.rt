@@ -65,7 +65,7 @@ impl<A: Allocator> Filling<A> {
         self.sections
     }
 
-    /// Gives the memory.
+    /// Returns the memory.
     pub(crate) fn into_memory(self) -> Memory<A>
         ensures { result ≡ self.memory }
     {

@@ -1,4 +1,5 @@
-//! The loader of a single stream that comes in pieces, into memory that is there already: for hypervisors that lend their blocks.
+//! The loader of a single stream that comes in pieces, into memory that is there already: for
+//! hypervisors that lend their blocks.
 
 ghost use Rattle.std.specs.Prelude.{◌≡◌, ◌+◌, ◌<◌, ◌≤◌, ◌^◌, ◌++◌, ℕ, Bool, List, [], length, true, false, IsFalse, IsOk, OnOk, OnErr, IfOk, IfErr};
 ghost use Rattle.mig_mem.specs.Image.{Image};
@@ -14,12 +15,15 @@ use std::alloc::{Allocator, Global};
 use std::fmt::{self, Debug, Formatter};
 use std::marker::Model;
 
-/// Loads a guest from the pieces of a single stream into memory that is there already, as the blocks of a machine that is to run it
-/// (`LentMemoryMut`). Each section is put into it by the call that brings its footer, on top of what it holds, and its buffers are given
-/// back. So between calls the loader holds the pages of one section, which isn't whole; in a call also those that the piece brings.
+/// Loads a guest from the pieces of a single stream into memory that is there already. That may be
+/// the blocks of a machine that is to run it (`LentMemoryMut`).
 ///
-/// The stream is to have the memory's table, the same blocks in the same order: of another one nothing is put, and the verdict is
-/// `OtherTable`.
+/// Each section is applied by the call that brings its footer, on top of what the memory holds, and
+/// its buffers are freed. So between calls the loader holds the pages of one section, which isn't
+/// complete. In a call it also holds those that the piece brings.
+///
+/// The stream must have the memory's table: the same blocks in the same order. Of a stream of
+/// another table nothing is applied, and the verdict is `OtherTable`.
 #[derive(Drop)]
 pub struct InPlaceLoader<A: Allocator = Global, M: GuestTarget = Memory<A>> {
     state: InPlaceState<A>,
@@ -45,8 +49,13 @@ impl<A: Allocator, M: GuestTarget> Debug for InPlaceLoader<A, M> {
 }
 
 impl<A: Allocator + Copy, M: GuestTarget> InPlaceLoader<A, M> {
-    /// A loader that was fed nothing, into this memory. A stream whose blocks have more than `limit` bytes together is refused, so it is to be
-    /// at least what the memory's own have. It takes a copy of the table. An `Err` gives the memory back: an allocation was refused.
+    /// Creates a loader that was fed nothing, into `memory`. It takes a copy of the table. A stream
+    /// whose blocks have more than `limit` bytes together is refused, so `limit` must be at least
+    /// what the memory's blocks have together.
+    ///
+    /// # Errors
+    ///
+    /// The memory, as it was: an allocation was refused.
     pub fn new(alloc: A, memory: M, limit: u64) -> Result<InPlaceLoader<A, M>, M>
         requires { limit ≤ 2 ^ 40 }
         ensures loads { IfOk result (λ l. LoadsOnto (ram_settings (M.image memory).table.page_size limit) (M.image memory) l [] false) }
@@ -65,7 +74,7 @@ impl<A: Allocator + Copy, M: GuestTarget> InPlaceLoader<A, M> {
     ///
     /// # Errors
     ///
-    /// An allocation was refused: the memory is given back.
+    /// The memory, as it was: an allocation was refused.
     pub fn new_in(alloc: A, memory: M, settings: LoadSettings) -> Result<InPlaceLoader<A, M>, M>
         requires { settings.limit ≤ 2 ^ 40 }
         ensures loads { IfOk result (λ l. LoadsOnto settings (M.image memory) l [] false) }
@@ -80,8 +89,13 @@ impl<A: Allocator + Copy, M: GuestTarget> InPlaceLoader<A, M> {
         Ok(InPlaceLoader { state, memory })
     }
 
-    /// Takes the next piece of the text, and puts the sections that it makes whole into the memory. After the end byte, or a fault of the
-    /// stream's form, its bytes are only counted, which is never refused; a stream of another table is read on. An `Err` changes nothing.
+    /// Takes the next piece of the stream, and applies the sections that it completes. After the
+    /// end byte, or a fault of the stream's form, the piece's bytes are only counted, and the call
+    /// never fails. A stream of another table is read on.
+    ///
+    /// # Errors
+    ///
+    /// `NoMemory`: an allocation was refused. Nothing changes.
     pub fn feed(&mut self, piece: &[u8]) -> Result<(), NoMemory>
         requires open { IsFalse self.old.reader.ended }
         requires room { self.old.reader.fed + length piece.now < 2 ^ 63 }
@@ -103,7 +117,7 @@ impl<A: Allocator + Copy, M: GuestTarget> InPlaceLoader<A, M> {
 }
 
 impl<A: Allocator, M: GuestTarget> InPlaceLoader<A, M> {
-    /// The text is over: no piece is fed from now on. A second call changes nothing.
+    /// Ends the stream: no piece is fed from now on. A second call changes nothing.
     pub fn end(&mut self)
         ensures value { self.new ≡ record self.old { reader = record self.old.reader { ended = true } } }
         ensures loads { (given : LoadSettings) (first : Image) (text : List ℕ) (ended : Bool) → LoadsOnto given first self.old text ended → LoadsOnto given first self.new text true }
@@ -111,14 +125,14 @@ impl<A: Allocator, M: GuestTarget> InPlaceLoader<A, M> {
         self.state.end();
     }
 
-    /// Whether the loader was told that the text is over.
+    /// Returns whether `end` was called.
     pub fn ended(&self) -> bool
         ensures { result ≡ self.now.reader.ended }
     {
         self.state.ended()
     }
 
-    /// How many bytes were fed.
+    /// Returns how many bytes were fed.
     pub fn fed(&self) -> u64
         ensures { result ≡ self.now.reader.fed }
     {
@@ -145,22 +159,23 @@ impl<A: Allocator, M: GuestTarget> InPlaceLoader<A, M> {
         self.state.valid_up_to()
     }
 
-    /// The memory after the sections so far.
+    /// Returns the memory after the sections so far.
     pub fn memory(&self) -> &M
         ensures { M.image result.now ≡ self.now.target.memory }
     {
         &self.memory
     }
 
-    /// How many sections are in the memory. START and END count, too.
+    /// Returns how many sections are in the memory. START and END count, too.
     pub fn rounds(&self) -> u64
         ensures { result ≡ self.now.target.rounds }
     {
         self.state.rounds()
     }
 
-    /// The verdict on the text so far, as if it were over here: Ok where the end byte was read, else its first fault, which is
-    /// `Truncated` where it is whole so far. Of another table than the memory's it is `OtherTable`, as soon as the size list is whole.
+    /// Returns the verdict on the stream so far, as if it ended here: Ok if the end byte was read,
+    /// else its first fault. If it has no fault so far, that is `Truncated`. For another table than
+    /// the memory's the verdict is `OtherTable`, as soon as the size list is complete.
     ///
     /// # Errors
     ///
@@ -172,7 +187,7 @@ impl<A: Allocator, M: GuestTarget> InPlaceLoader<A, M> {
         self.state.verdict()
     }
 
-    /// Gives the memory.
+    /// Returns the memory.
     pub fn into_memory(self) -> M
         ensures { M.image result ≡ self.target.memory }
     {
@@ -180,8 +195,8 @@ impl<A: Allocator, M: GuestTarget> InPlaceLoader<A, M> {
     }
 }
 
-/// The text that a sender made of the memory's table is loaded whole: the memory has the sender's rounds in it, on top of what it held,
-/// and the verdict is Ok.
+/// The stream that a sender made of the memory's table is loaded completely: the memory has the
+/// sender's rounds in it, on top of what it held, and the verdict is Ok.
 pub fn sent_is_loaded_in_place()
     ensures { SentIsLoadedInPlace }
 {}

@@ -1,4 +1,4 @@
-//! What a load in place keeps between its calls: all but the memory, which each call is handed.
+//! What a load in place keeps between its calls: all but the memory, which is passed to each call.
 
 ghost use Rattle.std.specs.Prelude.{◌≡◌, ◌≢◌, ◌+◌, ◌<◌, ◌≤◌, ◌^◌, ◌++◌, ◌↔◌, ℕ, Bool, List, [], length, true, false, Err, IsFalse, IsOk, IsSome, IfSome, IfNone, OnOk, OnErr, IfOk};
 ghost use Rattle.mig_mem.specs.PageSize.{IsPageSize};
@@ -23,22 +23,27 @@ use std::alloc::{Allocator, Global};
 use std::fmt::{self, Debug, Formatter};
 use std::marker::Model;
 
-/// Loads a guest from the pieces of a single stream into memory that is handed in with each piece, and owns all but that memory. It is for
-/// a caller that can't lend its memory for as long as the load takes, as one in C; others take an `InPlaceLoader`, which is this with
-/// a memory. Each section is put by the call that brings its footer, on top of what the memory holds, and its buffers are given back.
+/// Loads a guest from the pieces of a single stream into memory that is passed with each piece, and
+/// owns all but that memory. It is for a caller that can't lend its memory for as long as the load
+/// takes, as one in C. Others take an `InPlaceLoader`, which is this with a memory. Each section is
+/// applied by the call that brings its footer, on top of what the memory holds, and its buffers are
+/// freed.
 ///
-/// Each piece is to be fed with the memory as the piece before left it. A memory of another table is refused. One of the same table with
-/// other contents can't be told, and the same sections are put into it. Memory that no `GuestTarget` stands for is written by its owner:
-/// `read_piece` and `take_section` are the two halves of `feed`, which also puts the sections that wait since a `read_piece`.
+/// Each piece must be fed with the memory as the piece before left it. A memory of another table is
+/// refused. One of the same table with other contents can't be recognised: the sections are applied
+/// to it.
 ///
-/// The stream is to have the memory's table, the same blocks in the same order: of another one nothing is put, and the verdict is
-/// `OtherTable`.
+/// Memory that no `GuestTarget` stands for is written by its owner. `read_piece` and `take_section`
+/// are the two halves of `feed`, which also applies the sections that wait since a `read_piece`.
+///
+/// The stream must have the memory's table: the same blocks in the same order. Of a stream of
+/// another table nothing is applied, and the verdict is `OtherTable`.
 #[derive(Drop)]
 pub struct InPlaceState<A: Allocator = Global> {
     reader: StreamReader<'static, A>,
     // that of the memory
     table: Table<A>,
-    // how many sections were put into it
+    // how many sections were applied
     rounds: u64,
 }
 
@@ -59,7 +64,7 @@ impl<A: Allocator> Debug for InPlaceState<A> {
     }
 }
 
-// Takes each whole section that waits, and drops it.
+// Takes each complete section that waits, and drops it.
 fn drop_sections<A: Allocator>(reader: &mut StreamReader<'_, A>)
     ensures stands { (given : LoadSettings) (text : List ℕ) (ended : Bool) → IsPageSize given.page_size
         → StandsAtSome (single_of given) text ended reader.old → StandsAtAll (single_of given) text ended reader.new }
@@ -69,7 +74,7 @@ fn drop_sections<A: Allocator>(reader: &mut StreamReader<'_, A>)
     'sections: while let Ok(Some(_section)) = reader.take_round() {}
 }
 
-/// The verdict on a stream of another table.
+/// Returns the verdict on a stream of another table.
 pub(crate) fn other_table() -> Result<(), LoadFault>
     ensures { result ≡ at_main 0 OtherTable }
 {
@@ -80,7 +85,7 @@ pub(crate) fn other_table() -> Result<(), LoadFault>
     })
 }
 
-// Takes the sections that wait, and puts them into a memory.
+// Takes the sections that wait, and applies them to a memory.
 fn put_sections<A: Allocator, M: GuestTarget>(state: &mut InPlaceState<A>, memory: &mut M)
     requires { (M.image memory.old).table ≡ state.old.table }
     ensures alike { PutsAlike (M.image memory.old) (M.image memory.new) (ArePut state.old state.new) }
@@ -94,8 +99,13 @@ fn put_sections<A: Allocator, M: GuestTarget>(state: &mut InPlaceState<A>, memor
 }
 
 impl<A: Allocator + Copy> InPlaceState<A> {
-    /// A load that was fed nothing, into a memory of this table. A stream whose blocks have more than `limit` bytes together is refused, so
-    /// it is to be at least what the table's have. It takes a copy of the table.
+    /// Creates a load that was fed nothing, into a memory of `table`, of which it takes a copy. A
+    /// stream whose blocks have more than `limit` bytes together is refused, so `limit` must be at
+    /// least what the table's blocks have together.
+    ///
+    /// # Errors
+    ///
+    /// `NoMemory`: an allocation was refused.
     pub fn new<B: Allocator>(
         alloc: A,
         table: &Table<B>,
@@ -114,6 +124,10 @@ impl<A: Allocator + Copy> InPlaceState<A> {
     /// Creates a load that was fed nothing, into a memory of `table`, of which it takes a copy. Of
     /// `settings` the limit and the frame count: the pages have the size that `table` has. The
     /// limit must be at least what the table's blocks have together.
+    ///
+    /// # Errors
+    ///
+    /// `NoMemory`: an allocation was refused.
     pub fn new_in<B: Allocator>(
         alloc: A,
         table: &Table<B>,
@@ -144,9 +158,16 @@ impl<A: Allocator + Copy> InPlaceState<A> {
         })
     }
 
-    /// Takes the next piece of the text, and puts the sections that it makes whole into the memory. After the end byte, or a fault of the
-    /// stream's form, its bytes are only counted, which is never refused for a refused allocation; a stream of another table is read on. An `Err`
-    /// changes nothing.
+    /// Takes the next piece of the stream, and applies the sections that it completes. After the
+    /// end byte, or a fault of the stream's form, the piece's bytes are only counted, and
+    /// `NoMemory` doesn't come. A stream of another table is read on.
+    ///
+    /// # Errors
+    ///
+    /// - `OtherTable`: `memory` has another table than the load.
+    /// - `NoMemory`: an allocation was refused.
+    ///
+    /// Nothing changes.
     pub fn feed<M: GuestTarget>(&mut self, memory: &mut M, piece: &[u8]) -> Result<(), InPlaceFault>
         requires open { IsFalse self.old.reader.ended }
         requires room { self.old.reader.fed + length piece.now < 2 ^ 63 }
@@ -171,7 +192,12 @@ impl<A: Allocator + Copy> InPlaceState<A> {
         Ok(())
     }
 
-    /// Takes the next piece of the text, as `feed`, but puts nothing: the sections wait for `take_section`. An `Err` changes nothing.
+    /// Takes the next piece of the stream, as `feed` does, but applies nothing: the sections wait
+    /// for `take_section`.
+    ///
+    /// # Errors
+    ///
+    /// `NoMemory`: an allocation was refused. Nothing changes.
     pub fn read_piece(&mut self, piece: &[u8]) -> Result<(), NoMemory>
         requires open { IsFalse self.old.reader.ended }
         requires room { self.old.reader.fed + length piece.now < 2 ^ 63 }
@@ -191,8 +217,9 @@ impl<A: Allocator + Copy> InPlaceState<A> {
 }
 
 impl<A: Allocator> InPlaceState<A> {
-    /// The next section that waits, for a caller that puts it into the memory himself, in the order in which they are taken, and page after
-    /// page; None where no section waits. Those of another table are dropped. It allocates nothing.
+    /// Takes the next section that waits, for a caller that writes its pages into the memory
+    /// himself. He does so in the order in which sections are taken, and page after page. None if
+    /// no section waits. Sections of another table are dropped. It allocates nothing.
     pub fn take_section(&mut self) -> Option<StreamRound<'static, A>>
         ensures fits { IfSome result (λ section. FitsTable self.old.table section) }
         ensures round { IfSome result (λ section. WhereFed self.old (λ memory given first text ended.
@@ -221,7 +248,7 @@ impl<A: Allocator> InPlaceState<A> {
         Some(section)
     }
 
-    /// The text is over: no piece is fed from now on. A second call changes nothing.
+    /// Ends the stream: no piece is fed from now on. A second call changes nothing.
     pub fn end(&mut self)
         ensures value { self.new ≡ record self.old { reader = record self.old.reader { ended = true } } }
         ensures loads { (memory : Image) (given : LoadSettings) (first : Image) (text : List ℕ) (ended : Bool) → LoadsWith memory given first self.old text ended
@@ -231,14 +258,14 @@ impl<A: Allocator> InPlaceState<A> {
         self.reader.end();
     }
 
-    /// Whether the load was told that the text is over.
+    /// Returns whether `end` was called.
     pub fn ended(&self) -> bool
         ensures { result ≡ self.now.reader.ended }
     {
         self.reader.ended()
     }
 
-    /// How many bytes were fed.
+    /// Returns how many bytes were fed.
     pub fn fed(&self) -> u64
         ensures { result ≡ self.now.reader.fed }
     {
@@ -263,23 +290,26 @@ impl<A: Allocator> InPlaceState<A> {
         self.reader.valid_up_to()
     }
 
-    /// The table of the memory.
+    /// Returns the table of the memory.
     pub fn table(&self) -> &Table<A>
         ensures { result.now ≡ self.now.table }
     {
         &self.table
     }
 
-    /// How many sections were put into the memory, or taken. START and END count, too.
+    /// Returns how many sections were applied, or taken. START and END count, too.
     pub fn rounds(&self) -> u64
         ensures { result ≡ self.now.rounds }
     {
         self.rounds
     }
 
-    /// The verdict on the text so far, as if it were over here: Ok where the end byte was read, else its first fault, which is
-    /// `Truncated` where it is whole so far. Of another table than the memory's it is `OtherTable`, as soon as the size list is whole. It counts
-    /// the sections that were put or taken, so that of a text of which some wait a fault is told with fewer rounds before it.
+    /// Returns the verdict on the stream so far, as if it ended here: Ok if the end byte was read,
+    /// else its first fault. If it has no fault so far, that is `Truncated`. For another table than
+    /// the memory's the verdict is `OtherTable`, as soon as the size list is complete.
+    ///
+    /// A fault is reported with the number of sections that were applied or taken: sections that
+    /// wait don't count.
     ///
     /// # Errors
     ///

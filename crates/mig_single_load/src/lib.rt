@@ -1,13 +1,13 @@
 //! Loads single streams: makes a guest's memory from the bytes of one migration stream.
 //!
 //! What a load answers is a function of the stream's bytes and the settings (`LoadSettings`): the
-//! memory after the whole sections, how many these are, and the first fault after them. The
-//! exception is a refused allocation. `mig_stream` defines the format, and `mig_assemble` how a section is applied
-//! to memory. No sender is needed here.
+//! memory after the complete sections, how many these are, and the first fault after them. The
+//! exception is a refused allocation. `mig_stream` defines the format, and `mig_assemble` how a
+//! section is applied. No sender is needed here.
 //!
-//! `load_single` loads a stream that is there whole. `SingleLoader` loads one that is fed in
-//! pieces. Loads in place write into memory that exists already: whole sections (`InPlaceState`,
-//! and `InPlaceLoader`, which keeps the memory too), or each page when its bytes have come
+//! `load_single` loads a complete stream. `SingleLoader` loads one that is fed in pieces. Loads in
+//! place write into memory that exists already: complete sections (`InPlaceState`, and
+//! `InPlaceLoader`, which keeps the memory too), or each page when its bytes have come
 //! (`EagerState`). Each has a constructor for RAM's sections alone, and one for any settings, whose
 //! name ends with `_in`.
 //!

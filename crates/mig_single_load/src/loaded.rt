@@ -1,4 +1,4 @@
-//! What a load answers: `load_single`, `SingleLoader::finish`, `load_multi` and `load_relayed`.
+//! What a load returns: `load_single`, `SingleLoader::finish`, `load_multi` and `load_relayed`.
 
 use crate::LoadFault;
 use mig_mem::Memory;
@@ -8,11 +8,12 @@ use std::fmt::{self, Debug, Formatter};
 /// The answer of a load. Whatever the verdict, the memory is that after the rounds counted.
 #[derive(Drop)]
 pub struct Loaded<A: Allocator = Global> {
-    /// The guest's memory after the rounds counted; None where the size list wasn't read whole, or no memory was found for it.
+    /// The guest's memory after the rounds counted. None if the size list isn't complete, or if the
+    /// memory couldn't be allocated.
     pub memory: Option<Memory<A>>,
-    /// How many rounds were put into the memory. In a single stream each section is one, START and END too.
+    /// How many rounds were applied. In a single stream each section is one, START and END too.
     pub rounds: u64,
-    /// Ok where all texts were read to their end, else the first fault.
+    /// Ok if all sources were read to their end, else the first fault.
     pub verdict: Result<(), LoadFault>,
 }
 

@@ -1,4 +1,5 @@
-//! The loader of a single stream that comes in pieces, into a memory of its own: for callers that read from a connection.
+//! The loader of a single stream that comes in pieces, into a memory of its own: for callers that
+//! read from a connection.
 
 ghost use Rattle.std.specs.Prelude.{◌≡◌, ◌+◌, ◌<◌, ◌≤◌, ◌^◌, ◌++◌, ℕ, Bool, List, [], length, true, false, IsFalse, IsOk, OnOk, OnErr, IfErr};
 ghost use Rattle.std.specs.Option.{option_copied};
@@ -18,9 +19,12 @@ use std::alloc::{Allocator, Global};
 use std::fmt::{self, Debug, Formatter};
 use std::marker::Model;
 
-/// Loads a guest from the pieces of a single stream. Each section is put into the memory by the call that brings its footer, and its
-/// buffers are given back. So between calls it holds the guest and the pages of one section, which isn't whole, unless sections wait since
-/// an allocation was refused; in a call also the pages that the piece brings.
+/// Loads a guest from the pieces of a single stream. Each section is applied by the call that
+/// brings its footer, and its buffers are freed.
+///
+/// So between calls a loader holds the guest and the pages of one section, which isn't complete. If
+/// an allocation was refused it may also hold sections that wait. In a call it also holds the pages
+/// that the piece brings.
 #[derive(Drop)]
 pub struct SingleLoader<A: Allocator = Global> {
     alloc: A,
@@ -47,7 +51,8 @@ impl<A: Allocator> Debug for SingleLoader<A> {
 }
 
 impl<A: Allocator + Copy> SingleLoader<A> {
-    /// A loader that was fed nothing, of a stream whose pages have this size, and whose blocks may have `limit` bytes together.
+    /// Creates a loader for a stream with pages of `page_size` bytes, whose blocks may have `limit`
+    /// bytes together.
     pub fn new(alloc: A, page_size: u64, limit: u64) -> SingleLoader<A>
         requires page_size { IsPageSize page_size }
         requires limit { limit ≤ 2 ^ 40 }
@@ -82,8 +87,14 @@ impl<A: Allocator + Copy> SingleLoader<A> {
         }
     }
 
-    /// Takes the next piece of the text, and puts the sections that it makes whole into the memory. After the end byte, or a fault,
-    /// its bytes are only counted, and `NoMemory` doesn't come. The fault says what stands after it.
+    /// Takes the next piece of the stream, and applies the sections that it completes. After the
+    /// end byte, or a fault, the piece's bytes are only counted, and `NoMemory` doesn't come.
+    ///
+    /// # Errors
+    ///
+    /// - `NoMemory`: an allocation was refused. Nothing changes, and the piece can be fed again.
+    /// - `NoGuestMemory`: the piece was taken, and the guest's memory couldn't be allocated. The
+    ///   sections wait for `settle`, or for the next piece.
     pub fn feed(&mut self, piece: &[u8]) -> Result<(), FeedFault>
         requires open { IsFalse self.old.reader.ended }
         requires room { self.old.reader.fed + length piece.now < 2 ^ 63 }
@@ -107,7 +118,11 @@ impl<A: Allocator + Copy> SingleLoader<A> {
         Ok(())
     }
 
-    /// Puts the sections that wait into the memory, where that couldn't be had before. An `Err` changes nothing.
+    /// Applies the sections that wait because the guest's memory couldn't be allocated.
+    ///
+    /// # Errors
+    ///
+    /// `NoMemory`: an allocation was refused. Nothing changes.
     pub fn settle(&mut self) -> Result<(), NoMemory>
         ensures ok { OnOk result ((given : LoadSettings) (text : List ℕ) (ended : Bool) → Loads given self.old text ended
             → Loads given self.new text ended × HasAllSections given self.new text) }
@@ -120,7 +135,7 @@ impl<A: Allocator + Copy> SingleLoader<A> {
 }
 
 impl<A: Allocator> SingleLoader<A> {
-    /// The text is over: no piece is fed from now on. A second call changes nothing.
+    /// Ends the stream: no piece is fed from now on. A second call changes nothing.
     pub fn end(&mut self)
         ensures value { self.new ≡ record self.old { reader = record self.old.reader { ended = true } } }
         ensures loads { (given : LoadSettings) (text : List ℕ) (ended : Bool) → Loads given self.old text ended → Loads given self.new text true }
@@ -128,14 +143,14 @@ impl<A: Allocator> SingleLoader<A> {
         self.reader.end();
     }
 
-    /// Whether the loader was told that the text is over.
+    /// Returns whether `end` was called.
     pub fn ended(&self) -> bool
         ensures { result ≡ self.now.reader.ended }
     {
         self.reader.ended()
     }
 
-    /// How many bytes were fed.
+    /// Returns how many bytes were fed.
     pub fn fed(&self) -> u64
         ensures { result ≡ self.now.reader.fed }
     {
@@ -160,14 +175,15 @@ impl<A: Allocator> SingleLoader<A> {
         self.reader.valid_up_to()
     }
 
-    /// The memory after the sections so far. None as long as the size list isn't whole, or where its sections wait.
+    /// Returns the memory after the sections so far. None as long as the size list isn't complete,
+    /// or while its sections wait.
     pub fn memory(&self) -> Option<&Memory<A>>
         ensures { option_copied result ≡ memory_of self.now }
     {
         self.target.as_ref().map(|target| target.memory())
     }
 
-    /// How many sections are in the memory.
+    /// Returns how many sections are in the memory.
     pub fn rounds(&self) -> u64
         ensures { result ≡ sections_loaded self.now }
     {
@@ -177,8 +193,9 @@ impl<A: Allocator> SingleLoader<A> {
         }
     }
 
-    /// The verdict that `finish` would give now: Ok where the end byte was read, else the text's first fault, which is `Truncated` where
-    /// it is whole so far; or `NoMemory`, where sections wait.
+    /// Returns the verdict that `finish` would give now: Ok if the end byte was read, else the
+    /// stream's first fault. If it has no fault so far, that is `Truncated`. While sections wait it
+    /// is `NoMemory`.
     ///
     /// # Errors
     ///
@@ -189,7 +206,8 @@ impl<A: Allocator> SingleLoader<A> {
         verdict(&self.reader, &self.target)
     }
 
-    /// The answer on the text, as if it were over here: that of `load_single`. Where sections wait it is the one without memory.
+    /// Returns the answer on the stream, as if it ended here: that of `load_single`. If sections
+    /// wait it is the one without memory.
     pub fn finish(self) -> Loaded<A>
         ensures { (given : LoadSettings) (text : List ℕ) (ended : Bool) → Loads given self text ended → Answers given self text result }
     {

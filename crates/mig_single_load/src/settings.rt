@@ -1,14 +1,14 @@
-//! What a caller passes to a load beside its texts. The constructors that end with `_in` take it.
+//! What a caller passes to a load beside its streams. The constructors that end with `_in` take it.
 
 ghost use Rattle.std.specs.Prelude.{◌≡◌};
 ghost use Rattle.mig_single_load.specs.Settings.{ram_settings};
 
 use mig_stream::Frame;
 
-/// The settings of a load. They are the caller's own, since no stream tells them.
+/// The settings of a load. They are the caller's own, since no stream has them.
 #[derive(Clone, Copy, Debug, PartialEq, Eq)]
 pub struct LoadSettings {
-    /// The bytes of a page.
+    /// The number of bytes of a page.
     pub page_size: u64,
     /// The most bytes that the guest's blocks may have together. A stream that declares more is
     /// refused.

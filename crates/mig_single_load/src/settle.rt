@@ -1,6 +1,6 @@
-//! Puts the whole sections of a reader into the memory, and answers by both: for `SingleLoader`, and
-//! for `load_single` on a stream with a fault. Loads in place and on several channels take their
-//! verdicts from here, and have loops of their own.
+//! Applies the complete sections of a reader, and answers by reader and memory: for `SingleLoader`,
+//! and for `load_single` on a stream with a fault. Loads in place and on several channels take
+//! their verdicts from here, and have loops of their own.
 
 ghost use Rattle.std.specs.Prelude.{◌≡◌, ℕ, Bool, List, None, Some, OnOk, OnErr};
 ghost use Rattle.mig_single_load.specs.declared.settings.LoadSettings.{LoadSettings};
@@ -14,7 +14,7 @@ use mig_mem::NoMemory;
 use mig_stream::{StreamFault, StreamReader, StreamState};
 use std::alloc::Allocator;
 
-/// Puts each whole section that waits into the memory.
+/// Applies each complete section that waits.
 pub(crate) fn put_sections<A: Allocator>(reader: &mut StreamReader<'_, A>, target: &mut Filling<A>)
     requires { HasPutSectionsSome reader.old target.old }
     ensures all { (given : LoadSettings) (first : Image) (text : List ℕ) (ended : Bool) → HasPutSections given first text ended reader.old target.old
@@ -27,7 +27,8 @@ pub(crate) fn put_sections<A: Allocator>(reader: &mut StreamReader<'_, A>, targe
     }
 }
 
-/// Puts the whole sections that wait into the memory, which is made as soon as the table is there. An `Err` changes nothing.
+/// Applies the complete sections that wait to the memory, which is made as soon as the table is
+/// there. An `Err` changes nothing.
 pub(crate) fn settle<A: Allocator + Copy>(
     alloc: A,
     reader: &mut StreamReader<'_, A>,
@@ -55,7 +56,7 @@ pub(crate) fn settle<A: Allocator + Copy>(
     Ok(())
 }
 
-/// How a text stands, as a verdict after so many whole sections.
+/// Returns how a stream stands, as a verdict after `rounds` complete sections.
 pub(crate) fn verdict_at(rounds: u64, state: StreamState) -> Result<(), LoadFault>
     ensures { result ≡ verdict_of rounds state }
 {
@@ -71,7 +72,7 @@ pub(crate) fn verdict_at(rounds: u64, state: StreamState) -> Result<(), LoadFaul
     })
 }
 
-/// The verdict where an allocation was refused after so many rounds.
+/// Returns the verdict where an allocation was refused after `round` rounds.
 pub fn no_memory(round: u64) -> Result<(), LoadFault>
     ensures { result ≡ no_memory_at round }
 {
@@ -82,7 +83,7 @@ pub fn no_memory(round: u64) -> Result<(), LoadFault>
     })
 }
 
-/// The verdict on the text so far, as if it were over; `NoMemory` where its sections wait.
+/// Returns the verdict on the stream so far, as if it ended here; `NoMemory` if its sections wait.
 pub(crate) fn verdict<A: Allocator>(
     reader: &StreamReader<'_, A>,
     target: &Option<Filling<A>>,
@@ -97,7 +98,7 @@ pub(crate) fn verdict<A: Allocator>(
     }
 }
 
-/// The answer on the text so far, as if it were over; `NoMemory` where its sections wait.
+/// Returns the answer on the stream so far, as if it ended here; `NoMemory` if its sections wait.
 pub(crate) fn answer<A: Allocator>(
     reader: &StreamReader<'_, A>,
     target: Option<Filling<A>>,

@@ -1,4 +1,4 @@
-//! The loader of a single stream that is there whole: for the tool, and for callers that have such a text.
+//! The loader of a complete single stream: for the tool, and for callers that have such a stream.
 
 ghost use Rattle.std.specs.Prelude.{◌≡◌, ◌≤◌, ◌^◌, ◌⊎◌, List, None, All, IfOk};
 ghost use Rattle.mig_mem.specs.PageSize.{IsPageSize};
@@ -20,9 +20,9 @@ use mig_mem::NoMemory;
 use mig_stream::{Mode, StreamReader};
 use std::alloc::Allocator;
 
-/// Loads a guest from the text of a single stream whose pages have this size, and whose blocks may have `limit` bytes together.
-/// What follows the end byte is not looked at. A text without a fault is gone through once; any other is read a second time, and its
-/// memory begun anew.
+/// Loads a guest from the complete single stream `text`, whose pages have `page_size` bytes, and
+/// whose blocks may have `limit` bytes together. What follows the end byte isn't looked at. A
+/// stream without a fault is read once. Any other is read a second time, into a new memory.
 ///
 /// # Errors
 ///
@@ -43,16 +43,17 @@ pub fn load_single<A: Allocator + Copy>(
     load_single_in(alloc, LoadSettings::new(page_size, limit), text)
 }
 
-/// Loads a guest from the bytes of a single stream that is there whole, read with `settings`. What
-/// follows the stream isn't looked at: the bytes after its end byte, or in a machine's stream those
-/// after the footer of RAM's END. A stream without a fault is read once. Any other is read a second
-/// time, and its memory begun anew.
+/// Loads a guest from the complete single stream `text`, read with `settings`. What follows the
+/// stream isn't looked at: the bytes after its end byte, or in a machine's stream those after the
+/// footer of RAM's END. A stream without a fault is read once. Any other is read a second time,
+/// into a new memory.
 ///
 /// # Errors
 ///
-/// The verdict of what is returned is a fault of the stream (`Fault::Stream`, 11 to 34, in a
-/// machine's stream also 46 to 49, and 64), or `NoMemory`, if an allocation was refused. It is no other
-/// `Fault`.
+/// A failed verdict has one of these, and no other `Fault`:
+///
+/// - `Fault::Stream`: a fault of the stream, 11 to 34, in a machine's stream also 46 to 49.
+/// - `NoMemory`: an allocation was refused.
 pub fn load_single_in<A: Allocator + Copy>(
     alloc: A,
     settings: LoadSettings,
@@ -72,12 +73,12 @@ pub fn load_single_in<A: Allocator + Copy>(
 }
 
 /// Returns how many bytes of `text` its stream has, read with `settings`: those up to its end byte,
-/// or in a machine's stream up to the footer of RAM's END. None where the stream isn't closed. The
+/// or in a machine's stream up to the footer of RAM's END. None if the stream isn't closed. The
 /// bytes after them are left to the caller. It reads the stream once, and copies no page.
 ///
 /// # Errors
 ///
-/// An allocation was refused.
+/// `NoMemory`: an allocation was refused.
 pub fn single_closed_at<A: Allocator + Copy>(
     alloc: A,
     settings: LoadSettings,
@@ -101,12 +102,12 @@ pub fn single_closed_at<A: Allocator + Copy>(
 
 /// Returns how many bytes of `text` are complete items without a fault, read with `settings`, from
 /// the first byte on. If `load_single_in` finds a fault of the stream, the item at fault begins
-/// after them: a caller that is told a fault asks here for its byte. It reads the stream once, and
+/// after them: a caller that got a fault asks here for its byte. It reads the stream once, and
 /// copies no page.
 ///
 /// # Errors
 ///
-/// An allocation was refused.
+/// `NoMemory`: an allocation was refused.
 pub fn single_valid_up_to<A: Allocator + Copy>(
     alloc: A,
     settings: LoadSettings,
@@ -128,7 +129,7 @@ pub fn single_valid_up_to<A: Allocator + Copy>(
     Ok(reader.valid_up_to())
 }
 
-// Reads the text, and puts its sections into memory, each when it is whole.
+// Reads the stream `text`, and applies its sections, each when it is complete.
 fn load<A: Allocator + Copy>(alloc: A, settings: LoadSettings, text: &[u8]) -> Loaded<A>
     requires page_size { IsPageSize settings.page_size }
     requires limit { settings.limit ≤ 2 ^ 40 }

@@ -10,7 +10,7 @@ use Rattle.mig_single_load.proofs.Onto.{onto_nothing}
 use Rattle.mig_single_load.proofs.InPlaceStates.{zeros_there, fed_with, some_text}
 use Rattle.mig_single_load.proofs.in_place_state.InPlaceState.new_in.Goals as goal
 
--- with any memory of the table it stands for no text
+-- with any memory of the table it stands for no stream
 with_any : (given : LoadSettings) (n : ℕ) (r : Reader) (table kept : RamTable) → IsTable table → n ≡ table.page_size → Stands (with_waiting given.waiting (in_frame given.frame (settings Single n given.limit))) nothing_yet r → kept ≡ table → (first : Image) → IsImage first
     → first.table ≡ table → LoadsWith first given first (in_place_state r kept 0) [] false
 with_any given n r table kept is size stands copied first image same = record {
