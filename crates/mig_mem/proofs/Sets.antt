@@ -256,7 +256,8 @@ marked_absent table words p h =
       | inr n ↦ rw n (elim (cases_Bool (marks_at words q)) [ inl u ↦ rw u refl | inr u ↦ rw u refl ])
     ])))
 
--- One mark fewer, in its row: the set has one place fewer. With the mark put back it is the set from before.
+-- One mark fewer, in its row: the set has one place fewer. With the mark put back it is the set
+-- from before.
 pub marked_fewer : {A : Type 0} (table : RamTable) (words : List (Vec ℕ A)) (count : ℕ) (p : Place) (x v : Vec ℕ A) → IsCounted table words count → IsPlace table p
     → x ≡ get_or words p.block x → length v.items ≡ length x.items → ((q : ℕ) → is_set v.items q ≡ (is_set x.items q && not (q == p.page))) → marks_at words p ≡ true
     → (1 ≤ count) × (IsCounted table (set words p.block v) (count - 1) × (set_in table (set words p.block v) ≡ without_place (set_in table words) p))

@@ -14,8 +14,8 @@ pub record Image : Type 0 where
   pub table : RamTable
   pub pages : List Page
 
--- A memory has one page for each place of its table, in their order and no others, each of the table's page size. That the
--- table is a lawful one is asked beside it.
+-- A memory has one page for each place of its table, in their order and no others, each of the
+-- table's page size. That the table is a lawful one is asked beside it.
 pub record IsImage (m : Image) : Type 0 where
   pub has_places : map (λ x. x.place) m.pages ≡ places m.table
   pub has_sizes : All (λ x. length x.content ≡ m.table.page_size) m.pages

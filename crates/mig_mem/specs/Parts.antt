@@ -1,4 +1,5 @@
--- Numbers in parts of one size. A part has numbers of its own from its first write on; until then it is zeros.
+-- Numbers in parts of one size. A part has numbers of its own from its first write on; until then
+-- it is zeros.
 use Rattle.std.specs.Prelude.{ℕ, zero, suc, ◌≡◌, ◌≢◌, ◌<◌, ◌≤◌, ◌*◌, List, length, map, replicate, take, drop, slice_index, sum_by, min}
 
 -- a part of some numbers that lie one after another

@@ -7,7 +7,8 @@ use Rattle.mig_mem.specs.Place.{place_at, place_eq}
 use Rattle.mig_mem.specs.Parts.{part_at}
 use Rattle.mig_mem.specs.Image.{Page, zero_page}
 
--- the bytes that a page of the round gives its place, at pages of a size: its content, or zeros where it has none
+-- the bytes that a page of the round gives its place, at pages of a size: its content, or zeros
+-- where it has none
 abbrev pub bytes_given : ℕ → RoundPage → List ℕ
 bytes_given size x = unwrap_or (option_copied x.content) (zero_page size)
 

@@ -44,8 +44,8 @@ total_pages blocks = sum_by (λ b. b.pages) blocks
 abbrev pub max_blocks : ℕ
 max_blocks = 256
 
--- A lawful table: a page size of 4096 or 8192, 1 to 256 blocks, each with an id of 1 to 255 printable bytes that no other
--- block has and with at least one page, and at most 2^40 bytes in all.
+-- A lawful table: a page size of 4096 or 8192, and 1 to 256 blocks with at most 2^40 bytes in all.
+-- Each block has at least one page, and an id of 1 to 255 printable bytes that no other block has.
 pub record IsTable (table : RamTable) : Type 0 where
   pub has_page_size : IsPageSize table.page_size
   pub has_blocks : 0 < length table.blocks

@@ -21,7 +21,7 @@ block_refusal before b = first_some (
 abbrev pub entry_refusal : List Block → ℕ → Option TableFault
 entry_refusal blocks i = block_refusal (take i blocks) (block blocks i)
 
--- Why these blocks are no table: the first that applies. Of the entries the first bad one is told.
+-- Why these blocks are no table: the first that applies. Of the entries the first bad one is named.
 unfoldable pub refusal : RamTable → Option TableFault
 refusal table = first_some (
     then_some (length table.blocks == 0) NoBlocks
@@ -42,6 +42,6 @@ fault_number (NoPages i) = 5
 fault_number TooLarge = 6
 fault_number NoMemory = no_memory_number
 
--- Nothing is refused of a lawful table, and of no other list.
+-- A list is refused for no reason exactly where it is a lawful table.
 abbrev pub TableIsLawful : Type 0
 TableIsLawful = (table : RamTable) → IsPageSize table.page_size → (refusal table ≡ None) ↔ IsTable table

@@ -23,8 +23,9 @@ rounds_of ss = map (λ s. round_of s.image s.dirty) ss
 abbrev pub HasChanges : Image → Snapshot → Type 0
 HasChanges before s = (p : Place) → IsPlace s.image.table p → content_at s.image p ≢ content_at before p → Contains s.dirty p
 
--- Tracking from an image on is faithful: each snapshot's dirty places have every page that changed since the one before
--- it. From a memory of zeros on: the first snapshot's have every page that isn't zero.
+-- Tracking from an image on is faithful: each snapshot's dirty places have every page that changed
+-- since the one before it. From a memory of zeros on: the first snapshot's have every page that
+-- isn't zero.
 abbrev pub IsFaithful : Image → List Snapshot → Type 0
 IsFaithful before [] = ⊤
 IsFaithful before (s ∷ ss) = HasChanges before s × IsFaithful s.image ss

@@ -16,9 +16,16 @@ use std::thread::Threads;
 // The fewest words of marks that are worth a thread: as many as 1,024 pages have.
 const FEWEST_WORDS: usize = 16;
 
-/// The set of the places where two memories of one table have different contents. `Table::same` is the test of the tables.
-/// Threads compare the pages of a large block, and what they find together is what one walk over all places finds: the least
-/// place of the set is what `first_difference` tells. A page that neither memory has written isn't read.
+/// Returns the set of the places where two memories of one table have different contents.
+/// `Table::same` is the test of the tables.
+///
+/// Threads compare the pages of a large block. What they find together is what one walk over all
+/// places finds: the least place of the set is what `first_difference` returns. A page that neither
+/// memory has written isn't read.
+///
+/// # Errors
+///
+/// `NoMemory`: an allocation was refused.
 pub fn differences<
     R: Threads + Sync,
     A: Allocator + Sync,
@@ -37,7 +44,7 @@ pub fn differences<
     Ok(Dirty::from_rows(table, rows))
 }
 
-// The marks of the pages of a block where they differ.
+// Returns the marks of the pages of a block where the two memories differ.
 fn row<
     R: Threads + Sync,
     A: Allocator + Sync,
@@ -64,7 +71,7 @@ fn row<
     Ok(row)
 }
 
-// The marks of up to 64 pages of a block, those of one word.
+// Returns the marks of up to 64 pages of a block, those of one word.
 fn word<A: Allocator, B: Allocator>(a: &Memory<A>, b: &Memory<B>, block: usize, i: u64) -> u64
     requires same { a.now.table ≡ b.now.table }
     requires has_block { block < length a.now.table.blocks }

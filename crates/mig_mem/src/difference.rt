@@ -8,7 +8,8 @@ ghost use Rattle.mig_mem.specs.Image.{differs, IsFirstDifference};
 use crate::{Memory, Place};
 use std::alloc::Allocator;
 
-/// The least place where two memories of one table have different contents. `Table::same` is the test of the tables.
+/// Returns the least place where two memories of one table have different contents. `Table::same`
+/// is the test of the tables.
 pub fn first_difference<A: Allocator, B: Allocator>(a: &Memory<A>, b: &Memory<B>) -> Option<Place>
     requires { a.now.table ≡ b.now.table }
     ensures { result ≡ find (differs a.now b.now) (places a.now.table) }
@@ -21,7 +22,7 @@ pub fn first_difference<A: Allocator, B: Allocator>(a: &Memory<A>, b: &Memory<B>
     None
 }
 
-// The first page of a block where they differ.
+// Returns the first page of a block where the two memories differ.
 fn first_page<A: Allocator, B: Allocator>(a: &Memory<A>, b: &Memory<B>, block: usize) -> Option<u64>
     requires same { a.now.table ≡ b.now.table }
     requires has_block { block < length a.now.table.blocks }
@@ -37,7 +38,8 @@ fn first_page<A: Allocator, B: Allocator>(a: &Memory<A>, b: &Memory<B>, block: u
     None
 }
 
-/// Whether they have the same content at a place. Where neither was written there nothing is read.
+/// Returns whether two memories have the same content at a place. If neither was written there, no
+/// byte is read.
 pub(crate) fn is_same_at<A: Allocator, B: Allocator>(
     a: &Memory<A>,
     b: &Memory<B>,

@@ -1,4 +1,5 @@
-//! Dirty sets, the bitmap of a guest's pages: callers mark what they write, senders walk one, and `Target` marks a round's places in one.
+//! Dirty sets, the bitmap of a guest's pages. Callers mark what they write, senders walk one, and
+//! `Target` marks a round's places in one.
 
 ghost use Rattle.std.specs.Prelude.{◌≡◌, ℕ, ◌<◌, ◌≤◌, length, false, replicate, not, find, IfOk, IfSome, IfNone, Ok, [], ◌^◌, All, sum_by};
 ghost use Rattle.mig_mem.specs.Place.{IsPlace, IsAscending, place_at, place_lt, has_place};
@@ -11,7 +12,8 @@ use std::alloc::{Allocator, Global};
 use std::fmt;
 use std::marker::Model;
 
-/// A set of the places of a table: which pages are dirty, as in QEMU's dirty bitmap (`RAMBlock.bmap`).
+/// A set of the places of a table: which pages are dirty, as in QEMU's dirty bitmap
+/// (`RAMBlock.bmap`).
 #[derive(Drop)]
 pub struct Dirty<A: Allocator = Global> {
     table: Table<A>,
@@ -39,14 +41,14 @@ impl<A: Allocator> fmt::Debug for Dirty<A> {
     }
 }
 
-// Words without a mark.
+// Returns words without a mark.
 fn no_words<A: Allocator>(alloc: A, len: usize) -> Result<Vec<u64, A>, NoMemory>
     ensures { IfOk result (λ v. v.items ≡ replicate len 0) }
 {
     Ok(vec![in alloc; 0u64; len]?)
 }
 
-// Takes all marks of all blocks away.
+// Removes all marks of all blocks.
 fn clear_rows<A: Allocator>(rows: &mut [Vec<u64, A>])
     ensures { AreCleared (buffers_of rows.old) (buffers_of rows.new) }
 {
@@ -55,7 +57,7 @@ fn clear_rows<A: Allocator>(rows: &mut [Vec<u64, A>])
     }
 }
 
-// The number of marks in all blocks.
+// Returns the number of marks in all blocks.
 fn count_rows<A: Allocator>(rows: &[Vec<u64, A>]) -> u64
     requires few { length rows.now ≤ 256 }
     requires short { All (λ row. length row < 2 ^ 50) (buffers_of rows.now) }
@@ -69,7 +71,11 @@ fn count_rows<A: Allocator>(rows: &[Vec<u64, A>]) -> u64
 }
 
 impl<A: Allocator + Copy> Dirty<A> {
-    /// The empty set. It keeps a copy of the table.
+    /// Creates the empty set. It keeps a copy of the table.
+    ///
+    /// # Errors
+    ///
+    /// `NoMemory`: an allocation was refused.
     pub fn none<B: Allocator>(alloc: A, table: &Table<B>) -> Result<Dirty<A>, NoMemory>
         ensures { IfOk result (λ d. d ≡ record { table = table.now; marked = [] }) }
     {
@@ -86,7 +92,11 @@ impl<A: Allocator + Copy> Dirty<A> {
         })
     }
 
-    /// The places of the set, in ascending order.
+    /// Returns the places of the set, in ascending order.
+    ///
+    /// # Errors
+    ///
+    /// `NoMemory`: the list could not be allocated.
     pub fn pages(&self) -> Result<Vec<Place, A>, NoMemory>
         ensures value { IfOk result (λ v. v.items ≡ self.now.marked) }
         ensures ascending { IsAscending self.now.marked }
@@ -105,7 +115,7 @@ impl<A: Allocator + Copy> Dirty<A> {
 }
 
 impl<A: Allocator> Dirty<A> {
-    /// The set of the places whose pages are marked.
+    /// Creates the set of the places whose pages are marked.
     pub(crate) fn from_rows(table: Table<A>, words: Vec<Vec<u64, A>, A>) -> Dirty<A>
         requires { AreMarks table (buffers_of words.items) }
         ensures { result ≡ set_in table words.items }
@@ -118,7 +128,8 @@ impl<A: Allocator> Dirty<A> {
         }
     }
 
-    /// The table whose places may be in the set. It also says what a set keeps: its places are the table's, ascending.
+    /// Returns the table whose places may be in the set. The contract also says what a set keeps:
+    /// its places are the table's, ascending.
     pub fn table(&self) -> &Table<A>
         ensures value { result.now ≡ self.now.table }
         ensures set { IsPlaceSet self.now }
@@ -126,8 +137,8 @@ impl<A: Allocator> Dirty<A> {
         &self.table
     }
 
-    /// Adds a place, and says whether it is new. `Table::holds` is the test of the place. It allocates nothing, and is always
-    /// `Ok`.
+    /// Adds a place, and returns whether it is new. `Table::holds` is the test of the place. It
+    /// allocates nothing, and is always `Ok`.
     pub fn mark(&mut self, place: Place) -> Result<bool, NoMemory>
         requires { IsPlace self.old.table place }
         ensures set { self.new ≡ with_place self.old place }
@@ -141,7 +152,7 @@ impl<A: Allocator> Dirty<A> {
         Ok(true)
     }
 
-    /// Takes a place out of the set, if it is there. `Table::holds` is the test of the place.
+    /// Removes a place from the set, if it is there. `Table::holds` is the test of the place.
     pub fn unmark(&mut self, place: Place)
         requires { IsPlace self.old.table place }
         ensures { self.new ≡ without_place self.old place }
@@ -153,14 +164,14 @@ impl<A: Allocator> Dirty<A> {
         self.count -= 1;
     }
 
-    /// Whether a place is in the set. A place that the table doesn't have is not.
+    /// Returns whether a place is in the set. A place that the table doesn't have is not.
     pub fn has(&self, place: Place) -> bool
         ensures { result ≡ has_place self.now.marked place }
     {
         self.table.holds(place) && marks::is_set(&self.words[place.block], place.page)
     }
 
-    /// The number of places in the set.
+    /// Returns the number of places in the set.
     pub fn count(&self) -> u64
         ensures value { result ≡ length self.now.marked }
         ensures set { IsPlaceSet self.now }
@@ -168,7 +179,7 @@ impl<A: Allocator> Dirty<A> {
         self.count
     }
 
-    /// Takes all places out of the set.
+    /// Removes all places from the set.
     pub fn clear(&mut self)
         ensures { self.new ≡ record self.old { marked = [] } }
     {
@@ -176,9 +187,9 @@ impl<A: Allocator> Dirty<A> {
         self.count = 0;
     }
 
-    /// The first place of the set that isn't before a given one: with it the set is walked in ascending order without a
-    /// list of its places. An empty set isn't walked: a round without marks costs a large guest
-    /// nothing.
+    /// Returns the first place of the set that isn't before `from`. With it the set is walked in
+    /// ascending order without a list of its places. An empty set isn't walked: a round without
+    /// marks costs a large guest nothing.
     pub fn first_from(&self, from: Place) -> Option<Place>
         ensures { result ≡ find (λ p. not (place_lt p from)) self.now.marked }
     {
@@ -195,7 +206,7 @@ impl<A: Allocator> Dirty<A> {
         None
     }
 
-    // The first page of a block, from a page on, that is in the set.
+    // Returns the first page of a block, from page `from` on, that is in the set.
     fn first_in(&self, block: usize, from: u64) -> Option<u64>
         requires { block < length self.now.table.blocks }
         ensures some { IfSome result (λ page. IsFirstIn self.now block from page) }

@@ -1,4 +1,5 @@
-//! Why a call on guest memory was refused, by name and number. Every crate above answers `NoMemory` by this one.
+//! Why a call on guest memory was refused, by name and number. Every crate above returns this
+//! `NoMemory`.
 
 ghost use Rattle.std.specs.Prelude.{◌≡◌};
 ghost use Rattle.mig_mem.specs.Refusal.{fault_number, no_memory_number};
@@ -7,7 +8,8 @@ use std::alloc::{AllocError, AllocFailed};
 use std::error::Error;
 use std::fmt::{self, Display, Formatter};
 
-/// Why `Table::new` was refused. `Id`, `IdTwice` and `NoPages` carry the number of the first bad entry, from 0.
+/// Why `Table::new` was refused. `Id`, `IdTwice` and `NoPages` carry the number of the first bad
+/// entry, from 0.
 #[derive(Clone, Copy, Debug, PartialEq, Eq)]
 pub enum TableFault {
     /// The list is empty.
@@ -27,7 +29,7 @@ pub enum TableFault {
 }
 
 impl TableFault {
-    /// The fault's number in documents and in the tool's output.
+    /// Returns the fault's number, as documents and the tool's output have it.
     pub fn number(self) -> u8
         ensures { result ≡ fault_number self }
     {
@@ -43,7 +45,7 @@ impl TableFault {
     }
 }
 
-/// The fault's number, and what it says.
+/// Writes the fault's number and its words.
 impl Display for TableFault {
     fn fmt<W: fmt::Write>(&self, f: &mut Formatter<W>) -> fmt::Result {
         write!(f, "{}: ", self.number())?;
@@ -69,7 +71,7 @@ impl Error for TableFault {}
 pub struct NoMemory;
 
 impl NoMemory {
-    /// The fault's number in documents and in the tool's output.
+    /// Returns the fault's number, as documents and the tool's output have it.
     pub fn number(self) -> u8
         ensures { result ≡ no_memory_number }
     {
@@ -77,10 +79,10 @@ impl NoMemory {
     }
 }
 
-// What `NoMemory` says of itself.
+// The words of `NoMemory`.
 const REFUSED: &str = "an allocation was refused";
 
-/// The fault's number, and what it says.
+/// Writes the fault's number and its words.
 impl Display for NoMemory {
     fn fmt<W: fmt::Write>(&self, f: &mut Formatter<W>) -> fmt::Result {
         write!(f, "{}: ", self.number())?;

@@ -1,4 +1,5 @@
-//! What a sender asks of a guest's memory (`GuestPages`) and a loader (`GuestTarget`), whoever keeps it. Callers may implement both.
+//! What a sender asks of a guest's memory (`GuestPages`) and a loader (`GuestTarget`), whoever
+//! keeps it. Callers may implement both.
 
 ghost use Rattle.std.specs.Prelude.{◌≡◌, ◌↔◌, ◌<◌, All, map, length, IfSome, IsSome};
 ghost use Rattle.std.specs.Option.{option_copied};
@@ -12,8 +13,8 @@ use crate::{Memory, Place, RoundPage, Table};
 use std::alloc::Allocator;
 use std::thread::Threads;
 
-/// The memory of a guest that is read page by page: a `Memory`, or a `LentMemory` of bytes that another owns. It is one image
-/// as long as it is borrowed.
+/// The memory of a guest that is read page by page: a `Memory`, or a `LentMemory` of bytes that
+/// another owns. It is one image as long as it is borrowed.
 pub trait GuestPages {
     /// The allocator of the table.
     type Alloc: Allocator;
@@ -21,12 +22,13 @@ pub trait GuestPages {
     /// The image that it holds.
     ghost image: { Self → Image };
 
-    /// The table whose places have a content. It also says what a memory is: one content of the page size for each place.
+    /// Returns the table whose places have a content. The contract also says what a memory is: one
+    /// content of the page size for each place.
     fn table(&self) -> &Table<Self::Alloc>
         ensures value { result.now ≡ (image self.now).table }
         ensures image { IsImage (image self.now) };
 
-    /// The content of a page, where the table has it: as many bytes as the page size.
+    /// Returns the content of a page, if the table has it: as many bytes as the page size.
     fn page(&self, place: Place) -> Option<&[u8]>
         ensures value { option_copied result ≡ content (image self.now) place }
         ensures there { IsSome result ↔ IsPlace (image self.now).table place }
@@ -47,8 +49,9 @@ impl<A: Allocator> GuestPages for Memory<A> {
     }
 }
 
-/// The memory of a guest into which pages are put: a `Memory`, or a `LentMemoryMut` of the caller's own bytes. To put one takes no
-/// memory, so it can't be refused. No call of the trait gives a page.
+/// The memory of a guest into which pages are written: a `Memory`, or a `LentMemoryMut` of the
+/// caller's own bytes. A write allocates nothing, so it can't be refused. No call of the trait
+/// gives a page.
 pub trait GuestTarget {
     /// The allocator of the table.
     type Alloc: Allocator;
@@ -56,19 +59,21 @@ pub trait GuestTarget {
     /// The image that it holds.
     ghost image: { Self → Image };
 
-    /// The table whose places have a content. It also says what a memory is: one content of the page size for each place.
+    /// Returns the table whose places have a content. The contract also says what a memory is: one
+    /// content of the page size for each place.
     fn table(&self) -> &Table<Self::Alloc>
         ensures value { result.now ≡ (image self.now).table }
         ensures image { IsImage (image self.now) };
 
-    /// Writes a whole page. `Table::holds` is the test of the place.
+    /// Writes a complete page. `Table::holds` is the test of the place.
     fn put_page(&mut self, place: Place, bytes: &[u8])
         requires place { IsPlace (image self.old).table place }
         requires bytes { length bytes.now ≡ (image self.old).table.page_size }
         ensures { image self.new ≡ with_page (image self.old) place bytes.now };
 
-    /// Makes a page zeros. Lent bytes that are zeros aren't written, and neither is a page of a `Memory` that never was, so that such a
-    /// page allocates nothing of the system; no contract says so.
+    /// Makes a page zeros. Lent bytes that are zeros aren't written, and neither is a page of a
+    /// `Memory` that was never written. So such a page takes no memory from the system. No contract
+    /// says so.
     fn put_zero_page(&mut self, place: Place)
         requires { IsPlace (image self.old).table place }
         ensures { image self.new ≡ with_page (image self.old) place (zero_page (image self.old).table.page_size) };
@@ -92,11 +97,11 @@ impl<A: Allocator> GuestTarget for Memory<A> {
     }
 }
 
-/// The memory of a guest into which one call puts all pages of a round, by several threads.
+/// The memory of a guest into which one call writes all pages of a round, by several threads.
 pub trait ThreadedTarget: GuestTarget {
-    /// Writes the pages of a round by at most `threads` threads, the caller's thread among them. All
-    /// others have ended when the call returns. If a page comes more than once, the last one counts.
-    /// `Table::holds` is the test of each place.
+    /// Writes the pages of a round by at most `threads` threads, the caller's thread among them.
+    /// All others have ended when the call returns. If a page comes more than once, the last one
+    /// counts. `Table::holds` is the test of each place.
     fn put_pages<R: Threads + Sync>(&mut self, rt: &R, threads: u64, pages: &[RoundPage<'_>])
         requires sync { IsSync R.row }
         requires threads { 0 < threads }

@@ -1,4 +1,5 @@
-//! A guest's memory whose bytes another owns, lent for reading: callers of senders make one for each round of a paused guest.
+//! A guest's memory whose bytes another owns, lent for reading. Callers of senders make one for
+//! each round of a paused guest.
 
 ghost use Rattle.std.specs.Prelude.{◌≡◌, ◌↔◌, IfSome, IsSome, IsTrue};
 ghost use Rattle.mig_mem.specs.Place.{IsPlace};
@@ -11,12 +12,14 @@ use std::alloc::{Allocator, Global};
 use std::fmt;
 use std::marker::Model;
 
-/// The memory of a guest in bytes that its owner lends: one slice for each block, in the table's order, each with the block's
-/// pages one after another. Nothing is copied and no memory is taken, so one can be made for each round.
+/// The memory of a guest in bytes that its owner lends: one slice for each block, in the table's
+/// order, each with the block's pages one after another. Nothing is copied or allocated, so one can
+/// be made for each round.
 ///
-/// What is lent stays as it is while it is lent: nobody writes these bytes, neither this process nor a guest. So it serves for
-/// a guest that is paused, for a snapshot, or for pages that are write-protected meanwhile. Where a guest runs on and writes
-/// its memory, let the loan end first, or copy each page and send it with `put_page` of a sender.
+/// What is lent stays as it is while it is lent: nobody writes these bytes, neither this process
+/// nor a guest. So it serves for a guest that is paused, for a snapshot, or for pages that are
+/// write-protected meanwhile. If a guest runs on and writes its memory, let the loan end first, or
+/// copy each page and send it with `put_page` of a sender.
 #[derive(Drop)]
 pub struct LentMemory<'a, A: Allocator = Global> {
     table: &'a Table<A>,
@@ -40,7 +43,7 @@ impl<'a, A: Allocator> fmt::Debug for LentMemory<'a, A> {
     }
 }
 
-// Whether there is a slice for each block, as long as its pages.
+// Returns whether there is a slice for each block, as long as its pages.
 fn fit<A: Allocator>(table: &Table<A>, blocks: &[&[u8]]) -> bool
     ensures { IsTrue result ↔ FitTable table.now (lent_bytes blocks.now) }
 {
@@ -56,7 +59,7 @@ fn fit<A: Allocator>(table: &Table<A>, blocks: &[&[u8]]) -> bool
 }
 
 impl<'a, A: Allocator> LentMemory<'a, A> {
-    /// The memory that these bytes are: None exactly where they don't fit the table.
+    /// Returns the memory that these bytes are. None exactly if they don't fit the table.
     pub fn new(table: &'a Table<A>, blocks: &'a [&'a [u8]]) -> Option<LentMemory<'a, A>>
         ensures image { IfSome result (λ m. m ≡ lent_image table.now (lent_bytes blocks.now)) }
         ensures fits { IsSome result ↔ FitTable table.now (lent_bytes blocks.now) }
@@ -67,7 +70,7 @@ impl<'a, A: Allocator> LentMemory<'a, A> {
         Some(LentMemory { table, blocks })
     }
 
-    // The content of a page.
+    // Returns the content of a page.
     fn page_in(&self, place: Place) -> &[u8]
         requires { IsPlace self.now.table place }
         ensures { result.now ≡ content_at self.now place }

@@ -1,4 +1,5 @@
-//! A guest's memory in bytes that another owns, lent for writing: callers of `InPlaceLoader` and `Target::over` load into one.
+//! A guest's memory in bytes that another owns, lent for writing. Callers of `InPlaceLoader` and
+//! `Target::over` load into one.
 
 ghost use Rattle.std.specs.Prelude.{◌≡◌, ◌↔◌, ◌*◌, ◌<◌, length, map, All, IfOk, IfErr, IsOk, IsTrue};
 ghost use Rattle.mig_mem.specs.Lent.{mut_lent_bytes, lent_image, FitTable};
@@ -14,9 +15,12 @@ use std::fmt;
 use std::marker::Model;
 use std::thread::Threads;
 
-/// The memory of a guest in the caller's own bytes, so that a guest is loaded where it is to run: one slice for each block, in the
-/// table's order, each with the block's pages one after another. Nothing is copied and no memory is taken. What the bytes hold at
-/// first is the memory at first: it need not be zeros. While they are lent nobody else reads or writes them: the guest doesn't run yet.
+/// The memory of a guest in the caller's own bytes, so that a guest is loaded where it is to run:
+/// one slice for each block, in the table's order, each with the block's pages one after another.
+/// Nothing is copied or allocated.
+///
+/// What the bytes hold at first is the memory at first: it need not be zeros. While they are lent
+/// nobody else reads or writes them: the guest doesn't run yet.
 #[derive(Drop)]
 pub struct LentMemoryMut<'a, 'b, A: Allocator = Global> {
     table: &'a Table<A>,
@@ -40,7 +44,7 @@ impl<'a, 'b, A: Allocator> fmt::Debug for LentMemoryMut<'a, 'b, A> {
     }
 }
 
-// Whether there is a slice for each block, as long as its pages.
+// Returns whether there is a slice for each block, as long as its pages.
 fn fit<A: Allocator>(table: &Table<A>, blocks: &[&mut [u8]]) -> bool
     ensures { IsTrue result ↔ FitTable table.now (mut_lent_bytes blocks.now) }
 {
@@ -56,7 +60,11 @@ fn fit<A: Allocator>(table: &Table<A>, blocks: &[&mut [u8]]) -> bool
 }
 
 impl<'a, 'b, A: Allocator> LentMemoryMut<'a, 'b, A> {
-    /// The memory that these bytes are; or, exactly where they don't fit the table, the slices back as they were.
+    /// Returns the memory that these bytes are.
+    ///
+    /// # Errors
+    ///
+    /// The slices, as they were: they don't fit the table.
     pub fn new(
         table: &'a Table<A>,
         blocks: &'a mut [&'b mut [u8]],
@@ -71,16 +79,16 @@ impl<'a, 'b, A: Allocator> LentMemoryMut<'a, 'b, A> {
         Ok(LentMemoryMut { table, blocks })
     }
 
-    /// Writes the pages of a round by at most `threads` threads, the caller's thread among them. All
-    /// others have ended when the call returns.
+    /// Writes the pages of a round by at most `threads` threads, the caller's thread among them.
+    /// All others have ended when the call returns.
     ///
     /// If a page comes more than once, the last one counts. A page whose place is outside the table
     /// isn't written.
     ///
     /// The blocks are written one after another. A thread has about 1,024 pages of a block or more,
     /// and no more threads are used than the round has pages for. So a round or a block of fewer
-    /// than 2,048 pages is written by the caller's thread alone. Each thread goes through all pages
-    /// of the round, once for each block.
+    /// than 2,048 pages is written by the caller's thread alone. Each thread walks all pages of the
+    /// round, once for each block.
     pub fn put_pages<R: Threads + Sync>(&mut self, rt: &R, threads: u64, pages: &[RoundPage<'_>])
         requires threads { 0 < threads }
         requires sizes { All (HasPageSize self.old.table.page_size) pages.now }
@@ -92,7 +100,8 @@ impl<'a, 'b, A: Allocator> LentMemoryMut<'a, 'b, A> {
         put_blocks(rt, self.blocks, size, threads, pages);
     }
 
-    /// Gives slices whose bytes are the memory. They are those handed to `new`, each in its place, which no contract says.
+    /// Returns slices whose bytes are the memory. They are those that `new` was passed, each in its
+    /// place, which no contract says.
     pub fn into_blocks(self) -> &'a mut [&'b mut [u8]]
         ensures image { self.entry ≡ lent_image self.entry.table (mut_lent_bytes result.now) }
         ensures fits { FitTable self.entry.table (mut_lent_bytes result.now) }

@@ -7,14 +7,14 @@ ghost use Rattle.mig_mem.specs.Marks.{is_set, marks_in, IsLowestBit, IsFirstSet}
 /// The number of marks in a word.
 pub(crate) const WORD: u64 = 64;
 
-/// The number of words that so many pages take.
+/// Returns the number of words that `pages` pages take.
 pub(crate) fn words_for(pages: u64) -> u64
     ensures { result ≡ (pages + 63) / 64 }
 {
     pages.div_ceil(WORD)
 }
 
-/// Whether a page is marked.
+/// Returns whether a page is marked.
 #[tactic(auto, unfolding(crate::specs::Marks::is_set), using(std::proofs::lemmas::Nat::Bits::shr_and_one))]
 pub(crate) fn is_set(words: &[u64], page: u64) -> bool
     requires { page < 64 * length words.now }
@@ -31,7 +31,7 @@ pub(crate) fn set(words: &mut [u64], page: u64)
     words[(page / WORD) as usize] |= 1 << (page % WORD);
 }
 
-/// Takes the mark of a page away.
+/// Removes the mark of a page.
 pub(crate) fn unset(words: &mut [u64], page: u64)
     requires { page < 64 * length words.old }
     ensures { (q : ℕ) → is_set words.new q ≡ (is_set words.old q && not (q == page)) }
@@ -39,14 +39,14 @@ pub(crate) fn unset(words: &mut [u64], page: u64)
     words[(page / WORD) as usize] &= !(1 << (page % WORD));
 }
 
-/// Takes all marks away.
+/// Removes all marks.
 pub(crate) fn clear(words: &mut [u64])
     ensures { words.new ≡ replicate (length words.old) 0 }
 {
     words.fill(0);
 }
 
-/// The number of marks.
+/// Returns the number of marks.
 pub(crate) fn count(words: &[u64]) -> u64
     requires { length words.now < 2 ^ 50 }
     ensures { result ≡ marks_in words.now }
@@ -58,7 +58,7 @@ pub(crate) fn count(words: &[u64]) -> u64
     count
 }
 
-// The lowest set bit of a word from a bit on.
+// Returns the lowest set bit of a word from bit `from` on.
 fn lowest_bit(word: u64, from: u64) -> Option<u64>
     requires { from < 64 }
     ensures some { IfSome result (λ b. IsLowestBit word from b) }
@@ -71,7 +71,7 @@ fn lowest_bit(word: u64, from: u64) -> Option<u64>
     Some(u64::from(rest.trailing_zeros()))
 }
 
-/// The first marked page from a page on.
+/// Returns the first marked page from page `from` on.
 pub(crate) fn first_set(words: &[u64], from: u64) -> Option<u64>
     requires { length words.now < 2 ^ 50 }
     ensures some { IfSome result (λ p. IsFirstSet words.now from p) }

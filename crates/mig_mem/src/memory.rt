@@ -1,4 +1,5 @@
-//! A guest's memory that owns its pages: callers and the tool write to one, senders read it, and loaders build one.
+//! A guest's memory that owns its pages. Callers and the tool write to one, senders read it, and
+//! loaders build one.
 
 ghost use Rattle.std.specs.Prelude.{◌≡◌, ◌*◌, ◌<◌, ◌↔◌, length, IfOk, IfSome, IsSome, IsTrue};
 ghost use Rattle.std.specs.Option.{option_copied};
@@ -39,7 +40,12 @@ impl<A: Allocator> fmt::Debug for Memory<A> {
 }
 
 impl<A: Allocator + Copy> Memory<A> {
-    /// A memory of zeros. It takes the whole guest's memory at once, and keeps a copy of the table.
+    /// Creates a memory of zeros. It allocates the guest's complete memory at once, and keeps a
+    /// copy of the table.
+    ///
+    /// # Errors
+    ///
+    /// `NoMemory`: an allocation was refused.
     pub fn zeroed<B: Allocator>(alloc: A, table: &Table<B>) -> Result<Memory<A>, NoMemory>
         ensures { IfOk result (λ m. m ≡ zero_image table.now) }
     {
@@ -51,7 +57,11 @@ impl<A: Allocator + Copy> Memory<A> {
         Ok(Memory { table, blocks })
     }
 
-    /// A memory with the same table and the same content at each place.
+    /// Copies the memory: the same table, and the same content at each place.
+    ///
+    /// # Errors
+    ///
+    /// `NoMemory`: an allocation was refused.
     pub fn try_copy(&self) -> Result<Memory<A>, NoMemory>
         ensures { IfOk result (λ m. m ≡ self.now) }
     {
@@ -66,7 +76,8 @@ impl<A: Allocator + Copy> Memory<A> {
 }
 
 impl<A: Allocator> Memory<A> {
-    /// The table whose places have a content. It also says what a memory keeps: one content of the page size for each place.
+    /// Returns the table whose places have a content. The contract also says what a memory keeps:
+    /// one content of the page size for each place.
     pub fn table(&self) -> &Table<A>
         ensures value { result.now ≡ self.now.table }
         ensures image { IsImage self.now }
@@ -74,7 +85,7 @@ impl<A: Allocator> Memory<A> {
         &self.table
     }
 
-    // The content of a page.
+    // Returns the content of a page.
     pub(crate) fn page_in(&self, place: Place) -> &[u8]
         requires { IsPlace self.now.table place }
         ensures { result.now ≡ content_at self.now place }
@@ -82,7 +93,7 @@ impl<A: Allocator> Memory<A> {
         self.blocks[place.block].page(place.page)
     }
 
-    // Whether a page was never written, and so is zeros.
+    // Returns whether a page was never written, and so is zeros.
     pub(crate) fn is_blank(&self, place: Place) -> bool
         requires { IsPlace self.now.table place }
         ensures { IsTrue result → content_at self.now place ≡ zero_page self.now.table.page_size }
@@ -90,7 +101,7 @@ impl<A: Allocator> Memory<A> {
         self.blocks[place.block].is_blank(place.page)
     }
 
-    /// The content of a page, where the table has it: as many bytes as the page size.
+    /// Returns the content of a page, if the table has it: as many bytes as the page size.
     pub fn page(&self, place: Place) -> Option<&[u8]>
         ensures value { option_copied result ≡ content self.now place }
         ensures there { IsSome result ↔ IsPlace self.now.table place }
@@ -102,7 +113,7 @@ impl<A: Allocator> Memory<A> {
         Some(self.page_in(place))
     }
 
-    /// Writes a whole page. `Table::holds` is the test of the place.
+    /// Writes a complete page. `Table::holds` is the test of the place.
     pub fn put_page(&mut self, place: Place, bytes: &[u8])
         requires place { IsPlace self.old.table place }
         requires bytes { length bytes.now ≡ self.old.table.page_size }
@@ -111,7 +122,8 @@ impl<A: Allocator> Memory<A> {
         self.blocks[place.block].put(place.page, bytes);
     }
 
-    /// Makes a page zeros. It takes less time than writing zeros: a page that was never written is zeros already.
+    /// Makes a page zeros. It takes less time than writing zeros: a page that was never written is
+    /// zeros already.
     pub fn put_zero_page(&mut self, place: Place)
         requires { IsPlace self.old.table place }
         ensures { self.new ≡ with_page self.old place (zero_page self.old.table.page_size) }

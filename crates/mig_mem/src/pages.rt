@@ -1,4 +1,5 @@
-//! The pages of a block, of which only those have bytes that were written. `Memory` keeps one such value for each block.
+//! The pages of a block, of which only those have bytes that were written. `Memory` keeps one such
+//! value for each block.
 
 ghost use Rattle.std.specs.Prelude.{◌≡◌, ◌+◌, ◌*◌, ◌^◌, ◌<◌, ◌≤◌, length, replicate, slice_set, IfOk, IsTrue, vec_capacity};
 ghost use Rattle.mig_mem.specs.PageSize.{IsPageSize};
@@ -12,15 +13,17 @@ use crate::slots::Slots;
 use std::alloc::Allocator;
 use std::marker::Model;
 
-// A page of zeros, of the largest page size.
+// A page of zeros, of the largest page size (8 KiB).
 const ZEROS: [u8; 8192] = [0; 8192];
 
-/// The pages of a block. A page has bytes of its own from the first time on that it is written; until then it is zeros. So
-/// the room for all pages is there from the start, and isn't touched before it is needed.
+/// The pages of a block. A page has bytes of its own from the first time on that it is written.
+/// Until then it is zeros. The room for all pages is there from the start, and isn't touched before
+/// it is needed.
 #[derive(Drop)]
 pub(crate) struct Pages<A: Allocator> {
     size: u64,
-    // for each page which of those with bytes it is, from 1 on in the order of their first writes, or 0 where it has none
+    // for each page which of those with bytes it is, from 1 on in the order of their first writes,
+    // or 0 where it has none
     slots: Slots<A>,
     // the pages that have bytes, one after another
     bytes: Vec<u8, A>,
@@ -38,7 +41,7 @@ impl<A: Allocator> Model for Pages<A> {
     ghost invariant = { λ p. ArePages p.size p.slots p.bytes.items (vec_capacity p.bytes) };
 }
 
-/// A page of zeros.
+/// Returns a page of zeros.
 pub(crate) fn zeros(size: u64) -> &'static [u8]
     requires { IsPageSize size }
     ensures { result.now ≡ zero_page size }
@@ -46,7 +49,7 @@ pub(crate) fn zeros(size: u64) -> &'static [u8]
     front(&ZEROS, size)
 }
 
-// The first of some zeros.
+// Returns the first `len` bytes of `zeros`.
 fn front(zeros: &[u8], len: u64) -> &[u8]
     requires zeros { zeros.now ≡ replicate (length zeros.now) 0 }
     requires len { len ≤ length zeros.now }
@@ -67,7 +70,7 @@ pub(crate) fn clear_part(bytes: &mut [u8], size: u64, page: u64)
 }
 
 impl<A: Allocator + Copy> Pages<A> {
-    /// Pages of zeros, with room for all of them.
+    /// Creates pages of zeros, with room for all of them.
     pub(crate) fn zeroed(alloc: A, size: u64, count: u64) -> Result<Pages<A>, NoMemory>
         requires size { IsPageSize size }
         requires room { count * size ≤ 2 ^ 40 }
@@ -95,7 +98,7 @@ impl<A: Allocator + Copy> Pages<A> {
 }
 
 impl<A: Allocator> Pages<A> {
-    /// The content of a page.
+    /// Returns the content of a page.
     pub(crate) fn page(&self, i: u64) -> &[u8]
         requires { i < length self.now.pages }
         ensures { result.now ≡ page_at self.now i }
@@ -107,7 +110,7 @@ impl<A: Allocator> Pages<A> {
         part_of(&self.bytes, self.size, slot - 1)
     }
 
-    /// Whether a page was never written, and so is zeros.
+    /// Returns whether a page was never written, and so is zeros.
     pub(crate) fn is_blank(&self, i: u64) -> bool
         requires { i < length self.now.pages }
         ensures { IsTrue result → page_at self.now i ≡ zero_page self.now.size }
@@ -130,7 +133,7 @@ impl<A: Allocator> Pages<A> {
         }
     }
 
-    /// Makes a page zeros. It allocates nothing, and none is touched where the page was never written.
+    /// Makes a page zeros. It allocates nothing, and touches no page that was never written.
     pub(crate) fn put_zeros(&mut self, i: u64)
         requires { i < length self.old.pages }
         ensures { self.new ≡ with_content self.old i (zero_page self.old.size) }

@@ -1,11 +1,12 @@
-//! A list in runs of one length, one after another: `Pages` keeps pages so, `Slots` leaves, and lent memory is read and written so.
+//! A list in runs of one length, one after another. `Pages` keeps pages so, `Slots` leaves, and
+//! lent memory is read and written so.
 
 ghost use Rattle.std.specs.Prelude.{◌≡◌, ◌+◌, ◌*◌, ◌<◌, ◌≤◌, ◌++◌, length, slice_set, vec_capacity, vec_len};
 ghost use Rattle.mig_mem.specs.Parts.{part_at, ChangesPart};
 
 use std::alloc::Allocator;
 
-/// A part of some items.
+/// Returns a part of some items.
 pub(crate) fn part_of<T>(items: &[T], size: u64, part: u64) -> &[T]
     requires { part * size + size ≤ length items.now }
     ensures { result.now ≡ part_at size items.now part }

@@ -13,7 +13,7 @@ pub struct Place {
 impl Place {
     ghost use Rattle.mig_mem.specs.Place.{place_lt};
 
-    /// Whether this place comes before another one: the order of `<`.
+    /// Returns whether this place comes before `other`: the order of `<`.
     pub fn is_before(self, other: Place) -> bool
         ensures { result ≡ place_lt self other }
     {

@@ -1,9 +1,8 @@
 //! Writes the pages of a round into lent blocks by several threads. Each thread has a part of a
 //! block for itself.
 //!
-//! Each thread goes through all pages of the round, in their order, and writes those that lie in
-//! its part. So the pages need no sorting and no memory, and of a page that comes twice the last
-//! one counts.
+//! Each thread walks all pages of the round, in their order, and writes those that lie in its part.
+//! So the pages need no sorting and no memory. Of a page that comes twice the last one counts.
 
 ghost use Rattle.std.specs.Prelude.{ℕ, [], ◌∷◌, ◌≡◌, ◌/◌, ◌<◌, ◌≤◌, ◌^◌, length, map, All};
 ghost use Rattle.mig_mem.specs.Lent.{mut_lent_bytes, bytes_of_block, lent_image, FitTable};
@@ -74,7 +73,8 @@ fn put_within(part: &mut [u8], size: u64, block: usize, first: u64, pages: &[Rou
     }
 }
 
-// Writes the pages that lie in a block, whose bytes are `bytes`, by a thread for each `count` pages of the block.
+// Writes the pages that lie in a block, whose bytes are `bytes`, by a thread for each `count` pages
+// of the block.
 fn put_block<R: Threads + Sync>(
     rt: &R,
     bytes: &mut [u8],

@@ -1,4 +1,5 @@
-//! Judging the list that is handed in for a table, for `Table::new`; and what an id may be, which readers of streams ask too.
+//! Judges the list that is passed for a table, for `Table::new`; and what an id may be, which
+//! readers of streams ask too.
 
 ghost use Rattle.std.specs.Prelude.{◌≡◌, ◌≤◌, ◌*◌, ◌^◌, length, map};
 ghost use Rattle.std.specs.List.{list_any, list_all, range_with_len};
@@ -18,7 +19,7 @@ fn is_printable(bytes: &[u8]) -> bool
     bytes.iter().all(|b| 0x20 <= *b && *b <= 0x7E)
 }
 
-/// Whether these bytes may be a block's id: 1 to 255 bytes of 0x20 to 0x7E.
+/// Returns whether these bytes may be a block's id: 1 to 255 bytes of 0x20 to 0x7E.
 #[tactic(auto, unfolding(crate::specs::RamTable::is_id))]
 pub fn is_id(id: &[u8]) -> bool
     ensures { result ≡ is_id id.now }
@@ -41,7 +42,7 @@ fn has_id<A: Allocator>(list: &[(Vec<u8, A>, u64)], id: &[u8]) -> bool
     has_entry(list, id)
 }
 
-// What is wrong with a block that stands after the entries before.
+// Returns what is wrong with a block that stands after the entries before.
 #[tactic(auto, unfolding(crate::specs::Refusal::block_refusal))]
 fn block_fault<A: Allocator>(
     before: &[(Vec<u8, A>, u64)],
@@ -62,7 +63,7 @@ fn block_fault<A: Allocator>(
     None
 }
 
-// What is wrong with the first bad entry.
+// Returns what is wrong with the first bad entry.
 fn entries_fault<A: Allocator>(list: &[(Vec<u8, A>, u64)]) -> Option<TableFault>
     ensures { result ≡ first_some (map (entry_refusal (map entry_block list.now)) (range_with_len 0 (length list.now))) }
 {
@@ -74,7 +75,7 @@ fn entries_fault<A: Allocator>(list: &[(Vec<u8, A>, u64)]) -> Option<TableFault>
     None
 }
 
-// The pages of all blocks together.
+// Returns the number of pages of all blocks together.
 fn total_pages<A: Allocator>(list: &[(Vec<u8, A>, u64)]) -> u128
     requires { length list.now ≤ max_blocks }
     ensures sum { result ≡ total_pages (map entry_block list.now) }
@@ -87,7 +88,7 @@ fn total_pages<A: Allocator>(list: &[(Vec<u8, A>, u64)]) -> u128
     total
 }
 
-/// The first reason why the list is no table, memory aside.
+/// Returns the first reason why the list is no table, memory aside.
 #[tactic(auto, unfolding(crate::specs::Refusal::refusal))]
 pub(crate) fn fault<A: Allocator>(page_size: u64, list: &[(Vec<u8, A>, u64)]) -> Option<TableFault>
     requires { IsPageSize page_size }

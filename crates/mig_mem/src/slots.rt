@@ -1,4 +1,5 @@
-//! A long list of numbers that allocates only where it was written. `Pages` keeps in it where each page's bytes are.
+//! A long list of numbers that allocates only where it was written. `Pages` keeps in it where each
+//! page's bytes are.
 
 ghost use Rattle.std.specs.Prelude.{◌≡◌, ◌^◌, ◌<◌, ◌≤◌, length, replicate, slice_index, slice_set, IfOk};
 
@@ -13,12 +14,13 @@ const LEAF: u64 = 512;
 // A leaf of zeros.
 const ZEROS: [u64; 512] = [0; 512];
 
-/// Numbers that are 0 until they are written. The room for all of them is there from the start; a leaf of 512 of them isn't
-/// touched before one of it is written.
+/// Numbers that are 0 until they are written. The room for all of them is there from the start. A
+/// leaf of 512 of them isn't touched before one of its numbers is written.
 #[derive(Drop)]
 pub(crate) struct Slots<A: Allocator> {
     count: u64,
-    // for each leaf which of those in memory it is, from 1 on in the order of their first writes, or 0 where it isn't
+    // for each leaf which of those in memory it is, from 1 on in the order of their first writes,
+    // or 0 where it isn't
     leaves: Vec<u64, A>,
     // the leaves in memory, one after another
     numbers: Vec<u64, A>,
@@ -35,14 +37,14 @@ impl<A: Allocator> Model for Slots<A> {
     ghost invariant = { λ s. AreLeaves 512 s.count s.leaves.items s.numbers.items (vec_capacity s.numbers) };
 }
 
-// A leaf of zeros.
+// Returns a leaf of zeros.
 fn zeros() -> &'static [u64]
     ensures { result.now ≡ replicate 512 0 }
 {
     &ZEROS
 }
 
-// As many leaves that aren't in memory.
+// Creates `count` leaves that aren't in memory.
 fn no_leaves<A: Allocator>(alloc: A, count: usize) -> Result<Vec<u64, A>, NoMemory>
     ensures { IfOk result (λ v. v.items ≡ replicate count 0) }
 {
@@ -50,7 +52,7 @@ fn no_leaves<A: Allocator>(alloc: A, count: usize) -> Result<Vec<u64, A>, NoMemo
 }
 
 impl<A: Allocator + Copy> Slots<A> {
-    /// So many zeros.
+    /// Creates `count` zeros.
     pub(crate) fn zeroed(alloc: A, count: u64) -> Result<Slots<A>, NoMemory>
         requires { count ≤ 2 ^ 40 }
         ensures { IfOk result (λ s. s ≡ replicate count 0) }

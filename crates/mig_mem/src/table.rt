@@ -1,4 +1,5 @@
-//! The table of a guest's memory: its page size and its RAM blocks. Callers make one, or the reader of a stream does of its size list.
+//! The table of a guest's memory: its page size and its RAM blocks. Callers make one, or the reader
+//! of a stream does of its size list.
 
 ghost use Rattle.std.specs.Prelude.{◌≡◌, ◌*◌, ◌^◌, ◌<◌, ◌≤◌, ◌⊎◌, ◌↔◌, length, IfOk, IfErr, IfSome, OnOk, IsTrue, None, Some};
 ghost use Rattle.mig_mem.specs.PageSize.{IsPageSize};
@@ -19,7 +20,7 @@ pub const MAX_BLOCKS: usize = 256;
 /// The most bytes that a block's id has.
 pub const MAX_ID_LEN: usize = 255;
 
-/// The most bytes that all blocks have together.
+/// The most bytes that all blocks have together: 1 TiB.
 pub const MAX_TOTAL: u64 = 1 << 40;
 
 // Where a block's id lies in the buffer of all ids, and how many pages the block has.
@@ -37,7 +38,8 @@ struct Entry {
     block: usize,
 }
 
-/// The table of a guest's memory: what QEMU's `RAMBlock` list tells a migration. Blocks are numbered from 0, in the order of the list.
+/// The table of a guest's memory: what a migration knows of QEMU's `RAMBlock` list. Blocks are
+/// numbered from 0, in the order of the list.
 #[derive(Drop)]
 pub struct Table<A: Allocator = Global> {
     page_size: u64,
@@ -66,7 +68,7 @@ impl<A: Allocator> fmt::Debug for Table<A> {
     }
 }
 
-// The id of a block; empty where there is no such block.
+// Returns the id of a block; empty if there is no such block.
 fn id_of<'a>(ids: &'a [u8], spans: &[Span], i: usize) -> &'a [u8] {
     let Some(span) = spans.get(i) else {
         return &[];
@@ -153,7 +155,7 @@ fn last_up_to(order: &[Entry], front: u128) -> usize {
     place
 }
 
-// The list's ids in one buffer.
+// Copies the list's ids into one buffer.
 fn packed_from<A: Allocator + Copy>(
     alloc: A,
     page_size: u64,
@@ -183,9 +185,13 @@ fn packed_from<A: Allocator + Copy>(
 }
 
 impl<A: Allocator + Copy> Table<A> {
-    /// The table of a list of ids with their numbers of pages, in the list's order. `is_page_size` is the test of the page
-    /// size. The first fault that applies is told, in the order of `TableFault`; `NoMemory` may come in place of any. The
-    /// list is dropped on a refusal.
+    /// Creates the table of a list of ids with their numbers of pages, in the list's order.
+    /// `is_page_size` is the test of the page size.
+    ///
+    /// # Errors
+    ///
+    /// The first fault that applies, in the order of `TableFault`, or in place of any `NoMemory`:
+    /// an allocation was refused. The list is dropped.
     pub fn new(
         alloc: A,
         page_size: u64,
@@ -204,7 +210,11 @@ impl<A: Allocator + Copy> Table<A> {
 }
 
 impl<A: Allocator> Table<A> {
-    /// A table of the same page size and blocks, in memory of another allocator.
+    /// Copies the table: the same page size and blocks, in memory of another allocator.
+    ///
+    /// # Errors
+    ///
+    /// `NoMemory`: an allocation was refused.
     pub fn copy_in<B: Allocator + Copy>(&self, alloc: B) -> Result<Table<B>, NoMemory>
         ensures { IfOk result (λ t. t ≡ self.now) }
     {
@@ -222,7 +232,11 @@ impl<A: Allocator> Table<A> {
         })
     }
 
-    /// A table of the same page size and blocks.
+    /// Copies the table: the same page size and blocks.
+    ///
+    /// # Errors
+    ///
+    /// `NoMemory`: an allocation was refused.
     pub fn try_copy(&self) -> Result<Table<A>, NoMemory>
     where
         A: Copy,
@@ -231,14 +245,14 @@ impl<A: Allocator> Table<A> {
         self.copy_in(*self.ids.allocator())
     }
 
-    /// The number of bytes of a page.
+    /// Returns the number of bytes of a page.
     pub fn page_size(&self) -> u64
         ensures { result ≡ self.now.page_size }
     {
         self.page_size
     }
 
-    /// The number of blocks, which is never 0.
+    /// Returns the number of blocks, which is never 0.
     #[allow(clippy::len_without_is_empty)]
     pub fn len(&self) -> usize
         ensures value { result ≡ length self.now.blocks }
@@ -255,7 +269,7 @@ impl<A: Allocator> Table<A> {
         let _ = &self.page_size;
     }
 
-    /// The id of a block.
+    /// Returns the id of a block.
     pub fn id(&self, i: usize) -> &[u8]
         requires { i < length self.now.blocks }
         ensures value { result.now ≡ (block self.now.blocks i).id }
@@ -265,7 +279,7 @@ impl<A: Allocator> Table<A> {
         &self.ids[span.start..span.start + span.len]
     }
 
-    /// The number of pages of a block.
+    /// Returns the number of pages of a block.
     pub fn pages(&self, i: usize) -> u64
         requires { i < length self.now.blocks }
         ensures value { result ≡ (block self.now.blocks i).pages }
@@ -275,7 +289,7 @@ impl<A: Allocator> Table<A> {
         self.spans[i].pages
     }
 
-    /// The number of the block with an id.
+    /// Returns the number of the block with the id `id`.
     pub fn find(&self, id: &[u8]) -> Option<usize>
         ensures { result ≡ block_of self.now.blocks id.now }
     {
@@ -335,14 +349,14 @@ impl<A: Allocator> Table<A> {
         None
     }
 
-    /// Whether the table has a page there.
+    /// Returns whether the table has a page there.
     pub fn holds(&self, place: Place) -> bool
         ensures { IsTrue result ↔ IsPlace self.now place }
     {
         place.block < self.len() && place.page < self.pages(place.block)
     }
 
-    /// Whether two tables have the same page size and the same blocks in the same order.
+    /// Returns whether two tables have the same page size and the same blocks in the same order.
     pub fn same<B: Allocator>(&self, other: &Table<B>) -> bool
         ensures { IsTrue result ↔ (self.now ≡ other.now) }
     {
