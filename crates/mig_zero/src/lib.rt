@@ -1,8 +1,10 @@
-//! The zero test of guest memory: whether a page, or any other run of bytes, has no byte other than 0.
+//! The zero test of guest memory: whether a page, or any other run of bytes, has no byte other than
+//! 0.
 //!
-//! A sender asks it of each page that is due, since of a page of zeros no bytes go out, only that it is zeros.
-//! So it is to cost little beside the copy of a page that goes out whole, for a page of zeros and for any other. It
-//! only reads and answers: what a page is, how long it is and what becomes of it are for the crates above.
+//! A sender asks it of each page that it is to send. Of a page of zeros no bytes go out, only that
+//! it is zeros. So the test must cost little beside the copy of a page, for a page of zeros and for
+//! any other. It only reads and answers. What a page is, how long it is and what becomes of it is
+//! for the crates above.
 #![tactic(auto)]
 
 ghost use Rattle.std.specs.Prelude.{◌≡◌, ◌↔◌, ◌+◌, ◌-◌, ◌/◌, ◌≤◌, [], ◌∷◌, length, All, IsTrue, slice_index};
@@ -14,10 +16,11 @@ use std::simd::prelude::*;
 #[cfg(test)]
 mod tests;
 
-/// Whether no byte is other than 0, for any number of bytes; of none it is true.
+/// Returns whether no byte is other than 0, for any number of bytes. Of none it is true.
 ///
-/// It reads from front to back, as a processor fetches ahead: first a few bytes of the first cache line, which tell most
-/// pages that aren't zero, then whole blocks of 256 bytes in vectors, and then the bytes that are left one at a time.
+/// It reads from front to back, as a processor fetches ahead: first a few bytes of the first cache
+/// line, which recognise most pages that aren't zero. Then it reads blocks of 256 bytes in vectors,
+/// and then the bytes that are left one at a time.
 pub fn is_zero(bytes: &[u8]) -> bool
     ensures { IsTrue result ↔ IsZero bytes.now }
 {
@@ -28,7 +31,7 @@ pub fn is_zero(bytes: &[u8]) -> bool
     are_zero_blocks(blocks) && is_zero_plain(rest)
 }
 
-// Whether the first, the last and the middle byte are 0.
+// Returns whether the first, the last and the middle byte are 0.
 fn has_zero_samples(bytes: &[u8]) -> bool
     ensures { let samples = 0 ∷ (length bytes.now - 1) ∷ (length bytes.now / 2) ∷ [] in
         IsTrue result ↔ All (λ at. slice_index bytes.now at ≡ 0) samples }
@@ -45,7 +48,8 @@ fn are_zero_blocks(blocks: &[[u8; 256]]) -> bool
     blocks.iter().all(|block| is_zero_block(block))
 }
 
-// The four tests are joined by `&`, which reads all of them, so that they become one test of four vectors together.
+// Joins the four tests by `&`, which reads all of them, so that they become one test of four
+// vectors.
 fn is_zero_block(block: &[u8; 256]) -> bool
     ensures { IsTrue result ↔ IsZero block.now }
 {
@@ -55,7 +59,7 @@ fn is_zero_block(block: &[u8; 256]) -> bool
         & is_zero_vector(block, 192)
 }
 
-// Whether the 64 bytes from a place on are 0.
+// Returns whether the 64 bytes from `at` on are 0.
 fn is_zero_vector(bytes: &[u8], at: usize) -> bool
     requires { at + 64 ≤ length bytes.now }
     ensures { IsTrue result ↔ AllWithin (λ b. b ≡ 0) bytes.now at (at + 64) }
@@ -64,7 +68,7 @@ fn is_zero_vector(bytes: &[u8], at: usize) -> bool
     vector.simd_ne(u8x64::splat(0)).to_bitmask() == 0
 }
 
-// The same as `is_zero`, a byte at a time.
+// Returns what `is_zero` does, a byte at a time.
 fn is_zero_plain(bytes: &[u8]) -> bool
     ensures { IsTrue result ↔ IsZero bytes.now }
 {

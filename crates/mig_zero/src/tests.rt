@@ -1,4 +1,5 @@
-//! Tests of the zero test: none, 4,096 zeros, the last one set, and a one at each place of many lengths.
+//! Tests of the zero test: no bytes, 4,096 zeros, the last one set, and a one at each place of many
+//! lengths.
 
 use crate::is_zero;
 use std::alloc::{AllocError, Global};
@@ -8,7 +9,7 @@ fn zeros(alloc: Global, len: usize) -> Result<Vec<u8>, AllocError> {
     vec![in alloc; 0u8; len]
 }
 
-// What `is_zero` says of `len` zeros but for a one at `at`.
+// Returns what `is_zero` says of `len` zeros but for a one at `at`.
 fn is_zero_but_at(alloc: Global, len: usize, at: usize) -> Result<bool, AllocError> {
     let mut bytes = zeros(alloc, len)?;
     if at < bytes.len() {
@@ -27,7 +28,7 @@ fn tells_zeros_from_other_bytes(rt: HostRuntime) -> Result<(), Fail> {
     Ok(())
 }
 
-// Lengths round those of a vector, of a block and of whole blocks.
+// Tests lengths near those of a vector, of a block and of several blocks.
 #[test]
 fn finds_a_one_at_each_place(rt: HostRuntime) -> Result<(), Fail> {
     for len in [1, 2, 63, 64, 65, 255, 256, 257, 320, 511, 512, 513, 600] {
