@@ -1,4 +1,5 @@
--- `Tally::refuses` and `Tally::count` at a call: what each is handed, and what a caller has of it. Assumes `Logic`.
+-- `Tally::refuses` and `Tally::count` at a call: what each is passed, and what a caller has of it.
+-- Assumes `Logic`.
 use Rattle.std.proofs.Common.{◌≡◌, ℕ, ◌^◌, ◌<◌, List, [], ◌∷◌, refl, ap, w64}
 use seplogic.Ra.Ura.{Ura}
 use mir.Val.{Val, vunit, vint, vptr}

@@ -1,14 +1,15 @@
-//! Tables of some blocks, memories of them, sets of their pages, and single pages: of 4096 bytes, but for `table_of`.
+//! Tables of some blocks, memories of them, sets of their pages, and single pages. Pages have 4096
+//! bytes, but for `table_of`.
 
 use mig_mem::{Dirty, Memory, PAGE_SIZE_4K, Place, Table, is_page_size};
 use std::alloc::{AllocError, Allocator};
 
-/// The place of a page.
+/// Returns the place of a page.
 pub fn at(block: usize, page: u64) -> Place {
     Place { block, page }
 }
 
-/// A list of ids with page counts, as a table takes it.
+/// Returns a list of ids with page counts, as a table takes it.
 pub fn list<A: Allocator + Copy>(
     alloc: A,
     entries: &[(&str, u64)],
@@ -20,12 +21,12 @@ pub fn list<A: Allocator + Copy>(
     Ok(list)
 }
 
-/// The table of such a list.
+/// Returns the table of such a list.
 pub fn table<A: Allocator + Copy>(alloc: A, entries: &[(&str, u64)]) -> Option<Table<A>> {
     table_of(alloc, PAGE_SIZE_4K, entries)
 }
 
-/// The table of such a list with pages of this size; None where no page has it.
+/// Returns the table of such a list with pages of `page_size` bytes. None if no page has that size.
 pub fn table_of<A: Allocator + Copy>(
     alloc: A,
     page_size: u64,
@@ -38,13 +39,13 @@ pub fn table_of<A: Allocator + Copy>(
     Table::new(alloc, page_size, list).ok()
 }
 
-/// A memory of zeros of such a table.
+/// Returns a memory of zeros of such a table.
 pub fn zeroed<A: Allocator + Copy>(alloc: A, entries: &[(&str, u64)]) -> Option<Memory<A>> {
     let table = table(alloc, entries)?;
     Memory::zeroed(alloc, &table).ok()
 }
 
-/// The set of some places of a table; None where the table lacks one.
+/// Returns the set of some places of a table. None if the table lacks one.
 pub fn places_of<A: Allocator + Copy, B: Allocator>(
     alloc: A,
     table: &Table<B>,
@@ -60,7 +61,7 @@ pub fn places_of<A: Allocator + Copy, B: Allocator>(
     Some(dirty)
 }
 
-/// Writes one byte; false where the offset isn't in the block.
+/// Writes one byte. Returns false if the offset isn't in the block.
 pub fn set<A: Allocator>(memory: &mut Memory<A>, block: usize, offset: u64, byte: u8) -> bool {
     let table = memory.table();
     if block >= table.len() || offset >= table.pages(block) * table.page_size() {
@@ -70,12 +71,12 @@ pub fn set<A: Allocator>(memory: &mut Memory<A>, block: usize, offset: u64, byte
     true
 }
 
-/// Whether a page holds this byte alone.
+/// Returns whether a page holds this byte alone.
 pub fn is_full<A: Allocator>(memory: &Memory<A>, place: Place, byte: u8) -> bool {
     memory.page(place).is_some_and(|page| page.len() == 4096 && page.iter().all(|b| *b == byte))
 }
 
-/// Whether the first byte of a page that isn't 0 is this one, and stands there.
+/// Returns whether the first byte of a page that isn't 0 is this one, and stands there.
 pub fn has_byte<A: Allocator>(memory: &Memory<A>, place: Place, offset: usize, byte: u8) -> bool {
     memory.page(place).is_some_and(|page| page.iter().position(|b| *b != 0) == Some(offset)
         && page.get(offset) == Some(&byte))

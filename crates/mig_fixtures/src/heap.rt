@@ -1,18 +1,18 @@
 //! An allocator that refuses one allocation, and counts the bytes that are held.
 //!
-//! A call that allocates can find no memory at any of its allocations. A test hands it a
+//! A call that allocates can find no memory at any of its allocations. A test passes it a
 //! [`TestHeap`], which refuses the allocation of a chosen number and passes each other one on. The
 //! test runs the call with its first allocation refused, then with its second, and so on until a
-//! run has no refusal. After each run it compares the answer, and what the call left of the values
-//! that it was handed. [`with_each_allocation_refused!`] is that loop, for a test that ends with
-//! its last run.
+//! run has no refusal. After each run it compares the answer, and the state of the values that the
+//! call was passed. [`with_each_allocation_refused!`] is that loop, for a test that ends with its
+//! last run.
 //!
 //! A call that promises to need little memory is run over a `TestHeap`, too, and its peak is
 //! compared with what was promised. What is held at the end shows whether all was given back.
 //!
 //! It is no allocator for programs, and it has no memory of its own: each block comes from the
-//! allocator inside it and goes back to that one. Hand it out by reference, since `&TestHeap` is
-//! itself an allocator, and `Copy`:
+//! allocator inside it and goes back to that one. Pass it by reference, since `&TestHeap` is itself
+//! an allocator, and `Copy`:
 //!
 //! ```text
 //! let heap = TestHeap::new(rt.alloc());   // refuses none: make what the call takes
@@ -22,10 +22,10 @@
 //! heap.peak()                             // the most bytes that were held at once
 //! ```
 //!
-//! Threads may share it. They share one count of allocations, so one allocation among all of theirs
-//! is refused, and the schedule decides whose it is; and they share one count of bytes.
+//! Threads may share it. They share one count of allocations. So one allocation among all of theirs
+//! is refused, and the schedule decides whose it is. They share one count of bytes, too.
 //!
-//! What is proved is that it is safe to use: a block that it answers is one of the allocator inside
+//! What is proved is that it is safe to use: a block that it returns is one of the allocator inside
 //! it, with room for what was asked. No contract can say what an atomic holds, so none says which
 //! allocation is refused and how many bytes are held: tests show it.
 
@@ -73,18 +73,19 @@ impl<A: Allocator> TestHeap<A> {
         self.tally.countdown.store(nth, Ordering::SeqCst);
     }
 
-    /// Whether the refusal hasn't come yet. It is false once it has, and where none was chosen.
+    /// Returns whether the refusal hasn't come yet. It is false once it has, and if none was
+    /// chosen.
     pub fn is_waiting(&self) -> bool {
         let countdown = self.tally.countdown.load(Ordering::SeqCst);
         countdown > 0 && countdown <= u64::MAX / 2
     }
 
-    /// The bytes that are held now.
+    /// Returns the bytes that are held now.
     pub fn held(&self) -> u64 {
         self.tally.held.load(Ordering::SeqCst)
     }
 
-    /// The most bytes that were held at once.
+    /// Returns the most bytes that were held at once.
     pub fn peak(&self) -> u64 {
         self.tally.peak.load(Ordering::SeqCst)
     }
@@ -133,7 +134,7 @@ unsafe impl<A: Allocator> Allocator for TestHeap<A> {
 }
 
 /// Runs a call with allocation 1 refused, then with allocation 2, and so on, up to the first run
-/// that has no refusal, whose answer is handed to the block. A run with a refusal has to answer
+/// that has no refusal, whose answer is passed to the block. A run with a refusal has to return
 /// fault 60, and there has to be one.
 #[macro_export]
 macro_rules! with_each_allocation_refused {

@@ -1,9 +1,9 @@
-//! For tests: the tables, memories and sets of pages that tests of several crates build, one packet,
-//! what they ask of a memory, and an allocator, [`TestHeap`], that refuses one allocation and counts
-//! the bytes that are held.
+//! For tests: the tables, memories and sets of pages that tests of several crates build, one
+//! packet, what they ask of a memory, and an allocator, [`TestHeap`], that refuses one allocation
+//! and counts the bytes that are held.
 //!
-//! It is no part of the product, and says nothing of it: no function here has a contract, and each
-//! that builds something answers None where that can't be had.
+//! It is no part of the product, and proves nothing of it: no function here has a contract. Each
+//! that builds something returns None if that can't be had.
 #![tactic(auto)]
 
 mod guest;

@@ -1,4 +1,5 @@
--- It refuses the call, or answers what the inner allocator answers, and counts the block that this one gave. Assumes `Logic`.
+-- It refuses the call, or returns what the inner allocator returns, and counts the block that this
+-- one gave. Assumes `Logic`.
 use Rattle.std.proofs.Common.{◌≡◌, ℕ, ◌+◌, ◌^◌, ◌<◌, Bool, true, false, List, [], ◌∷◌, Ok, Err, refl, ap, w64, lit<, Bor}
 use seplogic.Ra.Ura.{Ura}
 use mir.Syntax.{Ty, Args, Fn, Body, a_type, dnil, dcons}

@@ -1,4 +1,5 @@
--- It counts the block as given back, and gives the block back to the inner allocator. Assumes `Logic`.
+-- It counts the block as given back, and gives the block back to the inner allocator. Assumes
+-- `Logic`.
 use Rattle.std.proofs.Common.{◌≡◌, ℕ, ◌+◌, ◌^◌, ◌<◌, List, [], ◌∷◌, refl, w64, lit<, Bor}
 use seplogic.Ra.Ura.{Ura}
 use mir.Syntax.{Ty, Args, Fn, a_type, dnil, dcons}
