@@ -1,9 +1,9 @@
 //! The rounds of a case, sent on its channels, each with a worker on a thread of its own.
 //!
-//! Which packets a channel has is settled by the threads, and so another in each run. What is
-//! answered is the same in all of them: lengths, counts, and the packets of all channels in the
-//! order of their numbers. What each channel has to keep to, whatever its packets, is looked at on
-//! the way: it is told where a channel doesn't.
+//! Threads decide which packets a channel has, and so these differ from run to run. The answer is
+//! the same in all runs: lengths, counts, and the packets of all channels in the order of their
+//! numbers. What each channel has to keep to, whatever its packets, is tested on the way: a channel
+//! that doesn't is reported.
 
 use crate::rounds::Rounds;
 use mig_cases::{Case, Done, Guest, Trouble, Words, put_packet, reader_of_channel};
@@ -12,7 +12,7 @@ use mig_send::{MultiSender, SendFault, Sent};
 use std::alloc::Global;
 use std::thread::Threads;
 
-// A sender of a case's guest that has sent these rounds, with at most so many pages to a packet.
+// Returns a sender of a case's guest that has sent these rounds, with the batch limit `limit`.
 fn sender_of<R: Threads + Sync>(
     rt: &R,
     case: &mut Case,
@@ -45,7 +45,7 @@ impl Rounds {
         Ok(())
     }
 
-    /// `sent_channel LIMIT CHANNEL`: the text of a channel.
+    /// `sent_channel LIMIT CHANNEL`: the bytes of a channel.
     pub fn sent_channel<R: Threads + Sync>(&mut self, rt: &R, mut words: Words) -> Done {
         let mut channels = self.sent_on_channels(rt, words.size()?)?.channels;
         let channel = words.size()?;
@@ -56,7 +56,7 @@ impl Rounds {
         Ok(())
     }
 
-    // The texts of the rounds, where no fault is answered.
+    // Returns the streams of the rounds. A fault is trouble.
     fn sent_on_channels<R: Threads + Sync>(
         &mut self,
         rt: &R,
@@ -66,7 +66,7 @@ impl Rounds {
         finish(sender.ok().ok_or(Trouble::Line)?)
     }
 
-    /// `multi LIMIT`: what the rounds make on all channels together, or the fault that is answered.
+    /// `multi LIMIT`: what the rounds make on all channels together, or the fault that is returned.
     pub fn multi<R: Threads + Sync>(&mut self, out: &mut String, rt: &R, mut words: Words) -> Done {
         match sender_of(rt, &mut self.case, &self.rounds, words.size()?)? {
             Ok(sender) => put_sender(out, &self.case, self.rounds.len(), sender),
@@ -75,7 +75,7 @@ impl Rounds {
     }
 }
 
-// What a sender has sent, which is to be so many rounds.
+// Writes down what a sender has sent, which is to be `count` rounds.
 fn put_sender(out: &mut String, case: &Case, count: usize, sender: MultiSender) -> Done {
     let (rounds, base) = (sender.rounds(), sender.base());
     let Sent { main, channels } = finish(sender)?;
@@ -98,8 +98,8 @@ fn put_sender(out: &mut String, case: &Case, count: usize, sender: MultiSender) 
     Ok(())
 }
 
-// The rounds of each channel. It tells of a channel whose text isn't whole, hasn't its hello, or
-// hasn't so many rounds.
+// Returns the rounds of each channel. Reports a channel that isn't closed, hasn't its own hello, or
+// hasn't `count` rounds.
 fn rounds_of_each(
     out: &mut String,
     case: &Case,
@@ -122,7 +122,7 @@ fn rounds_of_each(
     Ok(channels)
 }
 
-// The whole rounds that a reader has.
+// Returns the complete rounds that a reader has.
 fn rounds_of(alloc: Global, reader: &mut ChannelReader) -> Result<Vec<PacketRound>, Trouble> {
     let mut rounds = Vec::new(alloc);
     for _ in 0..u64::MAX {
@@ -134,8 +134,8 @@ fn rounds_of(alloc: Global, reader: &mut ChannelReader) -> Result<Vec<PacketRoun
     Err(Trouble::Line)
 }
 
-// The packets that all channels have in a round, in the order of their numbers. It tells of a
-// channel whose own order is another.
+// Writes down the packets that all channels have in a round, in the order of their numbers. Reports
+// a channel whose own order is another.
 fn put_round(out: &mut String, channels: &[Vec<PacketRound>], round: usize) -> Done {
     let mut packets = Vec::new(*out.allocator());
     for (channel, rounds) in channels.iter().enumerate() {
@@ -152,7 +152,7 @@ fn put_round(out: &mut String, channels: &[Vec<PacketRound>], round: usize) -> D
     put_packets(out, &packets)
 }
 
-// Whether a channel's packets have rising numbers, and the last one alone is a SYNC packet.
+// Returns whether a channel's packets have rising numbers, and the last one alone is a SYNC packet.
 fn is_in_order(packets: &[Packet<'_>]) -> bool {
     let mut before = None;
     let mut is_over = false;
@@ -166,8 +166,8 @@ fn is_in_order(packets: &[Packet<'_>]) -> bool {
     is_over
 }
 
-// Packets in a row. SYNC packets without pages, whose numbers follow one another, are one entry,
-// `#2-4 sync`.
+// Writes down packets in a row. SYNC packets without pages, whose numbers follow one another, are
+// one entry, `#2-4 sync`.
 fn put_packets(out: &mut String, packets: &[Packet<'_>]) -> Done {
     let mut run = None;
     for packet in packets {
@@ -190,13 +190,13 @@ fn put_packets(out: &mut String, packets: &[Packet<'_>]) -> Done {
     put_run(out, run)
 }
 
-// Whether it is a SYNC packet without pages and without an id.
+// Returns whether it is a SYNC packet without pages and without an id.
 fn is_bare(packet: &Packet<'_>) -> bool {
     let has_page = packet.normal_len() > 0 || packet.zero_len() > 0;
     packet.sync() && packet.id().is_empty() && !has_page
 }
 
-// The SYNC packets with the numbers from one to another.
+// Writes down the SYNC packets with the numbers from one to another.
 fn put_run(out: &mut String, run: Option<(u64, u64)>) -> Done {
     match run {
         Some((first, last)) if first < last => write!(out, " #{first}-{last} sync")?,

@@ -1,4 +1,4 @@
-//! Rounds of packets that are judged and put into a memory, in one order after another.
+//! Rounds of packets that are judged and applied to a memory, in one order after another.
 
 ghost use Rattle.std.specs.Prelude.{◌≡◌, All, IfOk};
 
@@ -11,11 +11,11 @@ use mig_packet::{Packet, PacketRead, read_packet};
 use mig_stream::{Mode, StreamReader, StreamRound};
 use std::alloc::Global;
 
-/// Up to so many packets are put in in every order; more of them in the order of the text and in
+/// Up to so many packets are applied in every order; more of them in the order of the stream and in
 /// reverse.
 const MOST_IN_EVERY_ORDER: usize = 5;
 
-// How many orders there are of so many packets.
+// Returns how many orders there are of `count` packets.
 fn orders(count: usize) -> usize {
     let mut orders = 1usize;
     for n in 1..=count {
@@ -24,7 +24,7 @@ fn orders(count: usize) -> usize {
     orders
 }
 
-// The packets in the order of a number: 0 is the order of the text, and the last number is the
+// Returns the packets in order `number`: 0 is the order of the stream, and the last number is the
 // reverse.
 fn in_order<'a>(
     alloc: Global,
@@ -44,7 +44,7 @@ fn in_order<'a>(
     Ok(ordered)
 }
 
-// The packets of a text.
+// Reads the packets of some bytes.
 fn packets_of(alloc: Global, page_size: u64, text: &[u8]) -> Result<Vec<Packet<'_>>, Trouble> {
     if !is_page_size(page_size) {
         return Err(Trouble::Line);
@@ -66,7 +66,7 @@ fn packets_of(alloc: Global, page_size: u64, text: &[u8]) -> Result<Vec<Packet<'
     Err(Trouble::Line)
 }
 
-// The packets of each of some texts.
+// Reads the packets of each stream.
 fn packets_of_each<'a>(case: &Case, texts: &'a [Vec<u8>]) -> Result<Vec<Vec<Packet<'a>>>, Trouble> {
     let mut packets = Vec::new(case.alloc);
     for text in texts {
@@ -75,7 +75,7 @@ fn packets_of_each<'a>(case: &Case, texts: &'a [Vec<u8>]) -> Result<Vec<Vec<Pack
     Ok(packets)
 }
 
-// Packets with pages of one size, in their order, as a memory takes them.
+// Returns packets with pages of one size, in their order, as a memory takes them.
 fn gathered<'a>(
     alloc: Global,
     page_size: u64,
@@ -93,7 +93,7 @@ fn gathered<'a>(
     Ok(gathered)
 }
 
-// Judges a round and puts it into a memory.
+// Judges a round and applies it to a memory.
 fn put_round(
     alloc: Global,
     target: &mut Target,
@@ -109,13 +109,13 @@ fn put_round(
     Ok(target.round(round, &gathered))
 }
 
-/// The texts of rounds, read: text 0 is a single stream, and each further text the packets of a
-/// round. A round's page records are those of the PART of its number, where there is one.
+/// The streams of rounds, read: stream 0 is a single stream, and each further one has the packets
+/// of a round. A round's page records are those of the PART of its number, where there is one.
 #[derive(Drop)]
 struct Rounds<'a> {
     records: Vec<StreamRound<'static>>,
     packets: Vec<Vec<Packet<'a>>>,
-    /// The number of orders in which they are put in.
+    /// The number of orders in which they are applied.
     orders: usize,
     /// The step from one order to the next.
     step: usize,
@@ -141,7 +141,7 @@ impl<'a> Rounds<'a> {
         }
     }
 
-    // The packets of the texts, with the records that a reader of the single stream has.
+    // Reads the packets of the streams, with the records that a reader of the single stream has.
     fn read(
         case: &Case,
         reader: &mut StreamReader<'static>,
@@ -162,7 +162,7 @@ impl<'a> Rounds<'a> {
     }
 }
 
-// Puts all rounds into a memory, and says what comes of each.
+// Applies all rounds to a memory, and writes down what comes of each.
 fn put_all(
     out: &mut String,
     alloc: Global,
@@ -189,13 +189,13 @@ fn put_all(
     put_target(out, target)
 }
 
-// What stands in a memory after its rounds.
+// Writes down what a memory holds after its rounds.
 fn put_target(out: &mut String, target: &Target) -> Done {
     write!(out, "rounds {} base {};", target.rounds(), target.base())?;
     put_memory(out, target.memory())
 }
 
-// Puts a section into a memory, and says what comes of it.
+// Applies a section to a memory, and writes down what comes of it.
 fn put_section(out: &mut String, target: &mut Target, section: &StreamRound) -> Done {
     if !target.fits(section) || target.rounds() > 1000 {
         return Ok(out.push_str("no fit; ")?);
@@ -206,21 +206,21 @@ fn put_section(out: &mut String, target: &mut Target, section: &StreamRound) -> 
     Ok(out.push_str("; ")?)
 }
 
-// A reader that was fed a single stream.
+// Creates a reader, and feeds it a single stream.
 fn reader_of_single(case: &Case, text: &[u8]) -> Result<StreamReader<'static>, Trouble> {
     let mut reader = reader_of(case, Mode::Single)?;
     feed(&mut reader, text)?;
     Ok(reader)
 }
 
-/// What comes of the sections of the last text, put one after another into a memory of the guest's
-/// table.
+/// Writes down what comes of the sections of the last stream, applied one after another to a memory
+/// of the guest's table.
 pub fn sections(out: &mut String, case: &mut Case) -> Done {
     let sections = sections_of(case)?;
     put_sections(out, case.guest()?.image.table(), &sections)
 }
 
-// The sections of the last text.
+// Reads the sections of the last stream.
 fn sections_of(case: &Case) -> Result<Vec<StreamRound<'static>>, Trouble> {
     let mut reader = reader_of_single(case, case.texts.last().ok_or(Trouble::Line)?)?;
     rounds_of(case.alloc, &mut reader)
@@ -235,7 +235,7 @@ fn put_sections(out: &mut String, table: &Table, sections: &[StreamRound]) -> Do
     put_memory(out, &target.into_memory())
 }
 
-// What comes of the rounds with their packets in the order of a number.
+// Returns what comes of the rounds with their packets in order `order`.
 fn answer_in(
     alloc: Global,
     table: &Table,
@@ -248,7 +248,7 @@ fn answer_in(
     Ok(answer)
 }
 
-// What comes of them in every order.
+// Writes down what comes of the rounds in every order.
 fn judge_all(out: &mut String, alloc: Global, table: &Table, rounds: &Rounds<'_>) -> Done {
     let wanted = answer_in(alloc, table, rounds, 0)?;
     for order in (0..rounds.orders).step_by(rounds.step.max(1)) {
@@ -261,7 +261,7 @@ fn judge_all(out: &mut String, alloc: Global, table: &Table, rounds: &Rounds<'_>
     Ok(out.push_str(&wanted)?)
 }
 
-/// What comes of the rounds, which is to be the same in every order.
+/// Writes down what comes of the rounds, which is to be the same in every order.
 pub fn judge(out: &mut String, case: &Case) -> Done {
     let (stream, texts) = case.texts.split_first().ok_or(Trouble::Line)?;
     let mut reader = reader_of_single(case, stream)?;

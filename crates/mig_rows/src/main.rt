@@ -1,12 +1,14 @@
-//! Worked examples as data: it reads files of cases, makes the texts that they describe, asks the
-//! calls, and says where an answer isn't the one that stands beside it.
+//! Worked examples as data: it reads files of cases, makes the streams that they describe, asks the
+//! calls, and reports where an answer isn't the one that stands beside it.
 //!
-//! Its words are the files' names; without words it reads its input. A case is some lines
-//! (`docs/EXAMPLES.md` has them all): what builds a guest and texts, and questions, each with ` = `
-//! and its answer. A question that has no answer beside it has its answer printed, one a line, so
-//! that another implementation can be compared with this one over many cases in one run. It ends
-//! with the number of cases and answers, and with status 1 where an answer was wrong. What guest
-//! memory and packets answer, and what a case is, `mig_cases` has. It is no part of the product.
+//! Its arguments are the files' names. Without arguments it reads its input. A case is some lines
+//! (`docs/EXAMPLES.md` has them all): what builds a guest and streams, and questions, each with ` =
+//! ` and its answer. A question that has no answer beside it has its answer printed, one a line. So
+//! another implementation can be compared with this one over many cases in one run.
+//!
+//! It ends with the number of cases and answers, and with status 1 if an answer was wrong. What
+//! guest memory and packets answer, and what a case is, `mig_cases` has. It is no part of the
+//! product.
 #![tactic(auto)]
 
 mod channels;
@@ -27,7 +29,7 @@ use std::sync::Wait;
 use std::thread::Threads;
 use std::{env, fs};
 
-// The texts of the files that the words name, or without words the input.
+// Reads the files that the arguments name, or without arguments the input.
 fn texts(rt: &HostRuntime) -> io::Result<Vec<String>> {
     let mut texts = Vec::new(rt.alloc());
     for name in env::args(rt)?.skip(1) {

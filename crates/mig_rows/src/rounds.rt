@@ -1,4 +1,4 @@
-//! The rounds of a case: the senders that they go to, and the texts that these make of them.
+//! The rounds of a case: the senders that they go to, and the streams that these make of them.
 
 ghost use Rattle.std.specs.Prelude.{All, IfOk};
 ghost use Rattle.mig_send.specs.Batches.{IsBatch};
@@ -36,7 +36,7 @@ impl Rounds {
         })
     }
 
-    /// Takes a line that builds something; false where the line is no such line.
+    /// Takes a line that builds something. Returns false if the line is no such line.
     pub fn take<R: Files + Threads + Sync>(
         &mut self,
         rt: &R,
@@ -124,8 +124,8 @@ impl Rounds {
         Ok(())
     }
 
-    // `pack LIMIT NUMBER`: the packets of the marked pages, in batches of at most so many, numbered
-    // from there on
+    // `pack LIMIT NUMBER`: the packets of the marked pages, in batches of at most LIMIT pages,
+    // numbered from NUMBER on
     fn pack(&mut self, mut words: Words) -> Done {
         let limit = words.size()?;
         let number = words.number()?;
@@ -150,7 +150,7 @@ impl Rounds {
     }
 }
 
-// The marked pages, in batches of at most so many.
+// Returns the marked pages, in batches of at most `limit` pages.
 fn batches_of(
     alloc: Global,
     memory: &Memory,
@@ -168,8 +168,8 @@ fn batches_of(
     Ok(cut(alloc, table, dirty, limit)?)
 }
 
-// Appends the packets of a guest's marked pages, in batches of at most so many, numbered from there
-// on.
+// Appends the packets of a guest's marked pages, in batches of at most `limit` pages, numbered from
+// `first` on.
 fn put_packets(text: &mut Vec<u8>, guest: &Guest, limit: usize, first: u64) -> Done {
     let alloc = *text.allocator();
     let mut number = first;
@@ -184,7 +184,7 @@ fn put_packets(text: &mut Vec<u8>, guest: &Guest, limit: usize, first: u64) -> D
     Ok(())
 }
 
-// Ascending numbers, those that follow one another as a range.
+// Writes down ascending numbers, those that follow one another as a range.
 fn put_numbers(out: &mut String, numbers: &[u64]) -> Done {
     let mut before = None;
     let mut is_range = false;

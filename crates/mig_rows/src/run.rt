@@ -1,4 +1,4 @@
-//! The playing of a file of cases with rounds: what each line builds, or asks.
+//! Plays a file of cases with rounds: what each line builds, or asks.
 
 use crate::judge::{judge, sections};
 use crate::rounds::Rounds;
@@ -58,7 +58,7 @@ fn play_case<R: Files + Threads + Wait + Sync, W: Write>(
     Ok(())
 }
 
-// Follows a line: writes down what it asks is answered. Returns false where it asks nothing.
+// Follows a line: writes down the answer to what it asks. Returns false if it asks nothing.
 fn follow<R: Files + Threads + Wait + Sync>(
     out: &mut String,
     rt: &R,
@@ -80,7 +80,7 @@ fn follow<R: Files + Threads + Wait + Sync>(
     Ok(true)
 }
 
-// Writes down what a question is answered, whatever the answer that stands beside it.
+// Writes down the answer to a question, whatever the answer that stands beside it.
 fn ask<R: Files + Threads + Wait + Sync>(
     out: &mut String,
     rt: &R,
@@ -104,13 +104,13 @@ fn ask<R: Files + Threads + Wait + Sync>(
     Ok(())
 }
 
-// Writes down what a question about the last text is answered; false where it is no such question,
-// or there is no text.
+// Writes down the answer to a question about the last stream. Returns false if it is no such
+// question, or there is no stream.
 fn ask_text(out: &mut String, case: &Case, name: &str) -> Result<bool, Trouble> {
     Ok(!case.texts.is_empty() && (ask_packets(out, case, name)? || ask_stream(out, case, name)?))
 }
 
-// The same of a question about the guest.
+// Writes down the answer to a question about the guest. Returns false if it is no such question.
 fn ask_guest(
     out: &mut String,
     built: &mut Rounds,
@@ -158,8 +158,8 @@ fn build<R: Files + Threads + Wait + Sync>(
     Ok(())
 }
 
-// `each FIRST LAST QUESTION`: asked of the prefixes of the text with so many bytes. The first
-// answer that is another than expected is told, or else the last one.
+// `each FIRST LAST QUESTION`: asked of the prefixes of the stream with so many bytes. The first
+// answer that is another than expected is written down, or else the last one.
 fn each(out: &mut String, case: &mut Case, mut words: Words, wanted: Option<&str>) -> Done {
     let first = words.size()?;
     let last = words.size()?;
@@ -178,7 +178,7 @@ fn each(out: &mut String, case: &mut Case, mut words: Words, wanted: Option<&str
     Ok(())
 }
 
-// Writes down alone what the front of the text is answered, which takes the text's place.
+// Writes down alone the answer on the front of the stream, which replaces the stream.
 fn ask_front(out: &mut String, case: &mut Case, front: &[u8], name: &str) -> Done {
     *case.text()? = Vec::from_slice(case.alloc, front)?;
     out.clear();

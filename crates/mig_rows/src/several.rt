@@ -1,4 +1,4 @@
-//! Questions about texts as those of a load on several channels.
+//! Questions about streams as those of a load on several channels.
 
 use crate::show::put_loaded;
 use mig_cases::{Case, Done, Trouble};
@@ -10,8 +10,8 @@ use mig_stream::Frame;
 use std::sync::Wait;
 use std::thread::Threads;
 
-/// Writes down what loading the texts is answered: the first is the main stream, and each further
-/// one a channel's.
+/// Writes down what loading the streams answers: the first is the main stream, and each further one
+/// a channel.
 pub fn load_several<R: Threads + Wait + Sync>(out: &mut String, rt: &R, case: &Case) -> Done {
     let Some((main, channels)) = case.texts.split_first() else {
         return Err(Trouble::Line);

@@ -1,4 +1,4 @@
-//! Questions about the last text as a stream.
+//! Questions about the last stream of a case.
 
 use crate::show::{put_loaded, put_records, put_stream_state};
 use mig_cases::{Case, Done, Trouble, agree, put_fed, put_table};
@@ -7,7 +7,7 @@ use mig_single_load::{LoadSettings, SingleLoader, load_single, load_single_in, s
 use mig_stream::{Frame, Mode, StreamReader, StreamRound, StreamState};
 use std::alloc::Global;
 
-/// Writes down what such a question is answered; false where it is none of them.
+/// Writes down the answer to such a question. Returns false if it is none of them.
 pub fn ask_stream(out: &mut String, case: &Case, name: &str) -> Result<bool, Trouble> {
     let text: &[u8] = case.texts.last().ok_or(Trouble::Line)?;
     let answered = match name {
@@ -34,8 +34,8 @@ fn load(out: &mut String, case: &Case, text: &[u8]) -> Done {
     put_loaded(out, &loaded)
 }
 
-// Where the text is closed as a single stream: of the text itself, and of a loader that is fed it in
-// pieces.
+// Writes down where the bytes are closed as a single stream: by themselves, and by a loader that is
+// fed them in pieces.
 fn closed(out: &mut String, case: &Case, text: &[u8]) -> Done {
     for len in &case.pieces {
         let len = if *len == 0 { text.len().max(1) } else { *len };
@@ -52,7 +52,7 @@ fn closed(out: &mut String, case: &Case, text: &[u8]) -> Done {
     agree_of_text(out, &answer)
 }
 
-// Where a loader finds the text closed that is fed it in pieces of a length.
+// Writes down where a loader finds the stream closed that is fed it in pieces of `len` bytes.
 fn closed_in_pieces(out: &mut String, case: &Case, text: &[u8], len: usize) -> Done {
     if !is_page_size(case.page_size) || case.limit > MAX_TOTAL {
         return Err(Trouble::Line);
@@ -68,7 +68,7 @@ fn closed_in_pieces(out: &mut String, case: &Case, text: &[u8], len: usize) -> D
     put_place_closed(out, loader.closed_at())
 }
 
-// How many bytes a stream has, or `none`.
+// Writes down how many bytes a stream has, or `none`.
 fn put_place_closed(out: &mut String, closed_at: Option<u64>) -> Done {
     match closed_at {
         Some(len) => Ok(write!(out, "{len}")?),
@@ -76,7 +76,7 @@ fn put_place_closed(out: &mut String, closed_at: Option<u64>) -> Done {
     }
 }
 
-// What a stream is read as.
+// Returns what a stream is read as.
 fn frame_of(case: &Case) -> Frame {
     if case.is_machine {
         Frame::Machine
@@ -85,7 +85,7 @@ fn frame_of(case: &Case) -> Frame {
     }
 }
 
-/// A reader, as the case tells it.
+/// Creates a reader with the settings of the case.
 pub fn reader_of(case: &Case, mode: Mode) -> Result<StreamReader<'static>, Trouble> {
     if !is_page_size(case.page_size) || case.limit > MAX_TOTAL {
         return Err(Trouble::Line);
@@ -94,7 +94,7 @@ pub fn reader_of(case: &Case, mode: Mode) -> Result<StreamReader<'static>, Troub
     Ok(StreamReader::new_in(case.alloc, frame, mode, case.page_size, case.limit))
 }
 
-/// Feeds a piece, where the text isn't over or too long.
+/// Feeds a piece, unless the stream has ended or is too long.
 pub fn feed(reader: &mut StreamReader, piece: &[u8]) -> Done {
     if reader.ended() || reader.fed().checked_add(piece.len() as u64).is_none() {
         return Err(Trouble::Line);
@@ -103,7 +103,7 @@ pub fn feed(reader: &mut StreamReader, piece: &[u8]) -> Done {
     Ok(())
 }
 
-/// The whole rounds that a reader has, START's first.
+/// Returns the complete rounds that a reader has, START's first.
 pub fn rounds_of<'a>(
     alloc: Global,
     reader: &mut StreamReader<'a>,
@@ -130,7 +130,7 @@ fn read(out: &mut String, case: &Case, mode: Mode, text: &[u8]) -> Done {
     agree_of_text(out, &answer)
 }
 
-// Keeps the answer where a reader that is made of the text gives the same.
+// Keeps the answer if a reader that is made of the complete stream gives it too.
 fn agree_of_text(wanted: &mut String, answer: &str) -> Done {
     if wanted.as_str() != answer {
         write!(wanted, ", but of the text itself {answer}")?;
@@ -138,7 +138,8 @@ fn agree_of_text(wanted: &mut String, answer: &str) -> Done {
     Ok(())
 }
 
-// What a reader finds that is made of the text, and whose rounds lend the pages from it.
+// Writes down what a reader finds that is made of the complete stream, and whose rounds lend the
+// pages from it.
 fn read_of_text(out: &mut String, case: &Case, mode: Mode, text: &[u8]) -> Done {
     if !is_page_size(case.page_size) || case.limit > MAX_TOTAL {
         return Err(Trouble::Line);
@@ -155,7 +156,7 @@ fn read_of_text(out: &mut String, case: &Case, mode: Mode, text: &[u8]) -> Done 
     put_reader(out, case, &mut reader, text)
 }
 
-// What a reader finds that is fed the text in pieces of a length.
+// Writes down what a reader finds that is fed the stream in pieces of `len` bytes.
 fn read_in_pieces(out: &mut String, case: &Case, mode: Mode, text: &[u8], len: usize) -> Done {
     let mut reader = reader_of(case, mode)?;
     for piece in text.chunks(len.max(1)) {
@@ -164,7 +165,7 @@ fn read_in_pieces(out: &mut String, case: &Case, mode: Mode, text: &[u8], len: u
     put_reader(out, case, &mut reader, text)
 }
 
-// What a reader of a text has found, which is over where the case says so.
+// Writes down what a reader of a stream has found, which has ended if the case says so.
 fn put_reader(out: &mut String, case: &Case, reader: &mut StreamReader, text: &[u8]) -> Done {
     if case.is_over {
         reader.end();
@@ -176,7 +177,7 @@ fn put_reader(out: &mut String, case: &Case, reader: &mut StreamReader, text: &[
     put_fed(out, reader.fed(), text)
 }
 
-// Where a reader closed a text, unless that is behind its last byte.
+// Writes down where a reader closed a stream, unless that is after its last byte.
 fn put_closed_at(out: &mut String, reader: &StreamReader, text: &[u8]) -> Done {
     let is_closed = reader.state() == StreamState::Closed;
     match reader.closed_at() {
@@ -187,7 +188,7 @@ fn put_closed_at(out: &mut String, reader: &StreamReader, text: &[u8]) -> Done {
     }
 }
 
-// The table and the rounds that a reader of a stream has found.
+// Writes down the table and the rounds that a reader of a stream has found.
 fn put_stream(out: &mut String, reader: &mut StreamReader) -> Done {
     match reader.table() {
         Some(table) => put_table(out, table)?,
