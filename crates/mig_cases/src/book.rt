@@ -21,7 +21,7 @@ pub struct Book<'a> {
 }
 
 impl<'a> Book<'a> {
-    /// Reads a file's text.
+    /// Reads a file of cases.
     pub fn new(alloc: Global, text: &'a str) -> Result<Book<'a>, Trouble> {
         let mut book = Book {
             sections: Vec::new(alloc),
@@ -67,7 +67,7 @@ impl<'a> Book<'a> {
         Ok(())
     }
 
-    /// The lines of a name.
+    /// Returns the lines of a name.
     pub fn lines_of(&self, name: &str) -> Result<&[&'a str], Trouble> {
         for section in &self.sections {
             if section.name == name && !section.is_case {

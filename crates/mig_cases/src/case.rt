@@ -1,4 +1,4 @@
-//! What a case has built so far: a guest, texts, and what a call is told beside them.
+//! What a case has built so far: a guest, streams, and the settings of calls.
 
 use crate::guest::Guest;
 use crate::trouble::{Done, Trouble};
@@ -18,13 +18,14 @@ pub struct Case {
     pub channels: usize,
     /// Whether a stream is read as that of a whole machine, and else as RAM's sections alone.
     pub is_machine: bool,
-    /// Whether texts are over when they were fed.
+    /// Whether streams have ended after they were fed.
     pub is_over: bool,
-    /// In pieces of which lengths a text is fed, one length after another; 0 is all at once.
+    /// The lengths of the pieces in which a stream is fed, one length after another; 0 is all at
+    /// once.
     pub pieces: Vec<usize>,
     pub blocks: Vec<(Vec<u8>, u64)>,
     pub guest: Option<Guest>,
-    /// The texts, of which the lines change the last one.
+    /// The streams, of which the lines change the last one.
     pub texts: Vec<Vec<u8>>,
 }
 
@@ -45,7 +46,7 @@ impl Case {
         })
     }
 
-    /// Takes a line that builds something; false where the line is no such line.
+    /// Takes a line that builds something. Returns false if the line is no such line.
     pub fn take<R: Files>(&mut self, rt: &R, name: &str, words: Words) -> Result<bool, Trouble> {
         if name == "file" {
             self.file(rt, words)?;
@@ -58,7 +59,7 @@ impl Case {
         )
     }
 
-    // What calls are told beside the texts.
+    // Takes a line on the settings of calls. Returns false if the line is no such line.
     fn setting(&mut self, name: &str, mut words: Words) -> Result<bool, Trouble> {
         match name {
             "page" => {
@@ -87,7 +88,8 @@ impl Case {
         Ok(())
     }
 
-    // Blocks, and what is done to the guest.
+    // Takes a line on blocks, or on what is done to the guest. Returns false if the line is no such
+    // line.
     fn change_guest(&mut self, name: &str, words: Words) -> Result<bool, Trouble> {
         let alloc = self.alloc;
         match name {
@@ -108,7 +110,7 @@ impl Case {
         Ok(true)
     }
 
-    /// The table of the blocks, or why they make none.
+    /// Returns the table of the blocks, or why they make none.
     pub fn table(&self) -> Result<Result<Table, TableFault>, Trouble> {
         let mut list = Vec::new(self.alloc);
         for (id, pages) in &self.blocks {
@@ -120,7 +122,7 @@ impl Case {
         Ok(Table::new(self.alloc, self.page_size, list))
     }
 
-    /// The guest, which the first line that needs it makes of the blocks.
+    /// Returns the guest, which the first line that needs it makes of the blocks.
     pub fn guest(&mut self) -> Result<&mut Guest, Trouble> {
         if self.guest.is_none() {
             let table = self.table()?.ok().ok_or(Trouble::Line)?;

@@ -53,7 +53,7 @@ impl Fields {
         Ok(())
     }
 
-    /// The contents of its normal pages.
+    /// Returns the contents of its normal pages.
     pub fn contents(&self, alloc: Global, page_size: u64) -> Result<Vec<u8>, Trouble> {
         let mut page = vec![in alloc; self.fill; page_size as usize]?;
         if let (Some(first), Some(place)) = (self.first, page.first_mut()) {
@@ -66,7 +66,7 @@ impl Fields {
         Ok(contents)
     }
 
-    /// Appends the packet to a text.
+    /// Appends the packet to `text`.
     pub fn put(&self, page_size: u64, text: &mut Vec<u8>, contents: &[u8]) -> Done {
         if !is_page_size(page_size) {
             return Err(Trouble::Line);

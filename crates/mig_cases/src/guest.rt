@@ -14,7 +14,7 @@ pub struct Guest {
 }
 
 impl Guest {
-    /// Zeros, without a mark.
+    /// Creates a guest of zeros, without a mark.
     pub fn new(alloc: Global, table: &Table) -> Result<Guest, Trouble> {
         Ok(Guest {
             image: Memory::zeroed(alloc, table)?,
@@ -22,7 +22,7 @@ impl Guest {
         })
     }
 
-    /// Marks a page, and says whether it is new; None where the table lacks it.
+    /// Marks a page, and returns whether it is new. None if the table lacks it.
     pub fn mark(&mut self, place: Place) -> Option<bool> {
         if !self.dirty.table().holds(place) {
             return None;
@@ -30,8 +30,8 @@ impl Guest {
         self.dirty.mark(place).ok()
     }
 
-    /// Takes the mark of a page away, and says how many marks are left; None where the table lacks
-    /// the page.
+    /// Removes the mark of a page, and returns how many marks are left. None if the table lacks the
+    /// page.
     pub fn unmark(&mut self, place: Place) -> Option<u64> {
         if !self.dirty.table().holds(place) {
             return None;
@@ -105,7 +105,7 @@ impl Guest {
         Ok(())
     }
 
-    /// The guest as it is now, with its marks, which it no longer has afterwards.
+    /// Returns the guest as it is now, with its marks, which it no longer has afterwards.
     pub fn take_round(&mut self, alloc: Global) -> Result<Guest, Trouble> {
         let image = self.image.try_copy()?;
         let unmarked = Dirty::none(alloc, self.image.table())?;

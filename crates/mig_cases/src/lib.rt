@@ -1,10 +1,10 @@
-//! Worked examples as data: what a case is. A file of cases and its words; the guest and the texts
-//! that a case's lines build; and the questions that guest memory and packets answer.
+//! Worked examples as data: what a case is. It has a file of cases and its words; the guest and the
+//! streams that a case's lines build; and the questions that guest memory and packets answer.
 //!
 //! `mig_rows` runs such files: it adds rounds, streams and loads. `mig_tool_cases` runs files whose
-//! questions are the tool's words. `Count` compares the answers, for both. `docs/EXAMPLES.md` has
-//! all the lines. This crate stands on guest memory and packets alone, and is proved beside the
-//! stream. It is no part of the product, and no function here has a contract.
+//! questions are the tool's words. `Count` compares the answers, for each of the two.
+//! `docs/EXAMPLES.md` has all the lines. This crate stands on guest memory and packets alone, and
+//! is proved beside the stream. It is no part of the product, and no function here has a contract.
 #![tactic(auto)]
 
 mod book;

@@ -6,7 +6,7 @@ use crate::trouble::{Done, Trouble};
 use crate::words::{Words, id_of};
 use mig_mem::{Place, first_difference, is_page_size};
 
-/// Writes down what such a question is answered; false where it is none of them.
+/// Writes down the answer to such a question. Returns false if it is none of them.
 pub fn ask_memory(
     out: &mut String,
     case: &mut Case,
@@ -91,7 +91,7 @@ fn page_size(out: &mut String, mut words: Words) -> Done {
     put_answer(out, is_page_size(words.number()?))
 }
 
-// By the method, and by the operator.
+// Asks by the method, and by the operator.
 fn is_before(out: &mut String, mut words: Words) -> Done {
     let one = place_of(&mut words)?;
     let other = place_of(&mut words)?;

@@ -1,4 +1,4 @@
-//! Questions about the last text as bytes, as a hello, a packet or a channel, as `mig_rows` asks
+//! Questions about the last stream as bytes, as a hello, a packet or a channel, as `mig_rows` asks
 //! them.
 
 use crate::case::Case;
@@ -7,7 +7,7 @@ use crate::trouble::{Done, Trouble};
 use mig_mem::is_page_size;
 use mig_packet::{ChannelReader, HelloRead, PacketRead, read_hello, read_packet};
 
-/// Writes down what such a question is answered; false where it is none of them.
+/// Writes down the answer to such a question. Returns false if it is none of them.
 pub fn ask_packets(out: &mut String, case: &Case, name: &str) -> Result<bool, Trouble> {
     let text: &[u8] = case.texts.last().ok_or(Trouble::Line)?;
     let answered = match name {
@@ -22,7 +22,7 @@ pub fn ask_packets(out: &mut String, case: &Case, name: &str) -> Result<bool, Tr
     Ok(true)
 }
 
-/// Keeps the answer of a call that is to be the same in whatever pieces a text is fed.
+/// Keeps the answer of a call that is to be the same in whatever pieces a stream is fed.
 pub fn agree(wanted: &mut String, answer: &str, len: usize) -> Done {
     if wanted.is_empty() {
         wanted.push_str(answer)?;
@@ -32,7 +32,7 @@ pub fn agree(wanted: &mut String, answer: &str, len: usize) -> Done {
     Ok(())
 }
 
-/// The number of bytes fed, where it isn't the text's.
+/// Writes down the number of bytes fed, if it isn't the stream's.
 pub fn put_fed(out: &mut String, fed: u64, text: &[u8]) -> Done {
     if fed != text.len() as u64 {
         out.push_str("; fed ")?;
@@ -41,7 +41,8 @@ pub fn put_fed(out: &mut String, fed: u64, text: &[u8]) -> Done {
     Ok(())
 }
 
-/// A reader that was fed a channel's text in pieces of a length, as the case tells it.
+/// Creates a reader, and feeds it a channel in pieces of `len` bytes, with the settings of the
+/// case.
 pub fn reader_of_channel(case: &Case, text: &[u8], len: usize) -> Result<ChannelReader, Trouble> {
     if !is_page_size(case.page_size) || case.channels < 1 || case.channels > 255 {
         return Err(Trouble::Line);
@@ -68,7 +69,7 @@ fn read_channel(out: &mut String, case: &Case, text: &[u8]) -> Done {
     Ok(())
 }
 
-// Feeds a piece, where the text isn't over or too long.
+// Feeds a piece, unless the channel has ended or is too long.
 fn feed(reader: &mut ChannelReader, piece: &[u8]) -> Done {
     if reader.ended() || reader.fed().checked_add(piece.len() as u64).is_none() {
         return Err(Trouble::Line);
@@ -77,7 +78,7 @@ fn feed(reader: &mut ChannelReader, piece: &[u8]) -> Done {
     Ok(())
 }
 
-// What a reader of a channel has found.
+// Writes down what a reader of a channel has found.
 fn put_channel(out: &mut String, reader: &mut ChannelReader) -> Done {
     put_channel_state(out, reader.state())?;
     match reader.hello_id() {

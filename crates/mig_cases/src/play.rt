@@ -1,5 +1,5 @@
-//! The counting of cases and of their answers, and what is printed of them. What the lines of a case
-//! build, and how its questions are answered, is in the program that plays it.
+//! Counts cases and their answers, and prints what is to be printed of them. What the lines of a
+//! case build, and how its questions are answered, is in the program that plays it.
 
 use crate::book::Book;
 use crate::trouble::Trouble;
@@ -58,7 +58,7 @@ impl Count {
         }
     }
 
-    /// Reads a file's text. Where it is no file of cases, counts and prints a wrong answer.
+    /// Reads a file of cases. If it is none, counts and prints a wrong answer.
     pub fn book<'a, W: Write>(
         &mut self,
         alloc: Global,
@@ -110,7 +110,7 @@ impl Count {
         Ok(true)
     }
 
-    // Counts an answer. Prints it where it is wrong, or has none beside it.
+    // Counts an answer. Prints it if it is wrong, or has none beside it.
     fn compare<W: Write>(
         &mut self,
         out: &mut W,

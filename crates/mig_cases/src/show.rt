@@ -21,8 +21,8 @@ fn put_hex(out: &mut String, byte: u8) -> Done {
     Ok(())
 }
 
-/// Bytes as runs of one byte, `09,00*4095`, or as the beginning of their SHA-1 sum in hexadecimal
-/// digits.
+/// Writes down bytes as runs of one byte, `09,00*4095`, or as the beginning of their SHA-1 sum in
+/// hexadecimal digits.
 pub fn put_bytes(out: &mut String, bytes: &[u8]) -> Done {
     let mut runs = String::new(*out.allocator());
     let mut rest = bytes;
@@ -59,8 +59,8 @@ fn put_sum(out: &mut String, bytes: &[u8]) -> Done {
     Ok(())
 }
 
-/// Whether bytes are those that are wanted, in hexadecimal digits: writes what is wanted where they
-/// are, else what they are.
+/// Compares bytes with those that are wanted, in hexadecimal digits. If they are equal, writes down
+/// what is wanted, else what they are.
 pub fn same_bytes(out: &mut String, bytes: &[u8], wanted: &str) -> Done {
     let other = bytes_of(*out.allocator(), wanted)?;
     if bytes == other.as_slice() {
@@ -69,7 +69,7 @@ pub fn same_bytes(out: &mut String, bytes: &[u8], wanted: &str) -> Done {
     put_other_bytes(out, bytes, &other)
 }
 
-// What bytes are that aren't those that are wanted.
+// Writes down bytes that aren't those that are wanted.
 fn put_other_bytes(out: &mut String, bytes: &[u8], wanted: &[u8]) -> Done {
     for (i, (one, other)) in bytes.iter().zip(wanted).enumerate() {
         if one != other {
@@ -81,7 +81,7 @@ fn put_other_bytes(out: &mut String, bytes: &[u8], wanted: &[u8]) -> Done {
     Ok(())
 }
 
-/// An id: the text itself, or `0x` and its bytes where it is long or no text.
+/// Writes down an id: as it is, or `0x` and its bytes if it is long or no UTF-8.
 fn put_id(out: &mut String, id: &[u8]) -> Done {
     match str::from_utf8(id) {
         Ok(text) if id.len() <= 16 => Ok(out.push_str(text)?),
@@ -119,7 +119,7 @@ impl Pages {
         }
     }
 
-    /// Adds a page, whose number is written behind some text. No content is a zero record.
+    /// Adds a page, whose number is written after `before`. No content is a zero record.
     pub fn add(&mut self, out: &mut String, before: &str, page: u64, bytes: Option<&[u8]>) -> Done {
         let mut content = String::new(*out.allocator());
         match bytes {
@@ -169,7 +169,7 @@ impl Pages {
     }
 }
 
-/// A memory: its pages that aren't zeros.
+/// Writes down a memory: its pages that aren't zeros.
 pub fn put_memory(out: &mut String, memory: &Memory) -> Done {
     let alloc = *out.allocator();
     let mut pages = Pages::new(alloc, 1);
@@ -191,7 +191,7 @@ pub fn put_memory(out: &mut String, memory: &Memory) -> Done {
     pages.end(out)
 }
 
-/// A table: each block's id and pages.
+/// Writes down a table: each block's id and pages.
 pub fn put_table(out: &mut String, table: &Table) -> Done {
     for block in 0..table.len() {
         if block > 0 {
@@ -213,7 +213,7 @@ pub(crate) fn put_table_fault(out: &mut String, fault: TableFault) -> Done {
     Ok(())
 }
 
-/// A place, as `0.3`, or `none`.
+/// Writes down a place, as `0.3`, or `none`.
 pub fn put_place(out: &mut String, place: Option<Place>) -> Done {
     match place {
         Some(place) => write!(out, "{}.{}", place.block, place.page)?,
@@ -239,7 +239,7 @@ pub(crate) fn put_channel_state(out: &mut String, state: ChannelState) -> Done {
     Ok(())
 }
 
-/// A packet: its number, `sync`, its block's id, and its pages by their offsets.
+/// Writes down a packet: its number, `sync`, its block's id, and its pages by their offsets.
 pub fn put_packet(out: &mut String, packet: &Packet<'_>) -> Done {
     out.push_str(" #")?;
     put_number(out, packet.number())?;

@@ -1,4 +1,4 @@
-//! The texts of a case: new ones, and changes of the last one.
+//! The streams of a case: new ones, and changes of the last one.
 
 use crate::case::Case;
 use crate::fields::Fields;
@@ -10,12 +10,12 @@ use std::io::Read;
 use std::rt::Files;
 
 impl Case {
-    /// The text that the lines change.
+    /// Returns the stream that the lines change.
     pub fn text(&mut self) -> Result<&mut Vec<u8>, Trouble> {
         self.texts.last_mut().ok_or(Trouble::Line)
     }
 
-    // Takes a line on the texts; false where the line is no such line.
+    // Takes a line on the streams. Returns false if the line is no such line.
     pub(crate) fn change(&mut self, name: &str, words: Words) -> Result<bool, Trouble> {
         let changed = match name {
             "new" => Ok(self.texts.push(Vec::new(self.alloc))?),
@@ -43,7 +43,7 @@ impl Case {
         Ok(())
     }
 
-    // `hello ID`: of the UUID that readers are told too
+    // `hello ID`: of the UUID that readers are passed too
     fn hello(&mut self, mut words: Words) -> Done {
         let hello = hello(&self.uuid, words.byte()?);
         self.text()?.extend_from_slice(&hello)?;
@@ -100,7 +100,7 @@ impl Case {
         self.splice(to, to, &part)
     }
 
-    // Puts bytes in the place of those between two places.
+    // Replaces the bytes between two places by others.
     fn splice(&mut self, from: usize, to: usize, bytes: &[u8]) -> Done {
         let alloc = self.alloc;
         let text = self.text()?;

@@ -1,4 +1,4 @@
-//! Why a line of a case can't be followed: what every module here answers, and `play` prints.
+//! Why a line of a case can't be followed: what every module here returns, and `play` prints.
 
 use mig_mem::NoMemory;
 use std::alloc::{AllocError, AllocFailed};
@@ -14,7 +14,7 @@ pub enum Trouble {
 pub type Done = Result<(), Trouble>;
 
 impl Trouble {
-    /// What is written of it.
+    /// Returns the words that are printed for it.
     pub fn text(self) -> &'static str {
         match self {
             Trouble::Line => "the line can't be followed",

@@ -9,12 +9,12 @@ pub struct Words<'a> {
     rest: &'a str,
 }
 
-/// A number as words write it, in decimals.
+/// Reads a number as words write it, in decimals.
 pub fn number_of(word: &str) -> Result<u64, Trouble> {
     word.parse::<u64>().ok().ok_or(Trouble::Line)
 }
 
-/// Numbers from the first to the last: `3`, or `0-127`.
+/// Reads numbers from the first to the last: `3`, or `0-127`.
 pub fn range_of(word: &str) -> Result<(u64, u64), Trouble> {
     match word.split_once('-') {
         Some((first, last)) => Ok((number_of(first)?, number_of(last)?)),
@@ -34,12 +34,12 @@ impl<'a> Words<'a> {
         self.rest.is_empty()
     }
 
-    /// All that is left.
+    /// Returns all that is left.
     pub fn rest(self) -> &'a str {
         self.rest
     }
 
-    /// The next word.
+    /// Takes the next word.
     pub fn word(&mut self) -> Result<&'a str, Trouble> {
         if self.rest.is_empty() {
             return Err(Trouble::Line);
@@ -74,7 +74,7 @@ impl<'a> Words<'a> {
     }
 }
 
-// A word and how often it stands: `00*40`.
+// Reads a word and how often it stands: `00*40`.
 fn repeated(word: &str) -> Result<(&str, u64), Trouble> {
     match word.split_once('*') {
         Some((word, times)) => Ok((word, number_of(times)?)),
@@ -94,8 +94,8 @@ fn add_bytes(alloc: Global, bytes: &mut Vec<u8>, word: &str) -> Done {
     Ok(())
 }
 
-/// The bytes of hexadecimal digits with spaces anywhere between bytes, some of them repeated: `01
-/// 61 00*4095`.
+/// Reads the bytes of hexadecimal digits with spaces anywhere between bytes, some of them repeated:
+/// `01 61 00*4095`.
 pub fn bytes_of(alloc: Global, text: &str) -> Result<Vec<u8>, Trouble> {
     let mut bytes = Vec::new(alloc);
     for word in text.split(' ') {
@@ -106,7 +106,7 @@ pub fn bytes_of(alloc: Global, text: &str) -> Result<Vec<u8>, Trouble> {
     Ok(bytes)
 }
 
-/// The bytes of a block's id: the text itself, or after `0x` bytes in hexadecimal digits.
+/// Reads the bytes of a block's id: the word itself, or after `0x` bytes in hexadecimal digits.
 pub fn id_of(alloc: Global, text: &str) -> Result<Vec<u8>, Trouble> {
     match text.strip_prefix("0x") {
         Some(digits) => bytes_of(alloc, digits),
@@ -131,7 +131,7 @@ fn add_offsets(offsets: &mut Vec<u64>, item: &str, page_size: u64) -> Done {
     Ok(())
 }
 
-/// Offsets, separated by commas.
+/// Reads offsets, separated by commas.
 pub fn offsets_of(alloc: Global, list: &str, page_size: u64) -> Result<Vec<u64>, Trouble> {
     let mut offsets = Vec::new(alloc);
     for item in list.split(',') {
