@@ -1,4 +1,5 @@
--- The marks of a scenario's guest are faithful: what its rounds leave is its memory, where no step follows the last of them.
+-- The marks of a scenario's guest are faithful: what its rounds leave is its memory, where no step
+-- follows the last of them.
 use Rattle.std.proofs.Common.{ℕ, ◌≡◌, ◌*◌, ◌/◌, ◌%◌, List, [], ◌∷◌, ◌++◌, length, set, replicate, refl, sym, ap, subst, ◌∙◌, inl, inr, append_assoc, append-nil, None, true, false, ◌||◌, ◌&&◌, cond}
 use Rattle.std.specs.Prelude.{All, Contains, IsTrue, position, nat_lt}
 use Rattle.std.specs.List.{fold, after_last}
@@ -211,7 +212,8 @@ snapshot_round table s is =
     let within : All (IsPlace s.image.table) s.dirty = rw is.has_table is.has_dirty in
     subst (λ (t : RamTable). IsRound t (round_of s.image s.dirty)) is.has_table (image_round s.image s.dirty is.is_image within)
 
--- A SCENARIO THAT HAS NO STEP AFTER ITS LAST ROUND leaves what its rounds make of a memory of zeros.
+-- A SCENARIO THAT HAS NO STEP AFTER ITS LAST ROUND leaves what its rounds make of a memory of
+-- zeros.
 pub played_is_sent : (table : RamTable) (ls : List ScenarioLine) → IsTable table → All (λ l. IsTrue (is_within table l)) ls → unsent ls ≡ None
     → after table (rounds_of (played table ls).snapshots) ≡ (played table ls).image
 played_is_sent table ls is within none =

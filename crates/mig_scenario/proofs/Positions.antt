@@ -1,4 +1,5 @@
--- The first element that passes a test, and what stands after the last one: at a list's first element.
+-- The first element that passes a test, and what stands after the last one: at a list's first
+-- element.
 use Rattle.std.proofs.Common.{ℕ, ◌≡◌, ◌<◌, ◌≤◌, ◌+◌, ◌-◌, List, [], ◌∷◌, length, drop, reverse, suc, refl, ap, ◌∙◌, inl, inr, arith, Option, Some, None, Bool, true, false, cond, eqb}
 use Rattle.std.specs.Prelude.{position, nat_lt, not}
 use Rattle.std.proofs.lemmas.Grind.{reverse_onto}

@@ -1,4 +1,4 @@
--- The lines of a text that are still to be read.
+-- The lines of an input that are still to be read.
 use Rattle.std.proofs.Common.{ℕ, ◌≡◌, ◌<◌, ◌+◌, List, [], ◌∷◌, ◌++◌, length, map, cond, Option, Some, None, true, suc, refl, sym, ap, ◌∙◌, arith}
 use Rattle.std.specs.Prelude.{MatchOption, is_none, position, nat_lt}
 use Rattle.std.specs.Borrow.{Bor}
@@ -9,7 +9,7 @@ use Rattle.mig_scenario.specs.declared.fault.ScenarioFault.TheVariants as fault
 use Rattle.mig_scenario.specs.Line.{ScenarioLine, lines, line_of}
 use Rattle.mig_scenario.specs.Scenario.{forms, first_line}
 
--- what is left of a text, where a line follows
+-- what is left of an input, where a line follows
 abbrev pub left_forms : Option (Bor (List ℕ)) → List (Option ScenarioLine)
 left_forms None = []
 left_forms (Some text) = forms text.now

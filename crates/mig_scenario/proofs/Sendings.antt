@@ -83,7 +83,7 @@ texts_like table old new snapshots texts like are = record {
   several_texts = several_like table snapshots old.several new.several texts.several like.several_like are.several_texts;
 }
 
--- where there is a sender of a single stream, there is its text
+-- where there is a sender of a single stream, there is its stream
 pub has_text : {X Y : Type 0} (s : Option X) (text : Option Y) (P : Y → Type 0) → is_some s ≡ true
     → MatchOption s (text ≡ None) (λ x. IsSomeAnd text P) → IsSomeAnd text P
 has_text None text P e h = absurd cc
@@ -108,7 +108,7 @@ pub none_sent : {X : Type 0} (o : Option X) (P : X → Type 0) → ((x : X) → 
 none_sent None P other = tt
 none_sent (Some x) P other = absurd (other x refl)
 
--- without a sender there is no text
+-- without a sender there is no stream
 pub no_text_of : {X Y : Type 0} (s : Option X) (t : Option Y) (P : Y → Type 0) → s ≡ None → t ≡ None → MatchOption s (t ≡ None) (λ x. IsSomeAnd t P)
 no_text_of s t P none no_text = rw none no_text
 
@@ -142,7 +142,7 @@ dealt_more old new (Err e) o snapshots s is one good sent = absurd cc
 pub kept_on : (o p : Option MultiSending) (old new : MultiSending) → o ≡ Some old → p ≡ Some new → KeepsSetting old new → IsKept o p
 kept_on o p old new is after keeps = rw (is, after) keeps
 
--- texts of which nothing was drained are whole
+-- streams of which nothing was drained are complete
 undrained : (texts : List (List ℕ)) → whole_texts nothing_drained texts ≡ texts
 undrained texts =
     let n : ℕ = length texts in

@@ -1,4 +1,5 @@
--- The judgements of some lines as a loop makes them: line by line, with what is known of the lines before.
+-- The judgements of some lines as a loop makes them: line by line, with what is known of the lines
+-- before.
 use Rattle.std.proofs.Common.{ℕ, ◌≡◌, ◌≤◌, ◌+◌, ◌-◌, List, [], ◌∷◌, length, drop, suc, refl, sym, ap, ◌∙◌, ◌⊎◌, inl, inr, arith, Option, Some, None, Bool, true, false, cond}
 use Rattle.std.specs.Prelude.{position}
 use Rattle.std.specs.List.{after_last}

@@ -1,4 +1,4 @@
--- Why a text is no scenario, once each of its lines has a form.
+-- Why an input is no scenario, once each of its lines has a form.
 use Rattle.std.proofs.Common.{ℕ, ◌≡◌, List, [], ◌∷◌, map, suc, refl, sym, ap, ◌∙◌, arith, Option, Some, None, Bool, true, false, cond}
 use Rattle.std.specs.Prelude.{position, not, is_none, All, IsTrue}
 use Rattle.std.specs.Option.{option_map}

@@ -21,8 +21,8 @@ pub record ScenarioGuest : Type 0 where
 abbrev pub new_guest : RamTable → ScenarioGuest
 new_guest table = record { image = zero_image table; dirty = record { table = table; marked = [] }; snapshots = [] }
 
--- A `set` writes one byte and marks its page, a `fill` writes and marks a page, a `touch` only marks it. A round takes the
--- image with its marks, and the marks are cleared.
+-- A `set` writes one byte and marks its page, a `fill` writes and marks a page, a `touch` only
+-- marks it. A round takes the image with its marks, and the marks are cleared.
 abbrev pub after_step : ScenarioGuest → Step → ScenarioGuest
 after_step g (Set b offset byte) = record g {
   image = with_byte g.image b offset byte;

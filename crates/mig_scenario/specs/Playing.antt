@@ -21,7 +21,7 @@ AreOf rounds snapshots = map (λ round. round.snapshot) rounds ≡ snapshots
 abbrev pub HasDealt : MultiSending → List Snapshot → Type 0
 HasDealt sender snapshots = (rounds : List DealtRound) × AreOf rounds snapshots × HasSentRounds nothing_drained sender rounds
 
--- the texts are those of a sending of these snapshots, however they were dealt
+-- the streams are those of a sending of these snapshots, however they were dealt
 abbrev pub IsSentOf : {A : Type 0} → RamTable → List ℕ → ℕ → ℕ → List Snapshot → Sent A → Type 0
 IsSentOf table uuid limit channels snapshots sent = (rounds : List DealtRound) × AreOf rounds snapshots
     × IsSending table uuid limit channels rounds sent.main.items (texts_of sent.channels.items)
@@ -51,7 +51,8 @@ pub record AreLike {A : Type 0} (old new : Senders A) : Type 0 where
   pub single_like : is_some new.single ≡ is_some old.single
   pub several_like : MatchOption old.several (new.several ≡ None) (λ s. IsSomeAnd new.several (λ t. KeepsSetting s t))
 
--- What each sender wrote, where there is one: the stream of these snapshots' rounds, and a sending of them.
+-- What each sender wrote, where there is one: the stream of these snapshots' rounds, and a sending
+-- of them.
 pub record AreTexts {A : Type 0} (table : RamTable) (senders : Senders A) (snapshots : List Snapshot) (texts : Texts A) : Type 0 where
   pub single_text : MatchOption senders.single (texts.single ≡ None) (λ s. IsSomeAnd texts.single (λ text. text.items ≡ single table (rounds_of snapshots)))
   pub several_texts : MatchOption senders.several (texts.several ≡ None)

@@ -17,7 +17,7 @@ known [] = []
 known (None ∷ rest) = known rest
 known (Some line ∷ rest) = line ∷ known rest
 
--- what the lines of a text say
+-- what the lines of an input say
 abbrev pub forms : List ℕ → List (Option ScenarioLine)
 forms text = map line_of (lines text)
 
@@ -73,7 +73,7 @@ is_within table other = true
 abbrev pub unsent : List ScenarioLine → Option ℕ
 unsent ls = let rest = after_last is_round ls in option_map (λ i. length ls - length rest + suc i) (position is_step rest)
 
--- Why a text is no scenario of pages of this size: the first that applies.
+-- Why an input is no scenario of pages of this size: the first that applies.
 abbrev pub refusal : ℕ → List ℕ → Option ScenarioFault
 refusal page_size text = let ls = lines_of text in first_some (
     option_map fault.Syntax (first_line is_none (forms text))

@@ -1,11 +1,11 @@
-//! Why a text is no scenario, by name and number.
+//! Why an input is no scenario, by name and number.
 
 ghost use Rattle.std.specs.Prelude.{◌≡◌};
 ghost use Rattle.mig_scenario.specs.FaultNumber.{scenario_number};
 
 use mig_mem::{NoMemory, TableFault};
 
-/// Why a text is no scenario. A line is told by its number, from 1.
+/// Why an input is no scenario. A line is reported by its number, from 1.
 #[derive(Clone, Copy, Debug, PartialEq, Eq)]
 pub enum ScenarioFault {
     /// A line has no form.
@@ -23,7 +23,7 @@ pub enum ScenarioFault {
 }
 
 impl ScenarioFault {
-    /// The fault's number in documents and in the tool's output.
+    /// Returns the fault's number, as documents and the tool's output have it.
     pub fn number(self) -> u8
         ensures { result ≡ scenario_number self }
     {

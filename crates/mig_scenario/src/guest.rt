@@ -1,4 +1,4 @@
-//! The guest of a scenario: it plays the lines, and hands each round on as it comes.
+//! The guest of a scenario: it plays the lines, and sends each round as it comes.
 
 ghost use Rattle.std.specs.Prelude.{◌≡◌, map, replicate, [], All, IsTrue, IfOk, OnOk};
 ghost use Rattle.mig_mem.specs.Place.{place_at, IsPlace};
@@ -25,14 +25,14 @@ struct Guest<A: Allocator = Global> {
     senders: Senders<A>,
 }
 
-/// What became of a scenario: the guest's memory in the end, and the texts of its rounds.
+/// What became of a scenario: the guest's memory in the end, and the streams of its rounds.
 #[derive(Drop)]
 pub struct Played<A: Allocator = Global> {
     pub image: Memory<A>,
     pub texts: Texts<A>,
 }
 
-// As many bytes as the largest page has, all the same.
+// Returns as many bytes `byte` as the largest page has.
 fn bytes_of(byte: u8) -> [u8; PAGE_SIZE_8K as usize]
     ensures { result ≡ replicate 8192 byte }
 {
@@ -56,7 +56,7 @@ fn fill_page<A: Allocator>(image: &mut Memory<A>, place: Place, byte: u8)
 }
 
 impl<A: Allocator + Copy + Send + Sync> Guest<A> {
-    // Zeros, without a mark and without a round.
+    // Creates a guest of zeros, without a mark and without a round.
     fn new(alloc: A, table: &Table<A>, senders: Senders<A>) -> Result<Guest<A>, NoMemory>
         requires table { AreSendersOf table.now senders }
         requires fresh { HaveSent senders [] }
@@ -126,6 +126,10 @@ impl<A: Allocator + Copy + Send + Sync> Guest<A> {
 }
 
 /// Plays the lines of a scenario, and sends its rounds.
+///
+/// # Errors
+///
+/// `NoMemory`: an allocation was refused.
 pub fn play<H: Threads + Sync, A: Allocator + Copy + Send + Sync>(
     rt: &H,
     alloc: A,

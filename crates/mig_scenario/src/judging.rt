@@ -1,5 +1,4 @@
-//! The judging of a scenario, for `check`: its table and its lines, or the first fault that
-//! applies.
+//! Judges a scenario, for `check`: its table and its lines, or the first fault that applies.
 
 ghost use Rattle.std.specs.Prelude.{◌≡◌, ◌⊎◌, map, None, Some, IfOk, IfErr, OnOk, not, IsTrue, All};
 ghost use Rattle.mig_mem.specs.PageSize.{IsPageSize};
@@ -19,7 +18,7 @@ pub struct Scenario<'a, A: Allocator = Global> {
     pub lines: Vec<Line<'a>, A>,
 }
 
-// The number of the first block after a step.
+// Returns the number of the first block after a step.
 fn late_block(lines: &[Line]) -> Option<usize>
     ensures { result ≡ late_block (map seen lines.now) }
 {
@@ -35,7 +34,7 @@ fn late_block(lines: &[Line]) -> Option<usize>
     None
 }
 
-// The table of the blocks.
+// Returns the table of the blocks.
 fn table_of<A: Allocator + Copy>(
     alloc: A,
     page_size: u64,
@@ -58,14 +57,14 @@ fn table_of<A: Allocator + Copy>(
     Table::new(alloc, page_size, blocks)
 }
 
-// A buffer with the same bytes.
+// Copies some bytes.
 fn copied<A: Allocator>(alloc: A, bytes: &[u8]) -> Result<Vec<u8, A>, NoMemory>
     ensures { IfOk result (λ v. v.items ≡ bytes.now) }
 {
     Ok(Vec::from_slice(alloc, bytes)?)
 }
 
-// Whether a step names a block, and a page or an offset of it, and a byte.
+// Returns whether a step names a block, and a page or an offset of it, and a byte.
 fn is_step_within<A: Allocator>(table: &Table<A>, step: Step) -> bool
     ensures { result ≡ is_step_within table.now step }
 {
@@ -85,7 +84,7 @@ fn is_step_within<A: Allocator>(table: &Table<A>, step: Step) -> bool
     }
 }
 
-// The number of the first line that isn't within the table.
+// Returns the number of the first line that isn't within the table.
 fn out_of_range<A: Allocator>(table: &Table<A>, lines: &[Line]) -> Option<usize>
     ensures { result ≡ first_line (λ l. not (is_within table.now l)) (map seen lines.now) }
 {
@@ -99,7 +98,7 @@ fn out_of_range<A: Allocator>(table: &Table<A>, lines: &[Line]) -> Option<usize>
     None
 }
 
-// The number of the first step after the last round.
+// Returns the number of the first step after the last round.
 fn unsent(lines: &[Line]) -> Option<usize>
     ensures { result ≡ unsent (map seen lines.now) }
 {
@@ -114,7 +113,7 @@ fn unsent(lines: &[Line]) -> Option<usize>
     first
 }
 
-// What a table's fault is for the scenario.
+// Returns what a table's fault is for the scenario.
 fn fault_of(fault: TableFault) -> ScenarioFault
     ensures memory { fault ≡ TableFault.NoMemory → result ≡ ScenarioFault.NoMemory }
     ensures other { (fault ≡ TableFault.NoMemory) ⊎ (result ≡ ScenarioFault.Table fault) }
@@ -125,7 +124,12 @@ fn fault_of(fault: TableFault) -> ScenarioFault
     }
 }
 
-/// The scenario that a text is, with pages of this size, or why it is none.
+/// Returns the scenario that `text` is, with pages of `page_size` bytes, or why it is none.
+///
+/// # Errors
+///
+/// The first fault that applies, in the order of `refusal`, or in place of any `NoMemory`: an
+/// allocation was refused.
 pub fn judge<A: Allocator + Copy>(
     alloc: A,
     page_size: u64,

@@ -19,7 +19,7 @@ pub enum PageSize {
 }
 
 impl PageSize {
-    /// The number of bytes of a page.
+    /// Returns the number of bytes of a page.
     pub fn bytes(self) -> u64
         ensures value { result ≡ bytes_in self }
         ensures size { IsPageSize result }
@@ -30,7 +30,7 @@ impl PageSize {
         }
     }
 
-    /// How many pages a packet has room for.
+    /// Returns how many pages a packet has room for.
     pub fn pages_of_a_packet(self) -> usize
         ensures { result ≡ page_limit (bytes_in self) }
     {

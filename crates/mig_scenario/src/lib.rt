@@ -1,4 +1,4 @@
-//! Scenarios: texts that describe a guest's blocks, what it writes, and when a round is sent.
+//! Scenarios: lines that describe a guest's blocks, what it writes, and when a round is sent.
 //!
 //! `judge` returns the table and the lines of a scenario, or the first fault that applies
 //! (`specs/Line`, `Scenario`). `play` plays the lines on a guest of zeros (`specs/Guest`), and

@@ -1,4 +1,4 @@
-//! The lines of a scenario, for `judge` and `guest`: what a text says, line by line.
+//! The lines of a scenario, for `judge` and `guest`: what an input says, line by line.
 
 ghost use Rattle.std.specs.Prelude.{◌≡◌, ◌<◌, ◌==◌, [], ◌∷◌, ◌⊎◌, length, map, Some, IfOk, IfErr, MatchOption, is_none};
 ghost use Rattle.std.specs.List.{slice_split};
@@ -16,7 +16,7 @@ use std::alloc::Allocator;
 pub enum Step {
     /// Block, offset in it, and the byte that is written.
     Set(u64, u64, u64),
-    /// Block, page, and the byte that the whole page is filled with.
+    /// Block, page, and the byte that the page is filled with.
     Fill(u64, u64, u64),
     /// Block and page that is marked.
     Touch(u64, u64),
@@ -33,7 +33,7 @@ pub enum Line<'a> {
     Step(Step),
 }
 
-// What stands before the first such byte, and what stands after it, where there is one.
+// Returns what stands before the first such byte, and what stands after it, if there is one.
 fn cut(bytes: &[u8], byte: u8) -> (&[u8], Option<&[u8]>)
     ensures { let pieces = slice_split (λ b. b == byte) in
         MatchOption result.1 (pieces bytes.now ≡ result.0.now ∷ [])
@@ -45,7 +45,7 @@ fn cut(bytes: &[u8], byte: u8) -> (&[u8], Option<&[u8]>)
     }
 }
 
-// The number that a word is.
+// Returns the number that a word is.
 fn number(word: &[u8]) -> Option<u64>
     ensures { result ≡ number_said word.now }
 {
@@ -62,7 +62,7 @@ fn number(word: &[u8]) -> Option<u64>
     Some(value)
 }
 
-// The step of a name, two numbers and what follows these.
+// Returns the step of a name, two numbers and what follows these.
 fn step_with(name: &[u8], block: u64, second: u64, third: Option<&[u8]>) -> Option<Step>
     ensures { result ≡ option_and_then (λ ns. step_said name.now (block ∷ second ∷ ns)) (numbers (words_of third.entry)) }
 {
@@ -84,7 +84,7 @@ fn step_with(name: &[u8], block: u64, second: u64, third: Option<&[u8]>) -> Opti
     }
 }
 
-// The step of a name and its fields.
+// Returns the step of a name and its fields.
 fn step_of(name: &[u8], fields: Option<&[u8]>) -> Option<Step>
     ensures { result ≡ option_and_then (step_said name.now) (numbers (words_of fields.entry)) }
 {
@@ -100,7 +100,7 @@ fn step_of(name: &[u8], fields: Option<&[u8]>) -> Option<Step>
     step_with(name, number(block)?, number(second)?, third)
 }
 
-// The block of a line's fields.
+// Returns the block of a line's fields.
 fn block_of(fields: Option<&[u8]>) -> Option<Line<'_>>
     ensures { option_map seen result ≡ block_said (words_of fields.entry) }
 {
@@ -108,7 +108,7 @@ fn block_of(fields: Option<&[u8]>) -> Option<Line<'_>>
     Some(Line::Block(number(pages)?, id?))
 }
 
-/// What a line says, None where it has no form.
+/// Returns what a line says. None if it has no form.
 pub(crate) fn line_of(line: &[u8]) -> Option<Line<'_>>
     ensures { option_map seen result ≡ line_said line.now }
 {
@@ -122,7 +122,7 @@ pub(crate) fn line_of(line: &[u8]) -> Option<Line<'_>>
     Some(Line::Step(step_of(name, fields)?))
 }
 
-/// What all lines of a text say, or the number of the first one that has no form.
+/// Returns what all lines of an input say, or the number of the first one that has no form.
 pub(crate) fn lines_of<A: Allocator>(
     alloc: A,
     text: &[u8],

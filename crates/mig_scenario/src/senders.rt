@@ -29,7 +29,7 @@ pub struct Texts<A: Allocator = Global> {
     pub several: Option<Sent<A>>,
 }
 
-// A sender on several channels, where there are any.
+// Creates a sender on several channels, if there are any.
 fn several<A: Allocator + Copy>(
     alloc: A,
     table: &Table<A>,
@@ -51,7 +51,7 @@ fn several<A: Allocator + Copy>(
 }
 
 impl<A: Allocator + Copy> Senders<A> {
-    /// None, for a guest whose rounds go nowhere.
+    /// Creates no sender, for a guest whose rounds go nowhere.
     pub fn none() -> Senders<A>
         ensures { (result.single ≡ None) × (result.several ≡ None) }
     {
@@ -61,7 +61,11 @@ impl<A: Allocator + Copy> Senders<A> {
         }
     }
 
-    /// One on the channels, or of a single stream where there are none.
+    /// Creates a sender on the channels, or of a single stream if there are no channels.
+    ///
+    /// # Errors
+    ///
+    /// `NoMemory`: an allocation was refused.
     pub fn one(
         alloc: A,
         table: &Table<A>,
@@ -80,7 +84,11 @@ impl<A: Allocator + Copy> Senders<A> {
         Ok(Senders { single, several })
     }
 
-    /// One of a single stream, and one on the channels where there are any.
+    /// Creates a sender of a single stream, and one on the channels if there are any.
+    ///
+    /// # Errors
+    ///
+    /// `NoMemory`: an allocation was refused.
     pub fn both(
         alloc: A,
         table: &Table<A>,
@@ -125,7 +133,7 @@ impl<A: Allocator + Copy + Send + Sync> Senders<A> {
     }
 }
 
-// What the answer of a sender of the guest's own table is.
+// Returns whether a sender of the guest's own table sent a round.
 fn was_sent(answer: Result<(), SendFault>) -> Result<(), NoMemory>
     requires fault { IfErr answer IsRoundFault }
     requires table { answer ≢ Err SendFault.OtherTable }
@@ -139,7 +147,7 @@ fn was_sent(answer: Result<(), SendFault>) -> Result<(), NoMemory>
 }
 
 impl<A: Allocator> Senders<A> {
-    /// Ends the texts.
+    /// Ends the streams.
     pub(crate) fn finish(self) -> Result<Texts<A>, NoMemory>
         ensures { IfOk result (λ texts. (table : RamTable) (snapshots : List Snapshot) → AreSendersOf table self → HaveSent self snapshots
             → AreTexts table self snapshots texts) }
