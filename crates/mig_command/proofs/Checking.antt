@@ -102,7 +102,7 @@ same_pages m a b c is also h = is_same a b c (some_same a b (sym is ∙ also)) h
 abbrev pub GivesBack : {A : Type 0} → Image → Loaded A → Type 0
 GivesBack image a = ((a.memory ≡ Some image) × (a.verdict ≡ Ok _)) ⊎ (a.verdict ≡ no_memory_at a.rounds)
 
--- an answer that tells of a refused allocation
+-- an answer that reports a refused allocation
 abbrev pub IsWanting : Answer → Type 0
 IsWanting answer = (r : Report) × (printed answer ≡ Some r) × IsWantOfMemory r
 
@@ -143,7 +143,7 @@ gives_back layout text sent image a out = elim out.is_loaded [
   | inr want ↦ inr want.has_verdict
 ]
 
--- so it is where there is such a text
+-- so it is where there is such a stream
 pub text_back : {A B : Type 0} (layout : Layout) (text : List ℕ) (sent : Option (Vec ℕ B)) (image : Image) (a : Loaded A) → IsSomeAnd sent (λ t. IsRoundTrip layout text image t.items a)
     → GivesBack image a
 text_back layout text None image a out = absurd out
@@ -174,7 +174,7 @@ outcome layout text table ls image sent a is same_table same_lines within all_se
       is_loaded = load t (rounds_of (snapshots_in layout text)) is_t refl is_t.has_room (played_are_rounds t lines is_t within_t) text_is;
     }
 
--- the same of the text that was sent, where there is one
+-- what is known of the stream that was sent, where there is one
 pub outcomes : {A B : Type 0} (layout : Layout) (text : List ℕ) (table : RamTable) (ls : List ScenarioLine) (image : Image) (sent : Option (Vec ℕ B)) (a : Loaded A)
     → IsTable table → table ≡ table_in layout text → ls ≡ lines_of text → All (λ l. IsTrue (is_within table l)) ls → unsent (lines_of text) ≡ None
     → image ≡ (played table ls).image → IsSomeAnd sent (λ t. t.items ≡ single table (rounds_of (played table ls).snapshots))
@@ -200,7 +200,7 @@ gone layout text table ls uuid (Some x) (Some t) same_table same_lines nil new a
     let step-4 = subst (λ (l : List Snapshot). IsSentOf table zero_bytes layout.batch layout.channels l t) snapshots step-3 in
     subst (λ (y : RamTable). IsSentOf y zero_bytes layout.batch layout.channels (snapshots_in layout text) t) same_table step-4
 
--- it has as many texts as channels
+-- it has as many streams as channels
 texts_long : {B : Type 0} (table : RamTable) (uuid : List ℕ) (limit channels : ℕ) (snapshots : List Snapshot) (sent : Sent B) → IsSentOf table uuid limit channels snapshots sent
     → length sent.channels.items ≡ channels
 texts_long table uuid limit channels snapshots sent is =
@@ -256,7 +256,7 @@ channels_back layout text image sent a went load is = go (load (table_in layout 
     go (inl back) = (inl (back.0 ∙ ap (λ (m : Image). let some : Option Image = Some m in some) (sym is), back.2), λ good. back.1)
     go (inr want) = (inr want, λ good. absurd cc)
 
--- what is told of it
+-- what is reported of it
 pub told : {B : Type 0} (layout : Layout) (text : List ℕ) (sent : Sent B) (c : ChannelsChecked) → HasGone layout text (Some sent) → c.main ≡ length sent.main.items
     → c.channels ≡ min (sum_by length (texts_of sent.channels.items)) (2 ^ 64 - 1) → c.rounds ≡ length (snapshots_in layout text) → IsTold (table_in layout text) layout (snapshots_in layout text) c
 told layout text sent c went main channels rounds = record {
@@ -281,7 +281,7 @@ pub one_gone : {B : Type 0} (layout : Layout) (text : List ℕ) (several : Optio
     → HasGone layout text (Some sent)
 one_gone layout text several sent went is = subst (λ (o : Option (Sent _)). HasGone layout text o) is went
 
--- what is told of the channels, where there are any
+-- what is reported of the channels, where there are any
 abbrev pub IsToldOf : Layout → List ℕ → Option ChannelsChecked → Type 0
 IsToldOf layout text several = MatchOption several (layout.channels ≡ 0) (λ c. IsTold (table_in layout text) layout (snapshots_in layout text) c)
 
@@ -307,7 +307,7 @@ is_checked layout text sent image c a out none good len sections said same =
     rw same (ap₂ (λ (m n : ℕ). let some : Option Report = Some (record { text = single_line m n ++ line ++ same_line; status = 0 }) in some) of_len of_sections) in
     (r, is_printed, inl is_report)
 
--- so it is where there is such a text
+-- so it is where there is such a stream
 pub are_checked : {A B : Type 0} (layout : Layout) (text : List ℕ) (sent : Option (Vec ℕ B)) (image : Image) (c : Checked) (a : Loaded A)
     → IsSomeAnd sent (λ t. IsRoundTrip layout text image t.items a) → refusal (bytes_in layout.page_size) text ≡ None → a.verdict ≡ Ok _ → IfSome sent (λ t. c.single ≡ length t.items)
     → c.sections ≡ a.rounds → IsToldOf layout text c.several → c.comparison ≡ Same → Answers layout text (answers.Checked c)

@@ -47,7 +47,7 @@ is_simple_tool : is_simple tool_app ≡ true
 unfolding clap_on_literals
 is_simple_tool = refl
 
--- `check` alone is met, and nothing of it is used
+-- `check` alone is met, and none of its options is used
 check_is_met : subcommand_of tool_app check_alone ≡ Some (codes "check", [])
 unfolding clap_on_literals
 check_is_met = refl
@@ -165,11 +165,11 @@ err_ok e y is = absurd cc
 
 -- ---- an option's number
 
--- what isn't used has no text, and what is used has the one of its row
+-- what isn't used has no value, and what is used has the one of its row
 text_of_row : (f : Found) (id : Text) → one_text f id ≡ one_of id (rows_of f)
 text_of_row f id = one_text-rows f id
 
--- without a text there is none
+-- without a value there is none
 pub gives_none : (f : Found) (id : Text) (without number : ℕ) → Gives (rows_of f) id without number → one_text f id ≡ None → number ≡ without
 gives_none f id without number gives none = rw (sym (text_of_row f id) ∙ none) at gives
 

@@ -39,7 +39,8 @@ use Rattle.mig_scenario.specs.Guest.{snapshots_from}
 use Rattle.mig_scenario.specs.Playing.{IsSentOf}
 use Rattle.mig_command.specs.Report.{Report, fault_line, refused, single_line, same_line, checked, IsWantOfMemory}
 
--- what comes of comparing by the places that differ, in order: none does, or so many do, of which this is the first
+-- what comes of comparing by the places that differ, in order: none does, or so many do, of which
+-- this is the first
 abbrev pub comparison_of : List Place → Comparison
 comparison_of [] = Same
 comparison_of (first ∷ others) = Differs (length (first ∷ others)) first
@@ -107,7 +108,7 @@ status_of (answers.Refused f) = 1
 status_of (answers.Unloaded e) = 1
 status_of (answers.Failed f) = tool_status f
 
--- the text that an answer is printed as; those of the tool's own faults stand with them
+-- the output that an answer is printed as; that of the tool's own faults stands with them
 abbrev pub text_of : Answer → Option (List ℕ)
 text_of (answers.Checked c) = Some (checked_lines c)
 text_of (answers.Sent main channels) = Some (sent_line main channels)
@@ -122,8 +123,8 @@ text_of (answers.Failed f) = None
 abbrev pub printed : Answer → Option Report
 printed answer = option_map (λ text. record { text = text; status = status_of answer }) (text_of answer)
 
--- The answer where a load has no memory to be written: its first fault, a refused allocation behind the rounds that it counted, or that its texts
--- weren't read to their end.
+-- The answer where a load has no memory to be written: its first fault, a refused allocation after
+-- the rounds that it counted, or that its sources weren't read to their end.
 abbrev pub unloaded_of : Verdict → ℕ → Answer
 unloaded_of (Failed fault) rounds = answers.Unloaded fault
 unloaded_of Done rounds = answers.Unloaded (record { round = rounds; source = origin.Round; fault = load_fault.NoMemory })
@@ -137,15 +138,15 @@ IsComparison a b answer = answer ≡ answers.Compared (comparison_of (differing 
 abbrev pub IsUnread : Answer → Type 0
 IsUnread answer = MatchOption (printed answer) (status_of answer ≡ 3) IsWantOfMemory
 
--- an answer that is handed on as what came of a check, or as itself
+-- an answer that is passed on as what came of a check, or as itself
 abbrev pub answer_from : Result Checked Answer → Answer
 answer_from (Ok checked) = answers.Checked checked
 answer_from (Err other) = other
 
 -- ---- a check
 
--- What is told of a sending of these snapshots on several channels: the main stream's length, that of all channels' texts together, at most 2^64 - 1,
--- and how many rounds there are.
+-- What is reported of a sending of these snapshots on several channels: the main stream's length,
+-- that of all channels together, at most 2^64 - 1, and how many rounds there are.
 pub record IsTold (table : RamTable) (layout : Layout) (snapshots : List Snapshot) (c : ChannelsChecked) : Type 0 where
   pub rounds : List DealtRound
   pub main : List ℕ
@@ -167,7 +168,8 @@ snapshots_in layout text = snapshots_from (bytes_in layout.page_size) (lines_of 
 abbrev pub table_in : Layout → List ℕ → RamTable
 table_in layout text = table_of (bytes_in layout.page_size) (lines_of text)
 
--- the report of a scenario that isn't refused: the line of its rounds' single stream, with channels one of a sending of them, and `same`
+-- the report of a scenario that isn't refused: the line of its rounds' single stream, with channels
+-- one of a sending of them, and `same`
 abbrev pub IsReportOfRounds : Layout → List ℕ → Report → Type 0
 IsReportOfRounds layout text r = (line : List ℕ) × IsToldAs (table_in layout text) layout (snapshots_in layout text) line
     × (r ≡ record { text = checked (table_in layout text) (rounds_of (snapshots_in layout text)) line; status = 0 })
@@ -176,16 +178,17 @@ IsReportOfRounds layout text r = (line : List ℕ) × IsToldAs (table_in layout 
 abbrev pub IsReport : Layout → List ℕ → Report → Type 0
 IsReport layout text r = MatchOption (refusal (bytes_in layout.page_size) text) (IsReportOfRounds layout text r) (λ f. r ≡ record { text = refused f; status = 1 })
 
--- the answer on a text is printed as a report of it, or tells of a refused allocation
+-- the answer on an input is printed as a report of it, or reports a refused allocation
 abbrev pub Answers : Layout → List ℕ → Answer → Type 0
 Answers layout text answer = (r : Report) × (printed answer ≡ Some r) × (IsReport layout text r ⊎ IsWantOfMemory r)
 
--- what loading a text answers, where it is the stream of rounds of a table
+-- what loading a stream answers, where it is that of rounds of a table
 abbrev pub IsLoadOf : {A : Type 0} → ℕ → List ℕ → Loaded A → Type 0
 IsLoadOf page_size sent a = (table : RamTable) (rounds : List (List Page)) → IsTable table → table.page_size ≡ page_size → total_bytes table ≤ 2 ^ 40
     → All (IsRound table) rounds → sent ≡ single table rounds → (a ≡ loaded table rounds) ⊎ IsSingleWithoutMemory (ram_settings page_size (2 ^ 40)) sent a
 
--- A scenario that was played, and what loading the single stream that was sent answers: the image in the end is that after the rounds.
+-- A scenario that was played, and what loading the single stream that was sent answers: the image
+-- in the end is that after the rounds.
 pub record IsRoundTrip {A : Type 0} (layout : Layout) (text : List ℕ) (image : Image) (sent : List ℕ) (a : Loaded A) : Type 0 where
   pub is_table : IsTable (table_in layout text)
   pub is_sent : sent ≡ single (table_in layout text) (rounds_of (snapshots_in layout text))
@@ -196,7 +199,8 @@ pub record IsRoundTrip {A : Type 0} (layout : Layout) (text : List ℕ) (image :
 abbrev pub HasRoundTrip : {A : Type 0} → Layout → List ℕ → Played A → Loaded A → Type 0
 HasRoundTrip layout text played a = IsSomeAnd played.texts.single (λ sent. IsRoundTrip layout text played.image sent.items a)
 
--- what was sent is a sending of the scenario's snapshots in this layout; where nothing was, it has no channels
+-- what was sent is a sending of the scenario's snapshots in this layout; where nothing was, it has
+-- no channels
 abbrev pub HasGone : {A : Type 0} → Layout → List ℕ → Option (Sent A) → Type 0
 HasGone layout text several = MatchOption several (layout.channels ≡ 0)
     (λ sent. IsSentOf (table_in layout text) zero_bytes layout.batch layout.channels (snapshots_in layout text) sent)
@@ -217,7 +221,8 @@ IsLoadOfSent page_size sent a = (table : RamTable) (limit channels : ℕ) (snaps
 
 -- ---- the input
 
--- A report is that of an input that was read to its end, where `input` was left before and `rest` is left after; or it tells of a refused allocation.
+-- A report is that of an input that was read to its end, where `input` was left before and `rest`
+-- is left after; or it reports a refused allocation.
 abbrev pub IsReportOf : Layout → Option (List ℕ) → Option (List ℕ) → Report → Type 0
 IsReportOf layout input rest r = ((text : List ℕ) × Consumes input rest text × IsAtEnd rest × IsReport layout text r) ⊎ IsWantOfMemory r
 

@@ -5,7 +5,7 @@ use Rattle.mig_session.specs.declared.source.Source.TheVariants as source
 use Rattle.mig_session.specs.Sources.{Counts}
 use Rattle.mig_session.specs.Session.{no_count}
 
--- there are as many channels, and as much has come of the text of each but this one
+-- there are as many channels, and as much has come of each but this one
 pub record OthersStay (from : Source) (old new : Counts) : Type 0 where
   pub same_length : length new.channels ≡ length old.channels
   pub same_others : (j : ℕ) → source.Channel j ≢ from → get_or new.channels j no_count ≡ get_or old.channels j no_count

@@ -1,4 +1,4 @@
--- What the tool answers: the text that it writes, and its status.
+-- What the tool answers: the output that it writes, and its status.
 use Rattle.std.specs.Prelude.{◌≡◌, ◌⊎◌, ℕ, ◌+◌, List, [], ◌++◌, length, codes, decimal}
 use Rattle.mig_mem.specs.Refusal.{no_memory_number, fault_number as table_fault_number}
 use Rattle.mig_mem.specs.RamTable.{RamTable}
@@ -31,14 +31,16 @@ scenario_place fault.NoMemory = []
 abbrev pub refused : ScenarioFault → List ℕ
 refused f = fault_line (scenario_number f) (scenario_place f)
 
--- the length of a single stream and the number of its sections; and that what was loaded is what was sent
+-- the length of a single stream and the number of its sections; and that what was loaded is what
+-- was sent
 abbrev pub single_line : ℕ → ℕ → List ℕ
 single_line len sections = codes "single " ++ decimal len ++ codes " sections " ++ decimal sections ++ codes "\n"
 
 abbrev pub same_line : List ℕ
 same_line = codes "same\n"
 
--- the lines of a check of some rounds: their single stream's, what is written of them on channels, and `same`
+-- the lines of a check of some rounds: their single stream's, what is written of them on channels,
+-- and `same`
 abbrev pub checked : RamTable → List (List Page) → List ℕ → List ℕ
 checked table rounds on_channels = single_line (length (single table rounds)) (length rounds + 2) ++ on_channels ++ same_line
 

@@ -79,7 +79,7 @@ tool_app = with_subcommand (with_subcommand (with_subcommand (with_subcommand pr
 
 -- ---- what is asked for
 
--- the words as texts
+-- the words as lists of bytes
 abbrev pub texts_of : {A : Type 0} → List (String A) → List Text
 texts_of words = map string_bytes words
 
@@ -87,13 +87,14 @@ texts_of words = map string_bytes words
 abbrev pub plain_layout : Layout
 plain_layout = record { page_size = Small; channels = 0; batch = 128 }
 
--- the number that an option's text says in decimal digits, or the one that it has where it isn't used
+-- the number that an option's value is in decimal digits, or the one that it has where it isn't
+-- used
 abbrev pub Gives : List Row → Text → ℕ → ℕ → Type 0
 Gives rows option without number = MatchOption (one_of option rows) (number ≡ without)
     (λ text. IsNumeral 10 (without_leading_plus text) × (number ≡ digits_value 10 (without_leading_plus text)))
 
--- The options of `check` give this layout: pages of 4096 bytes, no channels, and batches as large as a packet has room for, where they don't say. A
--- packet has room for such a batch.
+-- The options of `check` give this layout: pages of 4096 bytes, no channels, and batches as large
+-- as a packet has room for, where they don't say. A packet has room for such a batch.
 pub record GiveLayout (rows : List Row) (layout : Layout) : Type 0 where
   pub gives_page : Gives rows (codes "page") 4096 (bytes_in layout.page_size)
   pub gives_channels : Gives rows (codes "channels") 0 layout.channels
@@ -101,8 +102,8 @@ pub record GiveLayout (rows : List Row) (layout : Layout) : Type 0 where
   pub few_channels : layout.channels ≤ 255
   pub has_room : HasRoom layout
 
--- The words ask for a check in a layout: there are none, and it is the plain one; or the command line takes them, the command is `check`, and its
--- options give the layout.
+-- The words ask for a check in a layout: there are none, and it is the plain one; or the command
+-- line takes them, the command is `check`, and its options give the layout.
 abbrev pub AskCheck : List Text → Layout → Type 0
 AskCheck words layout = ((words ≡ []) × (layout ≡ plain_layout))
     ⊎ ((rows : List Row) × (takes tool_app words ≡ true) × (subcommand_of tool_app words ≡ Some (codes "check", rows)) × GiveLayout rows layout)
@@ -165,7 +166,8 @@ IfCheck (request.Send send) P = ⊤
 IfCheck (request.Load load) P = ⊤
 IfCheck (request.Compare compare) P = ⊤
 
--- what is asked for is within limits: a packet has room for a batch, and what a load may make of a guest is no larger than the largest table
+-- what is asked for is within limits: a packet has room for a batch, and what a load may make of a
+-- guest is no larger than the largest table
 abbrev pub KeepsLimits : Request → Type 0
 KeepsLimits (request.Check layout) = HasRoom layout
 KeepsLimits (request.Send send) = HasRoom send.layout

@@ -18,7 +18,7 @@ pub enum Comparison {
 pub struct ChannelsChecked {
     /// The length of the main stream.
     pub main: usize,
-    /// The length of the channels' texts together.
+    /// The length of all channels together.
     pub channels: u64,
     /// The rounds that were loaded.
     pub rounds: u64,
@@ -31,7 +31,7 @@ pub struct Checked {
     pub single: usize,
     /// The sections that were loaded of it.
     pub sections: u64,
-    /// The same rounds on channels, where there are any.
+    /// The sending of these rounds on channels, where there are any.
     pub several: Option<ChannelsChecked>,
     /// What was loaded, compared with the guest: of the single stream where that differs, else of
     /// what was sent on channels, if anything was.
@@ -43,8 +43,7 @@ pub struct Checked {
 pub enum Answer {
     /// The scenario's rounds were sent, loaded and compared.
     Checked(Checked),
-    /// The length of the single or main stream that was written, and that of the channels' texts
-    /// together.
+    /// The length of the single or main stream that was written, and that of all channels together.
     Sent(usize, u64),
     /// So many sections of a single stream were loaded, and the memory was written.
     LoadedSections(u64),

@@ -1,4 +1,4 @@
-//! The check of a scenario: its rounds become a stream, and on channels several texts; these are
+//! The check of a scenario: its rounds become a stream, and a main stream with channels. These are
 //! loaded and compared with the guest.
 
 ghost use Rattle.std.specs.Prelude.{ℕ, ◌≡◌, ◌⊎◌, ⊤, List, None, Some, Ok, Err, true, length, is_some, IfSome, IsSomeAnd, IfOk, IfErr, OnOk};
@@ -24,8 +24,8 @@ use std::sync::Wait;
 use std::thread::Threads;
 use uuid::Uuid;
 
-// The guest of a scenario in the end with the texts of its rounds, and what loading the single
-// stream answers.
+// Plays a scenario. Returns the guest in the end with the streams of its rounds, and what loading
+// the single stream answers.
 fn round_trip<H: Threads + Sync, A: Allocator + Copy + Send + Sync>(
     rt: &H,
     alloc: A,
@@ -60,7 +60,7 @@ fn load_stream<A: Allocator + Copy>(alloc: A, page_size: u64, texts: &Texts<A>) 
     }
 }
 
-// How many rounds were loaded, and how their memory compares with the guest's.
+// Returns how many rounds were loaded, and how their memory compares with the guest's.
 fn compare_loaded<H: Threads + Sync, A: Allocator + Copy + Send + Sync>(
     rt: &H,
     alloc: A,
@@ -111,7 +111,7 @@ fn load_sent<H: Threads + Wait + Sync, A: Allocator + Copy + Send + Sync>(
     )
 }
 
-// The length of the single stream.
+// Returns the length of the single stream.
 fn single_len<A: Allocator>(texts: &Texts<A>) -> usize
     ensures { IfSome texts.now.single (λ text. result ≡ length text.items) }
 {
@@ -121,7 +121,7 @@ fn single_len<A: Allocator>(texts: &Texts<A>) -> usize
     }
 }
 
-// What comes of a scenario whose single stream was loaded.
+// Returns the answer on a scenario whose single stream was loaded.
 fn check_texts<H: Threads + Wait + Sync, A: Allocator + Copy + Send + Sync>(
     rt: &H,
     alloc: A,
@@ -166,7 +166,7 @@ fn check_texts<H: Threads + Wait + Sync, A: Allocator + Copy + Send + Sync>(
     })
 }
 
-/// The answer on a scenario.
+/// Returns the answer on a scenario.
 pub(crate) fn check<H: Threads + Wait + Sync, A: Allocator + Copy + Send + Sync>(
     rt: &H,
     alloc: A,

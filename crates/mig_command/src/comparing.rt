@@ -15,7 +15,7 @@ use std::alloc::Allocator;
 use std::fs::Files;
 use std::thread::Threads;
 
-// The answer on two memories of one table.
+// Returns the answer on two memories of one table.
 fn answer_on<H: Threads + Sync, A: Allocator + Copy + Send + Sync>(
     rt: &H,
     alloc: A,
@@ -28,8 +28,8 @@ fn answer_on<H: Threads + Sync, A: Allocator + Copy + Send + Sync>(
     Ok(Answer::Compared(compared(rt, alloc, a, b)?))
 }
 
-/// Compares the memory that a scenario makes with that of a file, and gives the answer. An `Err` is
-/// one too: that of the first fault.
+/// Compares the memory that a scenario makes with that of a file, and returns the answer. An `Err`
+/// is one too: that of the first fault.
 pub(crate) fn compare<H: Files + Threads + Sync, A: Allocator + Copy + Send + Sync>(
     rt: &H,
     alloc: A,

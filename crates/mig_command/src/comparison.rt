@@ -8,7 +8,7 @@ use mig_mem::{Memory, NoMemory, Place, differences};
 use std::alloc::Allocator;
 use std::thread::Threads;
 
-/// Where two memories of one table differ. Threads share large blocks.
+/// Returns where two memories of one table differ. Threads share large blocks.
 pub(crate) fn compared<H: Threads + Sync, A: Allocator + Copy + Send + Sync>(
     rt: &H,
     alloc: A,

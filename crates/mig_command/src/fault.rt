@@ -2,13 +2,13 @@
 
 use thiserror::Error;
 
-/// A fault of the tool's own. Its text is the line that is printed.
+/// A fault of the tool's own. Its words are the line that is printed.
 #[derive(Clone, Copy, Debug, Drop, Error)]
 pub enum ToolFault {
     /// A packet hasn't room for so many pages of this size.
     #[error("fault 62")]
     Batch,
-    /// An input wasn't over after 65,536 reads.
+    /// An input hadn't ended after 65,536 reads.
     #[error("fault 71")]
     TooManyReads,
     /// The file of a memory hasn't as many bytes as the scenario's blocks.
@@ -17,7 +17,7 @@ pub enum ToolFault {
     /// The UUID has none of the forms of one.
     #[error("fault 86")]
     Uuid,
-    /// There are no channels whose texts could be loaded as they are read.
+    /// There are no channels that could be loaded as they are read.
     #[error("fault 87")]
     Feed,
     /// The command line isn't one of the tool's.

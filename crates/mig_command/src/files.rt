@@ -1,4 +1,4 @@
-//! Files: they are read whole, and written from their front to their end.
+//! Reads files completely, and writes them from their front to their end.
 
 ghost use Rattle.std.specs.Prelude.{◌≡◌, ◌++◌, IfOk, codes, decimal, string_bytes};
 
@@ -16,8 +16,8 @@ pub(crate) fn open<H: Files>(rt: &H, name: &str) -> Result<H::File, ToolFault> {
     File::open(rt, name).map_err(|_| ToolFault::Unread)
 }
 
-// How many bytes a file is expected to have, which is only a hint: it can be 0, and the file can
-// change.
+// Returns how many bytes a file is expected to have, which is only a hint: it can be 0, and the
+// file can change.
 fn expected_len<F: OpenFile>(file: &F) -> usize {
     match file.metadata() {
         Ok(metadata) if metadata.is_file() => metadata.len().min(MAX_LEN) as usize,
@@ -25,7 +25,7 @@ fn expected_len<F: OpenFile>(file: &F) -> usize {
     }
 }
 
-/// The bytes of a file up to its end, or the answer where they can't be had.
+/// Reads a file up to its end. An `Err` is the answer if its bytes can't be had.
 pub(crate) fn read_file<H: Files, A: Allocator + Copy>(
     rt: &H,
     alloc: A,
@@ -55,7 +55,7 @@ fn write_to<H: Files>(rt: &H, name: &str, bytes: &[u8]) -> io::Result<()> {
     file.flush()
 }
 
-/// The name of the file of a channel's text, beside that of the main stream: `MAIN.0` and so on.
+/// Returns the name of a channel's file, beside that of the main stream: `MAIN.0` and so on.
 pub(crate) fn channel_name<A: Allocator>(
     alloc: A,
     main: &str,

@@ -1,4 +1,4 @@
-//! The reading of an input, for `run`: whole, in so many reads at most.
+//! Reads a complete input, for `run`, in at most `MAX_READS` reads.
 
 ghost use Rattle.std.specs.Prelude.{◌≡◌, ◌<◌, length, IfOk, IfErr};
 ghost use Rattle.std.specs.Io.KnownBytes.{Consumes, IsAtEnd};
@@ -21,7 +21,7 @@ const MAX_READ_LEN: usize = 65_536;
 /// The most bytes that an input can have.
 pub(crate) const MAX_LEN: u64 = 65_535 * 65_536;
 
-// A buffer of so many bytes.
+// Allocates a buffer of `len` bytes.
 fn buffer_of<A: Allocator>(alloc: A, len: usize) -> Result<Vec<u8, A>, Answer>
     ensures ok { IfOk result (λ v. length v.items ≡ len) }
     ensures err { IfErr result IsUnread }
@@ -55,8 +55,8 @@ fn read_more<A: Allocator, R: Read>(
     }
 }
 
-/// The bytes of an input up to its end, or the answer where it can't be had. There is room for some
-/// from the start.
+/// Reads an input up to its end, with room for `room` bytes from the start. An `Err` is the answer
+/// if the input can't be had.
 pub(crate) fn read_whole<A: Allocator + Copy, R: Read>(
     alloc: A,
     input: &mut R,

@@ -22,7 +22,7 @@ use std::fs::Files;
 use std::sync::Wait;
 use std::thread::Threads;
 
-/// How often each text is read at most where it is loaded as it is read, the read that finds its
+/// How often each source is read at most where it is loaded as it is read, the read that finds its
 /// end among them.
 const MOST_READS: u64 = 65_536;
 
@@ -42,9 +42,9 @@ fn write_image<H: Files, A: Allocator, B: Allocator>(
     }
 }
 
-// ---- texts that are there whole
+// ---- complete streams
 
-// The memory and the rounds of a load, or the answer where it has a fault.
+// Returns the memory and the rounds of a load, or the answer if it has a fault.
 fn settled<A: Allocator>(loaded: Loaded<A>) -> Result<(Memory<A>, u64), Answer>
     ensures ok { IfOk result (λ both. (as_verdict loaded.verdict ≡ Verdict.Done) × (loaded.memory ≡ Some both.0) × (loaded.rounds ≡ both.1)) }
     ensures err { IfErr result (λ answer. answer ≡ unloaded_of (as_verdict loaded.verdict) loaded.rounds) }
@@ -63,7 +63,7 @@ fn settled<A: Allocator>(loaded: Loaded<A>) -> Result<(Memory<A>, u64), Answer>
     }
 }
 
-// The answer where no memory was found for the guest.
+// Returns the answer where the guest's memory couldn't be allocated.
 fn without_memory(rounds: u64) -> Answer
     ensures { result ≡ unloaded_of Verdict.Done rounds }
 {
@@ -89,7 +89,7 @@ fn load_stream<H: Files, A: Allocator + Copy>(
     Ok(Answer::LoadedSections(sections))
 }
 
-// The texts of the channels.
+// Reads the channels.
 fn read_channels<H: Files, A: Allocator + Copy>(
     rt: &H,
     alloc: A,
@@ -135,9 +135,9 @@ fn load_channels<H: Files + Threads + Wait + Sync, A: Allocator + Copy + Send + 
     Ok(Answer::LoadedRounds(rounds))
 }
 
-// ---- texts that are loaded as they are read
+// ---- streams that are loaded as they are read
 
-// The answer where a text wasn't read to its end, or not fed.
+// Returns the answer where a source wasn't read to its end, or not fed.
 fn unpumped<A: Allocator>(session: &Session<A>, fault: PumpFault) -> Answer {
     match (fault, session.verdict()) {
         (PumpFault::Read, _) => Answer::Failed(ToolFault::Unread),
@@ -185,14 +185,14 @@ fn feed_files<H: Files, A: Allocator + Copy>(
     Ok(())
 }
 
-// The memory of a session whose sources are all over, or the answer where it has a fault.
+// Returns the memory of a session whose sources have all ended, or the answer if it has a fault.
 fn settled_session<A: Allocator>(session: &Session<A>) -> Result<&Memory<A>, Answer>
     ensures ok { IfOk result (λ memory. (session.now.verdict ≡ Verdict.Done) × ((answer_in session.now).memory ≡ Some memory.now)) }
     ensures err { IfErr result (λ answer. answer ≡ unloaded_of session.now.verdict (answer_in session.now).rounds) }
 {
     match session.verdict() {
         Verdict::Failed(fault) => return Err(Answer::Unloaded(fault)),
-        // (of sources that are all over none is waited for)
+        // (of sources that have all ended none is pending)
         Verdict::Running => return Err(Answer::Failed(ToolFault::Unread)),
         Verdict::Done => {}
     }
@@ -224,8 +224,8 @@ fn load_fed<H: Files, A: Allocator + Copy>(
     Ok(Answer::LoadedRounds(session.rounds()))
 }
 
-/// Loads what a request says, and writes the memory into its file unless there is a fault. Gives
-/// the answer; an `Err` is one too: that of the first fault.
+/// Loads what a request says, and writes the memory into its file unless there is a fault. Returns
+/// the answer. An `Err` is one too: that of the first fault.
 pub(crate) fn load<H: Files + Threads + Wait + Sync, A: Allocator + Copy + Send + Sync>(
     rt: &H,
     alloc: A,

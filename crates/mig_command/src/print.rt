@@ -1,4 +1,4 @@
-//! The printing of an answer, for `run`: its lines, and the program's status.
+//! Prints an answer, for `run`: its lines, and the program's status.
 
 ghost use Rattle.std.specs.Prelude.{◌≡◌, ◌++◌, OnOk, IfSome, decimal};
 ghost use Rattle.std.specs.Io.KnownBytes.{Appends};
@@ -142,7 +142,7 @@ fn put_answer<W: Write>(output: &mut W, answer: Answer) -> io::Result<()>
     }
 }
 
-/// Writes an answer, all of its lines in one write where the output takes them so, and flushes the
+/// Writes an answer, all of its lines in one write if the output takes them so, and flushes the
 /// output. Lines of two tools at one terminal then don't mix.
 pub(crate) fn print<W: Write>(output: &mut W, answer: Answer) -> io::Result<()>
     ensures { OnOk result (IfSome (printed answer) (λ r. Appends (W.contents output.old) (W.contents output.new) r.text)) }
@@ -153,7 +153,7 @@ pub(crate) fn print<W: Write>(output: &mut W, answer: Answer) -> io::Result<()>
     output.flush()
 }
 
-// The status that goes with what comes of comparing two memories.
+// Returns the status that goes with what comes of comparing two memories.
 fn compared_status(comparison: Comparison) -> u8
     ensures { result ≡ comparison_status comparison }
 {
@@ -163,7 +163,7 @@ fn compared_status(comparison: Comparison) -> u8
     }
 }
 
-// The status that goes with a fault of the tool's own.
+// Returns the status that goes with a fault of the tool's own.
 fn failed_status(fault: ToolFault) -> u8
     ensures { result ≡ tool_status fault }
 {
@@ -174,7 +174,7 @@ fn failed_status(fault: ToolFault) -> u8
     }
 }
 
-/// The status that goes with an answer.
+/// Returns the status that goes with an answer.
 pub(crate) fn status(answer: Answer) -> u8
     ensures { result ≡ status_of answer }
 {

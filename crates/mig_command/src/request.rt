@@ -3,7 +3,7 @@
 use mig_scenario::{Layout, PageSize};
 use uuid::Uuid;
 
-/// A scenario's file that is sent into a file, or into one for each text.
+/// A scenario's file that is sent into a file, or into one for each source.
 #[derive(Clone, Copy, Debug)]
 pub struct SendRequest<'a> {
     pub scenario: &'a str,
@@ -22,7 +22,7 @@ pub struct LoadRequest<'a> {
     pub uuid: Uuid,
     /// The most bytes that the blocks may have together.
     pub limit: u64,
-    /// Whether the texts are loaded as they are read, one after the other.
+    /// Whether the streams are loaded as they are read, one after the other.
     pub is_fed: bool,
 }
 

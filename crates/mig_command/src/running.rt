@@ -26,11 +26,12 @@ use std::thread::Threads;
 // The status where the output fails.
 const OUTPUT_FAILED: u8 = 3;
 
-/// Runs the tool: does what the words ask for, prints what came of it, and gives the status. The
-/// words are those behind the program's name. Without words, and with `check`, it reads a scenario
-/// from the input, sends its rounds on a single stream, and with channels on these too, loads all,
-/// and compares the memory with the guest's. Where the output fails the status is 3, and no text is
-/// promised.
+/// Runs the tool: does what the words ask for, prints what came of it, and returns the status. The
+/// words are those after the program's name.
+///
+/// Without words, and with `check`, it reads a scenario from the input and sends its rounds on a
+/// single stream, with channels on these too. It loads all, and compares the memory with the
+/// guest's. If the output fails the status is 3, and no output is promised.
 pub fn run<
     H: AllocGlobal + Files + Threads + Wait + Sync,
     A: Allocator + Copy + Send + Sync,
@@ -50,7 +51,7 @@ pub fn run<
     end_with(output, answer)
 }
 
-/// Prints an answer, and gives the status that goes with it, or 3 where the output fails.
+/// Prints an answer, and returns the status that goes with it, or 3 if the output fails.
 pub fn end_with<W: Write>(output: &mut W, answer: Answer) -> u8
     ensures printed { result ≢ 3 → HasPrinted (W.contents output.old) (W.contents output.new) answer result }
     ensures status { (result ≡ status_of answer) ⊎ (result ≡ 3) }
@@ -61,7 +62,7 @@ pub fn end_with<W: Write>(output: &mut W, answer: Answer) -> u8
     }
 }
 
-// The answer to what is asked for.
+// Returns the answer to what is asked for.
 fn answer_to<H: Files + Threads + Wait + Sync, A: Allocator + Copy + Send + Sync, R: Read>(
     rt: &H,
     alloc: A,
@@ -82,7 +83,7 @@ fn answer_to<H: Files + Threads + Wait + Sync, A: Allocator + Copy + Send + Sync
     }
 }
 
-// The answer on an input.
+// Returns the answer on an input.
 fn check_input<H: Threads + Wait + Sync, A: Allocator + Copy + Send + Sync, R: Read>(
     rt: &H,
     alloc: A,

@@ -1,4 +1,4 @@
-//! The sending of a scenario's file into files.
+//! Sends a scenario's file into files.
 
 ghost use Rattle.std.specs.Prelude.{◌≡◌, ◌^◌, ◌-◌, min, sum_by, length};
 ghost use Rattle.mig_send.specs.MultiSending.{texts_of};
@@ -14,7 +14,7 @@ use std::alloc::Allocator;
 use std::fs::Files;
 use std::thread::Threads;
 
-/// How many bytes the channels' texts have together, as far as 64 bits count.
+/// Returns how many bytes all channels have together, as far as 64 bits count.
 pub(crate) fn total_len<A: Allocator>(channels: &[Vec<u8, A>]) -> u64
     ensures { result ≡ min (sum_by length (texts_of channels.now)) (2 ^ 64 - 1) }
 {
@@ -41,9 +41,9 @@ fn check_channel_files<H: Files, A: Allocator + Copy>(
     Ok(())
 }
 
-// Writes the main stream, and each channel's text beside it. Each file is opened when its turn
-// comes, since a pipe's other end may be opened no earlier. A folder in a file's place is found
-// before the first one is emptied.
+// Writes the main stream, and each channel beside it. Each file is opened when its turn comes,
+// since a pipe's other end may be opened no earlier. A folder in a file's place is found before the
+// first one is emptied.
 fn write_several<H: Files, A: Allocator + Copy>(
     rt: &H,
     alloc: A,
@@ -59,7 +59,7 @@ fn write_several<H: Files, A: Allocator + Copy>(
     Ok(Answer::Sent(sent.main.len(), total_len(&sent.channels)))
 }
 
-/// Sends what a request says, into its files, and gives the answer. An `Err` is one too: that of
+/// Sends what a request says, into its files, and returns the answer. An `Err` is one too: that of
 /// the first fault.
 pub(crate) fn send<H: Files + Threads + Sync, A: Allocator + Copy + Send + Sync>(
     rt: &H,

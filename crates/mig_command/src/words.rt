@@ -20,7 +20,7 @@ use mig_scenario::{Layout, PageSize, ScenarioFault};
 use std::alloc::{AllocError, Global};
 use uuid::Uuid;
 
-/// The most bytes of a loaded guest, where the words don't say.
+/// The most bytes of a loaded guest, where the words don't say: 1 GiB.
 const DEFAULT_LIMIT: u64 = 1 << 30;
 
 /// What a UUID's form as a URN begins with, in these letters alone, and its length.
@@ -30,7 +30,7 @@ const URN_LEN: usize = 45;
 
 // ---- the command line as it is declared
 
-// An option with a whole number in a range.
+// Returns an option with a whole number in a range.
 fn number_option<'a>(alloc: Global, name: &'a str, least: u64, most: u64) -> Arg<'a>
     ensures { IsArg (number_rule name.now least most) result }
 {
@@ -39,7 +39,7 @@ fn number_option<'a>(alloc: Global, name: &'a str, least: u64, most: u64) -> Arg
         .value_parser(ValueParser::Unsigned(least, most))
 }
 
-// A file's name, which has to be there.
+// Returns an argument for a file's name, which has to be there.
 fn file_name<'a>(alloc: Global, name: &'a str) -> Arg<'a>
     ensures { IsArg (file_rule name.now) result }
 {
@@ -140,7 +140,7 @@ fn tool_command<'a>(alloc: Global) -> Result<Command<'a>, AllocError>
 
 // ---- what was read
 
-// The answer where the words weren't read.
+// Returns the answer where the words weren't read.
 fn unread(error: &Error) -> Answer
     ensures { kind_of error.now ≡ ErrorKind.OutOfMemory → result ≡ Answer.Refused ScenarioFault.NoMemory }
 {
@@ -184,7 +184,8 @@ fn uuid_in<'a>(matches: &ArgMatches<'a>) -> Result<Uuid, ToolFault>
     }
 }
 
-// How many pages a packet has at most: as many as there is room for, where the words don't say.
+// Returns how many pages a packet has at most: as many as there is room for, where the words don't
+// say.
 fn batch_in<'a>(matches: &ArgMatches<'a>, page_size: PageSize) -> Result<usize, ToolFault>
     ensures given { (batch : ℕ) → 0 < batch → batch ≤ page_limit (bytes_in page_size) → Gives (rows_of (found_of matches.now)) (codes "batch") (page_limit (bytes_in page_size)) batch
         → result ≡ Ok batch }
@@ -210,7 +211,7 @@ fn check_in<'a>(matches: &ArgMatches<'a>) -> Result<Layout, ToolFault>
     })
 }
 
-// A file's name, which is there.
+// Returns a file's name, which is there.
 fn file_in<'a>(matches: &ArgMatches<'a>, name: &str) -> Result<&'a str, ToolFault> {
     matches.get_str(name).ok_or(ToolFault::Words)
 }
@@ -234,7 +235,7 @@ fn send_in<'a>(matches: &ArgMatches<'a>) -> Result<SendRequest<'a>, ToolFault>
     })
 }
 
-// The most bytes of a guest.
+// Returns the most bytes of a guest.
 fn limit_in<'a>(matches: &ArgMatches<'a>) -> u64
     ensures { (limit : ℕ) → limit ≤ 2 ^ 40 → Gives (rows_of (found_of matches.now)) (codes "limit") (2 ^ 30) limit → result ≡ limit }
 {
@@ -277,7 +278,7 @@ fn compare_in<'a>(matches: &ArgMatches<'a>) -> Result<CompareRequest<'a>, ToolFa
     })
 }
 
-// What a command that was met asks for.
+// Returns what a command that was met asks for.
 fn request_in<'a>(name: &str, matches: &ArgMatches<'a>) -> Result<Request<'a>, ToolFault>
     ensures check { (layout : Asked) → name.now ≡ codes "check" → GiveLayout (rows_of (found_of matches.now)) layout → result ≡ Ok (Request.Check layout) }
     ensures send { IfOk result (λ request. (layout : Asked) → name.now ≡ codes "send" → GiveLayout (rows_of (found_of matches.now)) layout → SendsIn layout request) }
@@ -313,7 +314,7 @@ pub(crate) const PLAIN_CHECK: Layout = Layout {
     batch: 128,
 };
 
-/// What words ask for, or the answer where they ask for nothing that the tool does.
+/// Returns what words ask for, or the answer if they ask for nothing that the tool does.
 pub(crate) fn asked<'a>(alloc: Global, words: &'a [String]) -> Result<Request<'a>, Answer>
     ensures ok { IfOk result (λ request. (layout : Asked) → AskCheck (texts_of words.entry.now) layout → request ≡ Request.Check layout) }
     ensures err { IfErr result (λ answer. (layout : Asked) → AskCheck (texts_of words.entry.now) layout → answer ≡ Answer.Refused ScenarioFault.NoMemory) }
