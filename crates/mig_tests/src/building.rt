@@ -10,14 +10,14 @@ use std::process::Abort;
 /// The blocks of most tests.
 pub(crate) const BLOCKS: [(&str, u64); 2] = [("a", 2), ("pc.ram", 65)];
 
-/// A memory of zeros of those blocks, but for one byte, 7.
+/// Returns a memory of zeros of those blocks, but for one byte, 7.
 pub(crate) fn image_with(rt: &(impl AllocGlobal + Abort), block: usize, offset: u64) -> Memory {
     let mut image = zeroed(rt.alloc(), &BLOCKS).expect(rt, "a memory");
     assert!(rt; set(&mut image, block, offset, 7));
     image
 }
 
-/// A set of some of their pages.
+/// Returns a set of some of their pages.
 pub(crate) fn dirty_of(rt: &(impl AllocGlobal + Abort), places: &[Place]) -> Dirty {
     let table = table(rt.alloc(), &BLOCKS).expect(rt, "a table");
     places_of(rt.alloc(), &table, places).expect(rt, "a set")
@@ -35,7 +35,7 @@ pub(crate) fn part<A: Allocator>(
     writer.part(image, dirty)
 }
 
-/// The text of an image of those blocks, with a PART for each round.
+/// Returns the stream of an image of those blocks, with a PART for each round.
 pub(crate) fn text_of(
     rt: &(impl AllocGlobal + Abort),
     image: &Memory,
@@ -49,8 +49,8 @@ pub(crate) fn text_of(
     finished(rt, writer)
 }
 
-/// The text of two rounds: page 0 of `a` as zeros, page 1 with the first byte 7 and page 64 of
-/// `pc.ram` as zeros; and that one again.
+/// Returns the stream of two rounds: page 0 of `a` as zeros, page 1 with the first byte 7 and page
+/// 64 of `pc.ram` as zeros; and that one again.
 pub(crate) fn two_rounds(rt: &(impl AllocGlobal + Abort)) -> Vec<u8> {
     let image = image_with(rt, 0, 4096);
     text_of(
@@ -79,11 +79,11 @@ pub(crate) const BEFORE_START_LEN: usize = 7 + 40 + 40 + 39 + 5;
 
 const SWITCHOVER_START: &[u8] = b"\x08\x00\x0b\x00\x00";
 
-// The beginning of a device's section, behind RAM's END.
+// The beginning of a device's section, after RAM's END.
 const DEVICE: &[u8] = b"\x04\x00\x00\x00\x02\x05timer";
 
-/// The text of two rounds in a frame, and what follows where it is closed: in that of a machine
-/// with COMMANDs and a configuration, and a device's section in place of the end byte.
+/// Returns the stream of two rounds in a frame, and what follows where it is closed: in that of a
+/// machine with COMMANDs and a configuration, and a device's section in place of the end byte.
 pub(crate) fn two_rounds_in(
     rt: &(impl AllocGlobal + Abort),
     frame: Frame,
@@ -95,7 +95,7 @@ pub(crate) fn two_rounds_in(
     }
 }
 
-// The text of RAM's sections as that of a machine.
+// Returns the stream of RAM's sections as that of a machine.
 fn machine_text(rt: &(impl AllocGlobal + Abort), ram: &[u8]) -> Vec<u8> {
     let end = ram.len().saturating_sub(19);
     let (header, rest) = ram.split_at_checked(8).expect(rt, "a file header");
@@ -114,17 +114,17 @@ fn machine_text(rt: &(impl AllocGlobal + Abort), ram: &[u8]) -> Vec<u8> {
     text
 }
 
-/// Appends bytes to a text.
+/// Appends bytes to a stream.
 pub(crate) fn append<A: Allocator>(rt: &impl Abort, text: &mut Vec<u8, A>, piece: &[u8]) {
     assert!(rt; text.extend_from_slice(piece).is_ok());
 }
 
-/// The text of a stream of those blocks without a PART.
+/// Returns the stream of those blocks without a PART.
 pub(crate) fn empty_text(rt: &(impl AllocGlobal + Abort)) -> Vec<u8> {
     text_of(rt, &image_with(rt, 0, 0), &[])
 }
 
-/// The text of a writer.
+/// Returns the stream of a writer.
 pub(crate) fn finished<A: Allocator>(
     rt: &(impl AllocGlobal + Abort),
     writer: StreamWriter<A>,
@@ -135,7 +135,7 @@ pub(crate) fn finished<A: Allocator>(
     }
 }
 
-/// Feeds a piece, where the text isn't over.
+/// Feeds a piece to a reader that hasn't ended.
 pub(crate) fn feed<A: Allocator + Copy>(
     rt: &(impl AllocGlobal + Abort),
     reader: &mut StreamReader<A>,
@@ -157,7 +157,7 @@ pub(crate) enum Run {
     Whole,
 }
 
-/// What became of a run that answered or not, after which the refusal still waits or not.
+/// Returns what became of a run that answered or not, after which the refusal still waits or not.
 pub(crate) fn run_of(rt: &impl Abort, has_answered: bool, is_waiting: bool) -> Run {
     if !has_answered {
         assert!(rt; !is_waiting);

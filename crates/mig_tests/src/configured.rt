@@ -28,14 +28,14 @@ const AFTER_PAGE: [&[u8]; 4] = [
     b"\x00",
 ];
 
-// The guest of that block, whose only page has the first byte 7.
+// Returns the guest of that block, whose only page has the first byte 7.
 fn guest(rt: &(impl AllocGlobal + Abort)) -> Memory {
     let mut image = zeroed(rt.alloc(), &[("a", 1)]).expect(rt, "a memory");
     assert!(rt; set(&mut image, 0, 0, 7));
     image
 }
 
-// The bytes from START on of the stream of that guest and one round of its page.
+// Returns the bytes from START on of the stream of that guest and one round of its page.
 fn from_start(rt: &(impl AllocGlobal + Abort)) -> Vec<u8> {
     let mut text = Vec::new(rt.alloc());
     for piece in UP_TO_PAGE {
@@ -48,7 +48,7 @@ fn from_start(rt: &(impl AllocGlobal + Abort)) -> Vec<u8> {
     text
 }
 
-// The file header and a configuration with `name`, whose length is `len` as four bytes.
+// Returns the file header and a configuration with `name`, whose length is `len` as four bytes.
 fn front(rt: &(impl AllocGlobal + Abort), name: &[u8], len: &[u8]) -> Vec<u8> {
     let mut text = Vec::new(rt.alloc());
     append(rt, &mut text, b"QEVM\x00\x00\x00\x03\x07");
@@ -57,7 +57,7 @@ fn front(rt: &(impl AllocGlobal + Abort), name: &[u8], len: &[u8]) -> Vec<u8> {
     text
 }
 
-// A machine's stream of a guest, where the name has at most 1,024 bytes.
+// Returns a machine's stream of a guest, where the name has at most 1,024 bytes.
 fn begun<'a>(
     rt: &impl Abort,
     heap: &'a TestHeap,
@@ -68,7 +68,7 @@ fn begun<'a>(
     StreamWriter::with_configuration(heap, image.table(), name)
 }
 
-// Asserts that a writer of a guest's table goes on as it should behind a configuration.
+// Asserts that a writer of a guest's table goes on as it should after a configuration.
 fn assert_goes_on<A: Allocator>(
     rt: &(impl AllocGlobal + Abort),
     mut writer: StreamWriter<A>,

@@ -1,4 +1,4 @@
-//! Loads of one stream with settings, in both frames: of the text of two rounds with bytes after
+//! Loads of one stream with settings, in both frames: of the stream of two rounds with bytes after
 //! it, and where it is closed; with ample memory, and with each allocation refused.
 
 ghost use Rattle.std.specs.Prelude.{◌≡◌, ◌≤◌, ◌^◌};
@@ -29,8 +29,8 @@ fn settings(frame: Frame) -> LoadSettings
     LoadSettings::new(PAGE_SIZE_4K, MAX_TOTAL).with_frame(frame)
 }
 
-// Where the text of two rounds is closed: its sections have 8, 63, 4149, 27 and 18 bytes, and the
-// end byte follows; before START of a machine are 131 bytes, and before END 5.
+// Returns where the stream of two rounds is closed: its sections have 8, 63, 4149, 27 and 18 bytes,
+// and the end byte follows; before START of a machine are 131 bytes, and before END 5.
 fn closed_at(frame: Frame) -> u64 {
     match frame {
         Frame::Ram => 8 + 63 + 4149 + 27 + 18 + 1,
@@ -38,7 +38,7 @@ fn closed_at(frame: Frame) -> u64 {
     }
 }
 
-// That text with bytes after it.
+// That stream with bytes after it.
 fn followed(rt: &(impl AllocGlobal + Abort), frame: Frame) -> Vec<u8> {
     let (mut text, _after) = two_rounds_in(rt, frame);
     append(rt, &mut text, b"\x06\x00\x00\x00\x02{}");
@@ -53,7 +53,7 @@ fn fault_of(round: u64, fault: StreamFault) -> LoadFault {
     }
 }
 
-// A load's answer, or its fault where that is `NoMemory`, with no memory and no round.
+// Returns a load's answer, or its fault where that is `NoMemory`, with no memory and no round.
 fn load_or_fault<'a>(
     heap: &'a TestHeap,
     settings: LoadSettings,
@@ -74,7 +74,7 @@ fn load_or_fault<'a>(
     Ok(loaded)
 }
 
-// Loads a text in its frame after refused allocations.
+// Loads a stream in its frame after refused allocations.
 fn assert_loaded(rt: &(impl AllocGlobal + Abort), frame: Frame, text: &[u8]) -> Result<(), Fail> {
     let heap = TestHeap::new(rt.alloc());
     with_each_allocation_refused!(rt, heap, load_or_fault(&heap, settings(frame), text), loaded => {
@@ -88,7 +88,8 @@ fn loads(rt: HostRuntime) -> Result<(), Fail> {
     assert_loaded(&rt, Frame::Machine, &followed(&rt, Frame::Machine))
 }
 
-// Loads a text with settings, and returns the answer without the memory, and whether there is one.
+// Loads a stream with settings, and returns the answer without the memory, and whether there is
+// one.
 fn answer_of(rt: &impl AllocGlobal, settings: LoadSettings, text: &[u8]) -> (Answer, bool)
     requires page_size { IsPageSize settings.page_size }
     requires limit { settings.limit ≤ 2 ^ 40 }
@@ -124,7 +125,7 @@ fn other_settings(rt: HostRuntime) {
     assert!(rt; answer_of(&rt, large.with_frame(Frame::Machine), &machine) == (bits, false));
 }
 
-// Where a text is closed, with allocation `nth` refused.
+// Returns where a stream is closed, with allocation `nth` refused.
 fn run_of_closed_at(rt: &(impl AllocGlobal + Abort), frame: Frame, text: &[u8], nth: u64) -> Run {
     let heap = TestHeap::new(rt.alloc());
     heap.refuse(nth);
@@ -174,7 +175,8 @@ fn closed_nowhere(rt: HostRuntime) {
     assert!(rt; found == Ok(Some(4265)));
 }
 
-// What a loader tells after `fed` bytes of a text that is closed at `closed_at`.
+// Returns whether `told` is where a loader is closed after `fed` bytes of a stream that is closed
+// at `closed_at`.
 fn is_told(told: Option<u64>, fed: u64, closed_at: u64) -> bool {
     match told {
         Some(found) => fed >= closed_at && found == closed_at,
@@ -182,7 +184,7 @@ fn is_told(told: Option<u64>, fed: u64, closed_at: u64) -> bool {
     }
 }
 
-// Feeds a loader a text in pieces of `len` bytes.
+// Feeds a loader a stream in pieces of `len` bytes.
 fn assert_fed(rt: &(impl AllocGlobal + Abort), frame: Frame, len: usize) {
     let text = followed(rt, frame);
     let mut loader = SingleLoader::new_in(rt.alloc(), settings(frame));
@@ -199,7 +201,7 @@ fn assert_fed(rt: &(impl AllocGlobal + Abort), frame: Frame, len: usize) {
     assert_two_rounds(rt, &loader.finish());
 }
 
-// Feeds a load into a memory of other bytes a text in pieces of `len` bytes.
+// Feeds a load into a memory of other bytes a stream in pieces of `len` bytes.
 fn assert_fed_in_place(rt: &(impl AllocGlobal + Abort), frame: Frame, len: usize) {
     let text = followed(rt, frame);
     let memory = zeroed(rt.alloc(), &BLOCKS).expect(rt, "a memory");
@@ -230,7 +232,8 @@ fn fed_in_pieces(rt: HostRuntime) {
     }
 }
 
-// Feeds a piece after refused allocations, each of which changed nothing. How many there were.
+// Feeds a piece after refused allocations, each of which changed nothing. Returns how many there
+// were.
 fn feed_refused<A: Allocator + Copy>(
     rt: &impl Abort,
     heap: &TestHeap,

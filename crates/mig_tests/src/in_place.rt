@@ -21,12 +21,12 @@ const OTHER: u8 = 0xEE;
 /// What a load came to: the sections that were put, and the verdict.
 pub(crate) type Answer = (u64, Result<(), LoadFault>);
 
-// One value, or three as an array.
+// Returns one value as an array.
 fn alone<T: Drop>(one: T) -> [T; 1] {
     [one]
 }
 
-/// Two values as an array.
+/// Returns two values as an array.
 pub(crate) fn both<T: Drop>(one: T, other: T) -> [T; 2] {
     [one, other]
 }
@@ -35,7 +35,8 @@ fn three<T: Drop>(first: T, second: T, third: T) -> [T; 3] {
     [first, second, third]
 }
 
-// Sends the marked pages of a guest in parts of at most so many onto a memory, in pieces of 64 KiB.
+// Sends the marked pages of a guest onto a memory, in parts of at most `most` pages, fed in pieces
+// of 64 KiB.
 fn migrate<A: Allocator + Copy, B: Allocator, M: GuestTarget + Drop>(
     alloc: A,
     guest: &LentMemory<'_, B>,
@@ -49,7 +50,7 @@ fn migrate<A: Allocator + Copy, B: Allocator, M: GuestTarget + Drop>(
     Some((loader.rounds(), loader.verdict()))
 }
 
-// The same of all pages of a guest in these bytes, onto those.
+// Sends all pages of a guest in the bytes of `guest`, onto those of `onto`.
 fn migrate_all<A: Allocator + Copy, B: Allocator>(
     alloc: A,
     table: &Table<B>,
@@ -62,14 +63,14 @@ fn migrate_all<A: Allocator + Copy, B: Allocator>(
     migrate(alloc, &guest, all_of(alloc, table)?, most, memory)
 }
 
-/// So many bytes that are none of the guest's.
+/// Returns `pages` pages of bytes that are none of the guest's.
 pub(crate) fn others(rt: &(impl AllocGlobal + Abort), page_size: u64, pages: u64) -> Vec<u8> {
     assert!(rt; page_size <= 8192);
     assert!(rt; pages <= 65_536);
     vec![in rt.alloc(); OTHER; (page_size * pages) as usize].expect(rt, "bytes")
 }
 
-// The bytes of a block of a guest.
+// Returns the bytes of a block of a guest.
 fn bytes_of(rt: &(impl AllocGlobal + Abort), page_size: u64, block: u64, pages: u64) -> Vec<u8> {
     block_of(rt.alloc(), page_size, block, pages).expect(rt, "bytes")
 }
@@ -99,17 +100,17 @@ fn migrated(rt: HostRuntime) {
     assert_migrated(&rt, PAGE_SIZE_8K);
 }
 
-// A part of 64 pages without zeros, and its text: of the guest's first pages also the opening,
+// A part of 64 pages without zeros, and its stream: of the guest's first pages also the opening,
 // which has less than 100 bytes.
 const PART: u64 = 64 * PAGE_SIZE_4K;
 
 const TEXT: u64 = PART + 64 * 8 + 128;
 
-// Of a guest of 16 MiB, sent in parts of 64 pages, sender and loader hold at once at most: the text
-// that is fed and the buffer of the next one, both of which doubled as they grew, so that each has
-// room for two texts; and the pages of a section until it ends, in buffers of at most 64 KiB. The
-// last of those may be empty but for one page: that is one piece. The marks, the records and an
-// item that a piece cut in two don't take another piece.
+// Of a guest of 16 MiB, sent in parts of 64 pages, sender and loader hold at once at most: the
+// stream that is fed and the buffer of the next one, both of which doubled as they grew, so that
+// each has room for two streams; and the pages of a section until it ends, in buffers of at most 64
+// KiB. The last of those may be empty but for one page: that is one piece. The marks, the records
+// and an item that a piece cut in two don't take another piece.
 #[test]
 fn migrated_in_little_memory(rt: HostRuntime) {
     let most = 2 * (2 * TEXT) + PART + 2 * PIECE as u64;
@@ -130,7 +131,7 @@ fn migrated_in_little_memory(rt: HostRuntime) {
     assert!(rt; heap.peak() <= most);
 }
 
-// The stream of a guest with one round for each of these sets.
+// Returns the stream of a guest with one round for each of these sets.
 fn text_of<A: Allocator + Copy, B: Allocator>(
     alloc: A,
     guest: &LentMemory<'_, B>,
@@ -144,7 +145,7 @@ fn text_of<A: Allocator + Copy, B: Allocator>(
     sender.finish().ok()
 }
 
-// Feeds a text to a loader of a memory, in pieces of this length.
+// Feeds a stream to a loader of a memory, in pieces of `len` bytes.
 fn load<A: Allocator + Copy, M: GuestTarget + Drop>(
     alloc: A,
     memory: M,
@@ -168,8 +169,8 @@ fn load<A: Allocator + Copy, M: GuestTarget + Drop>(
 /// Two blocks, of two pages and of three.
 pub(crate) const SMALL: [(&str, u64); 2] = [("a", 2), ("b", 3)];
 
-// The stream of a guest of those blocks, with two rounds: page 1 of each block, and then page 2 of
-// the second one.
+// Returns the stream of a guest of those blocks, with two rounds: page 1 of each block, and then
+// page 2 of the second one.
 fn small_text(rt: &(impl AllocGlobal + Abort), first: &[u8], second: &[u8]) -> Vec<u8> {
     let table = table(rt.alloc(), &SMALL).expect(rt, "a table");
     let guest = both(first, second);
@@ -178,7 +179,7 @@ fn small_text(rt: &(impl AllocGlobal + Abort), first: &[u8], second: &[u8]) -> V
     text_of(rt.alloc(), &guest, &rounds).expect(rt, "a stream")
 }
 
-// Feeds a text onto two blocks of a table, in pieces of this length.
+// Feeds a stream onto two blocks of a table, in pieces of `len` bytes.
 fn load_onto(
     rt: &(impl AllocGlobal + Abort),
     table: &Table,
@@ -201,7 +202,7 @@ pub(crate) struct Wanted {
     pub(crate) second: Vec<u8>,
 }
 
-// Some pages one after another.
+// Returns some pages one after another.
 fn joined(rt: &(impl AllocGlobal + Abort), pages: &[&[u8]]) -> Vec<u8> {
     let mut bytes = Vec::new(rt.alloc());
     for page in pages {
@@ -210,8 +211,8 @@ fn joined(rt: &(impl AllocGlobal + Abort), pages: &[&[u8]]) -> Vec<u8> {
     bytes
 }
 
-// Asserts what a text, fed in pieces of this length, leaves of blocks of other bytes, which are the
-// memory of this table.
+// Asserts what a stream, fed in pieces of `len` bytes, leaves of blocks of other bytes, which are
+// the memory of this table.
 fn assert_left(
     rt: &(impl AllocGlobal + Abort),
     entries: &[(&str, u64)],
@@ -228,7 +229,7 @@ fn assert_left(
     assert!(rt; two.as_slice() == wanted.second.as_slice());
 }
 
-/// A fault of the stream after so many sections.
+/// Returns a fault of the stream after `round` sections.
 pub(crate) fn fault_at(round: u64, fault: Fault) -> Answer {
     let source = Origin::Main;
     (
@@ -241,13 +242,13 @@ pub(crate) fn fault_at(round: u64, fault: Fault) -> Answer {
     )
 }
 
-// The guest of the small tests: of the second block page 1 is zeros, and no page that is sent
-// otherwise.
+// Returns the guest of the small tests: of the second block page 1 is zeros, and no page that is
+// sent otherwise.
 fn small_guest(rt: &(impl AllocGlobal + Abort)) -> [Vec<u8>; 2] {
     both(bytes_of(rt, 4096, 0, 2), bytes_of(rt, 4096, 1, 3))
 }
 
-/// What is left where no page came.
+/// Returns what is left where no page came.
 pub(crate) fn untouched(rt: &(impl AllocGlobal + Abort), answer: Answer) -> Wanted {
     Wanted {
         answer,
@@ -256,8 +257,8 @@ pub(crate) fn untouched(rt: &(impl AllocGlobal + Abort), answer: Answer) -> Want
     }
 }
 
-/// What is left where page 1 of each block came, and page 2 of the second block or not. Page 0 of
-/// both stays.
+/// Returns what is left where page 1 of each block came, and page 2 of the second block or not.
+/// Page 0 of both stays.
 pub(crate) fn left(rt: &(impl AllocGlobal + Abort), answer: Answer, has_last: bool) -> Wanted {
     let [first, second] = small_guest(rt);
     let other = others(rt, 4096, 1);
@@ -272,9 +273,9 @@ pub(crate) fn left(rt: &(impl AllocGlobal + Abort), answer: Answer, has_last: bo
     }
 }
 
-/// The stream of the small guest. Its opening has 66 bytes, of which the size list ends at the
-/// 53rd; the first PART, of a page and of zeros, has 4135; the second, of one page, 4122; and END
-/// with the end byte 19.
+/// Returns the stream of the small guest. Its opening has 66 bytes, of which the size list ends at
+/// the 53rd; the first PART, of a page and of zeros, has 4135; the second, of one page, 4122; and
+/// END with the end byte 19.
 pub(crate) fn text_of_small(rt: &(impl AllocGlobal + Abort)) -> Vec<u8> {
     let [first, second] = small_guest(rt);
     let text = small_text(rt, &first, &second);
@@ -282,7 +283,7 @@ pub(crate) fn text_of_small(rt: &(impl AllocGlobal + Abort)) -> Vec<u8> {
     text
 }
 
-// However the text is cut, the answer and the bytes are the same. What it doesn't bring stays.
+// However the stream is cut, the answer and the bytes are the same. What it doesn't bring stays.
 #[test]
 fn cut_anywhere(rt: HostRuntime) {
     let text = text_of_small(&rt);
@@ -292,7 +293,7 @@ fn cut_anywhere(rt: HostRuntime) {
     }
 }
 
-// Of a text that is cut short the whole sections are there.
+// Of a stream that is cut short the complete sections are there.
 #[test]
 fn cut_short(rt: HostRuntime) {
     let text = text_of_small(&rt);
@@ -319,8 +320,8 @@ fn bad_text(rt: HostRuntime) {
     assert_left(&rt, &SMALL, &text, 100, &wanted);
 }
 
-// Of another table nothing is put: its blocks are as long as the memory's, and one has another id.
-// That is told as soon as the size list is whole.
+// Of a stream of another table nothing is applied: its blocks are as long as the memory's, and one
+// has another id. That is reported as soon as the size list is complete.
 #[test]
 fn another_table(rt: HostRuntime) {
     assert_eq!(rt; Fault::OtherTable.number(), 63);

@@ -1,4 +1,4 @@
-//! The load in place whose memory is handed to each call: what it leaves of bytes that the caller
+//! The load in place whose memory is passed to each call: what it leaves of bytes that the caller
 //! keeps, however the stream is cut; which memory it takes; the sections that it gives one by one;
 //! and allocations refused in turn.
 
@@ -14,7 +14,7 @@ use mig_stream::{StreamFault, StreamRound};
 use std::alloc::{AllocGlobal, Allocator};
 use std::process::Abort;
 
-// Feeds a piece with a memory. None where the load can't take it.
+// Feeds a piece with a memory. None if the load can't take it.
 fn feed<A: Allocator + Copy, M: GuestTarget>(
     state: &mut InPlaceState<A>,
     memory: &mut M,
@@ -26,7 +26,7 @@ fn feed<A: Allocator + Copy, M: GuestTarget>(
     Some(state.feed(memory, piece))
 }
 
-// Reads a piece. None where the load can't take it.
+// Reads a piece. None if the load can't take it.
 fn read_piece<A: Allocator + Copy>(state: &mut InPlaceState<A>, piece: &[u8]) -> Option<()> {
     if state.ended() || state.fed() > MAX_TOTAL || piece.len() as u64 > MAX_TOTAL {
         return None;
@@ -34,7 +34,7 @@ fn read_piece<A: Allocator + Copy>(state: &mut InPlaceState<A>, piece: &[u8]) ->
     state.read_piece(piece).ok()
 }
 
-// Loads a text into a memory, in pieces of this length.
+// Loads a stream into a memory, in pieces of `len` bytes.
 fn load<A: Allocator + Copy, M: GuestTarget + Drop>(
     alloc: A,
     memory: M,
@@ -58,8 +58,8 @@ fn load<A: Allocator + Copy, M: GuestTarget + Drop>(
     Some(answer)
 }
 
-// Asserts what a text, fed in pieces of this length, leaves of blocks of other bytes, which are the
-// memory of this table.
+// Asserts what a stream, fed in pieces of `len` bytes, leaves of blocks of other bytes, which are
+// the memory of this table.
 fn assert_left(
     rt: &(impl AllocGlobal + Abort),
     entries: &[(&str, u64)],
@@ -79,8 +79,8 @@ fn assert_left(
     assert!(rt; two.as_slice() == wanted.second.as_slice());
 }
 
-// However the text is cut, the answer and the bytes are the same; of a front of it the whole
-// sections are there; and nothing of another table.
+// However the stream is cut, the answer and the bytes are the same. Of a front of it the complete
+// sections are there. Of another table nothing is.
 #[test]
 fn cut_anywhere(rt: HostRuntime) {
     let text = text_of_small(&rt);
@@ -99,7 +99,7 @@ fn cut_anywhere(rt: HostRuntime) {
     assert_left(&rt, &[("a", 2), ("c", 3)], &text, 100, &other);
 }
 
-// A memory of zeros.
+// Returns a memory of zeros.
 fn zeros(rt: &(impl AllocGlobal + Abort), entries: &[(&str, u64)]) -> Memory {
     let table = table(rt.alloc(), entries).expect(rt, "a table");
     Memory::zeroed(rt.alloc(), &table).expect(rt, "a memory")
@@ -109,7 +109,7 @@ fn new_state(rt: &(impl AllocGlobal + Abort), memory: &Memory) -> InPlaceState {
     InPlaceState::new(rt.alloc(), memory.table(), MAX_TOTAL).expect(rt, "a load")
 }
 
-// The first byte of a page.
+// Returns the first byte of a page.
 fn first_byte(rt: &impl Abort, memory: &Memory, place: Place) -> u8 {
     *memory
         .page(place)
@@ -177,7 +177,7 @@ fn page_brought_again(rt: HostRuntime) {
     assert!(rt; has_byte(&memory, at(0, 1), 0, 7));
 }
 
-// How many pages a section has, and the first of them.
+// Returns how many pages a section has, and the first of them.
 fn told(section: &StreamRound) -> (usize, Option<Place>) {
     if section.len() == 0 {
         return (0, None);
@@ -185,7 +185,7 @@ fn told(section: &StreamRound) -> (usize, Option<Place>) {
     (section.len(), Some(section.place(0)))
 }
 
-// The sections wait until they are taken, in the order of the text. The verdict counts those.
+// The sections wait until they are taken, in the order of the stream. The verdict counts those.
 #[test]
 fn section_by_section(rt: HostRuntime) {
     let text = text_of_small(&rt);
@@ -210,7 +210,8 @@ fn section_by_section(rt: HostRuntime) {
     assert!(rt; (state.rounds(), state.verdict()) == (4, Ok(())));
 }
 
-// Feeds a piece after refused allocations, each of which changed nothing. How many there were.
+// Feeds a piece after refused allocations, each of which changed nothing. Returns how many there
+// were.
 fn feed_refused<A: Allocator + Copy>(
     rt: &impl Abort,
     heap: &TestHeap,

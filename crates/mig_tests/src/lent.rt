@@ -12,7 +12,7 @@ const PLACES: [Place; 3] = [
     Place { block: 1, page: 1 },
 ];
 
-// A table of two blocks, of one page and of two.
+// Returns a table of two blocks, of one page and of two.
 fn table<A: Allocator + Copy>(alloc: A) -> Option<Table<A>> {
     let first = Vec::from_slice(alloc, b"a").ok()?;
     let second = Vec::from_slice(alloc, b"b").ok()?;
@@ -22,7 +22,7 @@ fn table<A: Allocator + Copy>(alloc: A) -> Option<Table<A>> {
     Table::new(alloc, PAGE_SIZE_4K, blocks).ok()
 }
 
-// All pages of the table, marked.
+// Returns all pages of the table, marked.
 fn all<A: Allocator + Copy>(alloc: A, table: &Table<A>) -> Option<Dirty<A>> {
     let mut dirty = Dirty::none(alloc, table).ok()?;
     for place in &PLACES {
@@ -43,8 +43,8 @@ fn put<A: Allocator>(round: &mut OpenRound<A>, place: Place, bytes: &[u8]) -> Op
     round.put_page(place, bytes).ok()
 }
 
-// The stream of a guest lent as these blocks: all its pages, and then others at the last place, the
-// last of them these bytes.
+// Returns the stream of a guest lent as these blocks: all its pages, and then others at the last
+// place, the last of them these bytes.
 fn sent<A: Allocator + Copy>(alloc: A, blocks: &[&[u8]], last: &[u8]) -> Option<Vec<u8, A>> {
     let table = table(alloc)?;
     let lent = LentMemory::new(&table, blocks)?;

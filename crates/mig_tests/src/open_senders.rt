@@ -16,8 +16,8 @@ const CONFIGURED: [u8; 15] = [
 
 const PLACES: [Place; 2] = [Place { block: 0, page: 1 }, Place { block: 1, page: 64 }];
 
-// The bytes of a machine's stream of one round, by hand: the single stream of that round with the
-// configuration after its file header, and without its end byte.
+// Returns the bytes of a machine's stream of one round, by hand: the single stream of that round
+// with the configuration after its file header, and without its end byte.
 fn machine_by_hand(rt: &(impl AllocGlobal + Abort), image: &Memory, named: bool) -> Vec<u8> {
     let single = text_of(rt, image, &[&PLACES]);
     let open = single.strip_suffix(b"\x00").expect(rt, "an end byte");
@@ -32,7 +32,7 @@ fn machine_by_hand(rt: &(impl AllocGlobal + Abort), image: &Memory, named: bool)
     text
 }
 
-// Asserts that a text is closed as a machine's with a device's section behind it.
+// Asserts that a stream is closed as a machine's with a device's section after it.
 fn assert_closed(rt: &(impl AllocGlobal + Abort), text: &[u8]) {
     let mut whole = Vec::new(rt.alloc());
     append(rt, &mut whole, text);
@@ -45,7 +45,7 @@ fn assert_closed(rt: &(impl AllocGlobal + Abort), text: &[u8]) {
     assert!(rt; reader.closed_at() == Some(text.len() as u64));
 }
 
-// Sends the round, drains it, and leaves the stream open: all of its bytes.
+// Sends the round, drains it, and leaves the stream open. Returns all of its bytes.
 fn sent_open<A: Allocator + Copy>(
     rt: &(impl AllocGlobal + Abort),
     mut sender: SingleSender<A>,
@@ -72,7 +72,7 @@ fn sender_left_open(rt: HostRuntime) {
     assert_closed(&rt, &text);
 }
 
-// A sender with a machine's name, whose allocations were each refused before.
+// Returns a sender with a machine's name, whose allocations were each refused before.
 fn named_in<'a>(
     rt: &(impl AllocGlobal + Abort),
     heap: &'a TestHeap,
@@ -103,8 +103,8 @@ fn sender_with_a_name(rt: HostRuntime) {
     assert_closed(&rt, &text);
 }
 
-// A sender that is left open with its last allocation refused is given back; None where it takes
-// none.
+// Returns a sender that was given back, left open with its last allocation refused. None if it has
+// no such allocation.
 fn refused_open<'a>(
     heap: &'a TestHeap,
     sender: SingleSender<&'a TestHeap>,
@@ -115,7 +115,7 @@ fn refused_open<'a>(
     run.err()
 }
 
-// Of senders of several rounds one has a text that is full to its capacity.
+// Of senders of several rounds one has a stream that is full to its capacity.
 #[test]
 fn refused_open_end(rt: HostRuntime) {
     let image = image_with(&rt, 0, 4096);

@@ -11,8 +11,8 @@ pub(crate) const PIECE: usize = 65_536;
 
 const FIRST: Place = Place { block: 0, page: 0 };
 
-/// The bytes of a block. Of its pages each third is zeros, and of the others no two that lie near
-/// each other are the same.
+/// Returns the bytes of a block. Of its pages each third is zeros, and of the others no two that
+/// lie near each other are the same.
 pub(crate) fn block_of<A: Allocator>(
     alloc: A,
     page_size: u64,
@@ -30,7 +30,7 @@ pub(crate) fn block_of<A: Allocator>(
     Some(bytes)
 }
 
-/// All pages of a table, marked.
+/// Returns all pages of a table, marked.
 pub(crate) fn all_of<A: Allocator + Copy, B: Allocator>(
     alloc: A,
     table: &Table<B>,
@@ -60,7 +60,7 @@ fn unmark<A: Allocator>(dirty: &mut Dirty<A>, place: Place) {
     }
 }
 
-// Moves the first marks of a set, so many of them, to another set, which had others.
+// Moves the first `most` marks of a set to another set, in place of the marks that it had.
 fn move_some<A: Allocator>(from: &mut Dirty<A>, to: &mut Dirty<A>, most: u64) -> Option<()> {
     to.clear();
     for _ in 0..most {
@@ -73,7 +73,7 @@ fn move_some<A: Allocator>(from: &mut Dirty<A>, to: &mut Dirty<A>, most: u64) ->
     Some(())
 }
 
-/// Feeds bytes in pieces of this length. None where the loader can't take them.
+/// Feeds bytes in pieces of `len` bytes. None if the loader can't take them.
 pub(crate) fn feed<A: Allocator + Copy, M: GuestTarget>(
     loader: &mut InPlaceLoader<A, M>,
     bytes: &[u8],
@@ -134,8 +134,8 @@ fn send_part<A: Allocator, B: Allocator>(
     Some(sender)
 }
 
-/// Sends the marked pages of a guest in parts of at most so many, every second one page by page.
-/// What each part adds to the stream is drained into one buffer and fed, and so is the rest.
+/// Sends the marked pages of a guest in parts of at most `most` pages, every second one page by
+/// page. What each part adds to the stream is drained into one buffer and fed, and so is the rest.
 pub(crate) fn send<A: Allocator + Copy, B: Allocator, M: GuestTarget>(
     alloc: A,
     guest: &LentMemory<'_, B>,

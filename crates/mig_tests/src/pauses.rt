@@ -9,8 +9,8 @@ use mig_stream::{Frame, Given, Mode, Pause, RecordReader, StreamReader, StreamRo
 use std::alloc::{AllocGlobal, Allocator};
 use std::process::Abort;
 
-// How many bytes the text of two rounds has up to its table's last entry: the file header, what
-// stands before START, its head, the size list's head, and an entry for each block.
+// Returns how many bytes the stream of two rounds has up to its table's last entry: the file
+// header, what stands before START, its head, the size list's head, and an entry for each block.
 fn table_len(frame: Frame) -> usize {
     let before = match frame {
         Frame::Ram => 0,
@@ -19,8 +19,8 @@ fn table_len(frame: Frame) -> usize {
     8 + before + 17 + 8 + (1 + 1 + 8) + (1 + 6 + 8)
 }
 
-// What a reader with pauses is to give: the sections of the text, and what follows them. It has
-// given the sections before one of them, and of that so many records.
+// What a reader with pauses is to give: the sections of the stream, and what follows them. It has
+// given the sections before one of them, and of that the first records.
 #[derive(Drop)]
 struct Wanted<'a> {
     sections: Vec<StreamRound<'a>>,
@@ -29,7 +29,7 @@ struct Wanted<'a> {
     records: usize,
 }
 
-// What a reader of the text of two rounds is to give.
+// Returns what a reader of the stream of two rounds is to give.
 fn wanted_of<'a>(
     rt: &(impl AllocGlobal + Abort),
     frame: Frame,
@@ -90,7 +90,7 @@ fn read_all(
     panic!(rt; "the text never ends");
 }
 
-/// Pauses behind all that a reader gave, where the text goes on.
+/// Pauses after all that a reader gave, where the stream goes on.
 pub(crate) fn pause_of<'a, A: Allocator + Copy>(
     rt: &impl Abort,
     mut reader: RecordReader<'a, A>,
@@ -114,7 +114,8 @@ fn assert_table<A: Allocator, B: Allocator>(
     }
 }
 
-// A reader of a text's first bytes: where there are none, behind a pause before the text.
+// Returns a reader of a stream's first bytes: where there are none, after a pause before the
+// stream.
 fn first_reader<'a>(
     heap: &'a TestHeap,
     frame: Frame,
@@ -126,7 +127,7 @@ fn first_reader<'a>(
     RecordReader::new_in(heap, frame, PAGE_SIZE_4K, MAX_TOTAL, front)
 }
 
-// Reads a text up to where it is closed: its first bytes, then pieces of a length, with a pause
+// Reads a stream up to where it is closed: its first bytes, then pieces of a length, with a pause
 // between each two.
 fn assert_paused(
     rt: &(impl AllocGlobal + Abort),
@@ -182,8 +183,8 @@ fn machine_paused_anywhere(rt: HostRuntime) {
     assert_paused_anywhere(&rt, Frame::Machine);
 }
 
-// Pauses behind a text's first bytes with allocation `nth` refused. Whether there was no such
-// allocation.
+// Pauses after a stream's first bytes with allocation `nth` refused. Returns whether there was no
+// such allocation.
 fn is_paused(rt: &(impl AllocGlobal + Abort), frame: Frame, front: &[u8], nth: u64) -> bool {
     let heap = TestHeap::new(rt.alloc());
     let mut reader = RecordReader::new_in(&heap, frame, PAGE_SIZE_4K, MAX_TOTAL, front);
@@ -206,9 +207,9 @@ pub(crate) fn skip_all<'a, A: Allocator + Copy>(rt: &impl Abort, reader: &mut Re
     panic!(rt; "the text never ends");
 }
 
-// Pauses behind the file header, which leaves nothing to be kept, and inside of items: of RAM's
-// sections an entry of the size list, a record's id and a page; of a machine a subsection's name, the
-// UUID and a page.
+// Pauses after the file header, which leaves nothing to be kept, and inside of items: of RAM's
+// sections an entry of the size list, a record's id and a page; of a machine a subsection's name,
+// the UUID and a page.
 #[test]
 fn refused_pause(rt: HostRuntime) {
     for frame in [Frame::Ram, Frame::Machine] {

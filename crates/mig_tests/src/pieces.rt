@@ -1,5 +1,5 @@
-//! The loader that is fed in pieces: however a text is cut it gives what `load_single` gives, also
-//! where allocations were refused on the way.
+//! The loader that is fed in pieces: however a stream is cut it gives what `load_single` gives,
+//! also where allocations were refused on the way.
 
 use crate::building::two_rounds;
 use crate::refused::assert_two_rounds;
@@ -9,7 +9,7 @@ use mig_single_load::{FeedFault, SingleLoader};
 use std::alloc::Allocator;
 use std::process::Abort;
 
-// Feeds a piece, where the text isn't over.
+// Feeds a piece to a loader that hasn't ended.
 fn feed<A: Allocator + Copy>(
     rt: &impl Abort,
     loader: &mut SingleLoader<A>,
@@ -22,7 +22,7 @@ fn feed<A: Allocator + Copy>(
 }
 
 // Feeds a piece; where an allocation is refused it is fed again, or its sections are put, as the
-// fault says. Whether an allocation was refused.
+// fault says. Returns whether an allocation was refused.
 fn is_refused<A: Allocator + Copy>(
     rt: &impl Abort,
     loader: &mut SingleLoader<A>,
@@ -42,8 +42,8 @@ fn is_refused<A: Allocator + Copy>(
     true
 }
 
-// Feeds a text of two rounds in pieces of this length, and asserts what is loaded. Whether an
-// allocation was refused.
+// Feeds a stream of two rounds in pieces of `len` bytes, and asserts what is loaded. Returns
+// whether an allocation was refused.
 fn loads_with_refusal<A: Allocator + Copy>(
     rt: &impl Abort,
     alloc: A,

@@ -1,6 +1,6 @@
 //! The reader that gives page records as they come, beside the one that keeps those of a section:
 //! they have the same records in the same sections, also where each call has its first allocation
-//! refused, where records of zero pages are many, and where a text is cut.
+//! refused, where records of zero pages are many, and where a stream is cut.
 
 use crate::building::{finished, part, two_rounds, two_rounds_in};
 use mig_fixtures::{TestHeap, at, places_of, set, zeroed};
@@ -34,7 +34,7 @@ pub(crate) fn read_on(
     panic!(rt; "each call had a refusal");
 }
 
-/// Whether what was given are the records of a section from one on.
+/// Returns whether what was given are the records of a section from one on.
 pub(crate) fn has_records<A: Allocator, B: Allocator>(
     section: &StreamRound<A>,
     from: usize,
@@ -52,7 +52,7 @@ pub(crate) fn has_records<A: Allocator, B: Allocator>(
     true
 }
 
-// Asserts that a reader gives a section next. Tells in how many calls.
+// Asserts that a reader gives a section next. Returns in how many calls.
 fn assert_section<A: Allocator>(
     rt: &impl Abort,
     heap: &TestHeap,
@@ -73,8 +73,8 @@ fn assert_section<A: Allocator>(
     panic!(rt; "the section never ends");
 }
 
-// Asserts that a reader gives the sections that another has, and then none. Tells in how many calls
-// it gave the last but one.
+// Asserts that a reader gives the sections that another has, and then none. Returns in how many
+// calls it gave the last but one.
 fn assert_sections<A: Allocator + Copy>(
     rt: &impl Abort,
     heap: &TestHeap,
@@ -97,7 +97,7 @@ fn assert_sections<A: Allocator + Copy>(
     before
 }
 
-// A reader that keeps the records of a text's sections.
+// Returns a reader that keeps the records of a stream's sections.
 fn kept_of<'a>(rt: &(impl AllocGlobal + Abort), frame: Frame, text: &'a [u8]) -> StreamReader<'a> {
     StreamReader::of_text_in(
         rt.alloc(),
@@ -110,13 +110,14 @@ fn kept_of<'a>(rt: &(impl AllocGlobal + Abort), frame: Frame, text: &'a [u8]) ->
     .expect(rt, "a reader")
 }
 
-// What follows a text where a reader closed it.
+// Returns what follows a stream where a reader closed it.
 fn rest_of<'a, A: Allocator>(kept: &StreamReader<A>, text: &'a [u8]) -> Option<&'a [u8]> {
     text.get(kept.closed_at()? as usize..)
 }
 
-// The same of the two readers of a text, which stands as the other says. A cut text leaves records
-// of a section without its end.
+// Asserts that a reader of records gives what a reader of sections has of a stream, and stands as
+// that one does. A cut stream leaves records of a section without its end. Returns in how many
+// calls it gave the last section but one.
 fn assert_given(rt: &(impl AllocGlobal + Abort), frame: Frame, text: &[u8], sections: u64) -> u64 {
     let heap = TestHeap::new(rt.alloc());
     let mut kept = kept_of(rt, frame, text);
@@ -159,7 +160,7 @@ fn cut_text_given(rt: HostRuntime) {
     }
 }
 
-// All pages of the large block.
+// Returns all pages of the large block.
 fn all_places(rt: &(impl AllocGlobal + Abort)) -> Vec<Place> {
     let mut places = Vec::new(rt.alloc());
     for page in 0..3000u64 {
@@ -168,7 +169,7 @@ fn all_places(rt: &(impl AllocGlobal + Abort)) -> Vec<Place> {
     places
 }
 
-// The text of a round of all its pages.
+// Returns the stream of a round of all its pages.
 fn text_of_all(rt: &(impl AllocGlobal + Abort), image: &Memory) -> Vec<u8> {
     let places = all_places(rt);
     let dirty = places_of(rt.alloc(), image.table(), &places).expect(rt, "a set");
@@ -177,7 +178,7 @@ fn text_of_all(rt: &(impl AllocGlobal + Abort), image: &Memory) -> Vec<u8> {
     finished(rt, writer)
 }
 
-// The large block with a byte in its last page.
+// Returns the large block with a byte in its last page.
 fn large(rt: &(impl AllocGlobal + Abort)) -> Memory {
     let mut image = zeroed(rt.alloc(), &MANY).expect(rt, "a memory");
     assert!(rt; set(&mut image, 0, 3000 * 4096 - 1, 7));

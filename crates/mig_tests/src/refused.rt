@@ -1,6 +1,6 @@
 //! Each call on senders, targets and loads that allocates, with its first allocation refused, then
 //! its second, until a run has no refusal. A refused run answers `NoMemory` and leaves what it was
-//! handed as it was; the run with memory answers as ever.
+//! passed as it was; the run with memory answers as ever.
 
 ghost use Rattle.std.specs.Prelude.{◌≡◌, All};
 
@@ -17,7 +17,7 @@ use std::alloc::{AllocGlobal, Allocator};
 use std::process::Abort;
 use std::test::Fail;
 
-/// Asserts that a sender's text is this one.
+/// Asserts that a sender's stream is this one.
 pub(crate) fn assert_text<A: Allocator>(
     rt: &(impl AllocGlobal + Abort),
     sender: SingleSender<A>,
@@ -29,7 +29,7 @@ pub(crate) fn assert_text<A: Allocator>(
     }
 }
 
-// Asserts that a sender of a table, made after refused allocations, has an empty text.
+// Asserts that a sender of a table, made after refused allocations, has an empty stream.
 fn assert_new_sender(
     rt: &(impl AllocGlobal + Abort),
     heap: &TestHeap,
@@ -47,7 +47,7 @@ fn sender_new(rt: HostRuntime) -> Result<(), Fail> {
     assert_new_sender(&rt, &heap, &table)
 }
 
-// Asserts the text of a sender of one round, sent after refused allocations.
+// Asserts the stream of a sender of one round, sent after refused allocations.
 fn assert_round(
     rt: &(impl AllocGlobal + Abort),
     heap: &TestHeap,
@@ -61,7 +61,7 @@ fn assert_round(
     });
 }
 
-// A refused round can be sent again: the text is as if it had been sent once.
+// A refused round can be sent again: the stream is as if it had been sent once.
 #[test]
 fn sender_round(rt: HostRuntime) -> Result<(), Fail> {
     let heap = TestHeap::new(rt.alloc());
@@ -70,7 +70,7 @@ fn sender_round(rt: HostRuntime) -> Result<(), Fail> {
     assert_round(&rt, &heap, sender, &image, &[at(0, 1), at(1, 64)])
 }
 
-// A sender of so many rounds without a page.
+// Returns a sender of `count` rounds without a page.
 fn sent<'a>(
     rt: &(impl AllocGlobal + Abort),
     heap: &'a TestHeap,
@@ -85,14 +85,15 @@ fn sent<'a>(
     sender
 }
 
-// The text of so many rounds without a page.
+// Returns the stream of `count` rounds without a page.
 fn empty_rounds(rt: &(impl AllocGlobal + Abort), image: &Memory, count: usize) -> Vec<u8> {
     let none: &[Place] = &[];
     let rounds = vec![in rt.alloc(); none; count].expect(rt, "rounds");
     text_of(rt, image, &rounds)
 }
 
-// A sender that is given back since its last allocation is refused; None where it takes none.
+// Returns a sender that was given back since its last allocation was refused. None if it has no
+// such allocation.
 fn given_back<'a>(
     heap: &'a TestHeap,
     sender: SingleSender<&'a TestHeap>,
@@ -103,7 +104,7 @@ fn given_back<'a>(
     run.err()
 }
 
-// Of some texts one is full to its capacity. Its sender is given back, and finishes when there is
+// Of some streams one is full to its capacity. Its sender is given back, and finishes when there is
 // memory.
 #[test]
 fn sender_finish(rt: HostRuntime) {
@@ -149,8 +150,8 @@ fn target_new(rt: HostRuntime) -> Result<(), Fail> {
     assert_new_target(&rt, &heap, &heap, &table)
 }
 
-// A load's answer, or its fault where that is `NoMemory`, found in putting rounds into memory, with
-// no memory and no round.
+// Returns a load's answer, or its fault where that is `NoMemory`, found in applying rounds, with no
+// memory and no round.
 fn load_or_fault<'a>(heap: &'a TestHeap, text: &[u8]) -> Result<Loaded<&'a TestHeap>, Fault> {
     let loaded = load_single(heap, PAGE_SIZE_4K, text, MAX_TOTAL);
     let refused = LoadFault {
@@ -164,20 +165,20 @@ fn load_or_fault<'a>(heap: &'a TestHeap, text: &[u8]) -> Result<Loaded<&'a TestH
     Ok(loaded)
 }
 
-// What is wrong with the text of two rounds where its last byte is missing.
+// What is wrong with the stream of two rounds where its last byte is missing.
 const CUT: LoadFault = LoadFault {
     round: 4,
     source: Origin::Main,
     fault: Fault::Stream(StreamFault::Truncated),
 };
 
-/// Asserts that a load has the text of two rounds.
+/// Asserts that a load has the stream of two rounds.
 pub(crate) fn assert_two_rounds<A: Allocator>(rt: &impl Abort, loaded: &Loaded<A>) {
     assert!(rt; loaded.verdict == Ok(()));
     assert_both_rounds(rt, loaded);
 }
 
-// Asserts that a load has the sections of that text.
+// Asserts that a load has the sections of that stream.
 fn assert_both_rounds<A: Allocator>(rt: &impl Abort, loaded: &Loaded<A>) {
     assert!(rt; loaded.rounds == 4);
     let memory = loaded.memory.as_ref().expect(rt, "a memory");
@@ -185,7 +186,7 @@ fn assert_both_rounds<A: Allocator>(rt: &impl Abort, loaded: &Loaded<A>) {
     assert!(rt; is_full(memory, at(1, 64), 0));
 }
 
-// Loads that text after refused allocations.
+// Loads that stream after refused allocations.
 fn assert_loaded(
     rt: &(impl AllocGlobal + Abort),
     heap: &TestHeap,
@@ -202,7 +203,7 @@ fn loads(rt: HostRuntime) -> Result<(), Fail> {
     assert_loaded(&rt, &heap, &two_rounds(&rt))
 }
 
-// Loads that text, cut short, with allocation `nth` refused.
+// Loads that stream, cut short, with allocation `nth` refused.
 fn run_of_cut(rt: &impl Abort, heap: &TestHeap, text: &[u8], nth: u64) -> Run {
     heap.refuse(nth);
     let answer = load_or_fault(heap, text);
@@ -218,7 +219,7 @@ fn run_of_cut(rt: &impl Abort, heap: &TestHeap, text: &[u8], nth: u64) -> Run {
     run
 }
 
-// A text with a fault is read a second time. That lives with one refusal: of a smaller block for
+// A stream with a fault is read a second time. That lives with one refusal: of a smaller block for
 // the list of three records.
 #[test]
 fn cut_loads(rt: HostRuntime) {
@@ -263,8 +264,8 @@ fn gathered_push(rt: HostRuntime) {
     assert_pushed(&rt, &heap, packet);
 }
 
-// Whether a round got into a memory with allocation `nth` refused. If not, it answered `NoMemory`,
-// and the memory is as it was.
+// Returns whether a round got into a memory with allocation `nth` refused. If not, it answered
+// `NoMemory`, and the memory is as it was.
 fn is_put<A: Allocator + Copy>(
     rt: &(impl AllocGlobal + Abort),
     target: &mut Target<A>,

@@ -12,7 +12,7 @@ use mig_stream::{Mode, OpenPart, StreamReader, StreamWriter};
 use std::alloc::{AllocGlobal, Allocator};
 use std::process::Abort;
 
-// Puts a page of an image into a round, after refused allocations. How many there were.
+// Puts a page of an image into a round, after refused allocations. Returns how many there were.
 fn put_in_round<A: Allocator>(
     rt: &impl Abort,
     heap: &TestHeap,
@@ -36,7 +36,7 @@ fn put_in_round<A: Allocator>(
     panic!(rt; "each run had a refusal");
 }
 
-// Begins a round of a sender whose text has no room, after a refused allocation.
+// Begins a round of a sender whose stream has no room, after a refused allocation.
 fn begin_round<A: Allocator>(
     rt: &impl Abort,
     heap: &TestHeap,
@@ -50,7 +50,7 @@ fn begin_round<A: Allocator>(
     sender.begin_round().ok().expect(rt, "a round")
 }
 
-// The text that a sender, from which so much was drained, makes in all.
+// Returns the stream that a sender, from which so much was drained, makes in all.
 fn joined_text<A: Allocator>(
     rt: &(impl AllocGlobal + Abort),
     drained: &[u8],
@@ -77,8 +77,8 @@ fn open_round(rt: HostRuntime) {
     assert!(rt; joined_text(&rt, &drained, sender).as_slice() == wanted.as_slice());
 }
 
-// Ends a round of the first pages of a block, so many of them. Where an allocation is refused there
-// it is ended again, and the text is as if there had been none. Whether one was.
+// Ends a round of the first `count` pages of a block. If an allocation is refused there it is ended
+// again, and the stream is as if there had been none. Returns whether one was.
 fn ends_after_refusal(
     rt: &(impl AllocGlobal + Abort),
     heap: &TestHeap,
@@ -104,7 +104,7 @@ fn ends_after_refusal(
     true
 }
 
-// Of some rounds the text is full to its capacity.
+// Of some rounds the stream is full to its capacity.
 #[test]
 fn end_round(rt: HostRuntime) {
     let heap = TestHeap::new(rt.alloc());
@@ -117,7 +117,7 @@ fn end_round(rt: HostRuntime) {
     panic!(rt; "no text was full");
 }
 
-// Puts a page of an image into a part, after refused allocations. How many there were.
+// Puts a page of an image into a part, after refused allocations. Returns how many there were.
 fn put_in_part<A: Allocator>(
     rt: &impl Abort,
     heap: &TestHeap,
@@ -141,8 +141,8 @@ fn put_in_part<A: Allocator>(
     panic!(rt; "each run had a refusal");
 }
 
-// A part of the first pages of a block, so many of them, begun and ended with an allocation refused
-// where there is one. Whether there was one at its end.
+// Begins and ends a part of the first `count` pages of a block, with an allocation refused where
+// there is one. Returns whether there was one at its end.
 fn part_after_refusals(
     rt: &(impl AllocGlobal + Abort),
     heap: &TestHeap,
@@ -186,7 +186,8 @@ fn open_part(rt: HostRuntime) {
     assert!(rt; refused > 0);
 }
 
-// A loader over a memory, made after refused allocations, each of which gave the memory back.
+// Returns a loader over a memory, made after refused allocations, each of which gave the memory
+// back.
 fn new_loader<A: Allocator + Copy, M: GuestTarget + Drop>(
     rt: &impl Abort,
     heap: &TestHeap,
@@ -209,7 +210,8 @@ fn new_loader<A: Allocator + Copy, M: GuestTarget + Drop>(
     panic!(rt; "each run had a refusal");
 }
 
-// Feeds a piece after refused allocations, each of which changed nothing. How many there were.
+// Feeds a piece after refused allocations, each of which changed nothing. Returns how many there
+// were.
 fn feed<A: Allocator + Copy, M: GuestTarget>(
     rt: &impl Abort,
     heap: &TestHeap,
@@ -236,7 +238,7 @@ fn feed<A: Allocator + Copy, M: GuestTarget>(
     panic!(rt; "each run had a refusal");
 }
 
-// Loads a text of two rounds onto a memory, with each allocation refused on the way.
+// Loads a stream of two rounds onto a memory, with each allocation refused on the way.
 fn load_after_refusals<A: Allocator + Copy, M: GuestTarget + Drop>(
     rt: &impl Abort,
     heap: &TestHeap,
@@ -256,7 +258,8 @@ fn load_after_refusals<A: Allocator + Copy, M: GuestTarget + Drop>(
     assert!(rt; loader.verdict() == Ok(()));
 }
 
-// A target over a memory, made after refused allocations, each of which gave the memory back.
+// Returns a target over a memory, made after refused allocations, each of which gave the memory
+// back.
 fn new_target<A: Allocator + Copy, M: GuestTarget + Drop>(
     rt: &impl Abort,
     heap: &TestHeap,
@@ -279,7 +282,7 @@ fn new_target<A: Allocator + Copy, M: GuestTarget + Drop>(
     panic!(rt; "each run had a refusal");
 }
 
-// Puts the sections of a text of two rounds into a target over a memory.
+// Puts the sections of a stream of two rounds into a target over a memory.
 fn put_after_refusals<A: Allocator + Copy, M: GuestTarget + Drop>(
     rt: &(impl AllocGlobal + Abort),
     heap: &TestHeap,
@@ -303,18 +306,18 @@ fn put_after_refusals<A: Allocator + Copy, M: GuestTarget + Drop>(
     assert!(rt; target.base() == 0);
 }
 
-// Two values as an array.
+// Returns two values as an array.
 fn both<T: Drop>(one: T, other: T) -> [T; 2] {
     [one, other]
 }
 
-// So many pages of nines.
+// Returns `pages` pages of nines.
 fn nines(rt: &(impl AllocGlobal + Abort), pages: usize) -> Vec<u8> {
     assert!(rt; pages <= 100);
     vec![in rt.alloc(); 9; pages * 4096].expect(rt, "bytes")
 }
 
-// Asserts that two blocks of nines have the text of two rounds in them: page 0 of the first block
+// Asserts that two blocks of nines have the stream of two rounds in them: page 0 of the first block
 // zeros, page 1 with the first byte 7, page 64 of the second zeros, and all others as they were.
 fn assert_two_rounds(rt: &impl Abort, first: &[u8], second: &[u8]) {
     assert!(rt; first.len() == 8192);

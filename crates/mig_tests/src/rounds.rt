@@ -11,7 +11,7 @@ use mig_stream::{Mode, StreamReader, StreamRound, StreamWriter};
 use std::alloc::{AllocGlobal, Allocator};
 use std::process::Abort;
 
-/// The text of two packets: page 1 of block `a` and page 0 as zeros, and a SYNC.
+/// Returns the bytes of two packets: page 1 of block `a` and page 0 as zeros, and a SYNC.
 pub(crate) fn text_of_packets(rt: &(impl AllocGlobal + Abort)) -> Vec<u8> {
     let mut text = Vec::new(rt.alloc());
     assert!(rt; put_page_and_zeros(&mut text) == Ok(()));
@@ -19,7 +19,8 @@ pub(crate) fn text_of_packets(rt: &(impl AllocGlobal + Abort)) -> Vec<u8> {
     text
 }
 
-/// The packet at the beginning of a text, whose pages have 4096 bytes, and what follows it.
+/// Returns the packet at the beginning of a stream, whose pages have 4096 bytes, and what follows
+/// it.
 pub(crate) fn next_packet<'a>(
     rt: &(impl AllocGlobal + Abort),
     text: &'a [u8],
@@ -35,7 +36,7 @@ pub(crate) fn next_packet<'a>(
     }
 }
 
-/// The two packets of that text, gathered.
+/// Returns the two packets of that stream, gathered.
 pub(crate) fn both_packets<'a>(rt: &(impl AllocGlobal + Abort), text: &'a [u8]) -> Gathered<'a>
     ensures { All (λ packet. packet.page_size ≡ 4096) result }
 {
@@ -47,7 +48,7 @@ pub(crate) fn both_packets<'a>(rt: &(impl AllocGlobal + Abort), text: &'a [u8]) 
     gathered
 }
 
-// The text of a stream of one block, without a round.
+// Returns the stream of one block, without a round.
 fn empty_text(rt: &(impl AllocGlobal + Abort)) -> Vec<u8> {
     let table = table(rt.alloc(), &[("a", 1)]).expect(rt, "a table");
     let writer = StreamWriter::new(rt.alloc(), &table).expect(rt, "a writer");
@@ -66,7 +67,7 @@ fn first_round<'a>(
     }
 }
 
-/// A round without page records.
+/// Returns a round without page records.
 pub(crate) fn records(rt: &(impl AllocGlobal + Abort)) -> StreamRound<'static> {
     let mut reader = StreamReader::new(rt.alloc(), Mode::Single, PAGE_SIZE_4K, MAX_TOTAL);
     first_round(rt, &mut reader, &empty_text(rt))

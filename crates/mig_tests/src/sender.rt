@@ -29,7 +29,7 @@ fn assert_others_refused(
     assert_other_table(rt, sender, &other_image, &other_dirty);
 }
 
-// The text of one round.
+// Returns the stream of one round.
 fn text_of_round(rt: &(impl AllocGlobal + Abort), image: &Memory, dirty: &Dirty) -> Vec<u8> {
     let mut writer = StreamWriter::new(rt.alloc(), image.table()).expect(rt, "a writer");
     assert!(rt; part(rt, &mut writer, image, dirty) == Ok(()));
@@ -45,14 +45,14 @@ fn assert_sends_as_ever(rt: &(impl AllocGlobal + Abort), image: &Memory, dirty: 
     assert_text(rt, sender, &text_of_round(rt, image, dirty));
 }
 
-// A memory of zeros, but for one byte, 9.
+// Returns a memory of zeros, but for one byte, 9.
 fn image_with_nine(rt: &(impl AllocGlobal + Abort)) -> Memory {
     let mut image = zeroed(rt.alloc(), &[("a", 2)]).expect(rt, "a memory");
     assert!(rt; set(&mut image, 0, 4096, 9));
     image
 }
 
-// A refused round leaves nothing in the text.
+// A refused round leaves nothing in the stream.
 #[test]
 fn other_tables(rt: HostRuntime) {
     assert_eq!(rt; SendFault::Channels.number(), 61);

@@ -1,5 +1,5 @@
 //! Each call on streams that allocates, with its first allocation refused, then its second, until a
-//! run has no refusal. A refused run answers `NoMemory` and leaves what it was handed as it was;
+//! run has no refusal. A refused run answers `NoMemory` and leaves what it was passed as it was;
 //! the run with memory answers as ever.
 
 use crate::building::{
@@ -13,7 +13,7 @@ use std::alloc::{AllocGlobal, Allocator};
 use std::process::Abort;
 use std::test::Fail;
 
-// Asserts that a writer's text is this one.
+// Asserts that a writer's stream is this one.
 fn assert_text<A: Allocator>(
     rt: &(impl AllocGlobal + Abort),
     writer: StreamWriter<A>,
@@ -22,7 +22,7 @@ fn assert_text<A: Allocator>(
     assert!(rt; finished(rt, writer).as_slice() == wanted);
 }
 
-// Asserts that a writer of a table, made after refused allocations, has an empty text.
+// Asserts that a writer of a table, made after refused allocations, has an empty stream.
 fn assert_new_writer(
     rt: &(impl AllocGlobal + Abort),
     heap: &TestHeap,
@@ -41,7 +41,7 @@ fn writer_new(rt: HostRuntime) -> Result<(), Fail> {
     assert_new_writer(&rt, &heap, &table)
 }
 
-// Asserts the text of a writer of one PART, written after refused allocations.
+// Asserts the stream of a writer of one PART, written after refused allocations.
 fn assert_part(
     rt: &(impl AllocGlobal + Abort),
     heap: &TestHeap,
@@ -55,7 +55,7 @@ fn assert_part(
     });
 }
 
-// A refused part leaves the text and the block named last as they were: the next one has the same
+// A refused part leaves the stream and the block named last as they were: the next one has the same
 // bytes.
 #[test]
 fn writer_part(rt: HostRuntime) -> Result<(), Fail> {
@@ -70,7 +70,7 @@ fn writer_part(rt: HostRuntime) -> Result<(), Fail> {
     )
 }
 
-// A writer of so many FLUSHes.
+// Returns a writer of `count` FLUSHes.
 fn flushed<'a>(
     rt: &(impl AllocGlobal + Abort),
     heap: &'a TestHeap,
@@ -84,7 +84,7 @@ fn flushed<'a>(
     writer
 }
 
-// Asserts that a writer's text is that of so many FLUSHes.
+// Asserts that a writer's stream is that of `count` FLUSHes.
 fn assert_flushes<'a>(
     rt: &(impl AllocGlobal + Abort),
     heap: &'a TestHeap,
@@ -94,7 +94,7 @@ fn assert_flushes<'a>(
     assert_text(rt, writer, &finished(rt, flushed(rt, heap, count)));
 }
 
-// Writes FLUSHes up to the first that is refused, 99 at most, and answers how many there are.
+// Writes FLUSHes up to the first that is refused, 99 at most. Returns how many there are.
 fn flush_until_refused<A: Allocator>(writer: &mut StreamWriter<A>) -> usize {
     let mut count = 0;
     for done in 1..100 {
@@ -106,8 +106,8 @@ fn flush_until_refused<A: Allocator>(writer: &mut StreamWriter<A>) -> usize {
     count
 }
 
-// A writer whose text is full to its capacity refuses the FLUSH that doesn't fit, and takes it when
-// there is memory.
+// A writer whose stream is full to its capacity refuses the FLUSH that doesn't fit, and takes it
+// when there is memory.
 #[test]
 fn writer_flush(rt: HostRuntime) {
     let heap = TestHeap::new(rt.alloc());
@@ -130,7 +130,7 @@ fn given_back<'a>(
     run.err()
 }
 
-// Of some texts one is full to its capacity. Its writer is given back, and finishes when there is
+// Of some streams one is full to its capacity. Its writer is given back, and finishes when there is
 // memory.
 #[test]
 fn writer_finish(rt: HostRuntime) {
@@ -144,8 +144,8 @@ fn writer_finish(rt: HostRuntime) {
     panic!(rt; "no text was full");
 }
 
-// Asserts that an open text is another one without its end byte, and is closed as a machine's with
-// anything behind it.
+// Asserts that an open stream is another one without its end byte, and is closed as a machine's
+// with anything after it.
 fn assert_open(rt: &(impl AllocGlobal + Abort), mode: Mode, open: &[u8], whole: &[u8]) {
     assert!(rt; whole.strip_suffix(b"\x00") == Some(open));
     let mut text = Vec::new(rt.alloc());
@@ -158,8 +158,8 @@ fn assert_open(rt: &(impl AllocGlobal + Abort), mode: Mode, open: &[u8], whole: 
     assert!(rt; reader.closed_at() == Some(open.len() as u64));
 }
 
-// Leaves the text of so many FLUSHes open with its last allocation refused; whether it took one.
-// The writer is given back then.
+// Leaves the stream of `count` FLUSHes open with its last allocation refused. Returns whether it
+// has such an allocation. The writer is given back then.
 fn is_refused_open(rt: &(impl AllocGlobal + Abort), heap: &TestHeap, count: usize) -> bool {
     let writer = flushed(rt, heap, count);
     heap.refuse(1);
@@ -178,7 +178,7 @@ fn is_refused_open(rt: &(impl AllocGlobal + Abort), heap: &TestHeap, count: usiz
     }
 }
 
-// Of some texts one is full to its capacity.
+// Of some streams one is full to its capacity.
 #[test]
 fn writer_finish_open(rt: HostRuntime) {
     let heap = TestHeap::new(rt.alloc());
@@ -190,7 +190,7 @@ fn writer_finish_open(rt: HostRuntime) {
     panic!(rt; "no text was full");
 }
 
-// A text with pages, left open.
+// A stream with pages, left open.
 #[test]
 fn writer_finish_open_with_pages(rt: HostRuntime) {
     let image = image_with(&rt, 0, 4096);
@@ -203,8 +203,8 @@ fn writer_finish_open_with_pages(rt: HostRuntime) {
     }
 }
 
-// Whether the next round has these pages: each a place and the first byte of its content, None
-// where it is a zero record.
+// Returns whether the next round has these pages: each a place and the first byte of its content,
+// None where it is a zero record.
 fn has_round<A: Allocator + Copy>(
     reader: &mut StreamReader<A>,
     pages: &[(Place, Option<u8>)],
@@ -227,7 +227,7 @@ fn first_byte(content: Option<&[u8]>) -> Option<u8> {
     content?.first().copied()
 }
 
-// Whether there is no further round.
+// Returns whether there is no further round.
 fn has_no_round<A: Allocator + Copy>(reader: &mut StreamReader<A>) -> bool {
     match reader.take_round() {
         Ok(None) => true,
@@ -235,7 +235,7 @@ fn has_no_round<A: Allocator + Copy>(reader: &mut StreamReader<A>) -> bool {
     }
 }
 
-// Whether a reader was fed so many bytes, is reading, and has no table and no round.
+// Returns whether a reader was fed `fed` bytes, is reading, and has no table and no round.
 fn has_read<A: Allocator + Copy>(reader: &mut StreamReader<A>, fed: u64) -> bool {
     reader.fed() == fed
         && reader.state() == StreamState::Reading
@@ -244,8 +244,8 @@ fn has_read<A: Allocator + Copy>(reader: &mut StreamReader<A>, fed: u64) -> bool
         && has_no_round(reader)
 }
 
-// Whether a reader is closed and has the two rounds of `reader_feed`, between START's and END's,
-// and no other.
+// Returns whether a reader is closed and has the two rounds of `reader_feed`, between START's and
+// END's, and no other.
 fn has_both_rounds<A: Allocator + Copy>(reader: &mut StreamReader<A>) -> bool {
     let first = [(at(0, 0), None), (at(0, 1), Some(7)), (at(1, 64), None)];
     reader.state() == StreamState::Closed
@@ -256,8 +256,8 @@ fn has_both_rounds<A: Allocator + Copy>(reader: &mut StreamReader<A>) -> bool {
         && has_no_round(reader)
 }
 
-// Feeds a reader of no table the rest of the text with allocation `nth` refused, and where that is
-// refused leaves it as it was, once more. It has both rounds then.
+// Feeds a reader of no table the rest of the stream with allocation `nth` refused, and where that
+// is refused leaves it as it was, once more. It has both rounds then.
 fn run_of_feed(
     rt: &(impl AllocGlobal + Abort),
     heap: &TestHeap,
@@ -278,7 +278,7 @@ fn run_of_feed(
     run
 }
 
-// The same of a reader that is made for it.
+// Feeds a reader that is made for it the two pieces, the second one with allocation `nth` refused.
 fn run_in_pieces(
     rt: &(impl AllocGlobal + Abort),
     frame: Frame,
@@ -292,8 +292,8 @@ fn run_in_pieces(
     run_of_feed(rt, &heap, &mut reader, nth, rest)
 }
 
-// Reads the text of two rounds in two pieces, the second one with each of its allocations refused.
-// It lives with one refusal: that of a smaller block for the list of three records.
+// Reads the stream of two rounds in two pieces, the second one with each of its allocations
+// refused. It lives with one refusal: that of a smaller block for the list of three records.
 fn assert_read_in_pieces(rt: &(impl AllocGlobal + Abort), frame: Frame, len: usize) {
     let (text, _behind) = two_rounds_in(rt, frame);
     let (front, rest) = text.split_at_checked(len).expect(rt, "two pieces");
@@ -322,7 +322,7 @@ fn reader_feed(rt: HostRuntime) {
     assert_read_in_pieces(&rt, Frame::Machine, 171);
 }
 
-// Whether two rounds have the same page records, byte for byte.
+// Returns whether two rounds have the same page records, byte for byte.
 fn is_same_round<A: Allocator, B: Allocator>(one: &StreamRound<A>, other: &StreamRound<B>) -> bool {
     if one.len() != other.len() {
         return false;
@@ -335,7 +335,7 @@ fn is_same_round<A: Allocator, B: Allocator>(one: &StreamRound<A>, other: &Strea
     true
 }
 
-// Whether two readers have a next round, and the same.
+// Returns whether two readers have a next round, and the same.
 fn have_same_round<A: Allocator + Copy, B: Allocator + Copy>(
     one: &mut StreamReader<A>,
     other: &mut StreamReader<B>,
@@ -349,7 +349,7 @@ fn have_same_round<A: Allocator + Copy, B: Allocator + Copy>(
     is_same_round(&round, &wanted)
 }
 
-// Asserts that a reader has what one has that was fed the text of two rounds.
+// Asserts that a reader has what one has that was fed the stream of two rounds.
 fn assert_as_fed<A: Allocator + Copy>(
     rt: &(impl AllocGlobal + Abort),
     frame: Frame,
@@ -368,7 +368,7 @@ fn assert_as_fed<A: Allocator + Copy>(
     assert!(rt; has_no_round(&mut fed));
 }
 
-// A reader made of a text.
+// Returns a reader made of a stream.
 fn reader_of<'a>(
     heap: &'a TestHeap,
     frame: Frame,
@@ -382,7 +382,7 @@ fn reader_of<'a>(
     }
 }
 
-// Makes a reader of the text with allocation `nth` refused. Where there is one, it has the same.
+// Makes a reader of the stream with allocation `nth` refused. Where there is one, it has the same.
 fn run_of_text(
     rt: &(impl AllocGlobal + Abort),
     heap: &TestHeap,
@@ -401,7 +401,7 @@ fn run_of_text(
     run
 }
 
-// Makes readers of the text of two rounds, with each allocation refused. One refusal leaves a
+// Makes readers of the stream of two rounds, with each allocation refused. One refusal leaves a
 // reader: that of a smaller block for the list of three records.
 fn assert_read_of_text(rt: &(impl AllocGlobal + Abort), frame: Frame) {
     let heap = TestHeap::new(rt.alloc());
@@ -421,7 +421,7 @@ fn assert_read_of_text(rt: &(impl AllocGlobal + Abort), frame: Frame) {
     panic!(rt; "each run had a refusal");
 }
 
-// With memory the text is read as if it had been fed.
+// With memory the stream is read as if it had been fed.
 #[test]
 fn reader_of_text(rt: HostRuntime) {
     assert_read_of_text(&rt, Frame::Ram);

@@ -12,7 +12,7 @@ use mig_stream::{Frame, Mode, Pause, RecordReader, StreamFault, StreamReader, St
 use std::alloc::{AllocGlobal, Allocator};
 use std::process::Abort;
 
-// The items of the text of two rounds from START on: each line is a section, but for END and the
+// The items of the stream of two rounds from START on: each line is a section, but for END and the
 // end byte. A section begins with its type byte and ends with EOS and a footer.
 const START: [usize; 7] = [1, 16, 8, 10, 15, 8, 5];
 
@@ -32,7 +32,7 @@ fn put(rt: &impl Abort, items: &mut Vec<usize>, lens: &[usize]) {
     assert!(rt; items.extend_from_slice(lens).is_ok());
 }
 
-// The items of the text of two rounds in a frame.
+// Returns the items of the stream of two rounds in a frame.
 fn items_of(rt: &(impl AllocGlobal + Abort), frame: Frame) -> Vec<usize> {
     let is_machine = frame == Frame::Machine;
     let mut items = Vec::new(rt.alloc());
@@ -54,7 +54,7 @@ fn items_of(rt: &(impl AllocGlobal + Abort), frame: Frame) -> Vec<usize> {
     items
 }
 
-// How many of the first `len` bytes are whole items.
+// Returns how many of the first `len` bytes are complete items.
 fn whole(items: &[usize], len: usize) -> u64 {
     let mut sum = 0usize;
     for item in items {
@@ -71,7 +71,7 @@ fn new_reader<'a, A: Allocator + Copy>(alloc: A, frame: Frame) -> StreamReader<'
     StreamReader::new_in(alloc, frame, Mode::Single, PAGE_SIZE_4K, MAX_TOTAL)
 }
 
-// Where a stream is closed, if it is.
+// Returns where a stream is closed, if it is.
 fn closed(is_closed: bool, closed_at: u64) -> Option<u64> {
     if is_closed { Some(closed_at) } else { None }
 }
@@ -181,8 +181,8 @@ const OF_MACHINE: [Spoiled; 8] = [
     (4379, 4, StreamFault::Command, 4379),
 ];
 
-// Asserts where a changed text is valid up to: fed in pieces of `len` bytes, with more bytes after
-// it, and read record by record.
+// Asserts where a changed stream is valid up to: fed in pieces of `len` bytes, with more bytes
+// after it, and read record by record.
 fn assert_spoiled(rt: &(impl AllocGlobal + Abort), frame: Frame, spoiled: Spoiled, len: usize) {
     let (place, byte, fault, valid) = spoiled;
     let (mut text, _after) = two_rounds_in(rt, frame);
@@ -213,8 +213,8 @@ fn faults_inside_of_items(rt: HostRuntime) {
     }
 }
 
-// Feeds a piece after refused allocations, each of which leaves the number as it was. How many
-// there were.
+// Feeds a piece after refused allocations, each of which leaves the number as it was. Returns how
+// many there were.
 fn feed_refused(
     rt: &(impl AllocGlobal + Abort),
     heap: &TestHeap,
