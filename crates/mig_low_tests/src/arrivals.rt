@@ -1,5 +1,5 @@
-//! A round that is judged as it arrives gets the verdict of the whole round, in whatever order it
-//! arrives.
+//! A round that is judged as it arrives gets the verdict of the complete round, in whatever order
+//! it arrives.
 
 use crate::rounds::{
     BLOCKS, Sent, ThreePackets, bytes_of, one_record, packets_of, verdict_on_whole,
@@ -48,7 +48,7 @@ fn judge<A: Allocator>(
     verdict
 }
 
-// The verdict on a round whose records arrive before its packets.
+// Returns the verdict on a round whose records arrive before its packets.
 fn records_first<A: Allocator>(
     rt: &impl Abort,
     arrivals: &mut Arrivals<A>,
@@ -64,7 +64,8 @@ fn records_first<A: Allocator>(
     judge(rt, arrivals, base)
 }
 
-// The verdict on the same round, the other way round. It is judged too early once.
+// Returns the verdict on such a round whose packets arrive before its records. It is judged too
+// early once.
 fn records_last<A: Allocator>(
     rt: &impl Abort,
     arrivals: &mut Arrivals<A>,
@@ -81,7 +82,7 @@ fn records_last<A: Allocator>(
     judge(rt, arrivals, base)
 }
 
-// Whether both orders get this verdict.
+// Returns whether both orders get this verdict.
 fn both_get<A: Allocator>(
     rt: &(impl AllocGlobal + Abort),
     arrivals: &mut Arrivals<A>,
@@ -151,7 +152,7 @@ fn numbers_from_a_base(rt: HostRuntime) {
     assert!(rt; both_get(&rt, &mut arrivals, 6, &bytes, Err(RoundFault::Missing(6))));
 }
 
-// Nothing of the round before is left, and a round of nothing is lawful.
+// No part of the round before is left, and a round of no pages is lawful.
 #[test]
 fn cleared(rt: HostRuntime) {
     let mut arrivals = arrivals(&rt, rt.alloc());

@@ -26,7 +26,7 @@ fn channel(rt: &(impl AllocGlobal + Abort)) -> Vec<u8> {
     text
 }
 
-// How many of its first `len` bytes are whole items.
+// Returns how many of its first `len` bytes are complete items.
 fn whole(len: u64) -> u64 {
     if len < HELLO {
         0
@@ -43,7 +43,7 @@ fn new_reader<A: Allocator + Copy>(alloc: A) -> ChannelReader<A> {
     ChannelReader::new(alloc, 4096, Uuid::nil(), 1)
 }
 
-// Feeds a piece, where the text isn't over.
+// Feeds a piece to a channel that hasn't ended.
 fn feed<A: Allocator + Copy>(
     rt: &impl Abort,
     reader: &mut ChannelReader<A>,

@@ -1,5 +1,5 @@
-//! Memories that are compared as a whole: the sets of the places where they differ, of small blocks and of one that threads share,
-//! and what is answered where an allocation is refused.
+//! Memories that are compared as a whole: the sets of the places where they differ, of small blocks
+//! and of one that threads share, and what is answered where an allocation is refused.
 
 use mig_fixtures::{TestHeap, at, set, with_each_allocation_refused, zeroed};
 use mig_mem::{Dirty, Memory, Place, differences, first_difference};
@@ -11,13 +11,13 @@ use std::thread::Threads;
 // One block of one page.
 const ONE_PAGE: [(&str, u64); 1] = [("a", 1)];
 
-// Blocks that end in the middle of a word of marks, at its end, and behind its end.
+// Blocks that end in the middle of a word of marks, at its end, and after its end.
 const SMALL: [(&str, u64); 4] = [("a", 2), ("b", 64), ("c", 65), ("d", 200)];
 
 // A block whose pages threads share, between two that they don't.
 const LARGE: [(&str, u64); 3] = [("a", 1), ("pc.ram", 5000), ("b", 63)];
 
-// A memory of zeros but for the first byte of some pages.
+// Returns a memory of zeros but for the first byte of some pages.
 fn memory(rt: &(impl AllocGlobal + Abort), blocks: &[(&str, u64)], places: &[Place]) -> Memory {
     let mut memory = zeroed(rt.alloc(), blocks).expect(rt, "a memory");
     for place in places {

@@ -1,4 +1,5 @@
-//! Guest memory in bytes that the caller keeps: where pages land in them, what stays, and which bytes aren't taken.
+//! Guest memory in bytes that the caller keeps: where pages land in them, what stays, and which
+//! bytes aren't taken.
 
 ghost use Rattle.mig_mem.specs.PageSize.{IsPageSize};
 
@@ -10,7 +11,7 @@ use std::process::Abort;
 // Two blocks, of two pages and of three.
 const BLOCKS: [(&str, u64); 2] = [("a", 2), ("b", 3)];
 
-// A table of those blocks.
+// Returns a table of those blocks.
 fn table(rt: &(impl AllocGlobal + Abort), page_size: u64) -> Table
     requires { IsPageSize page_size }
 {
@@ -21,12 +22,12 @@ fn table(rt: &(impl AllocGlobal + Abort), page_size: u64) -> Table
     }
 }
 
-// So many bytes of one value.
+// Returns `len` bytes of one value.
 fn bytes_of(rt: &(impl AllocGlobal + Abort), byte: u8, len: u64) -> Vec<u8> {
     vec![in rt.alloc(); byte; len as usize].expect(rt, "bytes")
 }
 
-// A page whose bytes count up and begin again, in no step that a page has.
+// Returns a page whose bytes count up and begin again, in no step that a page has.
 fn counting_page(rt: &(impl AllocGlobal + Abort), size: u64) -> Vec<u8> {
     let mut page = Vec::new(rt.alloc());
     for i in 0..size {
@@ -35,7 +36,7 @@ fn counting_page(rt: &(impl AllocGlobal + Abort), size: u64) -> Vec<u8> {
     page
 }
 
-/// Some bytes one after another.
+/// Returns some bytes one after another.
 pub(crate) fn joined(rt: &(impl AllocGlobal + Abort), parts: &[&[u8]]) -> Vec<u8> {
     let mut bytes = Vec::new(rt.alloc());
     for part in parts {
@@ -80,7 +81,7 @@ fn put_some<'a, 'b>(
     memory.into_blocks()
 }
 
-// Whether a block's bytes are these.
+// Returns whether a block's bytes are these.
 fn is_same(bytes: &mut [u8], wanted: &[u8]) -> bool {
     *bytes == *wanted
 }
@@ -92,13 +93,13 @@ fn assert_given_back(rt: &impl Abort, blocks: &mut [&mut [u8]], first: &[u8], se
     assert!(rt; is_same(blocks[1], second));
 }
 
-/// Two values as an array.
+/// Returns two values as an array.
 pub(crate) fn both<T: Drop>(one: T, other: T) -> [T; 2] {
     [one, other]
 }
 
-// Each block's last page is put, of the first one the other page stays, and of the second one the others are zeros: one that held
-// bytes, and one that was zeros.
+// Each block's last page is put, of the first one the other page stays, and of the second one the
+// others are zeros: one that held bytes, and one that was zeros.
 fn assert_put(rt: &(impl AllocGlobal + Abort), size: u64)
     requires { IsPageSize size }
 {
@@ -124,12 +125,12 @@ fn pages_put(rt: HostRuntime) {
     assert_put(&rt, PAGE_SIZE_8K);
 }
 
-// Whether bytes are the memory of a table.
+// Returns whether bytes are the memory of a table.
 fn is_taken(table: &Table, blocks: &mut [&mut [u8]]) -> bool {
     LentMemoryMut::new(table, blocks).is_ok()
 }
 
-// Whether two blocks of so many bytes are.
+// Returns whether two blocks of `first` and `second` bytes are the memory of a table.
 fn are_taken(rt: &(impl AllocGlobal + Abort), table: &Table, first: u64, second: u64) -> bool {
     let mut first = bytes_of(rt, 1, first);
     let mut second = bytes_of(rt, 2, second);

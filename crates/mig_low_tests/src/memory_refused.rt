@@ -1,5 +1,6 @@
-//! Each call on guest memory that allocates, with its first allocation refused, then its second, until a run has no refusal. A refused run
-//! answers `NoMemory` and leaves what it was handed as it was; the run with memory answers as ever.
+//! Each call on guest memory that allocates, with its first allocation refused, then its second,
+//! until a run has no refusal. A refused run answers `NoMemory` and leaves what it was passed as it
+//! was; the run with memory answers as ever.
 
 use mig_fixtures::{
     TestHeap, at, has_byte, is_full, list, places_of, set, table, with_each_allocation_refused,
@@ -22,7 +23,7 @@ fn has_blocks<A: Allocator>(table: &Table<A>) -> bool {
         && !table.holds(at(1, 65))
 }
 
-// A table in memory of one allocator, of a list in memory of another.
+// Returns a table in memory of one allocator, of a list in memory of another.
 fn new_table<'a>(
     others: &'a TestHeap,
     heap: &'a TestHeap,
@@ -62,7 +63,8 @@ fn memory_zeroed(rt: HostRuntime) -> Result<(), Fail> {
     });
 }
 
-// A memory of which one page was written and another made zeros again; the others were never written.
+// Returns a memory of which one page was written and another made zeros again; the others were
+// never written.
 fn written<'a>(rt: &(impl AllocGlobal + Abort), heap: &'a TestHeap) -> Memory<&'a TestHeap> {
     let mut memory = zeroed(heap, &BLOCKS).expect(rt, "a memory");
     assert!(rt; set(&mut memory, 1, 5, 7));
@@ -111,8 +113,8 @@ fn fill<A: Allocator>(rt: &impl Abort, memory: &mut Memory<A>, place: Place) {
     assert!(rt; is_full(memory, place, 9));
 }
 
-// Writes pages for the first time and again, whole and by a byte, and makes some zeros, with the first allocation refused. It
-// doesn't come.
+// Writes pages for the first time and again, whole and by a byte, and makes some zeros, with the
+// first allocation refused. It doesn't come.
 fn assert_writes_take_none(rt: &impl Abort, heap: &TestHeap, memory: &mut Memory<&TestHeap>) {
     heap.refuse(1);
     for place in [at(1, 64), at(0, 0), at(1, 64)] {

@@ -1,5 +1,6 @@
-//! Each call on packets and channels that allocates, with its first allocation refused, then its second, until a run has no
-//! refusal. A refused run answers `NoMemory` and leaves what it was handed as it was; the run with memory answers as ever.
+//! Each call on packets and channels that allocates, with its first allocation refused, then its
+//! second, until a run has no refusal. A refused run answers `NoMemory` and leaves what it was
+//! passed as it was; the run with memory answers as ever.
 
 use mig_fixtures::{TestHeap, put_page_and_zeros};
 use mig_packet::{
@@ -9,7 +10,8 @@ use std::alloc::{AllocGlobal, Allocator};
 use std::process::Abort;
 use uuid::Uuid;
 
-// A channel of 6,848 bytes: a hello of the UUID of zeros, the packet of two pages, and a SYNC packet.
+// Returns a channel of 6,848 bytes: a hello of the UUID of zeros, the packet of two pages, and a
+// SYNC packet.
 fn two_page_channel(rt: &(impl AllocGlobal + Abort)) -> Vec<u8> {
     let mut text = Vec::from_slice(rt.alloc(), &hello(&Uuid::nil(), 0)).expect(rt, "a hello");
     assert!(rt; put_page_and_zeros(&mut text) == Ok(()));
@@ -17,7 +19,7 @@ fn two_page_channel(rt: &(impl AllocGlobal + Abort)) -> Vec<u8> {
     text
 }
 
-// Feeds a piece, where the text isn't over.
+// Feeds a piece to a channel that hasn't ended.
 fn feed<A: Allocator + Copy>(
     rt: &(impl AllocGlobal + Abort),
     reader: &mut ChannelReader<A>,
@@ -28,7 +30,7 @@ fn feed<A: Allocator + Copy>(
     reader.feed(piece)
 }
 
-// A text of three bytes in a buffer without room for more.
+// Returns three bytes in a buffer without room for more.
 fn three<'a>(rt: &(impl AllocGlobal + Abort), heap: &'a TestHeap) -> Vec<u8, &'a TestHeap> {
     Vec::from_slice(heap, &[5, 6, 7]).expect(rt, "a text")
 }
@@ -49,7 +51,7 @@ fn packets(rt: HostRuntime) {
     assert!(rt; text.as_slice() == wanted.as_slice());
 }
 
-// A head takes one allocation. Its page appended by the caller, it is the whole packet.
+// A head takes one allocation. With its page appended by the caller, it is the complete packet.
 #[test]
 fn heads(rt: HostRuntime) {
     let heap = TestHeap::new(rt.alloc());
@@ -72,7 +74,7 @@ fn heads(rt: HostRuntime) {
     assert!(rt; text.as_slice() == wanted.as_slice());
 }
 
-// Whether there is no further round.
+// Returns whether there is no further round.
 fn has_no_round<A: Allocator + Copy>(reader: &mut ChannelReader<A>) -> bool {
     match reader.take_round() {
         Ok(None) => true,
@@ -80,7 +82,7 @@ fn has_no_round<A: Allocator + Copy>(reader: &mut ChannelReader<A>) -> bool {
     }
 }
 
-// Whether the next round has the two packets of that channel.
+// Returns whether the next round has the two packets of that channel.
 fn has_round<A: Allocator + Copy>(reader: &mut ChannelReader<A>) -> bool {
     let Ok(Some(round)) = reader.take_round() else {
         return false;
@@ -91,7 +93,8 @@ fn has_round<A: Allocator + Copy>(reader: &mut ChannelReader<A>) -> bool {
     }
 }
 
-// Whether a reader has read so many bytes of the channel of two pages, and no round is whole.
+// Returns whether a reader has read the first `len` bytes of the channel of two pages, and no round
+// is complete.
 fn has_read<A: Allocator + Copy>(reader: &mut ChannelReader<A>, len: u64) -> bool {
     reader.state() == ChannelState::Reading
         && reader.fed() == len
@@ -99,8 +102,8 @@ fn has_read<A: Allocator + Copy>(reader: &mut ChannelReader<A>, len: u64) -> boo
         && has_no_round(reader)
 }
 
-// A refused piece leaves the reader as it was, also where the packet that it makes whole was taken before the allocation; fed
-// again with memory, it is read as ever.
+// A refused piece leaves the reader as it was, also where the packet that it completes was taken
+// before the allocation. Fed again with memory, it is read as ever.
 #[test]
 fn pieces(rt: HostRuntime) {
     let heap = TestHeap::new(rt.alloc());

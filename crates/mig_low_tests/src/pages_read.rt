@@ -43,7 +43,8 @@ impl Read {
     }
 }
 
-// A channel of one packet with a page and zeros, one of two pages, one with SYNC, and one without.
+// Returns a channel of one packet with a page and zeros, one of two pages, one with SYNC, and one
+// without.
 fn channel(rt: &(impl AllocGlobal + Abort)) -> Vec<u8> {
     let mut text = Vec::from_slice(rt.alloc(), &hello(&Uuid::nil(), 0)).expect(rt, "a hello");
     assert!(rt; put_page_and_zeros(&mut text) == Ok(()));
@@ -55,7 +56,7 @@ fn channel(rt: &(impl AllocGlobal + Abort)) -> Vec<u8> {
     text
 }
 
-// Reads the packets of that channel whole.
+// Reads the packets of that channel at once.
 fn read_whole(rt: &(impl AllocGlobal + Abort), text: &[u8]) -> Read {
     let mut read = Read::nothing(rt);
     let mut rest = text.get(64..).expect(rt, "packets");
@@ -105,7 +106,7 @@ fn read_piece<A: Allocator>(
     }
 }
 
-// Whether two readers of one channel tell the same of it.
+// Returns whether two readers of one channel return the same of it.
 fn tell_the_same<A: Allocator + Copy, B: Allocator>(
     packets: &ChannelReader<A>,
     pages: &PageReader<B>,
@@ -113,7 +114,7 @@ fn tell_the_same<A: Allocator + Copy, B: Allocator>(
     packets.state() == pages.state() && packets.hello_id() == pages.hello_id()
 }
 
-// Reads a text in pieces of `len` bytes by packets and by pages, and returns what came by pages.
+// Reads a stream in pieces of `len` bytes by packets and by pages, and returns what came by pages.
 fn read_both(rt: &(impl AllocGlobal + Abort), text: &[u8], len: usize) -> Read {
     let mut packets = ChannelReader::new(rt.alloc(), 4096, Uuid::nil(), 1);
     let made = PageReader::new(rt.alloc(), 4096, Uuid::nil(), 1);
@@ -132,7 +133,7 @@ fn read_both(rt: &(impl AllocGlobal + Abort), text: &[u8], len: usize) -> Read {
     read
 }
 
-// The same pages come in their order, however the bytes are cut.
+// The pages come in their order, however the bytes are cut, and each time the same ones.
 #[test]
 fn in_pieces(rt: HostRuntime) {
     let text = channel(&rt);
@@ -218,8 +219,8 @@ fn pages_wanted(rt: HostRuntime) {
     assert!(rt; read_wanted(&rt, &text).is_same(&read_whole(&rt, &text)));
 }
 
-// A page is wanted at its offset, with how many follow it; of a page that was begun its other bytes;
-// and nothing once a packet is complete, or the channel was ended.
+// A page is wanted at its offset, with how many follow it; of a page that was begun its other
+// bytes; and nothing once a packet is complete, or the channel was ended.
 #[test]
 fn what_is_wanted(rt: HostRuntime) {
     let text = channel(&rt);

@@ -119,7 +119,7 @@ fn gathered<'a>(rt: &(impl AllocGlobal + Abort), bytes: &'a [u8]) -> Gathered<'a
     gathered
 }
 
-/// Returns the verdict on a whole round of these records and packets, numbered from 0 on, by a
+/// Returns the verdict on a complete round of these records and packets, numbered from 0 on, by a
 /// target that has no round yet.
 pub(crate) fn verdict_on_whole(
     rt: &(impl AllocGlobal + Abort),

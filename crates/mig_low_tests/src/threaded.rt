@@ -1,4 +1,5 @@
-//! The pages of a round put into lent bytes by several threads, compared with pages put one by one.
+//! The pages of a round written into lent bytes by several threads, compared with pages written one
+//! by one.
 
 ghost use Rattle.std.specs.Prelude.{◌≡◌, ◌<◌, length, All};
 ghost use Rattle.mig_mem.specs.PageSize.{IsPageSize};
@@ -17,7 +18,7 @@ const BLOCKS: [(&str, u64); 2] = [("a", 4097), ("b", 5)];
 // How many pages the round has: more than the blocks, so that some come twice.
 const PAGES: u64 = 5000;
 
-// The page of the round by its number. Of four one after another, one is zeros.
+// Returns the page of the round by its number. Of four one after another, one is zeros.
 fn page<'a>(i: u64, ones: &'a [u8], twos: &'a [u8]) -> RoundPage<'a>
     requires { length ones.now ≡ length twos.now }
     ensures { HasPageSize (length ones.now) result }
@@ -35,7 +36,8 @@ fn page<'a>(i: u64, ones: &'a [u8], twos: &'a [u8]) -> RoundPage<'a>
     RoundPage { place, content }
 }
 
-// A round of pages of both blocks in no order, and of pages that the table has no place for.
+// Returns a round of pages of both blocks in no order, and of pages that the table has no place
+// for.
 fn round<'a>(rt: &(impl AllocGlobal + Abort), ones: &'a [u8], twos: &'a [u8]) -> Vec<RoundPage<'a>>
     requires { length ones.now ≡ length twos.now }
     ensures { All (HasPageSize (length ones.now)) result.items }
@@ -70,7 +72,7 @@ fn put_in_turn(rt: &impl Abort, table: &Table, blocks: &mut [&mut [u8]], pages: 
     }
 }
 
-// Puts pages by so many threads.
+// Writes pages by `threads` threads.
 fn put_by_threads<R: Abort + Threads + Sync>(
     rt: &R,
     table: &Table,
@@ -87,12 +89,12 @@ fn put_by_threads<R: Abort + Threads + Sync>(
     memory.put_pages(rt, threads, pages);
 }
 
-// So many bytes of 9.
+// Returns `len` bytes of 9.
 fn nines(rt: &(impl AllocGlobal + Abort), len: usize) -> Vec<u8> {
     vec![in rt.alloc(); 9u8; len].expect(rt, "bytes")
 }
 
-// Asserts that a round put by so many threads leaves these bytes.
+// Asserts that a round written by `threads` threads leaves these bytes.
 fn assert_put<R: AllocGlobal + Abort + Threads + Sync>(
     rt: &R,
     table: &Table,
@@ -112,7 +114,7 @@ fn assert_put<R: AllocGlobal + Abort + Threads + Sync>(
     assert!(rt; second.as_slice() == wanted_second.as_slice());
 }
 
-// What two blocks of a table hold after a round whose pages are put one by one.
+// Returns what two blocks of a table hold after a round whose pages are put one by one.
 fn wanted(rt: &(impl AllocGlobal + Abort), table: &Table, pages: &[RoundPage<'_>]) -> [Vec<u8>; 2] {
     assert!(rt; table.len() == 2);
     let size = table.page_size();
