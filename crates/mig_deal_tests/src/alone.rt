@@ -1,4 +1,5 @@
-//! One worker that has a deal for itself. Tests can't show what `work` asks of its seat, so this makes both.
+//! One worker that has a deal for itself. Tests can't show what `work` asks of its seat, so this
+//! module makes deal and seat.
 
 ghost use Rattle.std.specs.Prelude.{◌≡◌, All};
 ghost use Rattle.mig_send.specs.Batches.{IsBatch};
@@ -12,7 +13,7 @@ use mig_send::{Batch, Packed, Worked, work};
 use std::alloc::{AllocGlobal, Allocator, Global};
 use std::process::Abort;
 
-/// What a worker answered, and the number after all that were drawn.
+/// What a worker returned, and the number after all that were drawn.
 #[derive(Drop)]
 pub(crate) struct Alone<A: Allocator = Global> {
     pub packets: Result<Vec<Packed<A>, A>, NoMemory>,
@@ -20,7 +21,8 @@ pub(crate) struct Alone<A: Allocator = Global> {
     pub next: u64,
 }
 
-/// Runs a worker with the only seat of a deal of these batches, the deal in memory of another allocator.
+/// Runs a worker with the only seat of a deal of these batches, the deal in memory of another
+/// allocator.
 pub(crate) fn work_alone<A: Allocator + Copy, B: Allocator, C: Allocator, G: Gate>(
     rt: &(impl AllocGlobal + Abort),
     alloc: A,

@@ -25,7 +25,7 @@ pub(crate) fn cut_at<A: Allocator + Copy, B: Allocator>(
     cut(alloc, table, dirty, limit)
 }
 
-/// The batches of some places of a table.
+/// Returns the batches of some places of a table.
 pub(crate) fn batches_of(
     rt: &(impl AllocGlobal + Abort),
     table: &Table,
@@ -38,21 +38,22 @@ pub(crate) fn batches_of(
     cut_at(rt, rt.alloc(), table, &dirty, limit).expect(rt, "batches")
 }
 
-/// A memory of some blocks, whose page 1 of block 0 has the first byte 9.
+/// Returns a memory of some blocks, whose page 1 of block 0 has the first byte 9.
 pub(crate) fn memory_of(rt: &(impl AllocGlobal + Abort), entries: &[(&str, u64)]) -> Memory {
     let mut memory = zeroed(rt.alloc(), entries).expect(rt, "a memory");
     assert!(rt; set(&mut memory, 0, 4096, 9));
     memory
 }
 
-/// Asserts that the bytes are those of packet 0 with pages 0 and 1 of a block `a` of two pages of such a memory.
+/// Asserts that the bytes are those of packet 0 with pages 0 and 1 of a block `a` of two pages of
+/// such a memory.
 pub(crate) fn assert_page_and_zeros(rt: &(impl AllocGlobal + Abort), bytes: &[u8]) {
     let mut wanted = Vec::new(rt.alloc());
     assert!(rt; put_page_and_zeros(&mut wanted) == Ok(()));
     assert!(rt; bytes == wanted.as_slice());
 }
 
-// Whether batches are of these blocks and have these pages.
+// Returns whether batches are of these blocks and have these pages.
 fn are<A: Allocator>(batches: &[Batch<A>], wanted: &[(usize, &[u64])]) -> bool {
     if batches.len() != wanted.len() {
         return false;
@@ -80,7 +81,8 @@ fn assert_cut_refused(
     assert!(rt; !heap.is_waiting());
 }
 
-// The same where allocation `nth` doesn't come: asserts the batches.
+// Cuts the set of some places, a page to a batch, where allocation `nth` doesn't come. Asserts the
+// batches.
 fn assert_cut(
     rt: &(impl AllocGlobal + Abort),
     heap: &TestHeap,
@@ -122,8 +124,8 @@ fn pack_first<A: Allocator + Copy>(
     pack(alloc, memory, batch, 0)
 }
 
-// Of block `a` of two pages, page 0 of zeros and page 1 with the first byte 9. Each of the two lists of offsets takes one allocation,
-// and the packet's text one.
+// Of block `a` of two pages, page 0 of zeros and page 1 with the first byte 9. Each of the two
+// lists of offsets takes one allocation, and the packet's bytes one.
 #[test]
 fn pack_with_each_allocation_refused(rt: HostRuntime) {
     let heap = TestHeap::new(rt.alloc());

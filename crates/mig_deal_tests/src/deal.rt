@@ -1,5 +1,5 @@
-//! The deal: numbers drawn in turn by one thread, by 255 threads at once, and by threads that share it in an `Arc`; and its allocations
-//! refused.
+//! The deal: numbers drawn in turn by one thread, by 255 threads at once, and by threads that share
+//! it in an `Arc`; and its allocations refused.
 
 ghost use Rattle.std.specs.Prelude.{◌≡◌, ◌+◌, ◌<◌, ◌≤◌, [], All, vec_len, vec_capacity};
 
@@ -13,7 +13,7 @@ use std::sync::atomic::{AtomicU64, Ordering};
 use std::test::Fail;
 use std::thread::Threads;
 
-/// A list with room for so many spent seats.
+/// Returns a list with room for `count` spent seats.
 pub(crate) fn room(rt: &(impl AllocGlobal + Abort), count: usize) -> Vec<Spent>
     ensures none { result.items ≡ [] }
     ensures room { count ≤ vec_capacity result }
@@ -112,7 +112,7 @@ fn three_seats_and_no_batch(rt: HostRuntime) {
     assert_eq!(rt; next, 3);
 }
 
-// How many numbers weren't drawn exactly once.
+// Returns how many numbers weren't drawn exactly once.
 fn wrong(times: &[AtomicU64]) -> usize {
     let once = |count: &&AtomicU64| count.load(Ordering::SeqCst) == 1;
     times.len() - times.iter().filter(once).count()
@@ -195,8 +195,9 @@ fn end_of_a_deal_in_an_arc(rt: HostRuntime) -> Result<(), Fail> {
     Ok(())
 }
 
-// A deal's first allocation refused, then its second, until a run has no refusal. There are three: the list of the seats, the block of
-// the word, and the block of the table's slots, which is empty. Drawing and closing allocate nothing.
+// A deal's first allocation refused, then its second, until a run has no refusal. There are three:
+// the list of the seats, the block of the word, and the block of the table's slots, which is empty.
+// Drawing and closing allocate nothing.
 #[test]
 fn allocations_refused(rt: HostRuntime) {
     let heap = TestHeap::new(rt.alloc());

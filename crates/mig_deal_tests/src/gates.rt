@@ -1,5 +1,5 @@
-//! The sender on two channels behind gates that one worker alone doesn't pass, and on as many channels as there may be. Each
-//! channel's text is read as a loader reads it, packet by packet.
+//! The sender on two channels with gates that one worker alone doesn't pass, and on as many
+//! channels as there may be. Each channel is read as a loader reads it, packet by packet.
 
 use crate::multi::{Round, finish, send, uuid};
 use crate::working::Told;
@@ -14,8 +14,8 @@ use std::thread::{Threads, yield_now};
 
 // ---- guests
 
-// A guest of one block `a`, whose pages are each filled with 7, and the limit of pages to a packet. All are dirty, so batch i has
-// pages i * limit and on.
+// A guest of one block `a`, whose pages are each filled with 7, and the limit of pages to a packet.
+// All are dirty, so batch i has pages i * limit and on.
 #[derive(Clone, Copy)]
 struct Guest {
     page_size: u64,
@@ -24,7 +24,7 @@ struct Guest {
 }
 
 impl Guest {
-    // A round of no page of it.
+    // Returns a round of no page of it.
     fn idle(&self, rt: &(impl AllocGlobal + Abort)) -> Round {
         let table = table_of(rt.alloc(), self.page_size, &[("a", self.pages)]);
         let table = table.expect(rt, "a table");
@@ -33,7 +33,7 @@ impl Guest {
         Round { memory, dirty }
     }
 
-    // A round of all its pages.
+    // Returns a round of all its pages.
     fn busy(&self, rt: &(impl AllocGlobal + Abort)) -> Round {
         let mut round = self.idle(rt);
         let mut content = Vec::new(rt.alloc());
@@ -48,7 +48,7 @@ impl Guest {
         round
     }
 
-    // A sender of it, on so many channels.
+    // Returns a sender of it, on `channels` channels.
     fn sender(&self, rt: &(impl AllocGlobal + Abort), channels: usize) -> MultiSender {
         let round = self.idle(rt);
         MultiSender::new(
@@ -62,16 +62,18 @@ impl Guest {
     }
 }
 
-// ---- the texts read
+// ---- the streams read
 
-// The numbers of a round: the first one, and how many packets with pages it has, which come before the SYNC packets.
+// The numbers of a round: the first one, and how many packets with pages it has, which come before
+// the SYNC packets.
 #[derive(Clone, Copy)]
 struct Numbers {
     base: u64,
     batches: u64,
 }
 
-// Asserts a packet of a round of a guest: it has the pages of its number's batch, or it is a SYNC packet without pages.
+// Asserts a packet of a round of a guest: it has the pages of its number's batch, or it is a SYNC
+// packet without pages.
 fn assert_packet(rt: &impl Abort, guest: &Guest, numbers: &Numbers, packet: &Packet<'_>) {
     assert!(rt; packet.number() >= numbers.base && packet.zero_len() == 0);
     let place = packet.number().wrapping_sub(numbers.base);
@@ -90,7 +92,8 @@ fn assert_packet(rt: &impl Abort, guest: &Guest, numbers: &Numbers, packet: &Pac
     }
 }
 
-// The rounds of a channel's text, so many: it begins with the channel's own hello, and has nothing more.
+// Returns the `rounds` rounds of a channel. It begins with the channel's own hello, and has nothing
+// more.
 fn rounds_of(
     rt: &(impl AllocGlobal + Abort),
     guest: &Guest,
@@ -117,7 +120,8 @@ fn rounds_of(
     read
 }
 
-// Asserts the packets of a guest's rounds, whose numbers are these, in all channels' texts: the rounds' numbers are each had once.
+// Asserts the packets of a guest's rounds, whose numbers are these, in all channels: the rounds'
+// numbers are each had once.
 fn assert_texts(
     rt: &(impl AllocGlobal + Abort),
     guest: &Guest,
@@ -139,8 +143,9 @@ fn assert_texts(
     assert!(rt; found.iter().copied().eq(0..end));
 }
 
-// The steps that the worker of a channel should have told in its only round, as `Told` keeps them: the draw and the packing of
-// each packet with pages, and the draw that gave the SYNC packet its number.
+// Returns the steps that the worker of a channel should have passed in its only round, as `Told`
+// keeps them: the draw and the packing of each packet with pages, and the draw that gave the SYNC
+// packet its number.
 fn steps_of(
     rt: &(impl AllocGlobal + Abort),
     guest: &Guest,
@@ -162,8 +167,8 @@ fn steps_of(
 
 // ---- gates
 
-// What a gate knows of a channel: its steps so far, one more than the last number that it drew, and for which number of the
-// other channel it is held, if it is.
+// What a gate knows of a channel: its steps so far, one more than the last number that it drew, and
+// for which number of the other channel it is held, if it is.
 #[derive(Drop)]
 struct Lane {
     told: Told,
@@ -180,7 +185,8 @@ impl Lane {
         }
     }
 
-    // Waits until this channel has drawn such a number or a later one, and says whether it did; it gives up after a while.
+    // Waits until this channel has drawn such a number or a later one, and returns whether it did.
+    // It gives up after a while.
     fn reaches(&self, number: u64) -> bool {
         for turn in 0..100_000_000u64 {
             if self.drawn.load(Ordering::SeqCst) > number {
@@ -194,8 +200,8 @@ impl Lane {
     }
 }
 
-// A gate of two channels. It holds each at its first draw until the other has drawn the number of its lane or a later one, and
-// counts how often it gave up.
+// A gate of two channels. It holds each at its first draw until the other has drawn the number of
+// its lane or a later one, and counts how often it gave up.
 #[derive(Drop)]
 struct Holding {
     lanes: [Lane; 2],
@@ -230,8 +236,9 @@ impl Gate for Holding {
 
 // ---- two channels that are held
 
-// Sends all pages of a guest, in so many batches, on two channels behind a gate, which never gives up. Asserts the texts, of
-// so many bytes in all. Answers how many steps each channel has, which are those of its packets.
+// Sends all pages of a guest, in `batches` batches, on two channels with a gate, which never gives
+// up. Asserts the streams, of `bytes` bytes in all. Returns how many steps each channel has, which
+// are those of its packets.
 fn send_held<R: AllocGlobal + Abort + Threads + Sync>(
     rt: &R,
     guest: &Guest,
@@ -258,9 +265,10 @@ fn send_held<R: AllocGlobal + Abort + Threads + Sync>(
     [first.len(), second.len()]
 }
 
-// Two batches. No worker goes on from its first draw before the other has drawn, so workers that run in turn don't get through,
-// and each draws one batch: its draw, its packing, and the last draw make three steps. Two hellos, four heads and all pages make
-// the bytes: 128 + 4 * 1344 + 129 * 4096, and 128 + 4 * 832 + 65 * 8192.
+// Two batches. No worker goes on from its first draw before the other has drawn, so workers that
+// run in turn don't get through, and each draws one batch: its draw, its packing, and the last draw
+// make three steps. Two hellos, four heads and all pages make the bytes: 128 + 4 * 1344 + 129 *
+// 4096, and 128 + 4 * 832 + 65 * 8192.
 #[test]
 fn two_workers_at_once(rt: HostRuntime) {
     for (page_size, pages, limit, bytes) in [
@@ -278,9 +286,10 @@ fn two_workers_at_once(rt: HostRuntime) {
     }
 }
 
-// Four batches, so numbers from 4 on claim none. One worker is held at its first draw until the other has drawn its last number,
-// so the other packs all that is left, and the held one at most one batch, in three steps. This shows that a worker draws as it
-// goes: where batch i is channel i mod 2's from the start the gate opens too, but the held worker packs two batches.
+// Four batches, so numbers from 4 on claim none. One worker is held at its first draw until the
+// other has drawn its last number. So the other packs all that is left, and the held one at most
+// one batch, in three steps. This shows that a worker draws as it goes. If batch i were channel i
+// mod 2's from the start, the gate would open too, but the held worker would pack two batches.
 #[test]
 fn one_worker_held(rt: HostRuntime) {
     let guest = Guest {
@@ -297,8 +306,8 @@ fn one_worker_held(rt: HostRuntime) {
 
 // ---- as many channels as there may be
 
-// A round without pages and one of three batches. Which worker draws what is left open: none waits for another, as where
-// threads can't be had they run in turn.
+// A round without pages and one of three batches. Which worker draws what is left open: none waits
+// for another, as where threads can't be had they run in turn.
 #[test]
 fn most_channels(rt: HostRuntime) {
     let guest = Guest {

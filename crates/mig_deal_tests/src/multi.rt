@@ -1,6 +1,6 @@
-//! The sender on several channels, each channel's worker on a thread of its own: two rounds of one guest, whose texts are also
-//! made by hand, of the same batches and their packets; what refuses a sender or a round; each allocation refused; and texts that
-//! are drained between the rounds.
+//! The sender on several channels, each channel's worker on a thread of its own: two rounds of one
+//! guest, whose streams are also made by hand, of the same batches and their packets; what refuses
+//! a sender or a round; each allocation refused; and streams that are drained between the rounds.
 
 use crate::batches::{cut_at, memory_of};
 use mig_fixtures::{TestHeap, at, places_of, set, table, table_of};
@@ -16,7 +16,7 @@ use uuid::Uuid;
 
 const LIMIT: usize = 2;
 
-/// The UUID of all senders.
+/// Returns the UUID of all senders.
 pub(crate) fn uuid() -> Uuid {
     Uuid::from_bytes([1, 2, 3, 4, 5, 6, 7, 8, 9, 10, 11, 12, 13, 14, 15, 16])
 }
@@ -30,8 +30,8 @@ pub(crate) struct Round {
     pub(crate) dirty: Dirty,
 }
 
-// Six pages in four batches: pages 0 and 1 of block 0, then its page 2, and the same of block 1. All but page 1 of block 0 are
-// zeros.
+// Returns six pages in four batches: pages 0 and 1 of block 0, then its page 2, and these pages of
+// block 1. All but page 1 of block 0 are zeros.
 pub(crate) fn first_round(rt: &(impl AllocGlobal + Abort)) -> Round {
     let memory = memory_of(rt, &[("a", 3), ("b", 3)]);
     let places = [at(0, 0), at(0, 1), at(0, 2), at(1, 0), at(1, 1), at(1, 2)];
@@ -39,7 +39,7 @@ pub(crate) fn first_round(rt: &(impl AllocGlobal + Abort)) -> Round {
     Round { memory, dirty }
 }
 
-// Two pages in two batches, one of zeros and one that no longer is.
+// Returns two pages in two batches, one of zeros and one that no longer is.
 pub(crate) fn second_round(rt: &(impl AllocGlobal + Abort)) -> Round {
     let mut memory = memory_of(rt, &[("a", 3), ("b", 3)]);
     assert!(rt; set(&mut memory, 1, 8191, 7));
@@ -48,10 +48,10 @@ pub(crate) fn second_round(rt: &(impl AllocGlobal + Abort)) -> Round {
     Round { memory, dirty }
 }
 
-// ---- the texts by hand
+// ---- the streams by hand
 
-// The packets of a round by their numbers, behind those of the rounds before: one for each batch, and a SYNC packet for each
-// channel.
+// Appends the packets of a round by their numbers, after those of the rounds before: one for each
+// batch, and a SYNC packet for each channel.
 fn put_round(
     rt: &(impl AllocGlobal + Abort),
     packets: &mut Vec<Vec<u8>>,
@@ -73,7 +73,7 @@ fn put_round(
     }
 }
 
-// The packets of both rounds by their numbers.
+// Returns the packets of both rounds by their numbers.
 pub(crate) fn packets_by_hand(rt: &(impl AllocGlobal + Abort), channels: usize) -> Vec<Vec<u8>> {
     let mut packets = Vec::new(rt.alloc());
     put_round(rt, &mut packets, &first_round(rt), channels);
@@ -81,7 +81,7 @@ pub(crate) fn packets_by_hand(rt: &(impl AllocGlobal + Abort), channels: usize) 
     packets
 }
 
-// The text of the only channel.
+// Returns the bytes of the only channel.
 fn text_by_hand(rt: &(impl AllocGlobal + Abort)) -> Vec<u8> {
     let mut text = Vec::from_slice(rt.alloc(), &hello(&uuid(), 0)).expect(rt, "a hello");
     for packet in &packets_by_hand(rt, 1) {
@@ -90,7 +90,7 @@ fn text_by_hand(rt: &(impl AllocGlobal + Abort)) -> Vec<u8> {
     text
 }
 
-// The main stream: a FLUSH for each round.
+// Returns the main stream: a FLUSH for each round.
 pub(crate) fn main_by_hand(rt: &(impl AllocGlobal + Abort)) -> Vec<u8> {
     let round = first_round(rt);
     let Ok(mut writer) = StreamWriter::new(rt.alloc(), round.memory.table()) else {
@@ -106,13 +106,13 @@ pub(crate) fn main_by_hand(rt: &(impl AllocGlobal + Abort)) -> Vec<u8> {
 
 // ---- senders
 
-/// A sender of the guest's table, on so many channels.
+/// Returns a sender of the guest's table, on `channels` channels.
 pub(crate) fn sender_on(rt: &(impl AllocGlobal + Abort), channels: usize) -> MultiSender {
     let table = table(rt.alloc(), &[("a", 3), ("b", 3)]).expect(rt, "a table");
     MultiSender::new(rt.alloc(), &table, uuid(), channels, LIMIT).expect(rt, "a sender")
 }
 
-/// Sends a round, behind a gate.
+/// Sends a round, with a gate.
 pub(crate) fn send<R: AllocGlobal + Abort + Threads + Sync, G: Gate + Sync>(
     rt: &R,
     sender: &mut MultiSender,
@@ -122,7 +122,7 @@ pub(crate) fn send<R: AllocGlobal + Abort + Threads + Sync, G: Gate + Sync>(
     assert!(rt; sender.round(rt, &round.memory, &round.dirty, gate) == Ok(()));
 }
 
-/// The texts of a sender, with ample memory.
+/// Returns the streams of a sender, with ample memory.
 pub(crate) fn finish<A: Allocator>(rt: &impl Abort, sender: MultiSender<A>) -> Sent<A> {
     let Ok(sent) = sender.finish() else {
         panic!(rt; "memory")
@@ -130,13 +130,14 @@ pub(crate) fn finish<A: Allocator>(rt: &impl Abort, sender: MultiSender<A>) -> S
     sent
 }
 
-// What stands behind this front of a text.
+// Returns what stands after this front of a stream.
 fn behind<'a>(text: &'a [u8], front: &[u8]) -> Option<&'a [u8]> {
     let (start, rest) = text.split_at_checked(front.len())?;
     if start == front { Some(rest) } else { None }
 }
 
-// Which numbers a channel's packets have, as bits: its text is its hello, and then some of these packets, with rising numbers.
+// Returns which numbers a channel's packets have, as bits. The channel is its hello, and then some
+// of these packets, with rising numbers.
 fn numbers_in<A: Allocator>(
     rt: &impl Abort,
     sent: &Sent<A>,
@@ -178,7 +179,7 @@ fn send_both<R: AllocGlobal + Abort + Threads + Sync, G: Gate + Sync>(
     sent
 }
 
-// Asserts the texts of both rounds on one channel.
+// Asserts the streams of both rounds on one channel.
 pub(crate) fn assert_sent<A: Allocator>(rt: &(impl AllocGlobal + Abort), sent: &Sent<A>) {
     assert!(rt; sent.main.as_slice() == main_by_hand(rt).as_slice());
     assert!(rt; sent.channels.len() == 1);
@@ -186,8 +187,8 @@ pub(crate) fn assert_sent<A: Allocator>(rt: &(impl AllocGlobal + Abort), sent: &
     assert!(rt; text.as_slice() == text_by_hand(rt).as_slice());
 }
 
-// Asserts the texts of both rounds on two channels. Packets 0 to 3 and 6 and 7 have pages. 4 and 5 are the SYNC packets of the
-// first round, and 8 and 9 those of the second.
+// Asserts the streams of both rounds on two channels. Packets 0 to 3 and 6 and 7 have pages. 4 and
+// 5 are the SYNC packets of the first round, and 8 and 9 those of the second.
 pub(crate) fn assert_two_channels<A: Allocator>(rt: &(impl AllocGlobal + Abort), sent: &Sent<A>) {
     assert!(rt; sent.main.as_slice() == main_by_hand(rt).as_slice());
     assert!(rt; sent.channels.len() == 2);
@@ -260,7 +261,8 @@ fn refused_senders(rt: HostRuntime) {
     assert!(rt; SendFault::Channels.number() == 61 && SendFault::Limit.number() == 62);
 }
 
-// What a refused round leaves as it was, beside the texts: the next packet's number, the rounds sent, and the channels.
+// Returns what a refused round leaves as it was, beside the streams: the next packet's number, the
+// rounds sent, and the channels.
 fn counts<A: Allocator>(sender: &MultiSender<A>) -> (u64, u64, usize) {
     (sender.base(), sender.rounds(), sender.channels())
 }
@@ -278,14 +280,14 @@ fn assert_other_table<R: AllocGlobal + Abort + Threads + Sync>(
     assert!(rt; counts(sender) == before);
 }
 
-// A round of another table, whose block 1 has another id.
+// Returns a round of another table, whose block 1 has another id.
 fn other_round(rt: &(impl AllocGlobal + Abort)) -> Round {
     let memory = memory_of(rt, &[("a", 3), ("c", 3)]);
     let dirty = places_of(rt.alloc(), memory.table(), &[at(0, 1)]).expect(rt, "a set");
     Round { memory, dirty }
 }
 
-// The refused rounds leave no trace in the texts.
+// The refused rounds leave no trace in the streams.
 #[test]
 fn refused_rounds(rt: HostRuntime) {
     let mut sender = sender_on(&rt, 1);
@@ -303,7 +305,7 @@ fn refused_rounds(rt: HostRuntime) {
 
 // ---- allocations refused
 
-// A sender on so many channels, whose allocations were each refused before.
+// Returns a sender on `channels` channels, whose allocations were each refused before.
 fn sender_in<'a>(
     rt: &(impl AllocGlobal + Abort),
     heap: &'a TestHeap,
@@ -323,8 +325,8 @@ fn sender_in<'a>(
     panic!(rt; "each run had a refusal");
 }
 
-// Sends a round, each of whose allocations was refused before. A refused run counts neither a packet nor a round, and the sender has
-// its channels and its table as before.
+// Sends a round, each of whose allocations was refused before. A refused run counts neither a
+// packet nor a round, and the sender has its channels and its table as before.
 fn send_in<R: AllocGlobal + Abort + Threads + Sync>(
     rt: &R,
     heap: &TestHeap,
@@ -347,8 +349,8 @@ fn send_in<R: AllocGlobal + Abort + Threads + Sync>(
     panic!(rt; "each run had a refusal");
 }
 
-// Finishes a sender, whose main stream is drained first, so that its end takes an allocation, which is refused once. The refused run
-// gives the sender back.
+// Finishes a sender, whose main stream is drained first, so that its end takes an allocation, which
+// is refused once. The refused run gives the sender back.
 fn finish_in<'a>(
     rt: &impl Abort,
     heap: &'a TestHeap,
@@ -371,7 +373,7 @@ fn finish_in<'a>(
     Sent { main, channels }
 }
 
-// The texts of both rounds, each of whose allocations was refused before.
+// Returns the streams of both rounds, each of whose allocations was refused before.
 fn sent_in<'a, R: AllocGlobal + Abort + Threads + Sync>(
     rt: &R,
     heap: &'a TestHeap,
@@ -383,7 +385,7 @@ fn sent_in<'a, R: AllocGlobal + Abort + Threads + Sync>(
     finish_in(rt, heap, sender)
 }
 
-// What was refused leaves no trace in the texts.
+// What was refused leaves no trace in the streams.
 #[test]
 fn allocations_refused(rt: HostRuntime) {
     let heap = TestHeap::new(rt.alloc());
@@ -401,8 +403,8 @@ fn allocations_of_two_workers_refused(rt: HostRuntime) {
 
 // ---- gates
 
-// A gate of four workers. It holds each at its first draw until all four have drawn, and notes what each has drawn and packed, as
-// bits, and how many workers it let go on alone.
+// A gate of four workers. It holds each at its first draw until all four have drawn, and notes what
+// each has drawn and packed, as bits, and how many workers it let go on alone.
 #[derive(Drop)]
 struct Barrier {
     come: AtomicU64,
@@ -443,7 +445,7 @@ impl Barrier {
     }
 }
 
-// Notes a number below 64, and says whether it is the first of its channel.
+// Notes a number below 64, and returns whether it is the first of its channel.
 fn note(numbers: &[AtomicU64], channel: usize, number: u64) -> bool {
     match numbers.get(channel) {
         Some(bits) if number < 64 => bits.fetch_or(1 << number, Ordering::SeqCst) == 0,
@@ -467,14 +469,15 @@ impl Gate for Barrier {
     }
 }
 
-// Whether the gate was told of these numbers for this channel, and no others.
+// Returns whether the gate was passed these numbers for this channel, and no others.
 fn is_noted(numbers: &[AtomicU64], channel: u8, wanted: u64) -> bool {
     numbers
         .get(usize::from(channel))
         .is_some_and(|bits| bits.load(Ordering::SeqCst) == wanted)
 }
 
-// Packets 0 to 3, and 8 and 9 of the second round, have pages. When the four go on, each has drawn one of the first four numbers.
+// Packets 0 to 3, and 8 and 9 of the second round, have pages. When the four go on, each has drawn
+// one of the first four numbers.
 #[test]
 fn four_workers_at_once(rt: HostRuntime) {
     let gate = Barrier::new();
@@ -491,7 +494,8 @@ fn four_workers_at_once(rt: HostRuntime) {
 
 // ---- draining
 
-// Appends what is drained of a sender's main stream and of its only channel, into a buffer that holds other bytes.
+// Appends what is drained of a sender's main stream and of its only channel, into a buffer that
+// holds other bytes.
 fn drain(rt: &(impl AllocGlobal + Abort), sender: &mut MultiSender, drained: &mut Sent) {
     let mut bytes = Vec::from_slice(rt.alloc(), &[5, 6, 7]).expect(rt, "a buffer");
     sender.drain_main(&mut bytes);
@@ -502,14 +506,14 @@ fn drain(rt: &(impl AllocGlobal + Abort), sender: &mut MultiSender, drained: &mu
     append(rt, drained, &bytes);
 }
 
-// Appends bytes, at least one, to the text of the only channel.
+// Appends bytes, at least one, to the stream of the only channel.
 fn append(rt: &impl Abort, drained: &mut Sent, bytes: &[u8]) {
     assert!(rt; !bytes.is_empty());
     let text = drained.channels.first_mut().expect(rt, "a text");
     assert!(rt; text.extend_from_slice(bytes).is_ok());
 }
 
-// Texts of one channel, which have no bytes yet.
+// Returns the streams of one channel, which have no bytes yet.
 fn no_texts(rt: &(impl AllocGlobal + Abort)) -> Sent {
     let mut channels = Vec::new(rt.alloc());
     assert!(rt; channels.push(Vec::new(rt.alloc())).is_ok());

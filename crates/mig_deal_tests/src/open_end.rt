@@ -14,8 +14,8 @@ const CONFIGURED: [u8; 16] = [
     0x51, 0x45, 0x56, 0x4D, 0, 0, 0, 3, 0x07, 0, 0, 0, 3, b'q', b'3', b'5',
 ];
 
-// Asserts that streams that were left open are those of both rounds on one channel, with the end byte
-// put behind the main one; with a configuration after its file header where there is one.
+// Asserts that streams that were left open are those of both rounds on one channel, with the end
+// byte put after the main one; with a configuration after its file header where there is one.
 fn assert_sent_open<A: Allocator>(
     rt: &(impl AllocGlobal + Abort),
     sent: Sent<A>,
@@ -44,8 +44,8 @@ fn assert_sent_open<A: Allocator>(
     );
 }
 
-// Sends both rounds, with the main stream drained between them, and leaves it open: what was drained
-// with what is left, and the streams.
+// Sends both rounds, with the main stream drained between them, and leaves it open. Returns what
+// was drained with what is left, and the streams.
 fn sent_open<R: AllocGlobal + Abort + Threads + Sync, A: Allocator + Copy + Send + Sync>(
     rt: &R,
     mut sender: MultiSender<A>,
@@ -72,7 +72,7 @@ fn main_stream_left_open(rt: HostRuntime) {
     assert_sent_open(&rt, sent, &main, &CONFIGURED[..8]);
 }
 
-// A sender with a machine's name, whose allocations were each refused before.
+// Returns a sender with a machine's name, whose allocations were each refused before.
 fn named_in<'a>(
     rt: &(impl AllocGlobal + Abort),
     heap: &'a TestHeap,

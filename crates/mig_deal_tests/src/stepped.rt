@@ -99,7 +99,7 @@ fn drain<A: Allocator>(
     assert!(rt; bytes.extend_from_slice(buffer).is_ok());
 }
 
-// The bytes of one of so many channels: its hello, and the packets of these numbers.
+// Returns the bytes of one of `channels` channels: its hello, and the packets of these numbers.
 fn channel_by_hand(
     rt: &(impl AllocGlobal + Abort),
     channels: usize,
@@ -115,9 +115,9 @@ fn channel_by_hand(
     text
 }
 
-// Two workers step in turn, so that one has the even numbers and the other the odd ones. Numbers 4 and
-// 5 are those of the SYNC packets. The bytes are drained after each step, and the hello with the first
-// packet.
+// Two workers step in turn, so that one has the even numbers and the other the odd ones. Numbers 4
+// and 5 are those of the SYNC packets. The bytes are drained after each step, and the hello with
+// the first packet.
 #[test]
 fn workers_in_turn(rt: HostRuntime) {
     let first = first_round(&rt);
@@ -147,7 +147,7 @@ fn workers_in_turn(rt: HostRuntime) {
     assert!(rt; sender.base() == 6 && sender.rounds() == 1);
 }
 
-// What isn't drained of a worker is the sender's again, behind what the channel had.
+// What isn't drained of a worker is the sender's again, after what the channel had.
 #[test]
 fn two_rounds_of_stepped_workers(rt: HostRuntime) {
     let mut sender = sender_on(&rt, 2);
@@ -161,7 +161,7 @@ fn two_rounds_of_stepped_workers(rt: HostRuntime) {
     assert!(rt; sent.channels[1] == channel_by_hand(&rt, 2, 1, &[5, 9]));
 }
 
-// A round whose first worker has all of its batches.
+// Returns a round whose first worker has all of its batches.
 fn stepped<A: Allocator + Copy>(
     rt: &impl Abort,
     sender: MultiSender<A>,
@@ -195,8 +195,8 @@ fn run_both<R: Threads + Abort + Sync>(
     join_mut(rt, &mut || run(rt, a, memory), &mut || run(rt, b, memory));
 }
 
-// A round whose workers run at once. The proof is that of `stepped`: whoever has which batch, the
-// round is sent.
+// Returns a round whose workers run at once. The proof is that of `stepped`: whoever has which
+// batch, the round is sent.
 fn on_threads<R: Threads + Abort + Sync>(rt: &R, sender: MultiSender, given: &Round) -> MultiSender
     ensures { HasSentOne (record { image = given.now.memory; dirty = given.now.dirty.marked }) sender result }
 {
@@ -233,7 +233,7 @@ fn round_of_another_table(rt: HostRuntime) {
     assert!(rt; sender.base() == 0 && sender.rounds() == 0 && sender.channels() == 2);
 }
 
-// Steps a worker, and tells whether there was memory.
+// Steps a worker, and returns whether there was memory.
 fn try_step<A: Allocator>(rt: &impl Abort, worker: &mut ChannelWorker<A>, memory: &Memory) -> bool
     ensures { worker.new.terms ≡ worker.old.terms }
 {

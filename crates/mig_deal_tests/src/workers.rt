@@ -1,4 +1,5 @@
-//! Many workers that draw from one deal, each on a thread of its own. Tests run them; nothing else does.
+//! Many workers that draw from one deal, each on a thread of its own. Tests run them; nothing else
+//! does.
 
 ghost use Rattle.std.specs.Prelude.{◌≡◌, ◌+◌, ◌<◌, ◌≤◌, ◌++◌, ◌∷◌, [], All, IfOk, length, vec_len, vec_capacity};
 ghost use Rattle.mig_deal_tests.specs.Slots.{IsWaiting, IsDone};
@@ -9,8 +10,8 @@ use std::mem;
 use std::sync::atomic::{AtomicU64, Ordering};
 use std::thread::{Threads, for_each_mut, yield_now};
 
-/// What all workers share, beside the deal: how many have come, how many of them went on alone, and how often each number was
-/// drawn, from the base on.
+/// What all workers share, beside the deal: how many have come, how many of them went on alone, and
+/// how often each number was drawn, from the base on.
 #[derive(Drop)]
 pub struct Hall {
     come: AtomicU64,
@@ -33,7 +34,7 @@ impl Hall {
         })
     }
 
-    // Waits until so many workers have come, and gives up after a while.
+    // Waits until `seats` workers have come, and gives up after a while.
     fn meet(&self, seats: u64) {
         self.come.fetch_add(1, Ordering::SeqCst);
         for _ in 0..10_000_000u64 {

@@ -1,4 +1,5 @@
-//! Workers: the packets of one that has a deal for itself, what it tells its gate, and what it does where an allocation is refused.
+//! Workers: the packets of one that has a deal for itself, what it passes to its gate, and what it
+//! does where an allocation is refused.
 
 use crate::alone::{Alone, work_alone};
 use crate::batches::{assert_page_and_zeros, batches_of, memory_of};
@@ -12,7 +13,8 @@ use std::sync::atomic::{AtomicU64, Ordering};
 
 const CHANNEL: usize = 3;
 
-/// A gate of one channel that keeps what it is told, in order: twice the number of a draw, and one more where its packet was made.
+/// A gate of one channel that keeps the steps that pass it, in order: twice the number of a draw,
+/// and one more where its packet was made.
 #[derive(Drop)]
 pub(crate) struct Told {
     channel: usize,
@@ -64,7 +66,7 @@ impl Gate for Told {
     }
 }
 
-// What a worker is given, and what it is to answer and to tell.
+// What a worker is given, and what it is to return and to pass to its gate.
 #[derive(Clone, Copy)]
 struct Run<'a> {
     base: u64,
@@ -87,7 +89,7 @@ fn work_on<A: Allocator + Copy>(
     work_alone(rt, alloc, run.base, CHANNEL, memory, &batches, gate)
 }
 
-// The packets of a run, whose last number, the number after it and steps are asserted.
+// Returns the packets of a run, whose last number, the number after it and steps are asserted.
 fn packets_of<A: Allocator + Copy>(
     rt: &(impl AllocGlobal + Abort),
     alloc: A,
@@ -102,8 +104,8 @@ fn packets_of<A: Allocator + Copy>(
     alone.packets
 }
 
-// Whether a packet is of this number, with one zero page: of a block with an id of this byte, at this offset's third byte from
-// the end.
+// Returns whether a packet is of this number, with one zero page: of a block with an id of this
+// byte, at this offset's third byte from the end.
 fn is_zeros<A: Allocator>(packet: &Packed<A>, number: u64, id: u8, offset: u8) -> bool {
     let bytes = packet.bytes();
     packet.number() == number
@@ -113,7 +115,7 @@ fn is_zeros<A: Allocator>(packet: &Packed<A>, number: u64, id: u8, offset: u8) -
         && bytes.get(320..328) == Some(&[0, 0, 0, 0, 0, 0, offset, 0][..])
 }
 
-// Whether packets are of these numbers, ids and offsets, with one zero page each.
+// Returns whether packets are of these numbers, ids and offsets, with one zero page each.
 fn are_zeros<A: Allocator>(packets: &[Packed<A>], wanted: &[(u64, u8, u8)]) -> bool {
     if packets.len() != wanted.len() {
         return false;
@@ -176,7 +178,7 @@ fn no_batch(rt: HostRuntime) {
     assert!(rt; packets.is_empty());
 }
 
-// The packets of two batches of a page each, where the worker tells these steps.
+// Returns the packets of two batches of a page each, where the worker passes these steps.
 fn two_packets<'a>(
     rt: &(impl AllocGlobal + Abort),
     heap: &'a TestHeap,
@@ -195,7 +197,8 @@ fn two_packets<'a>(
     packets_of(rt, heap, memory, &run)
 }
 
-// A worker takes three allocations for each packet and one for the list of two. After a refused one it draws on and packs no more.
+// A worker takes three allocations for each packet and one for the list of two. After a refused one
+// it draws on and packs no more.
 #[test]
 fn work_with_each_allocation_refused(rt: HostRuntime) {
     let heap = TestHeap::new(rt.alloc());
