@@ -106,7 +106,7 @@ fn feed<A: Allocator + Copy, B: Allocator>(
     state.feed(memory, piece)
 }
 
-// Feeds it to a load by complete sections.
+// Feeds such a piece to a load by complete sections.
 fn feed_sections(rt: &impl Abort, state: &mut InPlaceState, memory: &mut Memory, piece: &[u8]) {
     assert!(rt; !state.ended() && state.fed() <= LIMIT && piece.len() as u64 <= LIMIT);
     assert!(rt; state.feed(memory, piece) == Ok(()));
@@ -130,8 +130,8 @@ fn load_eagerly(rt: &(impl AllocGlobal + Abort), text: &[u8], len: usize) -> Lef
     (state.rounds(), bytes_of(rt, &memory))
 }
 
-// Loads it by complete sections, in the same pieces. After each the count and the verdict are the
-// same.
+// Loads it by complete sections, in these pieces. After each piece the count and the verdict are
+// those of the bytes so far.
 fn load_sections(rt: &(impl AllocGlobal + Abort), text: &[u8], len: usize) -> Left {
     let mut memory = fives(rt, rt.alloc(), "a");
     let mut state = InPlaceState::new(rt.alloc(), memory.table(), LIMIT).expect(rt, "a load");
@@ -182,7 +182,7 @@ fn stream_that_is_cut(rt: HostRuntime) {
     }
 }
 
-// Nothing of a stream of another table is written.
+// No record of a stream of another table is written.
 #[test]
 fn stream_of_another_table(rt: HostRuntime) {
     let text = stream(&rt);

@@ -32,9 +32,9 @@ fn append(rt: &impl Abort, text: &mut Vec<u8>, piece: &[u8]) {
     assert!(rt; text.extend_from_slice(piece).is_ok());
 }
 
-// The main stream of so many pages and rounds in a frame. That of a machine has the configuration
-// `pc` and OPEN_RETURN_PATH before START, SWITCHOVER_START before END, whose 18 bytes a device's
-// section follows in place of the end byte.
+// Returns the main stream of one page and `rounds` rounds in a frame. That of a machine has the
+// configuration `pc` and OPEN_RETURN_PATH before START, and SWITCHOVER_START before END. A device's
+// section follows END's 18 bytes in place of the end byte.
 fn main_in(rt: &(impl AllocGlobal + Abort), frame: Frame, rounds: u64) -> Vec<u8> {
     let ram = main_of(rt, 1, rounds);
     let end = ram.len().saturating_sub(19);
@@ -57,7 +57,7 @@ fn main_in(rt: &(impl AllocGlobal + Abort), frame: Frame, rounds: u64) -> Vec<u8
     }
 }
 
-// Loads texts with settings.
+// Loads streams with settings.
 fn load_in<R: AllocGlobal + Abort + Threads + Wait + Sync, A: Allocator + Copy + Send + Sync>(
     rt: &R,
     alloc: A,
@@ -78,8 +78,8 @@ fn load_in<R: AllocGlobal + Abort + Threads + Wait + Sync, A: Allocator + Copy +
     )
 }
 
-// A main stream with one round beside a channel with two fails behind the round. A machine's read
-// as RAM's fails at its first COMMAND, byte 15, before there is a memory; the other way round it is
+// A main stream with one round beside a channel with two fails after the round. A machine's read as
+// RAM's fails at its first COMMAND, byte 15, before there is a memory; the other way round it is
 // one.
 #[test]
 fn read_in_both_frames(rt: HostRuntime) {

@@ -13,7 +13,7 @@ use std::process::Abort;
 use std::sync::Wait;
 use std::thread::Threads;
 
-// The main stream names its table in its first 43 bytes, and its round is whole with byte 68.
+// The main stream names its table in its first 43 bytes, and its round is complete with byte 68.
 #[test]
 fn main_stream_that_is_cut(rt: HostRuntime) {
     let main = main_of(&rt, 2, 1);
@@ -37,7 +37,7 @@ fn main_stream_that_is_cut(rt: HostRuntime) {
     assert_page_and_zeros(&rt, &loaded);
 }
 
-// Asserts what the load tells of a channel cut to so many bytes. It takes nothing of the round.
+// Asserts what the load returns of a channel cut to `len` bytes. The round isn't applied.
 fn assert_cut<R: AllocGlobal + Abort + Threads + Wait + Sync>(
     rt: &R,
     main: &[u8],
@@ -51,7 +51,8 @@ fn assert_cut<R: AllocGlobal + Abort + Threads + Wait + Sync>(
     assert_full(rt, &loaded, 2, 0);
 }
 
-// Behind its hello and behind its packet of pages the channel is cut between two items, elsewhere inside one.
+// After its hello and after its packet of pages the channel is cut between two items, elsewhere
+// inside one.
 #[test]
 fn channel_that_is_cut(rt: HostRuntime) {
     let main = main_of(&rt, 2, 1);

@@ -13,7 +13,7 @@ use std::sync::Wait;
 use std::thread::Threads;
 use uuid::Uuid;
 
-// Loads texts with what memory the allocator has.
+// Loads streams with what memory the allocator has.
 fn load_in<'a, R: AllocGlobal + Abort + Threads + Wait + Sync>(
     rt: &R,
     heap: &'a TestHeap,
@@ -33,8 +33,9 @@ fn load_in<'a, R: AllocGlobal + Abort + Threads + Wait + Sync>(
     )
 }
 
-/// Asserts what a refused load tells: the memory is that after the rounds counted, where `bytes` has what fills the only page after
-/// each number of rounds. Before the first round there may be none.
+/// Asserts what a refused load returns: the memory is that after the rounds counted, where `bytes`
+/// has what fills the only page after each number of rounds. Before the first round there may be
+/// none.
 pub(crate) fn assert_no_memory(rt: &impl Abort, loaded: &Loaded<&TestHeap>, bytes: &[u8]) {
     let rounds = loaded.rounds;
     assert_failed(rt, loaded, rounds, Origin::Round, Fault::NoMemory);
@@ -47,7 +48,8 @@ pub(crate) fn assert_no_memory(rt: &impl Abort, loaded: &Loaded<&TestHeap>, byte
     assert_full(rt, loaded, 1, *byte);
 }
 
-// Loads with each allocation refused in turn, up to the first run that has no refusal, which loads all rounds.
+// Loads with each allocation refused in turn, up to the first run that has no refusal, which loads
+// all rounds.
 fn assert_allocations<R: AllocGlobal + Abort + Threads + Wait + Sync>(
     rt: &R,
     main: &[u8],

@@ -1,4 +1,5 @@
-//! What the sender on several channels wrote is loaded to what the single stream of the same rounds is loaded to.
+//! What the sender on several channels wrote is loaded to what the single stream of the same rounds
+//! is loaded to.
 
 use crate::framed::settings;
 use crate::meeting::Meeting;
@@ -28,7 +29,7 @@ struct Round {
 
 const BLOCKS: [(&str, u64); 2] = [("a", 3), ("pc.ram", 5)];
 
-// All eight pages, of which three aren't zeros.
+// Returns all eight pages, of which three aren't zeros.
 fn first_round(rt: &(impl AllocGlobal + Abort)) -> Round {
     let mut memory = zeroed(rt.alloc(), &BLOCKS).expect(rt, "a memory");
     assert!(rt; set(&mut memory, 0, 4096, 9));
@@ -47,7 +48,7 @@ fn first_round(rt: &(impl AllocGlobal + Abort)) -> Round {
     Round { memory, dirty }
 }
 
-// Two pages become zeros, and two no longer are.
+// Returns a round in which two pages become zeros, and two no longer are.
 fn second_round(rt: &(impl AllocGlobal + Abort)) -> Round {
     let mut memory = zeroed(rt.alloc(), &BLOCKS).expect(rt, "a memory");
     assert!(rt; set(&mut memory, 1, 20_479, 2));
@@ -57,7 +58,7 @@ fn second_round(rt: &(impl AllocGlobal + Abort)) -> Round {
     Round { memory, dirty }
 }
 
-// A round without dirty pages.
+// Returns a round without dirty pages.
 fn last_round(rt: &(impl AllocGlobal + Abort)) -> Round {
     let Round { memory, dirty: _ } = second_round(rt);
     let dirty = places_of(rt.alloc(), memory.table(), &[]).expect(rt, "a set");
@@ -72,7 +73,7 @@ fn rounds_of_two_blocks(rt: &(impl AllocGlobal + Abort)) -> Vec<Round> {
     rounds
 }
 
-// One round of 129 pages, each filled with 7.
+// Returns one round of 129 pages, each filled with 7.
 fn round_of_sevens(rt: &(impl AllocGlobal + Abort)) -> Vec<Round> {
     let mut memory = zeroed(rt.alloc(), &[("a", 129)]).expect(rt, "a memory");
     let mut dirty = places_of(rt.alloc(), memory.table(), &[]).expect(rt, "a set");
@@ -89,9 +90,9 @@ fn round_of_sevens(rt: &(impl AllocGlobal + Abort)) -> Vec<Round> {
     rounds
 }
 
-// ---- the texts, and their loads
+// ---- the streams, and their loads
 
-// The single stream of the rounds.
+// Returns the single stream of the rounds.
 fn single_of(rt: &(impl AllocGlobal + Abort), rounds: &[Round]) -> Vec<u8> {
     let first = rounds.first().expect(rt, "a round");
     let mut sender = SingleSender::new(rt.alloc(), first.memory.table()).expect(rt, "a sender");
@@ -104,7 +105,8 @@ fn single_of(rt: &(impl AllocGlobal + Abort), rounds: &[Round]) -> Vec<u8> {
     text
 }
 
-// The texts of the rounds on so many channels, with at most `limit` pages to a packet, whose workers pass a gate.
+// Returns the streams of the rounds on `channels` channels, with at most `limit` pages to a packet,
+// whose workers pass `gate`.
 fn sent_behind<R: AllocGlobal + Abort + Threads + Sync, G: Gate + Sync>(
     rt: &R,
     rounds: &[Round],
@@ -126,7 +128,7 @@ fn sent_behind<R: AllocGlobal + Abort + Threads + Sync, G: Gate + Sync>(
     sent
 }
 
-// Asserts that a load put so many rounds into a memory that is the same as another.
+// Asserts that a load applied `rounds` rounds to a memory that is the same as another.
 fn assert_loaded(rt: &impl Abort, loaded: &Loaded, rounds: u64, wanted: &Memory) {
     assert!(rt; loaded.verdict == Ok(()) && loaded.rounds == rounds);
     let Some(memory) = &loaded.memory else {
@@ -136,7 +138,7 @@ fn assert_loaded(rt: &impl Abort, loaded: &Loaded, rounds: u64, wanted: &Memory)
     assert!(rt; first_difference(memory, wanted).is_none());
 }
 
-// The same with a gate that is open.
+// Returns the streams of the rounds on `channels` channels, whose workers pass a gate that is open.
 fn sent_of<R: AllocGlobal + Abort + Threads + Sync>(
     rt: &R,
     rounds: &[Round],
@@ -146,8 +148,8 @@ fn sent_of<R: AllocGlobal + Abort + Threads + Sync>(
     sent_behind(rt, rounds, channels, limit, &OpenGate)
 }
 
-// Asserts that what was sent is loaded to what the single stream is loaded to, and that to the guest's memory. Of a single stream START and
-// END count as rounds too.
+// Asserts that what was sent is loaded to what the single stream is loaded to, and that to the
+// guest's memory. Of a single stream START and END count as rounds too.
 fn assert_same<R: AllocGlobal + Abort + Threads + Wait + Sync>(
     rt: &R,
     rounds: &[Round],
@@ -187,7 +189,8 @@ fn three_rounds_on_few_and_many_channels(rt: HostRuntime) {
     }
 }
 
-// Two batches on two channels: the single stream has 529,511 bytes, the channels have 533,888 together.
+// Two batches on two channels: the single stream has 529,511 bytes, the channels have 533,888
+// together.
 #[test]
 fn sevens_on_two_channels(rt: HostRuntime) {
     let rounds = round_of_sevens(&rt);

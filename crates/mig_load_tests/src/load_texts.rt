@@ -1,4 +1,5 @@
-//! Texts of whole migrations, and what tests ask of their loads: the UUID is that of zeros, pages have 4096 bytes, and the only block is `a`.
+//! Streams of complete migrations, and what tests ask of their loads: the UUID is that of zeros,
+//! pages have 4096 bytes, and the only block is `a`.
 
 use crate::texts::{hello_of, put_pages, put_sync, put_text};
 use mig_fixtures::{at, has_byte, is_full, put_page_and_zeros, table};
@@ -17,7 +18,7 @@ pub(crate) const LIMIT: u64 = 1 << 40;
 
 // ---- the main stream
 
-/// The main stream of so many pages and rounds.
+/// Returns the main stream of `pages` pages and `rounds` rounds.
 pub(crate) fn main_of(rt: &(impl AllocGlobal + Abort), pages: u64, rounds: u64) -> Vec<u8> {
     let table = table(rt.alloc(), &[("a", pages)]).expect(rt, "a table");
     let Ok(mut writer) = StreamWriter::new(rt.alloc(), &table) else {
@@ -32,7 +33,7 @@ pub(crate) fn main_of(rt: &(impl AllocGlobal + Abort), pages: u64, rounds: u64) 
     text
 }
 
-/// Its first bytes, so many.
+/// Returns the first `len` bytes of a stream.
 pub(crate) fn cut<'a>(rt: &impl Abort, text: &'a [u8], len: usize) -> &'a [u8] {
     assert!(rt; len <= text.len());
     &text[..len]
@@ -40,14 +41,14 @@ pub(crate) fn cut<'a>(rt: &impl Abort, text: &'a [u8], len: usize) -> &'a [u8] {
 
 // ---- channels
 
-/// A list of one channel.
+/// Returns a list of one channel.
 pub(crate) fn one(rt: &(impl AllocGlobal + Abort), text: Vec<u8>) -> Vec<Vec<u8>> {
     let mut texts = Vec::new(rt.alloc());
     put_text(rt, &mut texts, text);
     texts
 }
 
-/// A list of two channels.
+/// Returns a list of two channels.
 pub(crate) fn two(
     rt: &(impl AllocGlobal + Abort),
     first: Vec<u8>,
@@ -58,7 +59,8 @@ pub(crate) fn two(
     texts
 }
 
-/// A channel of one round of two pages, which has 6848 bytes: page 0 as zeros, and page 1 with the first byte 9.
+/// Returns a channel of one round of two pages, which has 6848 bytes: page 0 as zeros, and page 1
+/// with the first byte 9.
 pub(crate) fn page_and_zeros(rt: &(impl AllocGlobal + Abort)) -> Vec<u8> {
     let mut text = hello_of(rt, 0);
     assert!(rt; put_page_and_zeros(&mut text).is_ok());
@@ -77,7 +79,8 @@ pub(crate) fn put_zeros(rt: &impl Abort, text: &mut Vec<u8>) {
     assert!(rt; mig_packet::put_packet(4096, text, 2, false, b"a", &[], &[], &[0]).is_ok());
 }
 
-/// A channel of two rounds of one page, which has 9536 bytes: filled with 7, and then zeros.
+/// Returns a channel of two rounds of one page, which has 9536 bytes: filled with 7, and then
+/// zeros.
 pub(crate) fn sevens_then_zeros(rt: &(impl AllocGlobal + Abort)) -> Vec<u8> {
     let mut text = hello_of(rt, 0);
     put_sevens(rt, &mut text);
@@ -88,7 +91,7 @@ pub(crate) fn sevens_then_zeros(rt: &(impl AllocGlobal + Abort)) -> Vec<u8> {
     text
 }
 
-/// A channel of SYNC packets alone, of this id, with these numbers.
+/// Returns a channel of SYNC packets alone, of this id, with these numbers.
 pub(crate) fn syncs_of(rt: &(impl AllocGlobal + Abort), id: u8, numbers: &[u64]) -> Vec<u8> {
     let mut text = hello_of(rt, id);
     for number in numbers {
@@ -99,7 +102,7 @@ pub(crate) fn syncs_of(rt: &(impl AllocGlobal + Abort), id: u8, numbers: &[u64])
 
 // ---- loads
 
-/// Loads texts behind a gate.
+/// Loads streams with a gate.
 pub(crate) fn load_behind<R: AllocGlobal + Abort + Threads + Wait + Sync, G: Gate + Sync>(
     rt: &R,
     main: &[u8],
@@ -119,7 +122,7 @@ pub(crate) fn load_behind<R: AllocGlobal + Abort + Threads + Wait + Sync, G: Gat
     )
 }
 
-/// Loads texts.
+/// Loads streams.
 pub(crate) fn load<R: AllocGlobal + Abort + Threads + Wait + Sync>(
     rt: &R,
     main: &[u8],
@@ -128,13 +131,13 @@ pub(crate) fn load<R: AllocGlobal + Abort + Threads + Wait + Sync>(
     load_behind(rt, main, channels, &OpenGate)
 }
 
-/// Asserts that all texts were read to their ends, with so many rounds.
+/// Asserts that all streams were read to their ends, with `rounds` rounds.
 pub(crate) fn assert_done<A: Allocator>(rt: &impl Abort, loaded: &Loaded<A>, rounds: u64) {
     assert!(rt; loaded.rounds == rounds);
     assert!(rt; loaded.verdict == Ok(()));
 }
 
-/// Asserts that the load failed in the round behind those counted, with this fault there.
+/// Asserts that the load failed in the round after those counted, with this fault there.
 pub(crate) fn assert_failed<A: Allocator>(
     rt: &impl Abort,
     loaded: &Loaded<A>,
@@ -151,7 +154,7 @@ pub(crate) fn assert_failed<A: Allocator>(
     assert!(rt; loaded.verdict == Err(failed));
 }
 
-/// Asserts that the memory has so many pages, each filled with this byte.
+/// Asserts that the memory has `pages` pages, each filled with this byte.
 pub(crate) fn assert_full<A: Allocator>(rt: &impl Abort, loaded: &Loaded<A>, pages: u64, byte: u8) {
     let Some(memory) = &loaded.memory else {
         panic!(rt; "a memory")

@@ -29,8 +29,8 @@ impl Gate for Counting {
     }
 }
 
-// The verdict falls at the first of 100 rounds. The worker pushes its hello, the SYNC packets and the stop all the same, and has
-// ended when the load returns.
+// The verdict falls at the first of 100 rounds. The worker pushes its hello, the SYNC packets and
+// the stop all the same, and has ended when the load returns.
 #[test]
 fn channel_with_many_rounds_more(rt: HostRuntime) {
     let gate = Counting {
@@ -55,7 +55,8 @@ fn two_workers_at_once(rt: HostRuntime) {
     gate.assert_met(&rt);
 }
 
-// A gate of two channels: channel 0 waits with its first item until channel 1 has pushed its item 2.
+// A gate of two channels: channel 0 waits with its first item until channel 1 has pushed its item
+// 2.
 #[derive(Drop)]
 struct Lasting {
     pushed: AtomicU64,
@@ -73,7 +74,8 @@ impl Gate for Lasting {
     }
 }
 
-// Item 2 is the SYNC packet of the second round: workers that were started anew for each round wouldn't get through.
+// Item 2 is the SYNC packet of the second round: workers that were started anew for each round
+// wouldn't get through.
 #[test]
 fn worker_that_lasts(rt: HostRuntime) {
     let gate = Lasting {

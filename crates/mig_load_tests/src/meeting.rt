@@ -5,7 +5,7 @@ use std::process::Abort;
 use std::sync::atomic::{AtomicU64, Ordering};
 use std::thread::yield_now;
 
-/// Waits until a word has all these bits, and says whether it has; it gives up after a while.
+/// Waits until a word has all these bits, and returns whether it has. It gives up after a while.
 pub(crate) fn reaches(word: &AtomicU64, bits: u64) -> bool {
     for turn in 0..100_000_000u64 {
         if word.load(Ordering::SeqCst) & bits == bits {

@@ -1,4 +1,5 @@
-//! A relay whose feeders step on one thread before the collector takes: its queues have room for all items.
+//! A relay whose feeders step on one thread before the collector takes: its queues have room for
+//! all items.
 
 use crate::pieces::{Seen, assert_over, assert_received, feed, take};
 use crate::texts::{hello_of, put_sync, put_text};
@@ -10,7 +11,7 @@ use std::process::Abort;
 use std::sync::atomic::{AtomicU64, Ordering};
 use uuid::Uuid;
 
-// A hello, the packet of two pages, and a SYNC packet.
+// Returns a hello, the packet of two pages, and a SYNC packet.
 fn channel(rt: &(impl AllocGlobal + Abort)) -> Vec<u8> {
     let mut text = hello_of(rt, 0);
     assert!(rt; put_page_and_zeros(&mut text).is_ok());
@@ -18,7 +19,7 @@ fn channel(rt: &(impl AllocGlobal + Abort)) -> Vec<u8> {
     text
 }
 
-// A channel with a whole round, and one that ends before its hello, whose only item is its stop.
+// A channel with a complete round, and one that ends before its hello, whose only item is its stop.
 #[test]
 fn pieces_of_a_channel_and_of_an_empty_text(rt: HostRuntime) {
     let mut texts = Vec::new(rt.alloc());
@@ -69,7 +70,7 @@ fn pieces_through_a_queue_of_one(rt: HostRuntime) {
     assert_over(&rt, &mut collector, 0);
 }
 
-// A packet has the pages of its text.
+// A packet has the pages of its stream.
 #[test]
 fn pages_of_a_piece(rt: HostRuntime) {
     let mut texts = Vec::new(rt.alloc());
@@ -94,7 +95,8 @@ fn pages_of_a_piece(rt: HostRuntime) {
 
 // ---- the steps of a feeder
 
-// A gate of channel 1 that counts the steps it is told in order: item i is found as step 2 * i, and pushed as the next one.
+// A gate of channel 1 that counts the steps that pass it in order: item i is found as step 2 * i,
+// and pushed as the next one.
 #[derive(Drop)]
 struct Steps {
     told: AtomicU64,

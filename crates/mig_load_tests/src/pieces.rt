@@ -1,4 +1,4 @@
-//! What tests ask of the items that a relay hands on, and the feeders that bring them.
+//! What tests ask of the items that a relay passes on, and the feeders that bring them.
 
 use mig_packet::Gate;
 use mig_relay::{ChannelEnd, Collector, Feeder, FeederStep, Item};
@@ -50,7 +50,7 @@ pub(crate) fn feed<A: Allocator, R: Wait, G: Gate>(rt: &R, feeder: Feeder<'_, A>
     }
 }
 
-/// Takes so many items of a channel, with ample memory.
+/// Takes `count` items of a channel, with ample memory.
 pub(crate) fn take<A: Allocator, R: Wait + Abort>(
     rt: &R,
     collector: &mut Collector<'_, A>,

@@ -10,7 +10,7 @@ use std::process::Abort;
 use std::sync::Wait;
 use uuid::Uuid;
 
-// Two channels, of nine SYNC packets and of none.
+// Returns two channels, of nine SYNC packets and of none.
 fn two_texts(rt: &(impl AllocGlobal + Abort)) -> Vec<Vec<u8>> {
     let mut texts = Vec::new(rt.alloc());
     put_text(rt, &mut texts, syncs(rt, 9));
@@ -36,7 +36,7 @@ const NINE: [Seen; 11] = [
 // The items of the channel of none.
 const NONE: [Seen; 2] = [Seen::Hello(0), Seen::Stop(ChannelEnd::Clean)];
 
-// A relay of two texts, with whatever memory the allocator has.
+// A relay of two streams, with whatever memory the allocator has.
 #[derive(Drop)]
 struct Started<'a> {
     feeders: Vec<Feeder<'a, &'a TestHeap>, &'a TestHeap>,
@@ -54,7 +54,7 @@ fn start<'a>(rt: &impl Abort, heap: &'a TestHeap, texts: &'a [Vec<u8>]) -> Optio
     }
 }
 
-// The feeders allocate nothing.
+// Steps both feeders to their stops. They allocate nothing.
 fn feed_all<'a, R: Wait + Abort>(
     rt: &R,
     heap: &TestHeap,
@@ -71,7 +71,8 @@ fn feed_all<'a, R: Wait + Abort>(
     collector
 }
 
-// Takes so many items of a channel, each refused one again with memory. A refused call has taken nothing.
+// Takes the wanted items of a channel, each refused one again with memory. A refused call has taken
+// nothing.
 fn take_again<R: Wait + Abort>(
     rt: &R,
     collector: &mut Collector<'_, &TestHeap>,
@@ -92,7 +93,7 @@ fn take_again<R: Wait + Abort>(
     assert_received(rt, collector, channel, wanted);
 }
 
-// A refused start leaves the texts to a later one, which makes both ends.
+// A refused start leaves the streams to a later one, which makes both ends.
 #[test]
 fn start_with_each_allocation_refused(rt: HostRuntime) {
     let texts = two_texts(&rt);
@@ -115,8 +116,8 @@ fn start_with_each_allocation_refused(rt: HostRuntime) {
     panic!(rt; "each run had a refusal");
 }
 
-// Takes all items of both channels with allocation `nth` refused, and says whether it came. Behind its stop a channel takes no
-// memory, nor does the drain.
+// Takes all items of both channels with allocation `nth` refused, and returns whether it came.
+// After its stop a channel takes no memory, nor does the drain.
 fn take_all_refused<R: Wait + Abort>(
     rt: &R,
     heap: &TestHeap,

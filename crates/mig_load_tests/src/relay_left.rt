@@ -114,7 +114,7 @@ fn assert_waits<'a, R: Abort + Threads + Wait + Sync>(
     });
 }
 
-// A hello, three SYNC packets and the stop go through a queue that holds one item.
+// A hello, three SYNC packets and the stop pass a queue that holds one item.
 #[test]
 fn queue_of_one_holds_one_item(rt: HostRuntime) {
     let texts = one(&rt, syncs(&rt, 3));

@@ -1,5 +1,6 @@
-//! Loads from a relay of one channel, on one thread: of a relay from which nothing, some items or all were taken before, of one that has more
-//! rounds than the main stream, and with each allocation refused in turn.
+//! Loads from a relay of one channel, on one thread: of a relay from which nothing, some items or
+//! all were taken before, of one that has more rounds than the main stream, and with each
+//! allocation refused in turn.
 
 use crate::load_refused::assert_no_memory;
 use crate::load_texts::{
@@ -34,7 +35,7 @@ const TWO_ROUNDS: [Seen; 6] = [
     Seen::Stop(ChannelEnd::Clean),
 ];
 
-/// What a relay of one text brings, whose feeder has pushed all of it.
+/// Returns what a relay of one stream brings, whose feeder has pushed all of it.
 pub(crate) fn relayed<'a, R: Wait + Abort, A: Allocator + Copy>(
     rt: &R,
     alloc: A,

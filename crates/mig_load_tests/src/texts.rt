@@ -1,11 +1,12 @@
-//! Texts of channels, by hand: their hellos are of the UUID of zeros, their pages have 4096 bytes, and their block is `a`.
+//! Streams of channels, by hand: their hellos are of the UUID of zeros, their pages have 4096
+//! bytes, and their block is `a`.
 
 use mig_packet::{hello, put_packet};
 use std::alloc::AllocGlobal;
 use std::process::Abort;
 use uuid::Uuid;
 
-/// A text of a hello alone.
+/// Returns a stream of a hello alone.
 pub(crate) fn hello_of(rt: &(impl AllocGlobal + Abort), id: u8) -> Vec<u8> {
     Vec::from_slice(rt.alloc(), &hello(&Uuid::nil(), id)).expect(rt, "a hello")
 }
@@ -15,7 +16,7 @@ pub(crate) fn put_sync(rt: &impl Abort, text: &mut Vec<u8>, number: u64) {
     assert!(rt; put_packet(4096, text, number, true, &[], &[], &[], &[]).is_ok());
 }
 
-/// Appends a packet of so many pages from `first` on, at most 128, each filled with this byte.
+/// Appends a packet of `pages` pages from `first` on, at most 128, each filled with this byte.
 pub(crate) fn put_pages(
     rt: &(impl AllocGlobal + Abort),
     text: &mut Vec<u8>,
@@ -36,13 +37,13 @@ pub(crate) fn put_pages(
     assert!(rt; put_packet(4096, text, number, false, b"a", &normal, &contents, &[]).is_ok());
 }
 
-/// Adds a text to a list.
+/// Adds a stream to a list.
 pub(crate) fn put_text(rt: &impl Abort, texts: &mut Vec<Vec<u8>>, text: Vec<u8>) {
     assert!(rt; texts.push(text).is_ok());
 }
 
-/// Two channels of one round of 129 pages, each filled with 7: packet 0 of 128 pages and SYNC packet 2 in the one, packet 1 of the
-/// last page and SYNC packet 3 in the other.
+/// Returns two channels of one round of 129 pages, each filled with 7: packet 0 of 128 pages and
+/// SYNC packet 2 in the one, packet 1 of the last page and SYNC packet 3 in the other.
 pub(crate) fn two_channels(rt: &(impl AllocGlobal + Abort)) -> Vec<Vec<u8>> {
     let mut first = hello_of(rt, 0);
     put_pages(rt, &mut first, 0, 0, 128, 7);
@@ -56,7 +57,7 @@ pub(crate) fn two_channels(rt: &(impl AllocGlobal + Abort)) -> Vec<Vec<u8>> {
     texts
 }
 
-/// A channel of SYNC packets alone, numbered from 0.
+/// Returns a channel of SYNC packets alone, numbered from 0.
 pub(crate) fn syncs(rt: &(impl AllocGlobal + Abort), count: u64) -> Vec<u8> {
     let mut text = hello_of(rt, 0);
     for number in 0..count {

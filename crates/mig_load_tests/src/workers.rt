@@ -1,4 +1,5 @@
-//! A relay with a worker for each channel, on a thread of its own, while the collector takes on another.
+//! A relay with a worker for each channel, on a thread of its own, while the collector takes on
+//! another.
 
 use crate::pieces::{Seen, assert_over, assert_received, feed, take};
 use crate::texts::{put_text, syncs, two_channels};
@@ -10,7 +11,8 @@ use std::sync::Wait;
 use std::thread::{self, JoinHandle, Scope, Threads};
 use uuid::Uuid;
 
-// What is wanted of a channel: its first items, all that are taken of it, and whether the stop is one of them.
+// What is wanted of a channel: its first items, all that are taken of it, and whether the stop is
+// one of them.
 #[derive(Clone, Copy)]
 struct Wanted<'a> {
     pieces: &'a [Seen],
@@ -47,7 +49,8 @@ fn take_wanted<R: Abort + Wait>(rt: &R, mut collector: Collector<'_>, wanted: &[
     collector.drain(rt, started);
 }
 
-// Relays the texts through queues of this capacity, takes what is wanted, drains, and waits for the workers' ends.
+// Relays the streams through queues of this capacity, takes what is wanted, drains, and waits for
+// the workers' ends.
 fn relay<R: AllocGlobal + Abort + Threads + Wait + Sync>(
     rt: &R,
     texts: &[Vec<u8>],
@@ -103,7 +106,7 @@ fn pieces_that_nobody_takes(rt: HostRuntime) {
     relay(&rt, &texts, 1, &wanted);
 }
 
-// Nothing at all is taken.
+// No item is taken.
 #[test]
 fn channels_that_are_drained_alone(rt: HostRuntime) {
     let texts = two_channels(&rt);
