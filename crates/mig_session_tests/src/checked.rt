@@ -32,7 +32,7 @@ impl<A: Allocator> Model for CheckedSession<A> {
     ghost invariant = { λ s. length s.session.counts.channels ≡ s.channels };
 }
 
-// Whether a session of so many channels has a source.
+// Returns whether a session of `channels` channels has a source.
 fn has_source(channels: usize, source: Source) -> bool
     ensures { IsTrue result → (counts : Counts) → length counts.channels ≡ channels → HasSource counts source }
 {

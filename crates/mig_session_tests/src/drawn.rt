@@ -1,7 +1,7 @@
 //! Guests from a seeded generator, each of a seed of its own: one to three blocks, pages of either
 //! size, up to four rounds, 1 to 8 or 255 channels, and any batch limit. What the sender on several
-//! channels wrote of each, its channels' texts in some order, is loaded to the guest's memory, and so
-//! is the single stream of the same rounds.
+//! channels wrote of each, its channels in some order, is loaded to the guest's memory, and so is
+//! the single stream of the same rounds.
 
 use crate::guests::{LIMIT, Senders, Sendings, below, load, write_page};
 use crate::telling::is_same;
@@ -17,7 +17,7 @@ use std::sync::Wait;
 use std::thread::Threads;
 use uuid::Uuid;
 
-// A table of one to three blocks with 1 to 40 pages each, of either size.
+// Returns a table of one to three blocks with 1 to 40 pages each, of either size.
 fn random_table(rt: &(impl AllocGlobal + Abort), random: &mut Pcg32) -> Table {
     let page_size = if below(random, 2) == 0 {
         PAGE_SIZE_4K
@@ -45,7 +45,7 @@ fn write_some(rt: &impl Abort, memory: &mut Memory, dirty: &mut Dirty, random: &
     }
 }
 
-// Mostly few channels, and now and then as many as there may be.
+// Returns a number of channels: mostly few, and now and then as many as there may be.
 fn random_channels(random: &mut Pcg32) -> usize {
     match below(random, 20) {
         0 => 255,
@@ -54,7 +54,7 @@ fn random_channels(random: &mut Pcg32) -> usize {
     }
 }
 
-// A guest whose rounds were sent, the channels' texts in some order.
+// A guest whose rounds were sent, the channels in some order.
 #[derive(Drop)]
 struct Drawn {
     page_size: u64,
@@ -63,7 +63,7 @@ struct Drawn {
     sendings: Sendings,
 }
 
-// Senders of a guest, on some channels, with some batch limit.
+// Returns senders of a guest, on some channels, with some batch limit.
 fn random_senders(
     rt: &(impl AllocGlobal + Abort),
     table: &Table,
@@ -77,7 +77,7 @@ fn random_senders(
     Senders::new(rt, table, uuid, channels, limit)
 }
 
-// Sends so many rounds of a guest.
+// Sends `rounds` rounds of a guest.
 fn send<R: AllocGlobal + Abort + Threads + Sync>(
     rt: &R,
     table: &Table,
@@ -94,7 +94,7 @@ fn send<R: AllocGlobal + Abort + Threads + Sync>(
     senders.finish(rt, memory)
 }
 
-// Brings texts into some order.
+// Brings streams into some order.
 fn shuffle(texts: &mut [Vec<u8>], random: &mut Pcg32) {
     for i in 0..texts.len() {
         let j = below(random, texts.len() as u64) as usize;
@@ -121,7 +121,7 @@ fn draw<R: AllocGlobal + Abort + Threads + Sync>(rt: &R, seed: u64) -> Drawn {
     }
 }
 
-// Asserts that a load is Ok, has so many rounds and this memory.
+// Asserts that a load is Ok, has `rounds` rounds and this memory.
 fn assert_whole(rt: &impl Abort, loaded: &Loaded, rounds: u64, wanted: &Memory) {
     assert!(rt; loaded.verdict == Ok(()) && loaded.rounds == rounds);
     let memory = loaded.memory.as_ref().expect(rt, "a memory");
@@ -140,13 +140,14 @@ fn assert_single(rt: &(impl AllocGlobal + Abort), guest: &Drawn) {
     );
 }
 
-// Asserts that a guest's texts of several channels are loaded to its memory.
+// Asserts that a guest's streams of several channels are loaded to its memory.
 fn assert_several<R: AllocGlobal + Abort + Threads + Wait + Sync>(rt: &R, guest: &Drawn) {
     let loaded = load(rt, guest.page_size, &guest.uuid, &guest.sendings.several);
     assert_whole(rt, &loaded, guest.rounds, &guest.sendings.memory);
 }
 
-// Asserts that the guests of a hundred seeds, from this one on, are loaded to their memories both ways.
+// Asserts that the guests of a hundred seeds, from this one on, are loaded to their memories both
+// ways.
 fn assert_hundred<R: AllocGlobal + Abort + Threads + Wait + Sync>(rt: &R, from: u64) {
     for i in 0..100u64 {
         let guest = draw(rt, from.wrapping_add(i));

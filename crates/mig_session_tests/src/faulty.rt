@@ -1,4 +1,5 @@
-//! Texts that a load refuses as a whole: a session tells of them what the load of the whole texts answers.
+//! Streams that a load refuses: a session returns of them what the load of the complete streams
+//! returns.
 
 use crate::checked::CheckedSession;
 use crate::feeding::{feed_text, source_at, text_of};
@@ -16,7 +17,7 @@ use std::sync::Wait;
 use std::thread::Threads;
 use uuid::Uuid;
 
-// Loads the whole texts.
+// Loads the complete streams.
 fn load<R: AllocGlobal + Abort + Threads + Wait + Sync>(rt: &R, texts: &Sent) -> Loaded {
     let channels = texts.channels.as_slice();
     assert!(rt; 1 <= channels.len() && channels.len() <= 255);
@@ -32,7 +33,8 @@ fn load<R: AllocGlobal + Abort + Threads + Wait + Sync>(rt: &R, texts: &Sent) ->
     )
 }
 
-// Feeds a session the texts one behind the other, from a source on, in pieces of so many bytes, and ends each.
+// Feeds a session the streams one after the other, from source number `first` on, in pieces of
+// `len` bytes, and ends each.
 fn assert_fed(
     rt: &(impl AllocGlobal + Abort),
     texts: &Sent,
@@ -53,7 +55,7 @@ fn assert_fed(
     assert_as_loaded(rt, &session, loaded);
 }
 
-// Asserts that the load of the whole texts and each session's fail so, in this round.
+// Asserts that the load of the complete streams and each session's fail so, in this round.
 fn assert_fault<R: AllocGlobal + Abort + Threads + Wait + Sync>(
     rt: &R,
     texts: Sent,
@@ -98,7 +100,8 @@ fn main_stream_of_fewer_and_of_more_rounds(rt: HostRuntime) {
     }
 }
 
-// One byte of the channel is another: of the SYNC packet's number, of the block's id, and of the offsets of both pages.
+// One byte of the channel is another: of the SYNC packet's number, of the block's id, and of the
+// offsets of both pages.
 #[test]
 fn round_that_is_not_lawful(rt: HostRuntime) {
     let rows = [

@@ -1,4 +1,4 @@
-//! Feeding texts to a session, piece by piece.
+//! Feeding streams to a session, piece by piece.
 
 use crate::checked::CheckedSession;
 use mig_mem::NoMemory;
@@ -7,7 +7,7 @@ use mig_session::Source;
 use std::alloc::Allocator;
 use std::process::Abort;
 
-/// The sources in order: the main stream is number 0, and channel 0 is number 1.
+/// Returns the sources in order: the main stream is number 0, and channel 0 is number 1.
 pub(crate) fn source_at(number: usize) -> Source {
     match number.checked_sub(1) {
         None => Source::Main,
@@ -15,7 +15,7 @@ pub(crate) fn source_at(number: usize) -> Source {
     }
 }
 
-/// The text of a source.
+/// Returns the stream of a source.
 pub(crate) fn text_of<'a>(rt: &impl Abort, texts: &'a Sent, source: Source) -> &'a [u8] {
     match source {
         Source::Main => &texts.main,
@@ -23,7 +23,7 @@ pub(crate) fn text_of<'a>(rt: &impl Abort, texts: &'a Sent, source: Source) -> &
     }
 }
 
-/// Feeds the bytes of a source's text that come next, at most so many. Gives false where all of it has come.
+/// Feeds the next bytes of a source's stream, at most `len`. Returns false if all of it has come.
 pub(crate) fn feed_next<A: Allocator + Copy>(
     rt: &impl Abort,
     session: &mut CheckedSession<A>,
@@ -41,7 +41,7 @@ pub(crate) fn feed_next<A: Allocator + Copy>(
     Ok(true)
 }
 
-/// Feeds a source's whole text, in pieces of so many bytes.
+/// Feeds a source's complete stream, in pieces of `len` bytes.
 pub(crate) fn feed_text<A: Allocator + Copy>(
     rt: &impl Abort,
     session: &mut CheckedSession<A>,

@@ -22,9 +22,9 @@ fn append(rt: &impl Abort, text: &mut Vec<u8>, piece: &[u8]) {
     assert!(rt; text.extend_from_slice(piece).is_ok());
 }
 
-// One round of two pages on one channel, with a main stream of a frame: that of a machine has the
-// configuration `pc` and OPEN_RETURN_PATH before START, and a device's section after the 18 bytes
-// of END, which begin at byte 82 of RAM's sections.
+// Returns one round of two pages on one channel, with a main stream of a frame: that of a machine
+// has the configuration `pc` and OPEN_RETURN_PATH before START, and a device's section after the 18
+// bytes of END, which begin at byte 82 of RAM's sections.
 fn texts_in(rt: &(impl AllocGlobal + Abort), frame: Frame) -> Sent {
     let mut texts = page_and_zeros(rt);
     if frame == Frame::Machine {
@@ -124,7 +124,8 @@ fn fed_in_another_frame(rt: HostRuntime) {
     assert_done(&rt, &mut session);
 }
 
-// Makes and feeds a session with allocation `nth` refused. Whether there was no such allocation.
+// Makes and feeds a session, where the caller may have an allocation refused. Returns whether there
+// was no such allocation.
 fn is_done_with<A: Allocator + Copy>(
     rt: &impl Abort,
     alloc: A,
@@ -166,8 +167,8 @@ fn each_allocation_refused(rt: HostRuntime) {
     }
 }
 
-// A session of 3 channels has the main stream and channels 0 to 2. Of a source of which 10 bytes
-// came, a piece of 2^64 - 11 bytes has room, and no longer one.
+// A session of 3 channels has the main stream and channels 0 to 2. A source of which 10 bytes came
+// has room for a piece of 2^64 - 11 bytes, and for none that is longer.
 #[test]
 fn sources_and_room(rt: HostRuntime) {
     let settings = LoadSettings::new(4096, 1 << 40);

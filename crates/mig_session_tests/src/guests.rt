@@ -1,5 +1,6 @@
-//! Guests from a seeded generator: what the sender on several channels wrote of each, in pieces and in a random order of the sources. Small
-//! guests in random pieces, and guests whose rounds have several MiB in pieces as a reader of files or of sockets gives them.
+//! Guests from a seeded generator: what the sender on several channels wrote of each, in pieces and
+//! in a random order of the sources. Small guests in random pieces, and guests whose rounds have
+//! several MiB in pieces as a reader of files or of sockets gives them.
 
 ghost use Rattle.std.specs.Prelude.{◌≡◌, ◌<◌, ◌⊎◌};
 
@@ -21,20 +22,20 @@ use std::sync::Wait;
 use std::thread::Threads;
 use uuid::Uuid;
 
-/// That of the blocks' bytes together.
+/// The limit of the blocks' bytes together: 1 TiB.
 pub(crate) const LIMIT: u64 = 1 << 40;
 
-// What kind of guests are drawn, and in what pieces their texts are fed.
+// What kind of guests are drawn, and in what pieces their streams are fed.
 #[derive(Clone, Copy)]
 struct Kind {
     // The pages of the guest's blocks.
     pages: [u64; 2],
-    // So many writes are made before a round, and at random fewer than `more` beside them.
+    // The fewest writes before a round. At random fewer than `more` are made beside them.
     least: u64,
     more: u64,
-    // A packet has at most so many pages, or fewer.
+    // The batch limit is at random from 1 to this number.
     packet: u64,
-    // The channels' texts have at least so many bytes for each round.
+    // The fewest bytes that the channels have for each round.
     bytes: u64,
     // The length of each piece; where there is none, it is drawn for each.
     piece: Option<usize>,
@@ -59,7 +60,7 @@ const LARGE: Kind = Kind {
     piece: Some(65_536),
 };
 
-/// A number below `n`; 0 where `n` is 0.
+/// Returns a number below `n`; 0 where `n` is 0.
 pub(crate) fn below(random: &mut Pcg32, n: u64) -> u64
     ensures { (result < n) ⊎ (result ≡ 0) }
 {
@@ -110,7 +111,7 @@ impl Senders {
         assert!(rt; self.several.round(rt, memory, dirty, &OpenGate).is_ok());
     }
 
-    /// What was sent, of a guest with this memory now.
+    /// Returns what was sent, of a guest with this memory now.
     pub(crate) fn finish(self, rt: &impl Abort, memory: Memory) -> Sendings {
         Sendings {
             memory,
@@ -120,7 +121,8 @@ impl Senders {
     }
 }
 
-// The place of the page of this number, where the blocks' pages are numbered one block after the other.
+// Returns the place of the page of this number, where the blocks' pages are numbered one block
+// after the other.
 fn place_of(kind: Kind, number: u64) -> Place {
     match number.checked_sub(kind.pages[0]) {
         None => at(0, number),
@@ -165,7 +167,7 @@ fn write_some(
     }
 }
 
-// Sends so many rounds of a guest both ways.
+// Sends `rounds` rounds of a guest both ways.
 fn send<R: AllocGlobal + Abort + Threads + Sync>(
     rt: &R,
     kind: Kind,
@@ -187,7 +189,7 @@ fn send<R: AllocGlobal + Abort + Threads + Sync>(
 
 // ---- their loads
 
-/// Loads the whole texts of several channels.
+/// Loads the complete streams of several channels.
 pub(crate) fn load<R: AllocGlobal + Abort + Threads + Wait + Sync>(
     rt: &R,
     page_size: u64,
@@ -209,7 +211,8 @@ pub(crate) fn load<R: AllocGlobal + Abort + Threads + Wait + Sync>(
     )
 }
 
-// The length of a piece: that of the kind, or else often short, and now and then as long as several packets.
+// Returns the length of a piece: that of the kind, or else often short, and now and then as long as
+// several packets.
 fn length_of_piece(kind: Kind, random: &mut Pcg32) -> usize {
     if let Some(len) = kind.piece {
         return len;
@@ -222,7 +225,8 @@ fn length_of_piece(kind: Kind, random: &mut Pcg32) -> usize {
     below(random, most) as usize
 }
 
-// Feeds the texts in pieces and in a random order of the sources, and ends each source behind its text.
+// Feeds the streams in pieces and in a random order of the sources, and ends each source after its
+// stream.
 fn feed_randomly<A: Allocator + Copy>(
     rt: &impl Abort,
     kind: Kind,
@@ -251,7 +255,7 @@ fn feed_randomly<A: Allocator + Copy>(
     panic!(rt; "a source that isn't over");
 }
 
-// How many bytes the channels' texts have together.
+// Returns how many bytes the channels have together.
 fn bytes_of(texts: &Sent) -> u64 {
     let mut bytes = 0u64;
     for text in texts.channels.iter() {
@@ -260,7 +264,8 @@ fn bytes_of(texts: &Sent) -> u64 {
     bytes
 }
 
-// Asserts that a guest's rounds are loaded alike in pieces, as whole texts of several channels, and as a single stream.
+// Asserts that a guest's rounds are loaded alike in pieces, as complete streams of several
+// channels, and as a single stream.
 fn assert_loaded_alike<R: AllocGlobal + Abort + Threads + Wait + Sync>(
     rt: &R,
     kind: Kind,

@@ -14,7 +14,8 @@ const ROUNDS: u64 = 200;
 
 const PAGES: u64 = 4;
 
-// Feeds what a channel has of a round: two of the four pages, and a SYNC packet. Each round has six packets.
+// Feeds what a channel has of a round: two of the four pages, and a SYNC packet. Each round has six
+// packets.
 fn feed_round(
     rt: &(impl AllocGlobal + Abort),
     session: &mut CheckedSession<&TestHeap>,
@@ -43,7 +44,8 @@ fn feed_round(
     }
 }
 
-// Feeds the part of the main stream that ends with a round's flush, which is byte 69 for the first one and 26 bytes more for each other one.
+// Feeds the part of the main stream that ends with a round's flush, which is byte 69 for the first
+// one and 26 bytes more for each other one.
 fn feed_main(rt: &impl Abort, session: &mut CheckedSession<&TestHeap>, main: &[u8], round: u64) {
     let to = round.wrapping_mul(26).wrapping_add(69) as usize;
     let from = session.fed(rt, Source::Main) as usize;
@@ -51,7 +53,8 @@ fn feed_main(rt: &impl Abort, session: &mut CheckedSession<&TestHeap>, main: &[u
     assert!(rt; session.feed(rt, Source::Main, part) == Ok(()));
 }
 
-// Ends all three sources behind the rounds. The session is done, and holds the guest and small lists alone.
+// Ends all three sources after the rounds. The session is done, and holds the guest and small lists
+// alone.
 fn assert_given_back(
     rt: &impl Abort,
     heap: &TestHeap,

@@ -1,6 +1,6 @@
-//! Tests of a load on several channels that is fed in pieces: worked texts byte by byte, texts with a fault, guests from a seeded generator
-//! in random pieces, each allocation refused, and what is held meanwhile. And tests of guests from the same generator whose texts are
-//! loaded whole.
+//! Tests of a load on several channels that is fed in pieces: worked streams byte by byte, streams
+//! with a fault, guests from a seeded generator in random pieces, each allocation refused, and what
+//! is held meanwhile. And tests of guests from the same generator whose streams are loaded whole.
 #![tactic(auto)]
 
 #[cfg(test)]

@@ -1,4 +1,5 @@
-//! Pumps of the worked texts from readers that give little, that don't end, and that fail, and with each allocation refused.
+//! Pumps of the worked streams from readers that give little, that don't end, and that fail, and
+//! with each allocation refused.
 
 use crate::checked::CheckedSession;
 use crate::feeding::{feed_text, source_at, text_of};
@@ -14,8 +15,8 @@ use std::alloc::{AllocGlobal, Allocator};
 use std::io::{self, Read};
 use std::process::Abort;
 
-// A reader that gives so many bytes, and with each further read so many more. It fails once, at this read, counted from 1; at none if it
-// is 0.
+// A reader that gives `len` bytes, and with each further read `more` bytes more. It fails once, at
+// read `fails_at`, counted from 1; at none if that is 0.
 #[derive(Drop)]
 struct Slow {
     text: Vec<u8>,
@@ -42,7 +43,7 @@ impl Read for Slow {
     }
 }
 
-// A reader of so many bytes a read.
+// Returns a reader of `len` bytes a read.
 fn reader_of(rt: &(impl AllocGlobal + Abort), text: &[u8], len: usize) -> Slow {
     Slow {
         text: Vec::from_slice(rt.alloc(), text).expect(rt, "a text"),
@@ -53,7 +54,7 @@ fn reader_of(rt: &(impl AllocGlobal + Abort), text: &[u8], len: usize) -> Slow {
     }
 }
 
-// A session that has the whole of the other source.
+// Returns a session that has all of the other source.
 fn start<A: Allocator + Copy>(
     rt: &impl Abort,
     alloc: A,
@@ -66,7 +67,7 @@ fn start<A: Allocator + Copy>(
     session
 }
 
-// Asserts how much of the main stream has come, that it isn't over, and what the session tells.
+// Asserts how much of the main stream has come, that it hasn't ended, and what the session returns.
 fn assert_stopped<A: Allocator>(rt: &impl Abort, session: &CheckedSession<A>, fed: u64) {
     assert!(rt; session.fed(rt, Source::Main) == fed && !session.ended(rt, Source::Main));
     let verdict = if fed < 101 {
@@ -121,7 +122,8 @@ fn each_read_failing(rt: HostRuntime) {
     }
 }
 
-// Asserts that a source is pumped whole by just so many reads of `len` bytes and ever one more, and the load done.
+// Asserts that a source is pumped to its end by just `turns` reads of `len` bytes and ever one
+// more, and that the load is done.
 fn assert_whole(
     rt: &(impl AllocGlobal + Abort),
     texts: &Sent,
@@ -148,7 +150,8 @@ fn assert_whole(
     }
 }
 
-// Reads of 1, 2, 3 and more bytes, and all in one read, each time with the read that finds the end. One read has room for 65,536 bytes.
+// Reads of 1, 2, 3 and more bytes, and all in one read, each time with the read that finds the end.
+// One read has room for 65,536 bytes.
 #[test]
 fn reads_of_many_lengths(rt: HostRuntime) {
     let texts = page_and_zeros(&rt);
@@ -163,8 +166,8 @@ fn reads_of_many_lengths(rt: HostRuntime) {
     assert!(rt; pumped == Err(PumpFault::TooManyTurns) && session.fed(&rt, channel) == 65_536);
 }
 
-// Pumps a source with allocation `nth` refused, and says whether it was. The first allocation is the buffer's, which leaves the session as it was,
-// and each other one a piece's, which counts.
+// Pumps a source with allocation `nth` refused, and returns whether it was. The first allocation is
+// the buffer's, which leaves the session as it was. Each other one is a piece's, which counts.
 fn is_refused<A: Refuses>(
     rt: &impl Abort,
     heap: A,
@@ -195,7 +198,8 @@ fn is_refused<A: Refuses>(
     true
 }
 
-// The same on a session that has the whole of the other source. Where nothing is refused, the load is done.
+// Pumps a source, with allocation `nth` refused, into a session that has all of the other source.
+// Returns whether it was refused. If it wasn't, the load is done.
 fn is_pump_refused<A: Refuses>(
     rt: &impl Abort,
     heap: A,

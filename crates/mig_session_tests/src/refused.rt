@@ -17,7 +17,7 @@ use std::process::Abort;
 // What fills the only page after each number of rounds.
 const BYTES: [u8; 3] = [0, 7, 0];
 
-// Whether a session could be made. It then was fed nothing.
+// Returns whether a session could be made. It then was fed nothing.
 fn is_made<A: Allocator + Copy>(rt: &impl Abort, alloc: A) -> bool {
     let Ok(session) = CheckedSession::new(rt, alloc, 4096, 3) else {
         return false;
@@ -41,8 +41,8 @@ fn new_with_each_allocation_refused(rt: HostRuntime) {
     panic!(rt; "each run had a refusal");
 }
 
-// Asserts what a session tells once an allocation was refused: the memory is that after the rounds counted. Before the first round there may be
-// none.
+// Asserts what a session returns once an allocation was refused: the memory is that after the
+// rounds counted. Before the first round there may be none.
 fn assert_no_memory<A: Allocator>(rt: &impl Abort, session: &CheckedSession<A>) {
     let rounds = session.rounds();
     let fault = failed(rounds, Origin::Round, Fault::NoMemory);
@@ -54,7 +54,8 @@ fn assert_no_memory<A: Allocator>(rt: &impl Abort, session: &CheckedSession<A>) 
     assert_full(rt, session, 1, *byte);
 }
 
-// Feeds the next piece of a source, with at most so many bytes, and says whether it was refused. Its bytes count all the same.
+// Feeds the next piece of a source, with at most `len` bytes, and returns whether it was refused.
+// Its bytes count all the same.
 fn is_refused<A: Allocator + Copy>(
     rt: &impl Abort,
     session: &mut CheckedSession<A>,
@@ -75,7 +76,8 @@ fn is_refused<A: Allocator + Copy>(
     true
 }
 
-// Feeds the texts a piece of each source in turn, up to the first refusal. Says whether there was one.
+// Feeds the streams a piece of each source in turn, up to the first refusal. Returns whether there
+// was one.
 fn has_refusal<A: Allocator + Copy>(
     rt: &impl Abort,
     session: &mut CheckedSession<A>,
@@ -115,7 +117,8 @@ fn assert_stays<A: Refuses>(
     assert_no_memory(rt, session);
 }
 
-// Feeds a session the texts of two rounds with allocation `nth` refused. Gives the rounds of a session that was refused it; the others are done.
+// Feeds a session the streams of two rounds with allocation `nth` refused. Returns the rounds of a
+// session that was refused it. The others are done.
 fn rounds_when_refused<A: Refuses>(
     rt: &impl Abort,
     heap: A,
@@ -140,7 +143,8 @@ fn rounds_when_refused<A: Refuses>(
     None
 }
 
-// Each allocation is refused in turn, up to the first session that has no refusal. Some of the refused ones have the first round.
+// Each allocation is refused in turn, up to the first session that has no refusal. Some of the
+// refused ones have the first round.
 fn assert_allocations(rt: &(impl AllocGlobal + Abort), texts: &Sent, len: usize) {
     let heap = TestHeap::new(rt.alloc());
     let mut most = 0u64;
@@ -157,7 +161,7 @@ fn assert_allocations(rt: &(impl AllocGlobal + Abort), texts: &Sent, len: usize)
     panic!(rt; "each run had a refusal");
 }
 
-// In pieces that end inside items, and as whole texts, which bring both rounds with one piece.
+// In pieces that end inside items, and as complete streams, which bring both rounds with one piece.
 #[test]
 fn feed_with_each_allocation_refused(rt: HostRuntime) {
     for len in [9usize, 1000, 100_000] {

@@ -1,15 +1,15 @@
-//! An allocator that refuses one allocation, as tests hand it on.
+//! An allocator that refuses one allocation, as tests pass it on.
 
 use mig_fixtures::TestHeap;
 use std::alloc::Allocator;
 
-/// A reference to an allocator that refuses one allocation. What is generic in it the checker's borrow rules cover, and not what names
-/// `&TestHeap`.
+/// A reference to an allocator that refuses one allocation. What is generic in it the checker's
+/// borrow rules cover, and not what names `&TestHeap`.
 pub(crate) trait Refuses: Allocator + Copy {
     /// Refuses allocation number `nth` from here on, and none if `nth` is 0.
     fn refuse(&self, nth: u64);
 
-    /// Whether the refusal hasn't come yet.
+    /// Returns whether the refusal hasn't come yet.
     fn is_waiting(&self) -> bool;
 }
 

@@ -40,7 +40,7 @@ pub(crate) fn assert_only_counted<A: Refuses>(
     heap.refuse(0);
 }
 
-// Feeds the channel whole, and ends it if asked, and then the main stream.
+// Feeds the complete channel, and ends it if asked, and then the main stream.
 fn settle<A: Refuses>(rt: &impl Abort, heap: A, texts: &Sent, ends: bool) -> CheckedSession<A> {
     let mut session = CheckedSession::new(rt, heap, 4096, 1).expect(rt, "a session");
     let channel = Source::Channel(0);
@@ -74,7 +74,8 @@ fn assert_failed<A: Refuses>(rt: &impl Abort, heap: A, texts: &Sent, verdict: Ve
     assert_full(rt, &session, 2, 0);
 }
 
-// The channel isn't ended. Its first packet has another magic, or its SYNC packet, which starts at byte 5504, number 2 in place of 1.
+// The channel isn't ended. Its first packet has another magic, or its SYNC packet, which starts at
+// byte 5504, number 2 in place of 1.
 #[test]
 fn pieces_behind_a_load_that_failed(rt: HostRuntime) {
     let magic = Fault::Channel(ChannelFault::PacketMagic);

@@ -1,4 +1,4 @@
-//! What tests ask of what a session tells.
+//! What tests ask of what a session returns.
 
 use crate::checked::CheckedSession;
 use mig_answer::Verdict;
@@ -8,7 +8,7 @@ use mig_single_load::{Fault, LoadFault, Loaded, Origin};
 use std::alloc::Allocator;
 use std::process::Abort;
 
-/// The verdict of a load that failed.
+/// Returns the verdict of a load that failed.
 pub(crate) fn failed(round: u64, source: Origin, fault: Fault) -> Verdict {
     Verdict::Failed(LoadFault {
         round,
@@ -17,7 +17,7 @@ pub(crate) fn failed(round: u64, source: Origin, fault: Fault) -> Verdict {
     })
 }
 
-/// Asserts what a session tells beside its memory.
+/// Asserts what a session returns beside its memory.
 pub(crate) fn assert_tells<A: Allocator>(
     rt: &impl Abort,
     session: &CheckedSession<A>,
@@ -28,7 +28,7 @@ pub(crate) fn assert_tells<A: Allocator>(
     assert!(rt; session.verdict() == verdict);
 }
 
-/// Asserts that the memory has so many pages, each filled with this byte.
+/// Asserts that the memory has `pages` pages, each filled with this byte.
 pub(crate) fn assert_full<A: Allocator>(
     rt: &impl Abort,
     session: &CheckedSession<A>,
@@ -49,12 +49,12 @@ pub(crate) fn assert_page_and_zeros<A: Allocator>(rt: &impl Abort, session: &Che
     assert!(rt; is_full(memory, at(0, 0), 0) && has_byte(memory, at(0, 1), 0, 9));
 }
 
-/// Whether two memories are of the same table, and hold the same.
+/// Returns whether two memories are of the same table, and hold the same.
 pub(crate) fn is_same<A: Allocator, B: Allocator>(a: &Memory<A>, b: &Memory<B>) -> bool {
     a.table().same(b.table()) && first_difference(a, b).is_none()
 }
 
-/// Asserts that a session tells what a load of the whole texts answers.
+/// Asserts that a session returns what a load of the complete streams returns.
 pub(crate) fn assert_as_loaded<A: Allocator>(
     rt: &impl Abort,
     session: &CheckedSession<A>,

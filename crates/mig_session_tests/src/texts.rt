@@ -1,4 +1,5 @@
-//! Texts of whole migrations by hand: the UUID is that of zeros, pages have 4096 bytes, and the only block is `a`.
+//! Streams of complete migrations by hand: the UUID is that of zeros, pages have 4096 bytes, and
+//! the only block is `a`.
 
 use mig_fixtures::{put_page_and_zeros, table};
 use mig_packet::{hello, put_packet};
@@ -8,9 +9,9 @@ use std::alloc::AllocGlobal;
 use std::process::Abort;
 use uuid::Uuid;
 
-// ---- texts of one source
+// ---- streams of one source
 
-/// The main stream of so many pages and rounds.
+/// Returns the main stream of `pages` pages and `rounds` rounds.
 pub(crate) fn main_of(rt: &(impl AllocGlobal + Abort), pages: u64, rounds: u64) -> Vec<u8> {
     let table = table(rt.alloc(), &[("a", pages)]).expect(rt, "a table");
     let Ok(mut writer) = StreamWriter::new(rt.alloc(), &table) else {
@@ -25,7 +26,7 @@ pub(crate) fn main_of(rt: &(impl AllocGlobal + Abort), pages: u64, rounds: u64) 
     text
 }
 
-/// A channel of a hello alone.
+/// Returns a channel of a hello alone.
 pub(crate) fn hello_of(rt: &(impl AllocGlobal + Abort), id: u8) -> Vec<u8> {
     Vec::from_slice(rt.alloc(), &hello(&Uuid::nil(), id)).expect(rt, "a hello")
 }
@@ -47,16 +48,16 @@ pub(crate) fn put_sync(rt: &impl Abort, text: &mut Vec<u8>, number: u64) {
     assert!(rt; put_packet(4096, text, number, true, &[], &[], &[], &[]).is_ok());
 }
 
-// ---- texts of all sources
+// ---- streams of all sources
 
-/// The texts of one channel.
+/// Returns the streams of one channel.
 pub(crate) fn one(rt: &(impl AllocGlobal + Abort), main: Vec<u8>, channel: Vec<u8>) -> Sent {
     let mut channels = Vec::new(rt.alloc());
     assert!(rt; channels.push(channel).is_ok());
     Sent { main, channels }
 }
 
-/// The texts of two channels.
+/// Returns the streams of two channels.
 pub(crate) fn two(
     rt: &(impl AllocGlobal + Abort),
     main: Vec<u8>,
@@ -68,8 +69,9 @@ pub(crate) fn two(
     texts
 }
 
-/// One round of two pages on one channel: page 0 as zeros, and page 1 with the first byte 9. The main stream names its table in its first 43
-/// bytes, and its round is whole with byte 69. The channel's last packet has 1344 bytes.
+/// Returns one round of two pages on one channel: page 0 as zeros, and page 1 with the first byte
+/// 9. The main stream names its table in its first 43 bytes, and its round is complete with byte
+/// 69. The channel's last packet has 1344 bytes.
 pub(crate) fn page_and_zeros(rt: &(impl AllocGlobal + Abort)) -> Sent {
     let mut channel = hello_of(rt, 0);
     assert!(rt; put_page_and_zeros(&mut channel).is_ok());
@@ -79,7 +81,7 @@ pub(crate) fn page_and_zeros(rt: &(impl AllocGlobal + Abort)) -> Sent {
     one(rt, main, channel)
 }
 
-/// Two rounds of the only page on one channel: filled with 7, and then zeros.
+/// Returns two rounds of the only page on one channel: filled with 7, and then zeros.
 pub(crate) fn sevens_then_zeros(rt: &(impl AllocGlobal + Abort)) -> Sent {
     let mut channel = hello_of(rt, 0);
     put_page(rt, &mut channel, 0, 0, 7);
@@ -89,7 +91,8 @@ pub(crate) fn sevens_then_zeros(rt: &(impl AllocGlobal + Abort)) -> Sent {
     one(rt, main_of(rt, 1, 2), channel)
 }
 
-/// The same rounds on two channels: the one has the page of the first round, the other that of the second.
+/// Returns two rounds of the only page on two channels, filled with 7, and then zeros. The one
+/// channel has the page of the first round, the other that of the second.
 pub(crate) fn sevens_then_zeros_on_two(rt: &(impl AllocGlobal + Abort)) -> Sent {
     let mut first = hello_of(rt, 0);
     put_page(rt, &mut first, 0, 0, 7);
@@ -102,8 +105,8 @@ pub(crate) fn sevens_then_zeros_on_two(rt: &(impl AllocGlobal + Abort)) -> Sent 
     two(rt, main_of(rt, 1, 2), first, second)
 }
 
-/// One round of 129 pages, each filled with 7, on two channels: the one has 128 of them, the other the last. The main stream's round is whole
-/// with byte 69.
+/// Returns one round of 129 pages, each filled with 7, on two channels: the one has 128 of them,
+/// the other the last. The main stream's round is complete with byte 69.
 pub(crate) fn sevens_on_two(rt: &(impl AllocGlobal + Abort)) -> Sent {
     let mut offsets = Vec::new(rt.alloc());
     for page in 0..128u64 {
@@ -121,7 +124,7 @@ pub(crate) fn sevens_on_two(rt: &(impl AllocGlobal + Abort)) -> Sent {
     two(rt, main_of(rt, 129, 1), first, second)
 }
 
-/// One round without pages on two channels.
+/// Returns one round without pages on two channels.
 pub(crate) fn syncs_on_two(rt: &(impl AllocGlobal + Abort)) -> Sent {
     let mut first = hello_of(rt, 0);
     put_sync(rt, &mut first, 0);
@@ -130,7 +133,7 @@ pub(crate) fn syncs_on_two(rt: &(impl AllocGlobal + Abort)) -> Sent {
     two(rt, main_of(rt, 1, 1), first, second)
 }
 
-/// Changes one byte of a text.
+/// Changes one byte of a stream.
 pub(crate) fn set_byte(rt: &impl Abort, text: &mut [u8], at: usize, byte: u8) {
     *text.get_mut(at).expect(rt, "a byte") = byte;
 }

@@ -1,4 +1,4 @@
-//! The worked texts of one round on one channel, fed in small pieces.
+//! The worked streams of one round on one channel, fed in small pieces.
 
 use crate::checked::CheckedSession;
 use crate::feeding::{feed_text, source_at, text_of};
@@ -12,7 +12,8 @@ use mig_stream::StreamFault;
 use std::alloc::AllocGlobal;
 use std::process::Abort;
 
-// Asserts what the session tells behind so many bytes of main, and the whole channel or too little of it.
+// Asserts what the session returns after `main` bytes of the main stream, and all of the channel or
+// too little of it.
 fn assert_worked(rt: &impl Abort, session: &CheckedSession, main: u64, has_channel: bool) {
     let has_round = has_channel && main >= 69;
     let is_done = main == 101 && session.ended(rt, Source::Channel(0));
@@ -31,7 +32,7 @@ fn assert_worked(rt: &impl Abort, session: &CheckedSession, main: u64, has_chann
     }
 }
 
-// Feeds a source in pieces of so many bytes, and asserts what is told behind each.
+// Feeds a source in pieces of `len` bytes, and asserts what is returned after each.
 fn feed_worked(
     rt: &impl Abort,
     session: &mut CheckedSession,
@@ -47,7 +48,7 @@ fn feed_worked(
     }
 }
 
-// It is done with main's last byte, before main is told to be over.
+// It is done with main's last byte, before main is ended.
 #[test]
 fn bytes_of_the_channel_and_then_of_main(rt: HostRuntime) {
     let texts = page_and_zeros(&rt);
@@ -64,7 +65,7 @@ fn bytes_of_the_channel_and_then_of_main(rt: HostRuntime) {
     assert_worked(&rt, &session, 101, true);
 }
 
-// The round is whole with the channel's last piece, and the load is done with the second end.
+// The round is complete with the channel's last piece, and the load is done with the second end.
 #[test]
 fn main_and_then_the_channel(rt: HostRuntime) {
     let texts = page_and_zeros(&rt);
@@ -88,8 +89,8 @@ fn main_and_then_the_channel(rt: HostRuntime) {
     assert_tells(&rt, &session, 1, Verdict::Done);
 }
 
-// A session that was fed the texts of 129 pages in pieces of so many bytes, the main stream first; channel 1's hello is of another UUID, and
-// the main stream is cut behind so many bytes.
+// Returns a session that was fed the streams of 129 pages in pieces of `len` bytes, the main stream
+// first. Channel 1's hello is of another UUID, and the main stream is cut after `main` bytes.
 fn fed_of_another_uuid(rt: &(impl AllocGlobal + Abort), main: usize, len: usize) -> CheckedSession {
     let mut texts = sevens_on_two(rt);
     texts.main.truncate(main);
@@ -104,14 +105,14 @@ fn fed_of_another_uuid(rt: &(impl AllocGlobal + Abort), main: usize, len: usize)
     session
 }
 
-// Asserts what settles the load: nothing does before, and nothing changes it.
+// Asserts the fault that decides the load: nothing does before, and nothing changes it.
 fn assert_failed(rt: &impl Abort, session: &CheckedSession, source: Origin, fault: Fault) {
     assert_tells(rt, session, 0, failed(0, source, fault));
     assert_full(rt, session, 129, 0);
 }
 
-// The main stream is cut inside its round: nothing is told of the channel as long as the main stream may go on, and then that one's fault
-// comes first.
+// The main stream is cut inside its round. As long as it may go on nothing is reported of the
+// channel, and then its own fault comes first.
 #[test]
 fn bad_channel_beside_a_main_stream_that_is_cut(rt: HostRuntime) {
     let truncated = Fault::Stream(StreamFault::Truncated);
@@ -131,7 +132,8 @@ fn bad_channel_beside_a_main_stream_that_is_cut(rt: HostRuntime) {
     }
 }
 
-// The main stream has its round, and so has channel 0: nothing more is needed to tell that the other is bad.
+// The main stream has its round, and so has channel 0: nothing more is needed to know that the
+// other is bad.
 #[test]
 fn bad_channel_beside_a_main_stream_that_has_the_round(rt: HostRuntime) {
     let other_uuid = Fault::Channel(ChannelFault::HelloUuid);
