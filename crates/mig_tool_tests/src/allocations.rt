@@ -11,8 +11,8 @@ use std::process::Abort;
 use std::sync::Wait;
 use std::thread::Threads;
 
-// Whether a text is that of a refused allocation: outside of a load, or in it, behind so many
-// rounds.
+// Returns whether an output is that of a refused allocation: outside of a load, or in it, after 0
+// to 3 rounds.
 fn is_want_of_memory(text: &[u8]) -> bool {
     let texts: [&[u8]; 5] = [
         b"fault 60\n",
@@ -25,7 +25,7 @@ fn is_want_of_memory(text: &[u8]) -> bool {
 }
 
 // Runs the tool with each allocation refused in turn, up to the first run that has no refusal,
-// which answers as it is wanted. Gives how often a refusal in a load comes next to one outside.
+// which answers as it is wanted. Returns how often a refusal in a load comes next to one outside.
 fn assert_each_allocation<H: AllocGlobal + Files + Threads + Wait + Sync + Abort>(
     rt: &H,
     folder: &Folder,
@@ -74,7 +74,7 @@ fn each_allocation_of_a_check(rt: HostRuntime) {
     folder.remove(&rt);
 }
 
-// A scenario that is sent, its texts that are loaded, and a memory that is compared.
+// A scenario that is sent, its streams that are loaded, and a memory that is compared.
 #[test]
 fn each_allocation_on_files(rt: HostRuntime) {
     let folder = Folder::new(&rt, "allocations");

@@ -9,7 +9,7 @@ use std::process::Abort;
 use std::sync::Wait;
 use std::thread::Threads;
 
-// Runs the tool on the words of a line, with a file of this text that is read byte by byte.
+// Runs the tool on the words of a line, with a file of these bytes that is read byte by byte.
 fn slow_outcome<H: AllocGlobal + Files + Threads + Wait + Sync + Abort>(
     rt: &H,
     line: &str,
@@ -24,7 +24,7 @@ fn slow_outcome<H: AllocGlobal + Files + Threads + Wait + Sync + Abort>(
     outcome_of(rt, &plain_words(rt, line), plan)
 }
 
-// A file that isn't over after 65,536 reads of one byte each, and one whose end the last of these
+// A file that hasn't ended after 65,536 reads of one byte each, and one whose end the last of these
 // finds. Each read asks for 65,536 bytes.
 #[test]
 fn most_reads_of_files(rt: HostRuntime) {
@@ -85,7 +85,7 @@ fn each_change_of_files_failing(rt: HostRuntime) {
     let stream = folder.bytes(&rt, "o");
     folder.put(&rt, "s", b"block 2 a\nset 0 4096 7\nround");
     assert_script(&rt, &folder, "send @s @o", (0, b"sent 4199 0\n"));
-    // (a page behind one of zeros, which is sought)
+    // (a page after one of zeros, which is sought)
     let page = folder.bytes(&rt, "o");
     folder.remove(&rt);
     let cases: [(&str, &[u8], &[u8]); 5] = [

@@ -12,8 +12,8 @@ pub(crate) struct Folder {
 }
 
 impl Folder {
-    /// An empty folder for the test of this name. Its own name holds the process's number too, so
-    /// that no other run has the same.
+    /// Returns an empty folder for the test of this name. Its own name holds the process's number
+    /// too, so that no other run has the same.
     pub(crate) fn new(rt: &(impl AllocGlobal + Files + Abort), name: &str) -> Folder {
         // (a link to the folder of this process, which has its number as its name)
         let process = fs::read_link(rt, "/proc/self").expect(rt, "the process's number");
@@ -26,7 +26,7 @@ impl Folder {
         Folder { path }
     }
 
-    /// The path of a file in it.
+    /// Returns the path of a file in it.
     pub(crate) fn path(&self, rt: &(impl AllocGlobal + Abort), name: &str) -> String {
         let mut path = String::new(rt.alloc());
         assert!(rt; write!(path, "{}/{name}", self.path).is_ok());
@@ -39,7 +39,7 @@ impl Folder {
         assert!(rt; fs::write(rt, path.as_str(), bytes).is_ok(), "a file");
     }
 
-    /// The bytes of a file.
+    /// Returns the bytes of a file.
     pub(crate) fn bytes(&self, rt: &(impl AllocGlobal + Files + Abort), name: &str) -> Vec<u8> {
         let path = self.path(rt, name);
         fs::read(rt, path.as_str()).expect(rt, "a file")

@@ -1,4 +1,4 @@
-//! The bytes that a load holds: with `--feed` it holds no stream whole.
+//! The bytes that a load holds: with `--feed` it holds no complete stream.
 
 use crate::folder::Folder;
 use crate::script::{answer_in, assert_answer, assert_script, words_in};
@@ -30,7 +30,7 @@ fn peak_of<H: AllocGlobal + Files + Threads + Wait + Sync + Abort>(
     heap.peak()
 }
 
-// A load that reads the streams whole holds them all. With `--feed` it holds less than a quarter of
+// A load that reads complete streams holds them all. With `--feed` it holds less than a quarter of
 // what comes on the channel.
 #[test]
 fn streams_that_are_held(rt: HostRuntime) {

@@ -1,9 +1,11 @@
-//! Two tools joined by pipes. A thread for each pipe takes all that one tool writes and hands it to
-//! the other through a second pipe, as connections between two machines do, so texts may be longer
-//! than a pipe has room for. Pipes have no names here, so links to `/dev/fd` stand for those. What
-//! isn't shown is that a tool waits where it opens a pipe of a name that nobody has opened from the
-//! other side, and two tools that run at the same time: the second begins when the first one is
-//! done.
+//! Two tools joined by pipes. A thread for each pipe takes all that one tool writes and passes it
+//! to the other through a second pipe, as connections between two machines do. So streams may be
+//! longer than a pipe has room for. Pipes have no names here, so links to `/dev/fd` stand for
+//! those.
+//!
+//! Two things aren't shown. One is that a tool waits where it opens a pipe of a name that nobody
+//! has opened from the other side. The other is two tools that run at the same time: the second
+//! begins when the first one is done.
 
 use crate::folder::Folder;
 use crate::script::{SCENARIO, assert_script};
@@ -33,7 +35,7 @@ fn link(rt: &(impl AllocGlobal + Files + Abort), folder: &Folder, name: &str, de
     assert!(rt; symlink(rt, target.as_str(), path.as_str()).is_ok());
 }
 
-// Takes all that comes through a pipe, and hands it on.
+// Takes all that comes through a pipe, and passes it on.
 fn pass_on<H: AllocGlobal + Abort>(rt: &H, way: Way) {
     let (mut from, mut to) = way;
     let mut bytes = Vec::new(rt.alloc());
@@ -57,7 +59,7 @@ fn start_passing<'s, E, H: AllocGlobal + Threads + Wait + Sync + Abort>(
 }
 
 // Runs a tool that writes into pipes of names, and then one that reads from others of names, to
-// which all is handed on.
+// which all is passed on.
 fn assert_joined<H: AllocGlobal + Files + Threads + Wait + Sync + Abort>(
     rt: &H,
     folder: &Folder,
@@ -91,7 +93,7 @@ fn assert_joined<H: AllocGlobal + Files + Threads + Wait + Sync + Abort>(
     drop(readers);
 }
 
-// The larger scenario: each page filled with 7.
+// Returns the larger scenario: each page filled with 7.
 fn filled(rt: &(impl AllocGlobal + Abort)) -> Vec<u8> {
     let mut text = Vec::new(rt.alloc());
     assert!(rt; writeln!(text, "block {PAGES} a").is_ok());
@@ -128,8 +130,8 @@ fn stream_through_pipes(rt: HostRuntime) {
     folder.remove(&rt);
 }
 
-// Sends a scenario on two channels, each through a pipe of its own as the main stream is, and loads
-// it, whole and fed.
+// Sends a scenario on two channels, each through a pipe of its own as the main stream is. Loads it,
+// as complete streams and fed.
 fn assert_two_channels<H: AllocGlobal + Files + Threads + Wait + Sync + Abort>(
     rt: &H,
     scenario: &[u8],

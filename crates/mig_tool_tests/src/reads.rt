@@ -13,7 +13,7 @@ use std::thread::Threads;
 /// How many bytes a read of the tool asks for.
 const READ_LEN: usize = 65_536;
 
-// Gives one byte a read, and fails once, where so many reads were made.
+// Gives one byte a read, and fails once, after `good` reads.
 #[derive(Drop)]
 struct Slow<'a> {
     rest: &'a [u8],
@@ -42,7 +42,7 @@ impl Read for Slow<'_> {
     }
 }
 
-// Runs the tool without words on a text that comes byte by byte, with so many reads that don't
+// Runs the tool without words on an input that comes byte by byte, with `good` reads that don't
 // fail.
 fn slow_answer_of<H: AllocGlobal + Files + Threads + Wait + Sync + Abort>(
     rt: &H,
@@ -60,14 +60,14 @@ fn slow_answer_of<H: AllocGlobal + Files + Threads + Wait + Sync + Abort>(
     (status, output)
 }
 
-// A block, and empty lines up to a length.
+// Returns a block, and empty lines up to a length.
 fn with_empty_lines(rt: &(impl AllocGlobal + Abort), len: usize) -> Vec<u8> {
     let mut text = Vec::from_slice(rt.alloc(), b"block 1 a").expect(rt, "a text");
     assert!(rt; text.resize(len, b'\n').is_ok());
     text
 }
 
-// Words that ask for no check read nothing of the input.
+// Words that ask for no check read no byte of the input.
 #[test]
 fn input_that_is_not_read(rt: HostRuntime) {
     let folder = Folder::new(&rt, "not_read");

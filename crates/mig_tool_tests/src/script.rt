@@ -14,7 +14,7 @@ pub(crate) const SCENARIO: &[u8] = b"block 1 a\nset 0 0 7\nround\n";
 /// What the tool writes of it.
 pub(crate) const SCENARIO_ANSWER: &[u8] = b"single 4199 sections 3\nsame\n";
 
-/// The words of a line, as a run takes them.
+/// Returns the words of a line, as a run takes them.
 pub(crate) fn plain_words(rt: &(impl AllocGlobal + Abort), line: &str) -> Vec<String> {
     let mut words = Vec::new(rt.alloc());
     for word in line.split(' ') {
@@ -24,7 +24,7 @@ pub(crate) fn plain_words(rt: &(impl AllocGlobal + Abort), line: &str) -> Vec<St
     words
 }
 
-/// The words of a line: none where it is empty. A word behind `@` is a file of the folder.
+/// Returns the words of a line: none where it is empty. A word after `@` is a file of the folder.
 pub(crate) fn words_in(
     rt: &(impl AllocGlobal + Abort),
     folder: &Folder,
@@ -44,7 +44,7 @@ pub(crate) fn words_in(
     words
 }
 
-/// Runs the tool with words, in memory of an allocator. Gives the status, and what it wrote.
+/// Runs the tool with words, in memory of an allocator. Returns the status, and what it wrote.
 pub(crate) fn answer_in<
     H: AllocGlobal + Files + Threads + Wait + Sync,
     A: Allocator + Copy + Send + Sync,

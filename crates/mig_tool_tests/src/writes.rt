@@ -10,8 +10,7 @@ use std::process::Abort;
 use std::sync::Wait;
 use std::thread::Threads;
 
-// Takes at most so many bytes at a write, fails where so many writes were made, and at a flush if
-// it is to.
+// Takes at most `most` bytes at a write, fails after `good` writes, and at a flush if it is to.
 #[derive(Drop)]
 struct Halting {
     text: Vec<u8>,
@@ -42,7 +41,7 @@ impl Write for Halting {
     }
 }
 
-// An output that takes at most so many bytes at a write, and fails where so many writes were made.
+// Returns an output that takes at most `most` bytes at a write, and fails after `good` writes.
 fn output_of(alloc: Global, most: usize, good: usize) -> Halting {
     Halting {
         text: Vec::new(alloc),
@@ -53,7 +52,7 @@ fn output_of(alloc: Global, most: usize, good: usize) -> Halting {
     }
 }
 
-// What a run is handed, and what comes of it where the output doesn't fail.
+// What a run is passed, and what comes of it where the output doesn't fail.
 #[derive(Clone, Copy)]
 struct Expected<'a> {
     words: &'a [String],
@@ -62,7 +61,7 @@ struct Expected<'a> {
     status: u8,
 }
 
-// Runs the tool, and says whether it answered as it should: 3 where the output failed.
+// Runs the tool, and returns whether it answered as it should: 3 if the output failed.
 fn answers<H: AllocGlobal + Files + Threads + Wait + Sync>(
     rt: &H,
     expected: Expected,
