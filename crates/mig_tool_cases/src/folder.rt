@@ -11,7 +11,8 @@ pub struct Folder {
     path: String,
 }
 
-// The path of this process's folder, which has its number in its name: no other run has the same.
+// Returns the path of this process's folder, which has its number in its name: no other run has the
+// same.
 fn path_of<R: AllocGlobal + Files>(rt: &R, alloc: Global) -> Result<String, Trouble> {
     // (a link to the folder of this process in /proc, which has the number as its name)
     let process = done(fs::read_link(rt, "/proc/self"))?;
@@ -21,7 +22,7 @@ fn path_of<R: AllocGlobal + Files>(rt: &R, alloc: Global) -> Result<String, Trou
     Ok(path)
 }
 
-// What is answered where a file or a folder isn't as the case wants it.
+// Returns what is answered where a file or a folder isn't as the case wants it.
 fn done<T>(answer: io::Result<T>) -> Result<T, Trouble> {
     match answer {
         Ok(value) => Ok(value),
@@ -45,7 +46,7 @@ impl Folder {
         Ok(Folder { path })
     }
 
-    /// The path of a file in it.
+    /// Returns the path of a file in it.
     pub fn path(&self, name: &str) -> Result<String, Trouble> {
         let mut path = String::new(*self.path.allocator());
         write!(path, "{}/{name}", self.path)?;
@@ -58,13 +59,13 @@ impl Folder {
         done(fs::write(rt, path.as_str(), bytes))
     }
 
-    /// The bytes of a file.
+    /// Returns the bytes of a file.
     pub fn read<R: AllocGlobal + Files>(&self, rt: &R, name: &str) -> Result<Vec<u8>, Trouble> {
         let path = self.path(name)?;
         done(fs::read(rt, path.as_str()))
     }
 
-    /// How many bytes a file has; None where there is no such file.
+    /// Returns how many bytes a file has; None where there is no such file.
     pub fn len<R: Files>(&self, rt: &R, name: &str) -> Result<Option<u64>, Trouble> {
         let path = self.path(name)?;
         match fs::metadata(rt, path.as_str()) {

@@ -20,7 +20,7 @@ use std::sync::Wait;
 use std::thread::Threads;
 use std::{env, fs};
 
-// The texts of the files that the words name.
+// Reads the files that the words name.
 fn texts(rt: &HostRuntime) -> io::Result<Vec<String>> {
     let mut texts = Vec::new(rt.alloc());
     for name in env::args(rt)?.skip(1) {

@@ -4,7 +4,7 @@
 use mig_cases::{Done, Trouble, bytes_of};
 use std::alloc::Global;
 
-/// The bytes that a line says.
+/// Returns the bytes that a line says.
 pub fn said(alloc: Global, line: &str) -> Result<Vec<u8>, Trouble> {
     let mut bytes = Vec::new(alloc);
     for (i, piece) in line.split('\\').enumerate() {

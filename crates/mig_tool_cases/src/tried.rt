@@ -1,4 +1,4 @@
-//! A case of the tool: its texts, its input and its files, and what `run` answers on words.
+//! A case of the tool: its streams, its input and its files, and what `run` answers on words.
 
 use crate::folder::Folder;
 use crate::said::{put_said, said};
@@ -13,7 +13,7 @@ use std::thread::Threads;
 /// What stands in the file `i` before a load.
 const BEFORE: &str = "as it was";
 
-/// A case: the texts that its lines build, the input of its runs, and the folder of its files.
+/// A case: the streams that its lines build, the input of its runs, and the folder of its files.
 #[derive(Drop)]
 pub struct Tried {
     case: Case,
@@ -65,7 +65,7 @@ fn play_case<R: AllocGlobal + Files + Threads + Wait + Sync, W: Write>(
 }
 
 impl Tried {
-    // A case of which no line was followed.
+    // Returns a case of which no line was followed.
     fn new<R: AllocGlobal + Files>(rt: &R, alloc: Global) -> Result<Tried, Trouble> {
         Ok(Tried {
             case: Case::new(alloc)?,
@@ -74,7 +74,7 @@ impl Tried {
         })
     }
 
-    // Follows a line: writes down what it asks is answered. Returns false where it asks nothing.
+    // Follows a line: writes down the answer to what it asks. Returns false if it asks nothing.
     fn follow<R: AllocGlobal + Files + Threads + Wait + Sync>(
         &mut self,
         out: &mut String,
@@ -100,7 +100,7 @@ impl Tried {
     }
 }
 
-// A text that has another one in place of each `#`.
+// Returns `text` with `other` in place of each `#`.
 fn filled(alloc: Global, text: &str, other: &str) -> Result<String, Trouble> {
     let mut whole = String::new(alloc);
     for (i, piece) in text.split('#').enumerate() {
@@ -115,7 +115,7 @@ fn filled(alloc: Global, text: &str, other: &str) -> Result<String, Trouble> {
 // ---- what lines build
 
 impl Tried {
-    // Takes a line that builds something; false where the line is no such line.
+    // Takes a line that builds something. Returns false if the line is no such line.
     fn take<R: AllocGlobal + Files>(
         &mut self,
         rt: &R,
@@ -141,7 +141,7 @@ impl Tried {
         }
     }
 
-    // `add_each FIRST LAST TEXT`: the text for each number, which stands where it has a `#`.
+    // `add_each FIRST LAST TEXT`: the TEXT for each number, which stands where it has a `#`.
     fn add_each(&mut self, mut words: Words) -> Done {
         let alloc = self.case.alloc;
         let first = words.number()?;
@@ -154,7 +154,7 @@ impl Tried {
         Ok(())
     }
 
-    // `input [TEXT]`: the last text where none is named
+    // `input [TEXT]`: the case's last stream if there is no TEXT
     fn set_input(&mut self, text: &str) -> Done {
         let alloc = self.case.alloc;
         self.input = if text.is_empty() {
@@ -165,7 +165,7 @@ impl Tried {
         Ok(())
     }
 
-    // Files of the folder.
+    // Takes a line on files of the folder. Returns false if the line is no such line.
     fn change_file<R: AllocGlobal + Files>(
         &mut self,
         rt: &R,
@@ -194,7 +194,7 @@ impl Tried {
 // ---- what is asked
 
 impl Tried {
-    // Writes down what a question is answered.
+    // Writes down the answer to a question.
     fn ask<R: AllocGlobal + Files + Threads + Wait + Sync>(
         &mut self,
         out: &mut String,
@@ -219,8 +219,8 @@ impl Tried {
         }
     }
 
-    // The words of a line, separated by single spaces: `@NAME` is a file of the folder, and `""` a
-    // word without letters.
+    // Returns the words of a line, separated by single spaces: `@NAME` is a file of the folder, and
+    // `""` a word without letters.
     fn words_of(&self, line: &str) -> Result<Vec<String>, Trouble> {
         let alloc = self.case.alloc;
         let mut words = Vec::new(alloc);
@@ -274,8 +274,8 @@ impl Tried {
         Ok(())
     }
 
-    // `load_both WORDS`: the answer of a load that reads texts whole, which is to be that of one
-    // that feeds them.
+    // `load_both WORDS`: the answer of a load that reads complete streams, which is to be that of
+    // one that feeds them.
     fn load_both<R: AllocGlobal + Files + Threads + Wait + Sync>(
         &self,
         out: &mut String,
@@ -351,8 +351,9 @@ impl Tried {
         Ok(())
     }
 
-    // `each FIRST LAST NAME QUESTION`: asked with the fronts of the last text, of so many bytes, in
-    // this file. Writes the first answer that is another than expected, or else the last one.
+    // `each FIRST LAST NAME QUESTION`: asked with the fronts of the last stream, of FIRST to LAST
+    // bytes, in this file. Writes the first answer that is another than expected, or else the last
+    // one.
     fn each<R: AllocGlobal + Files + Threads + Wait + Sync>(
         &mut self,
         out: &mut String,
