@@ -8,7 +8,7 @@ use sha2::{Digest, Sha256};
 /// What the load of a capture answers.
 #[derive(Drop)]
 pub struct Answer {
-    /// The fault; None where all was read to its end.
+    /// The fault. None if all was read to its end.
     pub fault: Option<LoadFault>,
     /// Where the stream, or the main stream, is closed.
     pub closed_at: Option<u64>,
@@ -16,7 +16,7 @@ pub struct Answer {
     pub sum: Option<[u8; 32]>,
 }
 
-/// The SHA-256 of a memory's bytes: block after block, page after page.
+/// Returns the SHA-256 of a memory's bytes: block after block, page after page.
 pub fn sum_of(memory: &Memory) -> [u8; 32] {
     let mut hasher = Sha256::new();
     let table = memory.table();
@@ -47,7 +47,7 @@ fn put_sum(out: &mut String, sum: &[u8]) -> Result<(), Trouble> {
     Ok(())
 }
 
-/// Writes the line of a capture that was fed in pieces of `len` bytes, or whole where `len` is 0.
+/// Writes the line of a capture that was fed in pieces of `len` bytes, or at once if `len` is 0.
 pub fn put_line(out: &mut String, name: &str, len: usize, answer: &Answer) -> Result<(), Trouble> {
     match len {
         0 => write!(out, "{name} whole: ")?,

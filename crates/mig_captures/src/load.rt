@@ -10,7 +10,7 @@ use mig_stream::{Frame, Mode, StreamReader};
 use std::alloc::Global;
 use uuid::Uuid;
 
-/// Loads a single stream in pieces of `len` bytes, or whole where `len` is 0.
+/// Loads a single stream in pieces of `len` bytes, or at once if `len` is 0.
 pub fn load_single_stream(alloc: Global, text: &[u8], len: usize) -> Result<Answer, Trouble> {
     if len == 0 {
         return load_whole(alloc, text);
@@ -42,7 +42,7 @@ fn load_whole(alloc: Global, text: &[u8]) -> Result<Answer, Trouble> {
     })
 }
 
-// Where a main stream is closed, fed in pieces of a length.
+// Returns where a main stream is closed, fed in pieces of a length.
 fn main_closed_at(alloc: Global, text: &[u8], len: usize) -> Result<Option<u64>, Trouble> {
     let frame = Frame::Machine;
     let mut reader = StreamReader::new_in(alloc, frame, Mode::Main, PAGE_SIZE_4K, MAX_TOTAL);
@@ -55,7 +55,7 @@ fn main_closed_at(alloc: Global, text: &[u8], len: usize) -> Result<Option<u64>,
     Ok(reader.closed_at())
 }
 
-// Feeds a source's text in pieces of a length, and ends it.
+// Feeds a source's stream in pieces of a length, and ends it.
 fn feed(session: &mut Session, source: Source, text: &[u8], len: usize) -> Result<(), Trouble> {
     for piece in text.chunks(len.max(1)) {
         if !session.has(source) {
@@ -73,7 +73,7 @@ fn feed(session: &mut Session, source: Source, text: &[u8], len: usize) -> Resul
     Ok(())
 }
 
-// A session that was fed a main stream and its channels, each in pieces of a length.
+// Returns a session that was fed a main stream and its channels, each in pieces of a length.
 fn fed(
     alloc: Global,
     uuid: &Uuid,
@@ -93,7 +93,7 @@ fn fed(
     Ok(session)
 }
 
-/// Loads a main stream and its channels in pieces of `len` bytes, or whole where `len` is 0.
+/// Loads a main stream and its channels in pieces of `len` bytes, or at once if `len` is 0.
 pub fn load_several(
     alloc: Global,
     uuid: &Uuid,

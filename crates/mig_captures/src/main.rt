@@ -21,7 +21,7 @@ use std::process::ExitCode;
 use std::rt::Files;
 use std::{env, fs};
 
-// Reads a file whole.
+// Reads a file to its end.
 fn read<R: Files>(rt: &R, alloc: Global, name: &str) -> Result<Vec<u8>, Trouble> {
     let mut file = fs::open(rt, name).map_err(|_| Trouble::Input)?;
     let mut bytes = Vec::new(alloc);
@@ -31,7 +31,7 @@ fn read<R: Files>(rt: &R, alloc: Global, name: &str) -> Result<Vec<u8>, Trouble>
     }
 }
 
-// The files that names name.
+// Reads the files of these names.
 fn read_all<R: Files>(rt: &R, alloc: Global, names: &[String]) -> Result<Vec<Vec<u8>>, Trouble> {
     let mut texts = Vec::new(alloc);
     for name in names {

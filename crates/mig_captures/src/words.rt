@@ -7,7 +7,7 @@ use uuid::Uuid;
 /// Why captures can't be loaded.
 #[derive(Clone, Copy)]
 pub enum Trouble {
-    /// A word that names neither a file nor a setting, or no channel behind a main stream.
+    /// A word that names neither a file nor a setting, or no channel after a main stream.
     Words,
     /// A file that can't be read.
     Input,
@@ -15,7 +15,7 @@ pub enum Trouble {
 }
 
 impl Trouble {
-    /// The line that is written of it.
+    /// Returns the line that is written of it.
     pub fn text(self) -> &'static str {
         match self {
             Trouble::Words => "the words can't be followed\n",
@@ -61,7 +61,7 @@ struct Given {
 }
 
 impl Given {
-    // The capture of a file, whose channels follow.
+    // Returns the capture of a file, whose channels follow.
     fn capture(self, alloc: Global, name: &str) -> Result<Capture, Trouble> {
         let pieces = match self.len {
             Some(len) => Vec::from_slice(alloc, &[len])?,
@@ -75,7 +75,7 @@ impl Given {
         })
     }
 
-    // Takes a setting; false where the word is none.
+    // Takes a setting. Returns false if the word is none.
     fn take(&mut self, word: &str) -> Result<bool, Trouble> {
         if let Some(uuid) = word.strip_prefix("uuid=") {
             self.uuid = Uuid::parse_str(uuid).ok().ok_or(Trouble::Words)?;
@@ -89,13 +89,13 @@ impl Given {
     }
 }
 
-// Whether a capture is a main stream.
+// Returns whether a capture is a main stream.
 fn is_main(name: &str) -> bool {
     name.ends_with(".main")
 }
 
-// Whether a file is a channel of a main stream: its name is that of the stream with a number in
-// place of `main`.
+// Returns whether a file is a channel of a main stream: its name is that of the stream with a
+// number in place of `main`.
 fn is_channel_of(main: &str, name: &str) -> bool {
     match (main.strip_suffix("main"), name.rsplit_once('.')) {
         (Some(front), Some((_, number))) => {
@@ -105,7 +105,7 @@ fn is_channel_of(main: &str, name: &str) -> bool {
     }
 }
 
-/// The captures that words name.
+/// Returns the captures that words name.
 pub fn captures(alloc: Global, words: &[String]) -> Result<Vec<Capture>, Trouble> {
     let mut captures: Vec<Capture> = Vec::new(alloc);
     let mut given = Given {
