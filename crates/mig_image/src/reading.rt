@@ -15,8 +15,8 @@ fn total_len<A: Allocator>(table: &Table<A>) -> u64 {
     pages.saturating_mul(table.page_size())
 }
 
-// Puts the pages of a block, one after another. Returns the rest of the bytes, or None where there
-// are too few.
+// Puts the pages of a block, one after another. Returns the rest of the bytes, or None if there are
+// too few.
 fn take_block<'b, A: Allocator>(
     memory: &mut Memory<A>,
     block: usize,
@@ -38,8 +38,12 @@ fn take_block<'b, A: Allocator>(
     Some(left)
 }
 
-/// Makes the memory of `table` that the bytes of a file are. Returns None where they aren't as many
-/// as the blocks have.
+/// Makes the memory of `table` that the bytes of a file are. Returns None if they aren't as many as
+/// the blocks have.
+///
+/// # Errors
+///
+/// `NoMemory`: an allocation was refused.
 pub fn memory_of<A: Allocator + Copy>(
     alloc: A,
     table: &Table<A>,
