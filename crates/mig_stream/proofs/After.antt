@@ -16,7 +16,7 @@ unlimited c = record c { waiting = None; room = None }
 abbrev pub after_page : StreamProgress → PageRecord → StreamProgress
 after_page c r = record c { due = due.RecordHead; named = Some r.place.block; room = less_room c.room; records = c.records ++ r ∷ [] }
 
--- the records of the round that isn't whole, and the whole rounds, after records
+-- the records of the round that isn't complete, and the complete rounds, after records
 abbrev pub records_after : List PageRecord → List Record → List PageRecord
 records_after before [] = before
 records_after before (PageOf continued r ∷ rs) = records_after (before ++ r ∷ []) rs
@@ -40,7 +40,7 @@ after_records c rs = record c { named = named_after c.named rs; room = room_afte
 abbrev pub after_body : StreamProgress → List Record → StreamProgress
 after_body c rs = end_section (after_records c rs)
 
--- the records of the round that isn't whole, and the whole rounds, after sections
+-- the records of the round that isn't complete, and the complete rounds, after sections
 abbrev pub records_behind : Mode → List PageRecord → List (List Record) → List PageRecord
 records_behind m before [] = before
 records_behind m before (rs ∷ sections) = records_behind m (open_records m (records_after before rs)) sections

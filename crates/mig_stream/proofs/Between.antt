@@ -1,4 +1,5 @@
--- Between two sections of a single stream no record waits: the footer ended the round of those before it.
+-- Between two sections of a single stream no record waits: the footer ended the round of those
+-- before it.
 use Rattle.std.proofs.Common.{◌≡◌, ℕ, ◌-◌, ◌==◌, eqb, List, [], ◌∷◌, Option, Some, None, refl, sym, ap, subst, ◌∙◌}
 use Rattle.std.specs.Prelude.{slice_index, ⊤}
 use Rattle.std.specs.Option.{unwrap_or}
@@ -91,7 +92,7 @@ all_empty c (item ∷ items) single e free =
     let there = (IsLater-front c (after c item) item (front_item c item free.0 free.1)).same_mode ∙ single in
     all_empty (after c item) items there (item_empty c c.due item single e e) free.2
 
--- Behind the end byte no record waits.
+-- After the end byte no record waits.
 pub closed_is_empty : (frame : Frame) (m : Mode) (p limit : ℕ) (waiting : Option ℕ) (bytes : List ℕ) (to : StreamProgress) → m ≡ Single → Front (start frame m p limit waiting) bytes to → to.due ≡ Nothing → to.records ≡ []
 closed_is_empty frame m p limit waiting bytes to single f closed =
     let last : StaysEmpty to = subst StaysEmpty (sym f.leads_to) (all_empty (start frame m p limit waiting) f.items single refl f.are_faultless) in

@@ -1,4 +1,4 @@
--- Bytes are read to an end byte exactly where a front of them is a text.
+-- Bytes are read to an end byte exactly where a front of them is a stream.
 use Rattle.std.proofs.Common.{◌≡◌, ℕ, ◌≤◌, ◌^◌, ◌<◌, List, Some, refl, sym, subst}
 use Rattle.std.specs.Prelude.{All}
 use Rattle.mig_mem.specs.PageSize.{IsPageSize}
@@ -12,7 +12,7 @@ use Rattle.mig_stream.proofs.SpelledText.{spelled_law}
 use Rattle.mig_stream.proofs.Found.{read_law, machine_read_law}
 use Rattle.mig_stream.proofs.SpelledMachine.{machine_is_read}
 
--- what is read closed, of this table and these rounds, begins with a text of them
+-- what is read closed, of this table and these rounds, begins with a stream of them
 text_of_closed : ReadIsSpelled → (mode : Mode) (limit : ℕ) (bytes : List ℕ) (table : RamTable) (rounds : List (List PageRecord)) → IsPageSize table.page_size → limit ≤ 2 ^ 40
     → All (λ byte. byte < 2 ^ 8) bytes → IsReading (settings mode table.page_size limit) bytes (closed table rounds) → HasText mode limit bytes table rounds
 text_of_closed law mode limit bytes table rounds size small all is =
@@ -21,7 +21,7 @@ text_of_closed law mode limit bytes table rounds size small all is =
     let same : found.0 ≡ table = cc in
     subst (λ (x : RamTable). HasText mode limit bytes x rounds) same found.3
 
--- and bytes that begin with a text are read closed
+-- and bytes that begin with a stream are read closed
 closed_of_text : SpelledIsRead → (mode : Mode) (limit : ℕ) (bytes : List ℕ) (table : RamTable) (rounds : List (List PageRecord)) → HasText mode limit bytes table rounds
     → IsReading (settings mode table.page_size limit) bytes (closed table rounds)
 closed_of_text law mode limit bytes table rounds is =
@@ -32,11 +32,11 @@ pub closed_from_laws : SpelledIsRead → ReadIsSpelled → ClosedIsText
 closed_from_laws spelled read mode limit bytes table rounds size small all =
     (text_of_closed read mode limit bytes table rounds size small all, closed_of_text spelled mode limit bytes table rounds)
 
--- Read closed, and beginning with a text, is the same.
+-- Read closed, and beginning with a stream, is the same.
 pub closed_law : ClosedIsText
 closed_law = closed_from_laws spelled_law read_law
 
--- The same of a machine's stream.
+-- Bytes are read closed as a machine's stream exactly where they begin with one.
 pub machine_closed_law : MachineClosedIsText
 machine_closed_law mode limit bytes table rounds size small all = (to_text, of_text)
   where

@@ -1,4 +1,4 @@
--- Where a text is closed, and up to where it is valid.
+-- Where a stream is closed, and up to where it is valid.
 use Rattle.std.proofs.Common.{◌≡◌, ◌≢◌, ℕ, ◌+◌, ◌-◌, ◌<◌, ◌^◌, List, [], ◌++◌, length, take, drop, Option, Some, None, refl, sym, ap, subst, ◌∙◌, arith}
 use Rattle.std.specs.Prelude.{IfSome}
 use Rattle.std.proofs.lemmas.List.{append-nil, length-append, length-drop, take_at, drop_at, take-append-drop}
@@ -14,7 +14,7 @@ use Rattle.mig_stream.proofs.Unique.{one_reading}
 abbrev from : Settings → StreamProgress
 from given = start given.frame given.mode given.page_size given.limit given.waiting
 
--- a text that is read closed, with some bytes left, is closed by those before them
+-- a stream that is read closed, with some bytes left, is closed by those before them
 pub closed_by : (given : Settings) (text : List ℕ) (to : StreamProgress) (rest : List ℕ) (n : ℕ) → Reads (from given) text to rest Closed → n + length rest ≡ length text → IsClosedAt given text n
 closed_by given text to rest n r count =
     let len : length r.front ≡ n = omega (arith, count, ap length r.has_text, length-append r.front rest) in
@@ -62,7 +62,7 @@ behind_stands r closed given text so_far g =
       has_rest = sym (ap (drop (length g.front)) g.has_text ∙ drop_at g.front r.rest (length g.front) refl);
     }
 
--- ---- up to where a text is valid
+-- ---- up to where a stream is valid
 
 pub valid_stands : (r : Reader) → Tells r (λ given so_far. IsValidUpTo given so_far.text r.valid_up_to)
 valid_stands r given so_far s = record {

@@ -44,14 +44,16 @@ no_part : written (table 4096 1) [] ≡
 unfolding opening closing file_header size_list
 no_part = refl
 
--- A page of zeros and another page, in one round: a zero record that names the block, and a page with CONTINUE.
+-- A page of zeros and another page, in one round: a zero record that names the block, and a page
+-- with CONTINUE.
 two_pages : written_parts (table 4096 2) None (RoundPart (page 0 (replicate 4096 0) ∷ page 1 (9 ∷ replicate 4095 0) ∷ []) ∷ []) ≡
     (0x02 ∷ 0 ∷ 0 ∷ 0 ∷ 1 ∷ []) ++ (0 ∷ 0 ∷ 0 ∷ 0 ∷ 0 ∷ 0 ∷ 0 ∷ 0x02 ∷ 1 ∷ 0x61 ∷ 0 ∷ [])
     ++ (0 ∷ 0 ∷ 0 ∷ 0 ∷ 0 ∷ 0 ∷ 0x10 ∷ 0x28 ∷ 9 ∷ replicate 4095 0)
     ++ (0 ∷ 0 ∷ 0 ∷ 0 ∷ 0 ∷ 0 ∷ 0 ∷ 0x10 ∷ 0x7E ∷ 0 ∷ 0 ∷ 0 ∷ 1 ∷ [])
 two_pages = refl
 
--- A page of zeros, a FLUSH, and the page again: the second record has CONTINUE, across sections and the FLUSH.
+-- A page of zeros, a FLUSH, and the page again: the second record has CONTINUE, across sections and
+-- the FLUSH.
 carried_on : written_parts (table 4096 1) None (RoundPart (page 0 (replicate 4096 0) ∷ []) ∷ FlushPart ∷ RoundPart (page 0 (replicate 4096 0) ∷ []) ∷ []) ≡
     (0x02 ∷ 0 ∷ 0 ∷ 0 ∷ 1 ∷ 0 ∷ 0 ∷ 0 ∷ 0 ∷ 0 ∷ 0 ∷ 0 ∷ 0x02 ∷ 1 ∷ 0x61 ∷ 0 ∷ 0 ∷ 0 ∷ 0 ∷ 0 ∷ 0 ∷ 0 ∷ 0 ∷ 0x10 ∷ 0x7E ∷ 0 ∷ 0 ∷ 0 ∷ 1 ∷ [])
     ++ (0x02 ∷ 0 ∷ 0 ∷ 0 ∷ 1 ∷ 0 ∷ 0 ∷ 0 ∷ 0 ∷ 0 ∷ 0 ∷ 0x02 ∷ 0x00 ∷ 0 ∷ 0 ∷ 0 ∷ 0 ∷ 0 ∷ 0 ∷ 0 ∷ 0x10 ∷ 0x7E ∷ 0 ∷ 0 ∷ 0 ∷ 1 ∷ [])
@@ -74,7 +76,8 @@ in_part mode page_size = record (start Ram mode page_size (2 ^ 40) None) {
   blocks = (table page_size 1).blocks;
 }
 
--- START's first record is the size list and nothing else: a FLUSH there is judged so, even in a single stream.
+-- START's first record is the size list and nothing else: a FLUSH there is judged so, even in a
+-- single stream.
 flush_in_place_of_list : first_fault (in_start Single) (be64 0x200) ≡ Some fault.SizePlace
 unfolding be64_at
 flush_in_place_of_list = refl
@@ -98,7 +101,8 @@ entry_too_many : first_fault (record (in_start Single) { due = ListEntry; left =
 unfolding be64_at is_id
 entry_too_many = refl
 
--- At pages of 8,192 bytes the flags have 13 bits, so a head with offset 4,096 has flags that no record has.
+-- At pages of 8,192 bytes the flags have 13 bits, so a head with offset 4,096 has flags that no
+-- record has.
 thirteenth_bit : first_fault (in_part Single 8192) (be64 0x1008) ≡ Some (fault.Flags 0x1008)
 unfolding be64_at
 thirteenth_bit = refl
@@ -108,7 +112,8 @@ flush_in_single : first_fault (in_part Single 4096) (be64 0x1200) ≡ Some fault
 unfolding be64_at
 flush_in_single = refl
 
--- CONTINUE where no block was named yet is told before the offset, which lies outside of the only block.
+-- CONTINUE where no block was named yet is judged before the offset, which lies outside of the only
+-- block.
 continue_without_block : first_fault (in_part Single 4096) (be64 0x5028) ≡ Some fault.NoBlock
 unfolding be64_at
 continue_without_block = refl
@@ -134,7 +139,8 @@ end_behind_record = refl
 abbrev machine : Mode → StreamProgress
 machine mode = start Machine mode 4096 (2 ^ 40) None
 
--- The text of one block of one page and no round, as QEMU writes it: SWITCHOVER_START stands before END, and no end byte behind its footer.
+-- The stream of one block of one page and no round, as QEMU writes it: SWITCHOVER_START stands
+-- before END, and no end byte after its footer.
 abbrev empty_machine : List ℕ
 empty_machine =
     0x51 ∷ 0x45 ∷ 0x56 ∷ 0x4D ∷ 0 ∷ 0 ∷ 0 ∷ 3
@@ -166,7 +172,8 @@ empty_front = record {
   leads_to = refl;
 }
 
--- What stands behind it, the section of a device, is left: the text is closed by its first 79 bytes.
+-- What stands after it, the section of a device, is left: the stream is closed by its first 79
+-- bytes.
 abbrev device : List ℕ
 device = 0x04 ∷ 0 ∷ 0 ∷ 0 ∷ 2 ∷ 5 ∷ 0x74 ∷ 0x69 ∷ 0x6D ∷ 0x65 ∷ 0x72 ∷ 0 ∷ []
 
@@ -177,7 +184,7 @@ device_left = closed_by (in_frame Machine (settings Single 4096 (2 ^ 40))) (empt
 command_refused : first_fault (record (in_part Single 4096) { due = TypeByte before.Footer }) (0x08 ∷ []) ≡ Some fault.SectionType
 command_refused = refl
 
--- A UUID behind the configuration: a subsection of 42 bytes, which is passed over.
+-- A UUID after the configuration: a subsection of 42 bytes, which is passed over.
 uuid_spelled : subsection (Uuid (replicate 16 0x11)) ≡
     0x05 ∷ 18 ∷ 0x63 ∷ 0x6F ∷ 0x6E ∷ 0x66 ∷ 0x69 ∷ 0x67 ∷ 0x75 ∷ 0x72 ∷ 0x61 ∷ 0x74 ∷ 0x69 ∷ 0x6F ∷ 0x6E ∷ 0x2F ∷ 0x75 ∷ 0x75 ∷ 0x69 ∷ 0x64 ∷ 0 ∷ 0 ∷ 0 ∷ 1 ∷ replicate 16 0x11
 unfolding subsection_name
@@ -196,7 +203,8 @@ other_version : first_fault (record (machine Single) { due = Passed pass.Subsect
 unfolding subsection_name be32_at
 other_version = refl
 
--- A subsection stands behind the configuration alone, and the section of a device before END nowhere.
+-- A subsection stands after the configuration alone, and the section of a device before END
+-- nowhere.
 late_subsection : first_fault (record (machine Single) { due = TypeByte before.Command }) (0x05 ∷ []) ≡ Some fault.SectionType
 late_subsection = refl
 

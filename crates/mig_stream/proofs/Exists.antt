@@ -1,4 +1,4 @@
--- Each text has a reading, and it has no other.
+-- Each stream has a reading, and it has no other.
 use Rattle.std.proofs.Common.{◌≡◌, ◌≢◌, ◌⊎◌, ℕ, zero, suc, ◌+◌, ◌*◌, ◌<◌, ◌≤◌, List, [], ◌++◌, length, take, drop, Option, Some, None, refl, sym, ap, ◌∙◌, inl, inr, append_assoc, eqb, arith}
 use Rattle.std.specs.Prelude.{slice_index}
 use Rattle.std.proofs.lemmas.Bool.{cond_both, cases_lt}
@@ -91,7 +91,7 @@ passed_some (SubsectionBody Uuid) item = omega arith
 passed_some (SubsectionBody Capabilities) item = omega arith
 passed_some (Capability others) item = omega arith
 
--- an item is not empty, or it is a name, behind which no name comes
+-- an item is not empty, or it is a name, after which no name comes
 pub work_falls : (c : StreamProgress) (d : Due) (item : List ℕ) → 0 < c.page_size → d ≢ Nothing → length item ≡ size c.page_size d item → work (after_item c d item).due < 2 * length item + work d
 work_falls c FileHeader item some open_ whole = omega arith
 work_falls c (TypeByte before) item some open_ whole = omega (arith, work_small (after_type_byte c before (slice_index item 0)).due)
@@ -124,9 +124,9 @@ is_nothing Footer = inr (λ e. absurd cc)
 is_nothing (Passed passed) = inr (λ e. absurd cc)
 is_nothing Nothing = inl refl
 
--- ---- a text has a reading
+-- ---- a stream has a reading
 
--- some reading of a text from here
+-- some reading of a stream from here
 abbrev pub SomeReading : StreamProgress → List ℕ → Type 0
 SomeReading from text = (to : StreamProgress) × (rest : List ℕ) × (state : StreamState) × Reads from text to rest state
 
@@ -135,7 +135,7 @@ faulty : (o : Option StreamFault) → (o ≡ None) ⊎ ((fault : StreamFault) ×
 faulty None = inl refl
 faulty (Some fault) = inr (fault, refl)
 
--- however far a text has been read, it can be read on, since each item is a step forward
+-- however far a stream has been read, it can be read on, since each item is a step forward
 pub read_on : (fuel : ℕ) (from c : StreamProgress) (text front rest : List ℕ) → 0 < c.page_size → 2 * length rest + work c.due < fuel → text ≡ front ++ rest → Front from front c → SomeReading from text
 read_on zero from c text front rest some few e so_far = absurd (omega arith)
 read_on (suc fuel) from c text front rest some few e so_far =
@@ -160,7 +160,7 @@ read_on (suc fuel) from c text front rest some few e so_far =
       ]
     ]
 
--- two readings of a text tell the same
+-- two readings of a stream say the same
 same_reading : (from : StreamProgress) (text : List ℕ) (other : StreamReading) (c : StreamProgress) (x : List ℕ) (s : StreamState) → Reads from text c x s
     → (d : StreamProgress) (y : List ℕ) → Reads from text d y other.state → other.table ≡ whole_table d → other.rounds ≡ d.rounds
     → other ≡ record { table = whole_table c; rounds = c.rounds; state = s }
@@ -172,11 +172,11 @@ same_reading from text other c x s a d y b table rounds =
     ∙ ap (λ (v : List (List PageRecord)). record { table = whole_table c; rounds = v; state = other.state }) r
     ∙ ap (λ (v : StreamState). record { table = whole_table c; rounds = c.rounds; state = v }) same.2
 
--- a text can be read on from wherever it was read to
+-- a stream can be read on from wherever it was read to
 pub reads_from : (from : StreamProgress) (text : List ℕ) → 0 < from.page_size → SomeReading from text
 reads_from from text some = read_on (suc (2 * length text + work from.due)) from from text [] text some (omega arith) refl (Front-none from)
 
--- Each text has exactly one reading.
+-- Each stream has exactly one reading.
 pub one_reading_law : HasOneReading
 one_reading_law = λ given text is.
     let from : StreamProgress = start given.frame given.mode given.page_size given.limit given.waiting in

@@ -1,4 +1,4 @@
--- Reading a piece behind the bytes of an item that wasn't whole.
+-- Reading a piece after the bytes of an item that wasn't complete.
 use Rattle.std.proofs.Common.{◌≡◌, ◌≢◌, ℕ, ◌+◌, ◌<◌, ◌≤◌, List, [], ◌++◌, length, get_or, take, drop, Option, Some, None, refl, sym, ap, subst, ◌∙◌, append_assoc, inl, inr, arith}
 use Rattle.std.specs.Prelude.{IfSome, IfNone}
 use Rattle.std.proofs.lemmas.List.{length-append, take-append-drop, get_or_append_left, get_or_past}
@@ -19,7 +19,7 @@ use Rattle.mig_stream.specs.Taking.{HasTaken}
 use Rattle.mig_stream.specs.Reader.{IsUnfinished, ReadsOn}
 use Rattle.mig_stream.proofs.Fronts.{item_at, no_item, Front-none, Front-push, Front-append}
 
--- ---- an item that isn't whole
+-- ---- an item that isn't complete
 
 pub is_due : (p : ℕ) (d : Due) (bytes : List ℕ) → length bytes < size p d bytes → d ≢ Nothing
 is_due p d bytes lt none = absurd (omega (arith, lt, ap (λ (x : Due). size p x bytes) none))
@@ -48,7 +48,7 @@ passed_grows (SubsectionBody Uuid) bytes more = omega arith
 passed_grows (SubsectionBody Capabilities) bytes more = omega arith
 passed_grows (Capability others) bytes more = omega (arith, byte_grows bytes more 0)
 
--- more bytes may tell that an item is longer, and never that it is shorter
+-- more bytes may show that an item is longer, and never that it is shorter
 pub size_grows : (p : ℕ) (d : Due) (bytes more : List ℕ) → size p d bytes ≤ size p d (bytes ++ more)
 size_grows p FileHeader bytes more = omega arith
 size_grows p (TypeByte b) bytes more = omega arith
@@ -84,7 +84,7 @@ reads_fault c item rest f is fault = record {
   ends = (item, rest, refl, is, fault);
 }
 
--- one item, and what is read behind it
+-- one item, and what is read after it
 pub front_item : (c : StreamProgress) (item : List ℕ) → IsItem c.page_size c.due item → first_fault c item ≡ None → Front c item (after c item)
 front_item c item is none = Front-push c c [] item (Front-none c) is none
 

@@ -37,11 +37,11 @@ list_spelled table bytes =
     ap (λ (n : ℕ). be64 (n + flags_of SizeList) ++ (flat_map (entry table.page_size) table.blocks ++ bytes)) (sym (total_is_sum table))
     ∙ sym (append_assoc (be64 (total_bytes table + flags_of SizeList)) (flat_map (entry table.page_size) table.blocks) bytes)
 
--- the parts of a text, put together otherwise
+-- the parts of a stream, put together otherwise
 regroup : (f c x s l b p e z : List ℕ) → f ++ (c ++ (x ++ (s ++ (l ++ (b ++ (p ++ (e ++ z))))))) ≡ f ++ c ++ x ++ s ++ l ++ b ++ p ++ e ++ z
 regroup f c x s l b p e z = simp append_assoc
 
--- A text of either frame: what a machine's stream alone has isn't there in the other.
+-- A stream of either frame: what a machine's stream alone has isn't there in the other.
 pub record IsFramedText (frame : Frame) (mode : Mode) (limit : ℕ) (text : List ℕ) (table : RamTable) (rounds : List (List PageRecord)) : Type 0 where
   pub id : ℕ
   pub machine : Option Configuration
@@ -63,14 +63,14 @@ pub record IsFramedText (frame : Frame) (mode : Mode) (limit : ℕ) (text : List
   pub no_commands : is_machine frame ≡ false → commands ≡ []
   pub no_others : is_machine frame ≡ false → HasNoCommand others
 
--- A whole text that is left from the first byte on is a text of its table and its rounds.
+-- A complete stream that is left from the first byte on is a stream of its table and its rounds.
 pub record IsFound (frame : Frame) (mode : Mode) (page_size limit : ℕ) (to : StreamProgress) (text : List ℕ) : Type 0 where
   pub table : RamTable
   pub has_page_size : table.page_size ≡ page_size
   pub has_table : whole_table to ≡ Some table
   pub has_text : IsFramedText frame mode limit text table to.rounds
 
--- Such a rest is a text.
+-- Such a rest is a stream.
 pub text_found : (frame : Frame) (mode : Mode) (page_size limit : ℕ) (waiting : Option ℕ) (to : StreamProgress) (text : List ℕ) → IsPageSize page_size → limit ≤ 2 ^ 40 → RestOfFile to (start frame mode page_size limit waiting) text
     → IsFound frame mode page_size limit to text
 text_found frame mode page_size limit waiting to text size small file =
@@ -123,7 +123,7 @@ text_found frame mode page_size limit waiting to text size small file =
       };
     }
 
--- what was read closed is a text of its frame
+-- what was read closed is a stream of its frame
 record IsReadAs (given : Settings) (bytes : List ℕ) (reading : StreamReading) : Type 0 where
   table : RamTable
   has_page_size : table.page_size ≡ given.page_size

@@ -1,4 +1,4 @@
--- A record head without a fault goes in front of what is left behind it, kind by kind.
+-- A record head without a fault goes in front of what is left after it, kind by kind.
 use Rattle.std.proofs.Common.{◌≡◌, ℕ, ◌+◌, ◌*◌, ◌≤◌, true, false, not, eqb, ltb, List, [], ◌∷◌, ◌++◌, Option, Some, None, ap, subst, ◌∙◌}
 use Rattle.std.specs.Prelude.{◌||◌, is_none, is_some}
 use Rattle.std.specs.Option.{unwrap_or}
@@ -34,7 +34,7 @@ read_already : (o : Option ℕ) → is_none o ≡ false → o ≡ None → ⊥
 read_already None e is = absurd cc
 read_already (Some x) e is = absurd cc
 
--- behind the size list, a record head is followed by the records' rest
+-- after the size list, a record head is followed by the records' rest
 behind_list : (to c : StreamProgress) (bytes : List ℕ) → is_none c.left ≡ false → (c.left ≡ Some 0 → RestOfBody (Behind to) c bytes) → RestAt to c RecordHead bytes
 behind_list to c bytes used rest = ((λ none. absurd (read_already c.left used none)), rest)
 
@@ -58,7 +58,7 @@ kind_head c flags page item kind head is = head ∙ ap (λ (x : ℕ). be64 (page
 zero_page : (page : ℕ) → first_of ((not (eqb page 0), fault.OffsetOut) ∷ []) ≡ None → page ≡ 0
 zero_page page free = eqb-true page 0 (not-false (eqb page 0) (passed (not (eqb page 0)) fault.OffsetOut [] free).0)
 
--- A record head in front of what is left behind its kind.
+-- A record head in front of what is left after its kind.
 pub head_back : (to c : StreamProgress) (flags page : ℕ) (item bytes : List ℕ) (kind : Option RecordKind) → c.due ≡ RecordHead → item ≡ be64 (page * c.page_size + flags) → record_kind flags ≡ kind
     → first_of (head_faults c flags kind page) ≡ None → RestFrom to (after_head c kind page) bytes → RestAt to c RecordHead (item ++ bytes)
 head_back to c flags page item bytes None due head is free r = absurd cc

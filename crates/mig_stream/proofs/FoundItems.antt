@@ -1,4 +1,4 @@
--- An item without a fault, of any kind, goes in front of what is left behind it.
+-- An item without a fault, of any kind, goes in front of what is left after it.
 use Rattle.std.proofs.Common.{◌≡◌, ◌≢◌, ℕ, zero, suc, ◌+◌, ◌-◌, ◌^◌, ◌<◌, ◌/◌, ◌%◌, Bool, true, false, not, cond, eqb, List, [], ◌∷◌, ◌++◌, length, get_or, Option, Some, None, refl, sym, ap, subst, ◌∙◌, append_assoc, arith}
 use Rattle.std.specs.Prelude.{is_none, ◌==◌, ◌&&◌}
 use Rattle.std.specs.Option.{unwrap_or}
@@ -38,18 +38,18 @@ use Rattle.mig_stream.proofs.FoundRest.{RestAt, RestAtPassed, RestFrom}
 use Rattle.mig_stream.proofs.FoundHeads.{head_back}
 use Rattle.mig_stream.proofs.FoundTypes.{type_back}
 
--- behind the length of a configuration's name stands the name, or nothing of it
+-- after the length of a configuration's name stands the name, or no byte of it
 configuration_behind : (to c : StreamProgress) (len : ℕ) (bytes : List ℕ) (b : Bool) → eqb len 0 ≡ b → RestFrom to (record c { due = cond b (TypeByte before.Configuration) (ConfigName len) }) bytes
     → c.left ≡ None → opening.RestOfConfigName to (record c { due = ConfigName len }) len bytes
 configuration_behind to c len bytes true test r none = opening.no_name_back to (record c { due = ConfigName len }) len bytes (eqb-true len 0 test) (r none)
 configuration_behind to c len bytes false test r none = r none
 
--- behind START's head, in START
+-- after START's head, in START
 in_start : (to c : StreamProgress) (id : ℕ) (bytes : List ℕ) → c.section ≡ section.Start → RestOfList (Behind to) (record c { due = RecordHead; section_id = id }) bytes
     → RestOfList (Behind to) (record c { due = RecordHead; section = section.Start; section_id = id }) bytes
 in_start to c id bytes is r = subst (λ (x : Section). RestOfList (Behind to) (record c { due = RecordHead; section = x; section_id = id }) bytes) is r
 
--- behind an entry stand other entries, or the records
+-- after an entry stand other entries, or the records
 entry_behind : (to c : StreamProgress) (item bytes : List ℕ) (b : Bool) → length item ≡ 9 + get_or item 0 0 → IsBytes item → IsEntry c item → eqb (left_after c item) 0 ≡ b
     → RestFrom to (record c { due = cond b RecordHead ListEntry; left = Some (left_after c item); blocks = c.blocks ++ block_in c.page_size item ∷ [] }) bytes
     → RestOfEntries (Behind to) c (item ++ bytes)
@@ -68,25 +68,25 @@ id_back : (Behind : StreamProgress → List ℕ → Type 0) (c : StreamProgress)
 id_back Behind c f page item bytes None len is in_range r = absurd cc
 id_back Behind c f page item bytes (Some b) len is in_range r = name_back Behind c f page item bytes len b is in_range r
 
--- behind the footer of END stands the ending
+-- after the footer of END stands the ending
 ending_behind : (to c : StreamProgress) (bytes : List ℕ) (machine : Bool) → is_machine c.frame ≡ machine → (machine ≡ true → HasNoTail c.mode c.records) → RestAt to c (cond machine Nothing (TypeByte before.LastFooter)) bytes → RestOfEnd to c bytes
 ending_behind to c bytes true is whole r = record { has_bytes = r.0 ∙ sym (ap ending is); no_tail = whole refl; has_rounds = r.1; has_table = r.2 }
 ending_behind to c bytes false is whole r = r is
 
--- behind a footer
+-- after a footer
 footer_behind : (to c : StreamProgress) (s : Section) (bytes : List ℕ) → c.left ≡ Some 0 → (closes c.frame s ≡ true → HasNoTail c.mode c.records) → RestAt to c (behind_footer c.frame s) bytes → RestBehind to s c bytes
 footer_behind to c section.Start bytes used whole r = r used
 footer_behind to c section.Part bytes used whole r = r used
 footer_behind to c section.End bytes used whole r = ending_behind to c bytes (is_machine c.frame) refl whole r
 
--- a footer that closes the text was tested so
+-- a footer that closes the stream was tested so
 closed_whole : (c : StreamProgress) (closing : Bool) → has_tail closing c ≡ false → closing ≡ true → HasNoTail c.mode (open_records c.mode c.records)
 closed_whole c true free e = no_tail_closed c.mode c.records free
 closed_whole c false free e = absurd cc
 
 -- ---- items that are passed over
 
--- behind the count of capabilities stand their names
+-- after the count of capabilities stand their names
 names_behind : (to c : StreamProgress) (n : ℕ) (bytes : List ℕ) (b : Bool) → eqb n 0 ≡ b → RestAt to (record c { due = cond b (TypeByte before.Configuration) (Passed (pass.Capability (n - 1))) }) (cond b (TypeByte before.Configuration) (Passed (pass.Capability (n - 1)))) bytes
     → c.left ≡ None → opening.RestOfNames to c n bytes
 names_behind to c n bytes true test r none = record { names = []; has_length = sym (eqb-true n 0 test); tail = bytes; has_bytes = refl; are_capabilities = tt; rest = opening.configured_at to c (TypeByte before.Configuration) bytes (r none) }
@@ -161,7 +161,7 @@ passed_back to c (pass.Capability others) item bytes len all free r =
       rest = q.rest;
     }
 
--- The item of each kind in front of what is left behind it.
+-- The item of each kind in front of what is left after it.
 pub item_back : (to c : StreamProgress) (d : Due) (item bytes : List ℕ) → c.due ≡ d → IsItem c.page_size d item → IsBytes item → first_of (faults c d item) ≡ None
     → RestFrom to (after_item c d item) bytes → RestAt to c d (item ++ bytes)
 item_back to c FileHeader item bytes due is all free r = λ none. opening.header_back to c item bytes is.is_whole all free (r none)

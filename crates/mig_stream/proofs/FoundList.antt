@@ -1,4 +1,5 @@
--- What is left of START from its size list on, where its head and its entries were read without a fault.
+-- What is left of START from its size list on, where its head and its entries were read without a
+-- fault.
 use Rattle.std.proofs.Common.{◌≡◌, ℕ, zero, suc, ◌+◌, ◌-◌, ◌*◌, ◌/◌, ◌%◌, ◌<◌, ◌≤◌, false, not, eqb, ltb, leb, List, [], ◌∷◌, ◌++◌, length, get_or, Option, Some, None, refl, sym, ap, subst, ◌∙◌, append_assoc, arith}
 use Rattle.std.specs.Prelude.{◌||◌, IsTrue, is_some}
 use Rattle.std.specs.Option.{unwrap_or}
@@ -95,7 +96,7 @@ entry_is c item free =
 abbrev pub block_in : ℕ → List ℕ → Block
 block_in p item = record { id = id_in item; pages = length_in item / p }
 
--- the bytes that the total leaves behind an entry
+-- the bytes that the total leaves after an entry
 abbrev pub left_after : StreamProgress → List ℕ → ℕ
 left_after c item = unwrap_or c.left 0 - length_in item
 

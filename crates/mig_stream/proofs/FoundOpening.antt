@@ -1,4 +1,5 @@
--- What is left of a stream from the file header, the configuration or START on, where its items were read without a fault.
+-- What is left of a stream from the file header, the configuration or START on, where its items
+-- were read without a fault.
 use Rattle.std.proofs.Common.{◌≡◌, ℕ, ◌+◌, ◌^◌, ◌<◌, ◌≤◌, true, false, not, eqb, ltb, List, [], ◌∷◌, ◌++◌, length, get_or, Option, Some, None, refl, sym, ap, ◌∙◌, append_assoc, arith}
 use Rattle.std.specs.Prelude.{IfSome, slice_range}
 use Rattle.std.specs.Int.{w32, to_be_bytes}
@@ -24,7 +25,8 @@ use Rattle.mig_stream.proofs.FoundParts.{be32_small, header_found, start_found}
 use Rattle.mig_stream.proofs.FoundList.{RestOfList}
 use Rattle.mig_stream.proofs.FoundTail.{Behind}
 
--- START's head is left, and then its size list. Its type byte may have been read: `front` is what was read of it.
+-- START's head is left, and then its size list. Its type byte may have been read: `front` is what
+-- was read of it.
 pub record RestOfStart (front : List ℕ) (to c : StreamProgress) (bytes : List ℕ) : Type 0 where
   pub id : ℕ
   pub tail : List ℕ
@@ -75,7 +77,7 @@ pub record RestOfOpening (to c : StreamProgress) (bytes : List ℕ) : Type 0 whe
   pub in_frame : is_machine c.frame ≡ false → IfSome machine (λ x. x.subsections ≡ [])
   pub rest : RestOfCommands to c tail
 
--- The whole text is left.
+-- The complete stream is left.
 pub record RestOfFile (to c : StreamProgress) (bytes : List ℕ) : Type 0 where
   pub tail : List ℕ
   pub has_bytes : bytes ≡ file_header ++ tail
@@ -148,7 +150,7 @@ pub record RestOfBodyOf (to c : StreamProgress) (kind : Subsection) (bytes : Lis
   pub is_body : IsSubsectionBody c.page_size held
   pub rest : RestOfConfigured to c tail
 
--- a subsection behind its type byte
+-- a subsection after its type byte
 pub record RestOfSubsection (to c : StreamProgress) (bytes : List ℕ) : Type 0 where
   pub held : SubsectionBody
   pub tail : List ℕ

@@ -1,4 +1,5 @@
--- What is left of a section from a page record on, where its items were read without a fault: ids, contents and heads.
+-- What is left of a section from a page record on, where its items were read without a fault: ids,
+-- contents and heads.
 use Rattle.std.proofs.Common.{◌≡◌, ◌⊎◌, ℕ, ◌+◌, ◌*◌, ◌<◌, true, false, not, eqb, ltb, List, [], ◌∷◌, ◌++◌, length, get_or, Option, Some, None, refl, sym, ap, ◌∙◌, append_assoc, inl, inr, arith}
 use Rattle.std.specs.Prelude.{IfSome}
 use Rattle.std.specs.List.{flat_map}
@@ -21,7 +22,7 @@ use Rattle.mig_stream.specs.Text.{content_bytes, Record, PageOf, record_bytes, F
 use Rattle.mig_stream.proofs.After.{after_body}
 use Rattle.mig_stream.proofs.FoundFields.{passed, counted_found, named_found}
 
--- Records, EOS and footer are left, and what stands behind the footer is what `Behind` says.
+-- Records, EOS and footer are left, and what stands after the footer is what `Behind` says.
 pub record RestOfBody (Behind : StreamProgress → List ℕ → Type 0) (c : StreamProgress) (bytes : List ℕ) : Type 0 where
   pub records : List Record
   pub more : List ℕ

@@ -1,4 +1,5 @@
--- The parts of an item at their places: numbers, ids, and whole footers, entries of the size list and heads of START.
+-- The parts of an item at their places: numbers, ids, and whole footers, entries of the size list
+-- and heads of START.
 use Rattle.std.proofs.Common.{◌≡◌, ℕ, ◌+◌, ◌-◌, ◌^◌, ◌<◌, ◌≤◌, List, ◌∷◌, ◌++◌, length, get_or, drop, refl, sym, ap, ◌∙◌, inl, inr, arith}
 use Rattle.std.specs.Prelude.{slice_range}
 use Rattle.std.specs.Int.{w32, w64, to_be_bytes, from_be_bytes}
@@ -61,7 +62,7 @@ be32_last item at end all = be32_next item at (omega arith) all ∙ ap (λ (x : 
 be64_last : (item : List ℕ) (at : ℕ) → at + 8 ≡ length item → IsBytes item → drop at item ≡ be64 (be64_at at item)
 be64_last item at end all = be64_next item at (omega arith) all ∙ ap (λ (x : List ℕ). be64 (be64_at at item) ++ x) (drop_all (at + 8) item (omega arith)) ∙ append-nil (be64 (be64_at at item))
 
--- ---- whole items
+-- ---- complete items
 
 -- two numbers
 pub header_found : (item : List ℕ) → length item ≡ 8 → IsBytes item → item ≡ be32 (be32_at 0 item) ++ be32 (be32_at 4 item)
@@ -93,7 +94,7 @@ head_named item len all =
     let long : n ≡ length (id_in item) = sym (length_slice item 1 n (omega arith)) in
     first ∙ ap (λ (x : List ℕ). n ∷ x) (id ∙ ap (λ (x : List ℕ). id_in item ++ x) number) ∙ ap (λ (x : ℕ). x ∷ (id_in item ++ be32 (be32_at (1 + n) item))) long
 
--- START's head behind its type byte
+-- START's head after its type byte
 pub start_found : (item : List ℕ) (n : ℕ) → get_or item 4 0 ≡ n → length item ≡ 13 + n → IsBytes item → slice_range item 5 (5 + n) ≡ ram_name → be32_at (5 + n) item ≡ ram_instance
     → be32_at (9 + n) item ≡ ram_version → item ≡ be32 (be32_at 0 item) ++ counted ram_name ++ be32 ram_instance ++ be32 ram_version
 start_found item n is len all name instance version =

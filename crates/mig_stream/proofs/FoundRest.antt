@@ -25,7 +25,7 @@ RestAtType to c before.Command bytes = c.left ≡ None → RestOfCommands to c b
 RestAtType to c before.Footer bytes = c.left ≡ Some 0 → RestOfParts to c bytes
 RestAtType to c before.LastFooter bytes = is_machine c.frame ≡ false → RestOfEnd to c bytes
 
--- A COMMAND is left, and what stands behind it.
+-- A COMMAND is left, and what stands after it.
 pub record RestOfCommand (to c : StreamProgress) (b : Before) (bytes : List ℕ) : Type 0 where
   pub command_is : Command
   pub tail : List ℕ
@@ -33,7 +33,7 @@ pub record RestOfCommand (to c : StreamProgress) (b : Before) (bytes : List ℕ)
   pub is_command : IsCommand command_is
   pub rest : RestAtType to (record c { due = TypeByte b }) b tail
 
--- an item that is passed over, and what stands behind it
+-- an item that is passed over, and what stands after it
 abbrev pub RestAtPassed : StreamProgress → StreamProgress → PassedItem → List ℕ → Type 0
 RestAtPassed to c (pass.Command b) bytes = RestOfCommand to c b bytes
 RestAtPassed to c pass.SubsectionHead bytes = c.left ≡ None → RestOfSubsection to c bytes

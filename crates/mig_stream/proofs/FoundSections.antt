@@ -1,4 +1,5 @@
--- What is left of a section from an EOS, a FLUSH, a footer or a section head on, where its items were read without a fault.
+-- What is left of a section from an EOS, a FLUSH, a footer or a section head on, where its items
+-- were read without a fault.
 use Rattle.std.proofs.Common.{◌≡◌, ℕ, ◌+◌, ◌*◌, false, not, eqb, List, [], ◌∷◌, ◌++◌, length, get_or, None, sym, ap, ◌∙◌, inl, inr, arith}
 use Rattle.std.specs.Prelude.{◌&&◌}
 use Rattle.std.specs.Int.{w32, w64, to_be_bytes}
@@ -16,13 +17,13 @@ use Rattle.mig_stream.proofs.FoundFields.{IsBytes, passed, be32_found}
 use Rattle.mig_stream.proofs.FoundParts.{footer_found}
 use Rattle.mig_stream.proofs.FoundPages.{RestOfBody}
 
--- A footer is left, and what stands behind it is what `Behind` says.
+-- A footer is left, and what stands after it is what `Behind` says.
 pub record RestOfFooter (Behind : StreamProgress → List ℕ → Type 0) (c : StreamProgress) (bytes : List ℕ) : Type 0 where
   pub more : List ℕ
   pub has_bytes : bytes ≡ footer c.section_id ++ more
   pub others : Behind (end_section c) more
 
--- The head of a PART or END behind its type byte is left, and then its records.
+-- The head of a PART or END after its type byte is left, and then its records.
 pub record RestOfSection (Behind : StreamProgress → List ℕ → Type 0) (c : StreamProgress) (bytes : List ℕ) : Type 0 where
   pub tail : List ℕ
   pub has_bytes : bytes ≡ be32 c.section_id ++ tail
@@ -32,7 +33,7 @@ pub record RestOfSection (Behind : StreamProgress → List ℕ → Type 0) (c : 
 pub at_head : (Behind : StreamProgress → List ℕ → Type 0) (c : StreamProgress) (bytes : List ℕ) → RestOfBody Behind (record c { due = RecordHead }) bytes → RestOfBody Behind c bytes
 at_head Behind c bytes r = record { records = r.records; more = r.more; has_bytes = r.has_bytes; follow = r.follow; flushes = r.flushes; others = r.others }
 
--- a footer, in front of what stands behind it
+-- a footer, in front of what stands after it
 pub footer_back : (Behind : StreamProgress → List ℕ → Type 0) (c : StreamProgress) (item bytes : List ℕ) → length item ≡ 5 → IsBytes item → first_of (faults c Footer item) ≡ None
     → Behind (end_section c) bytes → RestOfFooter Behind c (item ++ bytes)
 footer_back Behind c item bytes len all free r =
@@ -69,7 +70,7 @@ end_back Behind c item bytes e r = record {
   others = r.others;
 }
 
--- a FLUSH, in front of the records behind it
+-- a FLUSH, in front of the records after it
 pub flush_back : (Behind : StreamProgress → List ℕ → Type 0) (c : StreamProgress) (item bytes : List ℕ) → item ≡ be64 (flags_of Flush) → is_single c.mode ≡ false
     → RestOfBody Behind (end_round c) bytes → RestOfBody Behind c (item ++ bytes)
 flush_back Behind c item bytes e main r = record {

@@ -1,4 +1,4 @@
--- What is left of a stream behind a footer: PARTs, END and the end byte.
+-- What is left of a stream after a footer: PARTs, END and the end byte.
 use Rattle.std.proofs.Common.{◌≡◌, ◌⊎◌, ℕ, Bool, true, false, not, eqb, List, [], ◌∷◌, ◌++◌, length, Option, Some, refl, sym, ap, subst, ◌∙◌, append_assoc, inl, inr, arith}
 use Rattle.std.specs.Prelude.{◌&&◌, ⊤}
 use Rattle.std.specs.List.{flat_map, AllByRecursion}
@@ -20,7 +20,7 @@ use Rattle.mig_stream.specs.Text.{named_after, Record, PageOf, FlushMark, Follow
 use Rattle.mig_stream.proofs.After.{records_behind, rounds_behind, FlushesFit, HasNoTail}
 use Rattle.mig_stream.proofs.FoundSections.{RestOfSection}
 
--- what ends a text: the end byte, and of a machine's stream nothing
+-- what ends a stream: the end byte, and of a machine's stream nothing
 abbrev pub ending : Bool → List ℕ
 ending true = []
 ending false = end_byte ∷ []
@@ -51,13 +51,13 @@ pub record RestOfParts (to c : StreamProgress) (bytes : List ℕ) : Type 0 where
   pub has_rounds : to.rounds ≡ rounds_behind c.mode c.records c.rounds (parts_of others ++ last ∷ [])
   pub has_table : whole_table to ≡ whole_table c
 
--- what is left behind the footer of a section
+-- what is left after the footer of a section
 abbrev pub RestBehind : StreamProgress → Section → StreamProgress → List ℕ → Type 0
 RestBehind to Start c bytes = RestOfParts to c bytes
 RestBehind to Part c bytes = RestOfParts to c bytes
 RestBehind to End c bytes = RestOfEnd to c bytes
 
--- what is left behind the footer of the section that is being read
+-- what is left after the footer of the section that is being read
 abbrev pub Behind : StreamProgress → StreamProgress → List ℕ → Type 0
 Behind to c bytes = RestBehind to c.section c bytes
 
@@ -75,13 +75,13 @@ FlushesFit-cons mode records sections (inl main) others = inl main
 FlushesFit-cons mode records sections (inr none) (inl main) = inl main
 FlushesFit-cons mode records sections (inr none) (inr others) = inr (none, others)
 
--- ---- a PART or END, in front of what is left behind it
+-- ---- a PART or END, in front of what is left after it
 
 -- a PART and what follows it, put together otherwise
 regroup_part : (head items others end : List ℕ) (kind : ℕ) → kind ∷ (head ++ (items ++ (others ++ end))) ≡ ((kind ∷ (head ++ items)) ++ others) ++ end
 regroup_part head items others end kind = simp append_assoc
 
--- a PART in front of the PARTs and END behind it
+-- a PART in front of the PARTs and END after it
 pub part_back : (to c : StreamProgress) (bytes : List ℕ) → RestOfSection (Behind to) (record c { due = SectionHead; section = Part }) bytes → RestOfParts to c (section_type Part ∷ bytes)
 part_back to c bytes r =
     let s = r.rest in
@@ -130,7 +130,7 @@ last_back to c bytes r =
       has_table = q.has_table;
     }
 
--- what is left behind a footer doesn't depend on the item that is due
+-- what is left after a footer doesn't depend on the item that is due
 pub parts_at : (to c : StreamProgress) (d : Due) (bytes : List ℕ) → RestOfParts to (record c { due = d }) bytes → RestOfParts to c bytes
 parts_at to c d bytes r = record {
   others = r.others;
@@ -145,7 +145,7 @@ parts_at to c d bytes r = record {
   has_table = r.has_table;
 }
 
--- a COMMAND in front of the PARTs and END behind it
+-- a COMMAND in front of the PARTs and END after it
 pub command_back : (to c : StreamProgress) (x : Command) (tail bytes : List ℕ) → is_machine c.frame ≡ true → IsCommand x → bytes ≡ command_bytes x ++ tail → RestOfParts to c tail → RestOfParts to c (command_type ∷ bytes)
 command_back to c x tail bytes machine is e q = record {
   others = CommandOf x ∷ q.others;

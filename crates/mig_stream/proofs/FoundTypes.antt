@@ -1,4 +1,4 @@
--- A type byte without a fault goes in front of what is left behind it.
+-- A type byte without a fault goes in front of what is left after it.
 use Rattle.std.proofs.Common.{◌≡◌, ℕ, Bool, cond, true, false, not, eqb, List, [], ◌∷◌, ◌++◌, length, get_or, None, refl, sym, ap, subst, ◌∙◌, inl, inr, arith}
 use Rattle.std.specs.Prelude.{◌&&◌, ◌||◌}
 use Rattle.std.proofs.lemmas.Bool.{not-false, eqb-true, or_cases, and_parts}
@@ -18,7 +18,7 @@ use Rattle.mig_stream.proofs.FoundOpening.{start_type_back, no_commands_back, co
 use Rattle.mig_stream.proofs.FoundOpening as opening
 use Rattle.mig_stream.proofs.FoundRest.{RestOfCommand, RestAt, RestAtType, RestFrom}
 
--- the rest behind a byte is the rest behind the byte that it is
+-- the rest after a byte is the rest after the byte that it is
 byte_is : (to c : StreamProgress) (byte known : ℕ) (bytes : List ℕ) → byte ≡ known → RestFrom to (after_type c byte) bytes → RestFrom to (after_type c known) bytes
 byte_is to c byte known bytes e r = subst (λ (x : ℕ). RestFrom to (after_type c x) bytes) e r
 
@@ -31,7 +31,7 @@ tail_test : (c : StreamProgress) (byte : ℕ) → byte ≡ end_byte → (eqb byt
     → (true && not (is_single c.mode) && not (eqb (length c.records) 0)) ≡ false
 tail_test c byte e free = ap (λ (x : ℕ). eqb x end_byte && not (is_single c.mode) && not (eqb (length c.records) 0)) (sym e) ∙ free
 
--- a byte that is allowed, in front of what is left behind it
+-- a byte that is allowed, in front of what is left after it
 byte_back : (to c : StreamProgress) (b : Before) (byte : ℕ) (bytes : List ℕ) → is_allowed b byte ≡ true → (eqb byte end_byte && not (is_single c.mode) && not (eqb (length c.records) 0)) ≡ false
     → RestFrom to (after_type c byte) bytes → RestAtType to c b (byte ∷ bytes)
 byte_back to c before.FileHeader byte bytes ok free r =
@@ -92,7 +92,7 @@ command_type_back to c before.Footer bytes may machine r =
     λ used. command_back to c r.command_is r.tail bytes machine r.is_command r.has_bytes (parts_at to c (TypeByte before.Footer) r.tail (r.rest used))
 command_type_back to c before.LastFooter bytes may machine r = absurd cc
 
--- a subsection's stands behind the configuration alone
+-- a subsection's stands after the configuration alone
 passed_back : (to c : StreamProgress) (b : Before) (byte : ℕ) (bytes : List ℕ) (is_command : Bool) → eqb byte command_type ≡ is_command → may_pass b byte ≡ true → is_machine c.frame ≡ true
     → RestFrom to (record c { due = Passed (cond is_command (pass.Command (behind_command b)) pass.SubsectionHead) }) bytes → RestAtType to c b (byte ∷ bytes)
 passed_back to c b byte bytes true test may machine r =
@@ -123,7 +123,7 @@ either_back to c b byte bytes false own ok free r = byte_back to c b byte bytes 
     allowed_alone true ok = refl
     allowed_alone false ok = ok
 
--- A type byte in front of what is left behind it.
+-- A type byte in front of what is left after it.
 pub type_back : (to c : StreamProgress) (b : Before) (item bytes : List ℕ) → length item ≡ 1 → first_of (faults c (TypeByte b) item) ≡ None
     → RestFrom to (after_type_byte c b (get_or item 0 0)) bytes → RestAt to c (TypeByte b) (item ++ bytes)
 type_back to c b [] bytes len free r = absurd cc

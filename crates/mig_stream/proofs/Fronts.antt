@@ -35,7 +35,7 @@ passed-append (SubsectionBody Uuid) item more w = sym w
 passed-append (SubsectionBody Capabilities) item more w = sym w
 passed-append (Capability others) item more w = ap (λ (n : ℕ). 1 + n) (get_or_append_left item more 0 0 (omega arith)) ∙ sym w
 
--- the length of an item is told by the bytes that it has itself
+-- the length of an item follows from the bytes that it has itself
 pub size-take : (p : ℕ) (d : Due) (bytes : List ℕ) → size p d bytes ≤ length bytes → size p d (take (size p d bytes) bytes) ≡ size p d bytes
 size-take p FileHeader bytes le = refl
 size-take p (TypeByte b) bytes le = refl
@@ -58,7 +58,7 @@ item_at p d rest open_ le = record {
   is_whole = omega (arith, length-take (size p d rest) rest, size-take p d rest le);
 }
 
--- a whole item tells its length, whatever follows it
+-- a complete item says its length, whatever follows it
 pub size-append : (p : ℕ) (d : Due) (item more : List ℕ) → length item ≡ size p d item → size p d (item ++ more) ≡ length item
 size-append p FileHeader item more w = sym w
 size-append p (TypeByte b) item more w = sym w

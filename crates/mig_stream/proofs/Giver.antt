@@ -1,4 +1,4 @@
--- Records that were given, and those that are read behind them.
+-- Records that were given, and those that are read after them.
 use Rattle.std.proofs.Common.{◌≡◌, ℕ, cond, ◌+◌, ◌-◌, ◌*◌, ◌^◌, ◌<◌, Bool, true, false, not, ◌&&◌, ◌||◌, ◌==◌, All, List, [], ◌∷◌, ◌++◌, length, get_or, Option, Some, None, refl, sym, ap, subst, ◌∙◌, append_assoc, arith, ◌≤◌, inl}
 use Rattle.std.specs.Prelude.{IfSome, slice_index, IfNone, min}
 use Rattle.std.proofs.Math.Nat.{min-eq_left}
@@ -295,13 +295,13 @@ gives_more given text so_far old new records are none is rest found fed g =
     gives_same given text so_far (with_more records so_far) old new
     (all_more so_far old.progress new.progress none is ∙ ap (λ (x : List PageRecord). all_read (with_more x so_far) new.progress) (sym are)) rest found fed g
 
--- ---- what the text is read as
+-- ---- what the stream is read as
 
 -- what a reader was made with reads from there
 abbrev from : Settings → StreamProgress
 from given = start given.frame given.mode given.page_size given.limit given.waiting
 
--- The reading of the whole text goes on from here.
+-- The reading of the complete stream goes on from here.
 record GoesTo (given : Settings) (text : List ℕ) (c : StreamProgress) : Type 0 where
   to : StreamProgress
   rest : List ℕ
@@ -344,7 +344,7 @@ whole_stays c to more table f whole =
     ∙ ap (λ (l : Option ℕ). then_some (is_used_up l) (table_of c)) same.0
     ∙ whole
 
--- The table that a reader tells is that of the whole text.
+-- The table that a reader returns is that of the complete stream.
 table_told : (given : Settings) (text : List ℕ) (so_far : GivenSoFar) (r : Giver) (table : RamTable) → whole_table r.progress ≡ Some table → Gives given text so_far r → HasTable given text (Some table)
 table_told given text so_far r table whole g =
     let on = goes_to given text so_far r g in
@@ -363,7 +363,7 @@ table_each r o (Some table) same is = λ given text so_far g. table_told given t
 abbrev AreIn : RamTable → List PageRecord → Type 0
 AreIn table records = All (λ x. IsPlace table x.place) records
 
--- The text's table has the place of each record that was read so far.
+-- The stream's table has the place of each record that was read so far.
 all_places : (given : Settings) (text : List ℕ) (so_far : GivenSoFar) (r : Giver) (table : RamTable) → Gives given text so_far r → HasTable given text (Some table)
     → All (AreIn table) (all_read so_far r.progress).rounds × AreIn table (all_read so_far r.progress).records
 all_places given text so_far r table g f =
@@ -376,7 +376,7 @@ all_places given text so_far r table g f =
     let later = IsLater-front c on.to on.more on.leads in
     placed_so_far given.frame given.mode given.page_size given.limit given.waiting g.front c later.more_blocks table g.leads (ap (λ (t : RamTable). t.blocks) (sym there.1) ∙ later.has_blocks)
 
--- those of the records behind others
+-- those of the records after others
 last_in : (table : RamTable) (before records : List PageRecord) → AreIn table (before ++ records) → AreIn table records
 last_in table before records all k d lt =
     let there : IsPlace table (get_or (before ++ records) (length before + k) d).place = all (length before + k) d (omega (arith, lt, length-append before records)) in
@@ -459,7 +459,7 @@ fed_more text piece both before now sum few was is =
     let here : before ≡ text = was (omega (arith, sum, few)) in
     is ∙ min-eq_left (omega (arith, here, sum, few)) ∙ omega (arith, here, sum)
 
--- a piece more of the text
+-- a piece more of the stream
 pub resumed : (given : Settings) (text piece : List ℕ) (so_far : GivenSoFar) (p : Paused) (r : Giver) → r.progress ≡ p.progress → r.rest ≡ p.pending ++ piece → r.found ≡ None
     → r.fed ≡ min (p.fed + length piece) (2 ^ 64 - 1) → PausesAt given text so_far p → Gives given (text ++ piece) so_far r
 resumed given text piece so_far p r progress rest found fed at = record {
@@ -497,7 +497,7 @@ none_before_table given text so_far r g none =
     ap (λ (x : List (List PageRecord)). records_behind so_far.open_section x r.progress.records) (sym rounds) ∙ both.1 in
     (sections.0, (none_left so_far.open_section r.progress.records records).0)
 
--- No more sections were given than the text has bytes.
+-- No more sections were given than the stream has bytes.
 pub few_sections : (given : Settings) (text : List ℕ) (so_far : GivenSoFar) (r : Giver) → Gives given text so_far r → length so_far.sections ≤ length text
 few_sections given text so_far r g =
     omega (

@@ -132,7 +132,7 @@ kept_more old new x keeps = (
   ],
 )
 
--- some bytes of a list that has others behind them
+-- some bytes of a list that has others after them
 bytes_front : (xs ys : List ℕ) (start end : ℕ) → start ≤ end → end ≤ length xs → take (end - start) (drop start (xs ++ ys)) ≡ take (end - start) (drop start xs)
 bytes_front xs ys start end order fits =
     ap (take (end - start)) (drop-append-le start xs ys (omega (arith, order, fits)))

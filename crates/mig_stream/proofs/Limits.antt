@@ -84,7 +84,8 @@ few_all c (item ∷ items) free =
 
 -- ---- no round and no record before the table
 
--- Before the size list neither a footer is due nor a part of a page record, and in it each item is an entry.
+-- Before the size list neither a footer is due nor a part of a page record, and in it each item is
+-- an entry.
 abbrev IsNoFooter : Due → Type 0
 IsNoFooter Footer = ⊥
 IsNoFooter (BlockName filling page) = ⊥
@@ -142,7 +143,7 @@ passed_no_footer (SubsectionBody Uuid) item = tt
 passed_no_footer (SubsectionBody Capabilities) item = capabilities_no_footer (be32_at 0 item)
 passed_no_footer (Capability others) item = capabilities_no_footer others
 
--- behind the size list's head no record head is due before the list is used up
+-- after the size list's head no record head is due before the list is used up
 no_head : (left : Option ℕ) → is_none left ≡ false → MayBeDue left RecordHead → ⊥
 no_head None some h = absurd cc
 no_head (Some n) some h = h
@@ -239,7 +240,7 @@ none_first frame mode page_size limit waiting bytes c f none =
     let both = waits (no_table (is_used_up c.left) (table_of c) none) in
     (both.0, both.1)
 
--- A text has few rounds, none before its table, and the page size that was handed in.
+-- A stream has few rounds, none before its table, and the page size that was passed.
 pub limits_law : ReadingsKeepLimits
 limits_law = λ given text reading size_is is.
     let from : StreamProgress = start given.frame given.mode given.page_size given.limit given.waiting in

@@ -1,4 +1,4 @@
--- What is read of a text stays read where more bytes follow.
+-- What is read of a stream stays read where more bytes follow.
 use Rattle.std.proofs.Common.{◌≡◌, ◌≢◌, ◌⊎◌, ℕ, ◌<◌, ◌++◌, List, [], Bool, true, false, Option, Some, refl, sym, ap, subst, ◌∙◌, inl, inr}
 use Rattle.std.specs.Bool.{then_some}
 use Rattle.std.proofs.lemmas.List.{append-nil}
@@ -22,7 +22,7 @@ use Rattle.mig_stream.proofs.Unique.{one_reading}
 abbrev from : Settings → StreamProgress
 from given = start given.frame given.mode given.page_size given.limit given.waiting
 
--- the same, without its whole rounds
+-- how far a stream was read, without its complete rounds
 abbrev roundless : StreamProgress → StreamProgress
 roundless c = record c { rounds = [] }
 
@@ -63,7 +63,7 @@ stays_over a b e = record {
   same_once_over = λ _. e;
 }
 
--- a text that isn't over is read on
+-- a stream that hasn't ended is read on
 stays_on : (given : Settings) (text more : List ℕ) (a b : StreamReading) → IsPageSize given.page_size → a.state ≡ Reading → IsReading given text a → IsReading given (text ++ more) b → StaysRead a b
 stays_on given text more a b size open_ is_a is_b =
     let c : StreamProgress = is_a.to in

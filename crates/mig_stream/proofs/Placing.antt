@@ -86,7 +86,7 @@ placed_type c b v =
 placed_type_byte : (c : StreamProgress) (before : Before) (b : ℕ) → Placed c → Placed (after_type_byte c before b)
 placed_type_byte c before b v = cond_both (is_passed c.frame before b) _ _ Placed (λ _. record { due = tt; records = v.records; rounds = v.rounds }) (λ _. placed_type c b v)
 
--- no page is due behind what is passed over, or behind a footer
+-- no page is due after what is passed over, or after a footer
 capabilities_in : (blocks : List Block) (others : ℕ) → DueIn blocks (capabilities_due others)
 capabilities_in blocks others = cond_both (eqb others 0) _ _ (DueIn blocks) (λ _. tt) (λ _. tt)
 
@@ -158,7 +158,8 @@ placed_all : (c : StreamProgress) (items : List (List ℕ)) → Placed c → Are
 placed_all c [] v free = v
 placed_all c (item ∷ items) v free = placed_all (after c item) items (placed_item c c.due item v v.due free.1) free.2
 
--- Each page record that was read has its page in the blocks that were read by then, and in those behind them.
+-- Each page record that was read has its page in the blocks that were read by then, and in those
+-- after them.
 pub placed_so_far : (frame : Frame) (m : Mode) (p limit : ℕ) (waiting : Option ℕ) (bytes : List ℕ) (to : StreamProgress) (more : List Block) (table : RamTable) → Front (start frame m p limit waiting) bytes to → table.blocks ≡ to.blocks ++ more
     → All (λ rs. All (λ r. IsPlace table r.place) rs) to.rounds × All (λ r. IsPlace table r.place) to.records
 placed_so_far frame m p limit waiting bytes to more table f same =

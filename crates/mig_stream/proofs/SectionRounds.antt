@@ -1,4 +1,5 @@
--- The rounds that the records of sections make, as a text says it and as they are read one after the other.
+-- The rounds that the records of sections make, as a stream says it and as they are read one after
+-- the other.
 use Rattle.std.proofs.Common.{◌≡◌, Bool, List, [], ◌∷◌, ◌++◌, map, flat_map, refl, sym, ap, ◌∙◌, inl, inr, append_assoc, append-nil}
 use Rattle.std.specs.List.{AllByRecursion}
 use Rattle.std.proofs.lemmas.List.Elements.{All-from_recursion, recursion_from_All}
@@ -84,7 +85,8 @@ rounds_after-flushed rounds (group ∷ groups) none =
 
 -- ---- and back: the rounds of a main stream's records
 
--- records that end in no open round, grouped by their FLUSHes; those in front are the open round's so far
+-- records that end in no open round, grouped by their FLUSHes; those in front are the open round's
+-- so far
 record AreGrouped (front : List Record) (rounds : List (List PageRecord)) (records : List Record) : Type 0 where
   groups : List (List Record)
   none : AllByRecursion HasNoFlush groups
@@ -134,7 +136,7 @@ grouped front rounds (FlushMark ∷ records) none end =
 
 -- ---- both modes
 
--- The rounds that a text says are read behind its sections, and no record is left.
+-- The rounds that a stream says are read after its sections, and no record is left.
 pub rounds_read : (mode : Mode) (sections : List (List Record)) (rounds : List (List PageRecord)) → AreRounds mode sections rounds
     → FlushesFit mode sections × HasNoTail mode (records_behind mode [] sections) × (rounds_behind mode [] [] sections ≡ rounds)
 rounds_read Single sections rounds are =
@@ -149,7 +151,7 @@ rounds_read Main sections rounds are =
       main_rounds [] [] sections ∙ ap (rounds_after [] []) all ∙ rounds_after-flushed [] groups none ∙ sym are.3,
     )
 
--- What is read behind sections is what a text says of them, where no record is left.
+-- What is read after sections is what a stream says of them, where no record is left.
 pub rounds_spelled : (mode : Mode) (sections : List (List Record)) → FlushesFit mode sections → HasNoTail mode (records_behind mode [] sections)
     → AreRounds mode sections (rounds_behind mode [] [] sections)
 rounds_spelled Single sections (inl e) tail = absurd cc

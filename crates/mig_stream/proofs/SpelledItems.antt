@@ -43,7 +43,7 @@ be32_front : (n : ℕ) (more : List ℕ) → n < 2 ^ 32 → be32_at 0 (be32 n ++
 unfolding be32_at
 be32_front n more small = from_be_bytes-to_be_bytes_4 n small
 
--- and in a footer, behind its type
+-- and in a footer, after its type
 be32_footer : (n : ℕ) → n < 2 ^ 32 → be32_at 1 (footer n) ≡ n
 unfolding be32_at
 be32_footer n small = from_be_bytes-to_be_bytes_4 n small
@@ -53,7 +53,7 @@ be64_back : (n : ℕ) → n < 2 ^ 64 → be64_at 0 (be64 n) ≡ n
 unfolding be64_at
 be64_back n small = from_be_bytes-to_be_bytes_8 n small
 
--- a number behind other bytes
+-- a number after other bytes
 pub be64_behind : (front : List ℕ) (at n : ℕ) → length front ≡ at → n < 2 ^ 64 → be64_at at (front ++ be64 n) ≡ n
 unfolding be64_at
 be64_behind front at n len small =
@@ -61,7 +61,7 @@ be64_behind front at n len small =
 
 -- ---- record heads
 
--- the flags of a kind tell it
+-- the flags of a kind name it
 kind_of_flags : (kind : RecordKind) → record_kind (flags_of kind) ≡ Some kind
 kind_of_flags SizeList = refl
 kind_of_flags (Named Zero) = refl
@@ -195,7 +195,7 @@ configuration_front c None small = Front-none (record c { due = TypeByte before.
 configuration_front c (Some name) small =
     Front-append _ _ _ _ _ (type_front c before.FileHeader configuration_type refl refl refl) (Front-append _ _ _ _ _ (length_front c (length name) small) (name_front c name))
 
--- START's head behind its type byte
+-- START's head after its type byte
 abbrev head_bytes : ℕ → List ℕ
 head_bytes id = be32 id ++ counted ram_name ++ be32 ram_instance ++ be32 ram_version
 
@@ -204,7 +204,7 @@ start_free : (c : StreamProgress) (id : ℕ) → first_fault (record c { due = S
 unfolding be32_at
 start_free c id = refl
 
--- and it tells START's section id
+-- and it says START's section id
 pub start_front : (c : StreamProgress) (id : ℕ) → id < 2 ^ 32 → Front (record c { due = StartHead }) (head_bytes id) (record c { due = RecordHead; section_id = id })
 start_front c id small =
     let item : List ℕ = head_bytes id in
@@ -213,7 +213,7 @@ start_front c id small =
     let new : after d item ≡ record c { due = RecordHead; section_id = id } = rw value refl in
     subst (λ (x : StreamProgress). Front d item x) new (item_front d item (λ e. absurd cc) refl (start_free c id))
 
--- START's type byte may stand behind a configuration, and where there is none
+-- START's type byte may stand after a configuration, and where there is none
 start_allowed : (name : Option (List ℕ)) → (is_allowed (before_start name) (section_type sections.Start) ≡ true) × (may_pass (before_start name) (section_type sections.Start) ≡ false)
 start_allowed None = (refl, refl)
 start_allowed (Some name) = (refl, refl)

@@ -47,7 +47,7 @@ entry_front c before b left size few named apart some fits small =
     let new : after d item ≡ record c { due = cond (eqb (left - len) 0) RecordHead ListEntry; left = Some (left - len); blocks = before ++ b ∷ [] } = rw (len_is, id_is, pages_are) refl in
     subst (λ (x : StreamProgress). Front d item x) new (item_front d item (λ e. absurd cc) (omega (arith, length-append b.id (be64 len))) free)
 
--- the entry goes on to what is left behind it
+-- the entry goes on to what is left after it
 entry_to : (c : StreamProgress) (before : List Block) (b : Block) (left more : ℕ) (last : Bool) → left - b.pages * c.page_size ≡ more → eqb more 0 ≡ last
     → Front (record c { due = ListEntry; left = Some left; blocks = before }) (entry c.page_size b)
     (record c { due = cond (eqb (left - b.pages * c.page_size) 0) RecordHead ListEntry; left = Some (left - b.pages * c.page_size); blocks = before ++ b ∷ [] })

@@ -1,4 +1,4 @@
--- A whole text of a machine's stream is read as it is spelled.
+-- A machine's complete stream is read as it is spelled.
 use Rattle.std.proofs.Common.{◌≡◌, ◌⊎◌, ℕ, ◌^◌, ◌<◌, Bool, cond, true, false, List, [], ◌∷◌, ◌++◌, length, Option, Some, None, refl, sym, ap, subst, ◌∙◌, append_assoc, inl, inr}
 use Rattle.std.specs.Prelude.{is_none, not, ◌==◌, ◌&&◌, IfSome}
 use Rattle.std.specs.List.{flat_map, AllByRecursion}
@@ -29,7 +29,7 @@ use Rattle.mig_stream.proofs.SpelledPassed.{command_front, behind_commands, comm
 
 -- ---- what stands before START
 
--- behind the configuration, or where there is none
+-- after the configuration, or where there is none
 abbrev before_commands : Option Configuration → Before
 before_commands None = before.FileHeader
 before_commands (Some x) = before.Configuration
@@ -67,15 +67,15 @@ opening_front c o xs id machine is are small =
     let passed : Front (record c { due = TypeByte (before_commands o) }) (flat_map command xs) (record c { due = TypeByte b }) = commands_front c (before_commands o) xs machine (may_command o) are in
     Front-append _ _ _ _ _ (Front-append _ _ _ _ _ (Front-append _ _ _ _ _ (header_front c) (configured_front c o machine is)) passed) (Front-append _ _ _ _ _ first (start_front d id small))
 
--- ---- what stands behind START's footer
+-- ---- what stands after START's footer
 
--- behind the last records no FLUSH is missing
+-- after the last records no FLUSH is missing
 no_tail_left : (mode : Mode) (records : List PageRecord) → HasNoTail mode (open_records mode records) → (not (is_single mode) && not (length records == 0)) ≡ false
 no_tail_left Single records none = refl
 no_tail_left Main records (inl e) = absurd cc
 no_tail_left Main records (inr e) = ap (λ (x : List PageRecord). not (length x == 0)) e
 
--- END, whose footer closes the text
+-- END, whose footer closes the stream
 end_front_of : (c : StreamProgress) (records : List Record) → is_machine c.frame ≡ true → IsTable (table_of c) → c.section_id < 2 ^ 32 → is_none c.left ≡ false → is_single c.mode ≡ false ⊎ HasNoFlush records
     → Follow (table_of c) c.named records → HasNoTail c.mode (records_behind c.mode c.records (records ∷ []))
     → Front (record (unlimited c) { due = TypeByte before.Footer }) (section (table_of c) sections.End c.section_id records) (at_end (unlimited c) (records ∷ []))
@@ -114,13 +114,13 @@ others_front c (PartOf records ∷ others) last machine may is small begun flush
     let bytes = append_assoc (section (table_of u) sections.Part u.section_id records) (flat_map (part_or_command (table_of u) u.section_id) others) end in
     subst (λ (z : List ℕ). Front (record u { due = TypeByte before.Footer }) z (at_end u ((records ∷ parts_of others) ++ last ∷ []))) (sym bytes) (Front-append _ _ _ _ _ one rest)
 
--- ---- the whole text
+-- ---- the complete stream
 
--- the parts of a text, put together otherwise
+-- the parts of a stream, put together otherwise
 regroup : (a b c d e f g h : List ℕ) → ((((((a ++ b) ++ c) ++ d) ++ e) ++ f) ++ g) ++ h ≡ (((a ++ b) ++ c) ++ d) ++ (e ++ (f ++ (g ++ h)))
 regroup a b c d e f g h = simp append_assoc refl
 
--- Each text of a machine's stream is read closed, whatever follows it.
+-- Each machine's stream is read closed, whatever follows it.
 pub machine_is_read : (mode : Mode) (limit : ℕ) (text rest : List ℕ) (table : RamTable) (rounds : List (List PageRecord)) → IsMachineText mode limit text table rounds
     → IsReading (in_frame Machine (settings mode table.page_size limit)) (text ++ rest) (closed table rounds)
 machine_is_read mode limit text rest table rounds is =

@@ -42,7 +42,7 @@ passed_type_front c b byte machine may other =
     two_free (not (is_allowed b byte || is_passed c.frame b byte)) (has_tail (eqb byte 0) c) fault.SectionType fault.Tail (or_passed (is_allowed b byte) (is_passed c.frame b byte) passed) (ap (λ (x : Bool). has_tail x c) other) in
     subst (λ (x : StreamProgress). Front d (byte ∷ []) x) new (item_front d (byte ∷ []) (λ e. absurd cc) refl free)
 
--- a COMMAND behind its type byte
+-- a COMMAND after its type byte
 command_bytes_front : (c : StreamProgress) (b : Before) (x : Command) → IsCommand x → Front (record c { due = Passed (item.Command b) }) (command_bytes x) (record c { due = TypeByte b })
 command_bytes_front c b x is =
     let whole : length (command_bytes x) ≡ 4 + be16_at 2 (command_bytes x) = omega (arith, is.has_length) in
@@ -55,7 +55,7 @@ pub command_front : (c : StreamProgress) (b : Before) (x : Command) → is_machi
     → Front (record c { due = TypeByte b }) (command x) (record c { due = TypeByte (behind_command b) })
 command_front c b x machine may is = Front-append _ _ _ _ _ (passed_type_front c b command_type machine may refl) (command_bytes_front c (behind_command b) x is)
 
--- where the next type byte stands behind COMMANDs
+-- where the next type byte stands after COMMANDs
 abbrev pub behind_commands : Before → List Command → Before
 behind_commands b [] = b
 behind_commands b (x ∷ xs) = behind_commands (behind_command b) xs
@@ -79,7 +79,7 @@ be32_back : (n : ℕ) → n < 2 ^ 32 → be32_at 0 (be32 n) ≡ n
 unfolding be32_at
 be32_back n small = from_be_bytes-to_be_bytes_4 n small
 
--- the name and version of a subsection tell what it is
+-- the name and version of a subsection say what it is
 name_told : (kind : Subsection) → subsection_of (id_in (subsection_head kind)) ≡ Some kind
 unfolding subsection_name
 name_told kind.PageBits = refl
@@ -135,7 +135,7 @@ held_front c (Capabilities names) is =
     let count : Front d (be32 (length names)) (record c { due = capabilities_due (length names) }) = subst (λ (x : StreamProgress). Front d (be32 (length names)) x) new (item_front d (be32 (length names)) (λ e. absurd cc) refl refl) in
     Front-append _ _ _ _ _ count (names_front c names is.1)
 
--- a subsection, behind the configuration
+-- a subsection, after the configuration
 subsection_front : (c : StreamProgress) (h : SubsectionBody) → is_machine c.frame ≡ true → IsSubsectionBody c.page_size h → Front (record c { due = TypeByte before.Configuration }) (subsection h) (record c { due = TypeByte before.Configuration })
 subsection_front c h machine is =
     Front-append _ _ _ _ _ (passed_type_front c before.Configuration subsection_type machine refl refl) (Front-append _ _ _ _ _ (head_front c (kind_of h)) (held_front c h is))

@@ -1,4 +1,4 @@
--- What is spelled is read as the sections behind START's footer, up to and with the end byte.
+-- What is spelled is read as the sections after START's footer, up to and with the end byte.
 use Rattle.std.proofs.Common.{◌≡◌, ◌⊎◌, ℕ, ◌^◌, ◌<◌, Bool, cond, false, List, [], ◌∷◌, ◌++◌, Option, Some, refl, sym, ap, subst, append_assoc, inl, inr}
 use Rattle.std.specs.Prelude.{is_none}
 use Rattle.std.specs.List.{flat_map}
@@ -35,7 +35,7 @@ Follow-first table named [] ys f = tt
 Follow-first table named (PageOf continued r ∷ xs) ys f = (f.0, Follow-first table (Some r.place.block) xs ys f.1)
 Follow-first table named (FlushMark ∷ xs) ys f = Follow-first table named xs ys f
 
--- and the others, behind them
+-- and the others, after them
 pub Follow-rest : (table : RamTable) (named : Option ℕ) (xs ys : List Record) → Follow table named (xs ++ ys) → Follow table (named_after named xs) ys
 Follow-rest table named [] ys f = f
 Follow-rest table named (PageOf continued r ∷ xs) ys f = Follow-rest table (Some r.place.block) xs ys f.1
@@ -43,12 +43,12 @@ Follow-rest table named (FlushMark ∷ xs) ys f = Follow-rest table named xs ys 
 
 -- ---- sections one after the other
 
--- the block named last behind sections
+-- the block named last after sections
 abbrev pub named_behind : Option ℕ → List (List Record) → Option ℕ
 named_behind named [] = named
 named_behind named (records ∷ others) = named_behind (named_after named records) others
 
--- how far a stream has been read behind its end byte, where these sections were the last ones
+-- how far a stream has been read after its end byte, where these sections were the last ones
 abbrev pub at_end : StreamProgress → List (List Record) → StreamProgress
 at_end c others = record c {
   due = Nothing;

@@ -1,4 +1,4 @@
--- A whole text is read as it is spelled, and so no bytes have two prefixes that are texts.
+-- A complete stream is read as it is spelled, and so no bytes have two prefixes that are streams.
 use Rattle.std.proofs.Common.{◌≡◌, ℕ, List, [], ◌∷◌, ◌++◌, Some, None, refl, sym, ap, subst, ◌∙◌, append_assoc}
 use Rattle.std.specs.List.{flat_map}
 use Rattle.std.proofs.lemmas.List.{append_cancel_right}
@@ -23,7 +23,8 @@ use Rattle.mig_stream.proofs.SpelledRecords.{body_front}
 use Rattle.mig_stream.proofs.SpelledList.{list_front}
 use Rattle.mig_stream.proofs.SpelledSections.{FlushesFit-first, FlushesFit-rest, Follow-first, Follow-rest, at_end, sections_front}
 
--- a front that is a whole text: it leads to the end of the stream, and tells this table and these rounds
+-- a front that is a complete stream: it leads to the end of the stream, and says this table and
+-- these rounds
 pub record IsReadWhole (mode : Mode) (limit : ℕ) (text : List ℕ) (table : RamTable) (rounds : List (List PageRecord)) : Type 0 where
   pub to : StreamProgress
   pub leads : Front (start Ram mode table.page_size limit None) text to
@@ -31,11 +32,11 @@ pub record IsReadWhole (mode : Mode) (limit : ℕ) (text : List ℕ) (table : Ra
   pub has_table : whole_table to ≡ Some table
   pub has_rounds : to.rounds ≡ rounds
 
--- the eight parts of a text, put together otherwise
+-- the eight parts of a stream, put together otherwise
 regroup : (a b c d e f g h : List ℕ) → ((((((a ++ b) ++ c) ++ d) ++ e) ++ f) ++ g) ++ h ≡ ((a ++ b) ++ c) ++ (d ++ (e ++ (f ++ (g ++ h))))
 regroup a b c d e f g h = simp append_assoc refl
 
--- Each text is read whole.
+-- Each stream is read completely.
 pub text_is_read : (mode : Mode) (limit : ℕ) (text : List ℕ) (table : RamTable) (rounds : List (List PageRecord)) → IsText mode limit text table rounds → IsReadWhole mode limit text table rounds
 text_is_read mode limit text table rounds is =
     let others : List (List Record) = is.parts ++ is.last ∷ [] in
@@ -60,7 +61,7 @@ text_is_read mode limit text table rounds is =
       has_rounds = told.2;
     }
 
--- The reading of a text ends with it, whatever follows it.
+-- The reading of a stream ends with it, whatever follows it.
 text_reads : (mode : Mode) (limit : ℕ) (text rest : List ℕ) (table : RamTable) (rounds : List (List PageRecord)) → (is : IsReadWhole mode limit text table rounds)
     → Reads (start Ram mode table.page_size limit None) (text ++ rest) is.to rest Closed
 text_reads mode limit text rest table rounds is = record { front = text; has_text = refl; leads = is.leads; ends = is.is_closed }
@@ -90,7 +91,7 @@ one_whole mode limit a b x y s t p q size f g e =
     let tables : Some s ≡ Some t = sym f.has_table ∙ ap whole_table same.0 ∙ g.has_table in
     (append_cancel_right a b x fronts, cc, sym f.has_rounds ∙ ap (λ (c : StreamProgress). c.rounds) same.0 ∙ g.has_rounds)
 
--- No bytes have two prefixes that are texts.
+-- No bytes have two prefixes that are streams.
 pub one_text_law : HasOneText
 one_text_law = λ mode limit a b x y s t p q size is_a is_b e.
     one_whole mode limit a b x y s t p q size (text_is_read mode limit a s p is_a) (text_is_read mode limit b t q is_b) e

@@ -1,4 +1,4 @@
--- What a reader stands for after a call, and what it tells.
+-- What a reader stands for after a call, and what it returns.
 use Rattle.std.proofs.Common.{◌≡◌, ◌≢◌, ℕ, ◌+◌, ◌-◌, ◌<◌, get_or, Bool, true, false, All, List, [], ◌∷◌, ◌++◌, length, Option, Some, None, refl, sym, ap, subst, ◌∙◌, append_assoc, arith}
 use Rattle.std.specs.Prelude.{IfSome, IfNone}
 use Rattle.std.proofs.lemmas.List.{length-append, append-nil, get_or_at}
@@ -60,7 +60,7 @@ fed_on old mid piece left valid_up_to at_is reading run same_fed same_ended give
           omega (arith, at_is, bytes, run.has_left, same_fed, s.has_fed, length-append text piece);
     }
 
--- after a whole text that was read at once
+-- after a complete stream that was read at once
 pub text_read : (given : Settings) (r : Reader) (text : List ℕ) (left : ℕ) → ReadsOn (from given) text r.progress r.pending left r.found → r.valid_up_to ≡ length text - left → r.fed ≡ length text → r.ended ≡ false
     → Stands given (with_piece text nothing_yet) r
 text_read given r text left run valid fed ended = record {
@@ -121,9 +121,9 @@ fewer_each (Some r) old new p0 p1 e f h =
     ap (λ (x : StreamProgress). length x.rounds) (e ∙ h ∙ ap (λ (x : Reader). with_taken (r.records ∷ []) x.progress) (sym f)) in
     omega (arith, one)
 
--- ---- what a reader tells is the reading
+-- ---- what a reader returns is the reading
 
--- the reading of the text that it stands for
+-- the reading of the stream that it stands for
 abbrev told : (r : Reader) (taken : List (List PageRecord)) → StreamReading
 told r taken = record { table = whole_table r.progress; rounds = taken ++ r.progress.rounds; state = r.found }
 
@@ -167,7 +167,7 @@ round_each None old p0 p1 e h size = tt
 round_each (Some r) old p0 p1 e h size = λ given so_far s.
     (size ∙ ap (λ (x : StreamProgress). x.page_size) (sym e) ∙ same_page_size given so_far old s, round_stands given so_far old p1 r.records (e ∙ h) s)
 
--- The table of a text has the place of each page record of its whole rounds.
+-- The table of a stream has the place of each page record of its complete rounds.
 places_in : (given : Settings) (text : List ℕ) (i : ℕ) (round : List PageRecord) (table : RamTable) → HasRound given text i round → HasTable given text (Some table) → All (λ x. IsPlace table x.place) round
 places_in given text i round table h f =
     let a : IsReading given text h.0 = h.1 in

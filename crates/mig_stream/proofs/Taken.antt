@@ -42,7 +42,7 @@ due_page p place is = go p.pending p.progress.due is
     go [] due e = (refl, in_due due e)
     go (byte ∷ bytes) due e = absurd cc
 
--- the content is a whole item, which leaves its record
+-- the content is a complete item, which leaves its record
 page_taken : (c : StreamProgress) (place : Place) (content : List ℕ) → c.due ≡ Content Normal place → length content ≡ c.page_size → HasTakenTo c content [] (with_record c place (Some content))
 page_taken c place content due len =
     let whole : length content ≡ size c.page_size c.due content = len ∙ ap (λ (d : Due). size c.page_size d content) (sym due) in

@@ -13,7 +13,7 @@ use Rattle.mig_stream.specs.Progress.{StreamProgress, is_used_up}
 use Rattle.mig_stream.specs.Entries.{Listed, AreListed, WereListed}
 use Rattle.mig_stream.specs.Later.{checkpoint_of, HasGrown, IsLater, WasSaved}
 
--- where a round ended behind the mark, its first records are those of the mark
+-- where a round ended after the mark, its first records are those of the mark
 pub open_round : (c now : StreamProgress) (n m : ℕ) (x : List PageRecord) (left : List (List PageRecord)) → n ≡ length c.rounds → m ≡ length c.records → HasGrown c now → n < length now.rounds
     → x ≡ get_or now.rounds n x → left ≡ take n (remove now.rounds n) → (take m x ≡ c.records) × (left ≡ c.rounds)
 open_round c now n m x left n_is m_is (inl h) lt is left_is = absurd (omega (arith, ap length h.0))

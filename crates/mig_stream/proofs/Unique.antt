@@ -1,4 +1,4 @@
--- A text has one reading.
+-- A stream has one reading.
 use Rattle.std.proofs.Common.{◌≡◌, ℕ, List, [], ◌∷◌, ◌++◌, length, take, drop, Some, None, refl, sym, ap, subst, ◌∙◌, append_assoc}
 use Rattle.std.specs.List.{concat}
 use Rattle.std.proofs.lemmas.List.{take_at, drop_at}
@@ -17,7 +17,7 @@ one_item p d a b x y i j e =
     let same : a ≡ b = sym (take_at a x (length a) refl) ∙ ap (take (length a)) e ∙ take_at b y (length a) (sym len) in
     (same, sym (drop_at a x (length a) refl) ∙ ap (drop (length a)) e ∙ drop_at b y (length a) (sym len))
 
--- where a free item stands, a text doesn't end
+-- where a free item stands, a stream doesn't end
 pub no_end : (c : StreamProgress) (item x rest : List ℕ) (s : StreamState) → IsItem c.page_size c.due item → first_fault c item ≡ None → rest ≡ item ++ x → Ends c rest s → ⊥
 no_end c item x rest Closed is free e end = is.is_due end
 no_end c item x rest Reading is free e end = end.1 item x e is
@@ -52,7 +52,7 @@ one_front c (i ∷ xs) (j ∷ ys) x y s t f g a b e =
     let others = one_front d xs ys x y s t f.2 (subst (λ (z : StreamProgress). AreFaultless z ys) moved g.2) a (subst (λ (z : StreamProgress). Ends (after_all z ys) y t) moved b) first.1 in
     (cc, others.1, others.2)
 
--- The reading of a text is one.
+-- The reading of a stream is one.
 pub one_reading : (from : StreamProgress) (text : List ℕ) (c d : StreamProgress) (x y : List ℕ) (s t : StreamState) → Reads from text c x s → Reads from text d y t → (c ≡ d) × (x ≡ y) × (s ≡ t)
 one_reading from text c d x y s t a b =
     let e : concat a.leads.items ++ x ≡ concat b.leads.items ++ y =

@@ -1,4 +1,4 @@
--- Up to where a text is valid: one place, which longer texts only move on.
+-- Up to where a stream is valid: one place, which longer streams only move on.
 use Rattle.std.proofs.Common.{◌≡◌, ◌≢◌, ℕ, ◌≤◌, ◌<◌, ◌+◌, List, [], ◌∷◌, ◌++◌, length, false, inl, inr, refl, sym, ap, subst, ◌∙◌, append_assoc, arith}
 use Rattle.std.specs.List.{concat}
 use Rattle.std.proofs.lemmas.Bool.{cases_lt}
@@ -47,7 +47,7 @@ longest given text m n f v =
 front_of : (given : Settings) (text : List ℕ) (n : ℕ) → IsValidUpTo given text n → HasFront given text n
 front_of given text n v = record { to = v.to; front = v.reads.front; rest = v.rest; has_text = v.reads.has_text; has_length = v.has_length; leads = v.reads.leads }
 
--- what is valid and what is left are the text
+-- what is valid and what is left are all bytes
 all_bytes : (given : Settings) (text : List ℕ) (n : ℕ) (v : IsValidUpTo given text n) → n + length v.rest ≡ length text
 all_bytes given text n v = omega (arith, v.has_length, ap (λ (z : List ℕ). length z) v.reads.has_text, length-append v.reads.front v.rest)
 
@@ -63,7 +63,7 @@ one_place = λ given text is.
       λ m other. omega (arith, longest given text m n (front_of given text m other) v, longest given text n m (front_of given text n v) other),
     )
 
--- ---- longer texts
+-- ---- longer streams
 
 more_front : (given : Settings) (text more : List ℕ) (n : ℕ) → HasFront given text n → HasFront given (text ++ more) n
 more_front given text more n f = record {
@@ -75,7 +75,7 @@ more_front given text more n f = record {
   leads = f.leads;
 }
 
--- the state of a text is that of its longest front
+-- the state of a stream is that of its longest front
 same_state : (given : Settings) (text : List ℕ) (n : ℕ) (s : StreamState) (v : IsValidUpTo given text n) → HasState given text false s → v.state ≡ s
 same_state given text n s v h =
     let is : IsReading given text h.0 = h.1 in
@@ -105,13 +105,13 @@ stays given text more m n v w settled =
 pub stays_valid : LongerTextsStayValid
 stays_valid = λ given text more m n v w. (longest given (text ++ more) m n (more_front given text more m (front_of given text m v)) w, λ settled. stays given text more m n v w settled)
 
--- ---- where a text is over
+-- ---- where a stream has ended
 
 valid_closed : (given : Settings) (text : List ℕ) (n : ℕ) → HasState given text false Closed → IsValidUpTo given text n → IsClosedAt given text n
 valid_closed given text n h v =
     closed_by given text v.to v.rest n (subst (λ (s : StreamState). Reads (from given) text v.to v.rest s) (same_state given text n Closed v h) v.reads) (all_bytes given text n v)
 
--- a text is closed at one place
+-- a stream is closed at one place
 one_close : (given : Settings) (text : List ℕ) (m n : ℕ) → IsClosedAt given text m → IsClosedAt given text n → m ≡ n
 one_close given text m n a b =
     elim (cases_lt m n) [

@@ -12,7 +12,7 @@ use Rattle.mig_mem.proofs.Walks.{HasListed, listed_none, listed_more, listed_all
 use Rattle.mig_stream.specs.Writer.{Writer, with_pages, KeepsFront}
 use Rattle.mig_stream.proofs.Writing.{with_no_pages, with_pages-push, round_of-push, KeepsFront-pages}
 
--- the pages at the first i dirty places are written, and the walk goes on at a place behind them
+-- the pages at the first i dirty places are written, and the walk goes on at a place after them
 pub record HasWalked (dirty : PlaceSet) (image : Image) (old now : Writer) (from : Place) (i : ℕ) : Type 0 where
   pub few : i ≤ length dirty.marked
   pub listed : HasListed dirty from (take i dirty.marked)
@@ -59,7 +59,7 @@ walked_more dirty image old mid now from p i is h some step =
           ∙ ap (λ (ps : List Place). with_pages old (round_of image ps)) next;
     }
 
--- a walk keeps the front of the text
+-- a walk keeps the front of the stream
 pub walked_front : (dirty : PlaceSet) (image : Image) (old mid now : Writer) (from : Place) (i : ℕ) → HasWalked dirty image old mid from i
     → KeepsFront mid now → KeepsFront old now
 walked_front dirty image old mid now from i h keeps = KeepsFront-pages old mid now (round_of image (take i dirty.marked)) h.wrote keeps

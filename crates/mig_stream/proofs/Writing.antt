@@ -87,7 +87,7 @@ pub round_of-push : (m : Image) (ps : List Place) (p : Place) → round_of m (ps
 unfolding pages_of
 round_of-push m ps p = map-append (λ (q : Place). record { place = q; content = content_at m q }) ps (p ∷ [])
 
--- the beginning of a text that grew, and grew again
+-- the beginning of a stream that grew, and grew again
 front_of_more : (x more z : List ℕ) → take (length (x ++ more)) z ≡ x ++ more → take (length x) z ≡ x
 front_of_more x more z h =
     let short : length x ≤ length (x ++ more) = omega (arith, length-append x more) in
@@ -154,7 +154,7 @@ finished drained w parts h =
 
 -- ---- a part, page after page
 
--- the part of a writer that had a text of this length, and this block named last, when it began
+-- the part of a writer that had so many bytes of a stream, and this block named last, when it began
 abbrev pub part_from : ℕ → Option ℕ → Writer → PartSoFar
 part_from len named w = record { before = record { table = w.table; text = take len w.text; named = named }; now = w }
 

@@ -1,4 +1,4 @@
--- What a writer makes of RAM in a machine's stream is such a text.
+-- What a writer makes of RAM in a machine's stream is such a stream.
 use Rattle.std.proofs.Common.{ℕ, ◌≡◌, ◌≤◌, ◌<◌, ◌^◌, IfSome, List, [], ◌∷◌, ◌++◌, length, map, replicate, flat_map, Option, Some, None, refl, sym, ap, subst, ◌∙◌, append_assoc, append-nil, arith}
 use Rattle.std.specs.List.{AllByRecursion}
 use Rattle.mig_mem.specs.RamTable.{RamTable, IsTable}
@@ -40,7 +40,7 @@ named_is : (p : ℕ) (name : Option (List ℕ)) → IfSome name (λ bytes. lengt
 named_is p None is = tt
 named_is p (Some name) is = record { has_name = is; are_bodies = tt }
 
--- a writer's text keeps what the same parts have as a text of RAM alone
+-- a writer's stream keeps what the same parts have as a stream of RAM alone
 from_text : (mode : Mode) (limit : ℕ) (name : Option (List ℕ)) (table : RamTable) (parts : List Part) (rounds : List (List PageRecord)) → IfSome name (λ bytes. length bytes ≤ most_name_bytes)
     → IsTable table → total_bytes table ≤ limit → Follow table None (all_records (parts_records None parts) ++ []) → AreRounds mode ([] ∷ parts_records None parts ++ [] ∷ []) rounds
     → IsMachineText mode limit (machine_written name table parts) table rounds

@@ -1,5 +1,5 @@
--- What a writer makes is a text of its table: of the rounds that it was given, or of as many rounds without a page as it
--- was given FLUSHes.
+-- What a writer makes is a stream of its table: of the rounds that it was given, or of as many
+-- rounds without a page as it was given FLUSHes.
 use Rattle.std.proofs.Common.{ℕ, zero, suc, ◌≡◌, ◌≤◌, Bool, true, false, cond, ◌==◌, IsTrue, IfSome, All, List, [], ◌∷◌, ◌++◌, length, map, replicate, flat_map, Option, Some, None, refl, sym, ap, subst, ◌∙◌, append_assoc, append-nil, arith}
 use Rattle.std.specs.List.{list_all, AllByRecursion}
 use Rattle.std.proofs.lemmas.Bool.{eqb-true}
@@ -35,7 +35,7 @@ regroup : (h s l b p q e : List ℕ) → (h ++ s ++ l ++ b) ++ p ++ (q ++ e) ≡
 regroup h s l b p q e =
     sym (append_assoc (h ++ s ++ l ++ b ++ p) q e) ∙ ap (λ (x : List ℕ). x ++ s ++ l ++ b ++ p ++ q ++ e) (sym (append-nil h))
 
--- the whole text, as a text is spelled
+-- the complete stream, as a stream is spelled
 pub written_spelled : (table : RamTable) (parts : List Part)
     → written table parts ≡ file_header ++ [] ++ start_head written_id ++ size_list table ++ body table written_id []
     ++ flat_map (section table sections.Part written_id) (parts_records None parts)
@@ -66,7 +66,7 @@ written_fits table before x place size = record {
   is_carried = named_last before x.place.block;
 }
 
--- the pages of a round, and what may stand behind them
+-- the pages of a round, and what may stand after them
 round_follows : (table : RamTable) (before : Option ℕ) (pages : List Page) (others : List Record)
     → All (λ x. IsPlace table x.place) pages → All (λ x. length x.content ≡ table.page_size) pages
     → Follow table (named_by_pages before pages) others → Follow table before (written_records before pages ++ others)
@@ -114,8 +114,8 @@ single_parts table rounds are = (
   ),
 )
 
--- What is written of rounds is a text of a single stream: a round of no page for START, each round, and one of no page
--- for END.
+-- What is written of rounds is a single stream: a round of no page for START, each round, and one
+-- of no page for END.
 pub written_single : (table : RamTable) (rounds : List (List Page)) (limit : ℕ) → IsTable table → total_bytes table ≤ limit → All (IsRound table) rounds
     → IsText Single limit (written table (map RoundPart rounds)) table ([] ∷ map (map written_record) rounds ++ [] ∷ [])
 written_single table rounds limit is most are =
@@ -173,7 +173,7 @@ main_parts table n =
       subst (λ (rs : List (List Record)). AreRounds Main ([] ∷ (rs ++ [] ∷ [])) (replicate n [])) (sym same) (flush_rounds n),
     )
 
--- What is written of FLUSHes is a text of a main stream: a round of no page for each.
+-- What is written of FLUSHes is a main stream: a round of no page for each.
 pub written_main : (table : RamTable) (n limit : ℕ) → IsTable table → total_bytes table ≤ limit → IsText Main limit (written table (replicate n FlushPart)) table (replicate n [])
 written_main table n limit is most =
     let flushes : List (List Record) = parts_records None (replicate n FlushPart) in

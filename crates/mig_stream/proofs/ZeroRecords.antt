@@ -88,7 +88,7 @@ number_in bytes at =
 pub records_none : (c : StreamProgress) (bytes : List ℕ) → c.due ≡ RecordHead → HasTakenRecords c bytes 0 c
 records_none c bytes due = record { fits = omega arith; leads = Front-none c; is_due = due; same_left = refl; same_blocks = refl; same_page_size = refl }
 
--- and others of the rest behind them
+-- and others of the rest after them
 pub records_more : (old mid new : StreamProgress) (bytes rest : List ℕ) (n k : ℕ) → HasTakenRecords old bytes n mid → rest ≡ drop n bytes → HasTakenRecords mid rest k new
     → HasTakenRecords old bytes (n + k) new
 records_more old mid new bytes rest n k a is b =
@@ -108,7 +108,7 @@ pub records_same : (old mid new : StreamProgress) (bytes rest : List ℕ) (n k :
 records_same old mid new bytes rest n k a is b none =
     subst (λ (m : ℕ). HasTakenRecords old bytes m new) (omega arith) (records_more old mid new bytes rest n k a is b)
 
--- the bytes that are near, and those behind them
+-- the bytes that are near, and those after them
 pub records_within : (old new : StreamProgress) (bytes : List ℕ) (n at : ℕ) → HasTakenRecords old (take n bytes) at new → HasTakenRecords old bytes at new
 records_within old new bytes n at h = record {
   fits = omega (arith, h.fits, length-take n bytes);
@@ -131,7 +131,7 @@ taken_within old new bytes n h = record {
 pub tail_from : (bytes : List ℕ) (n : ℕ) → take (length bytes - n) (drop n bytes) ≡ drop n bytes
 tail_from bytes n = take_all (length bytes - n) (drop n bytes) (omega (arith, length-drop n bytes))
 
--- what was taken where the records behind were refused
+-- what was taken where the records after were refused
 pub records_stop : (old mid new : StreamProgress) (bytes rest : List ℕ) (n : ℕ) → HasTakenRecords old bytes n mid → rest ≡ drop n bytes → HasTaken mid rest new → HasTaken old bytes new
 records_stop old mid new bytes rest n a is b = record {
   front = take n bytes ++ b.front;
@@ -214,6 +214,6 @@ stops_within from mid new bytes rest a b = record {
   leads = Front-append from mid new a.0 b.front a.2 b.leads;
 }
 
--- the bytes behind the records that were taken
+-- the bytes after the records that were taken
 pub taken_to : (old new : StreamProgress) (bytes rest : List ℕ) (n : ℕ) → HasTakenRecords old bytes n new → rest ≡ drop n bytes → HasTakenTo old bytes rest new
 taken_to old new bytes rest n h is = (take n bytes, sym (take-append-drop n bytes) ∙ ap (λ (l : List ℕ). take n bytes ++ l) (sym is), h.leads)

@@ -44,7 +44,7 @@ with_entry e id len = record e {
   blocks = e.blocks ++ record { id = id; pages = len / e.page_size } ∷ [];
 }
 
--- These entries had so many bytes left at this count, and a whole table stays.
+-- These entries had so many bytes left at this count, and a complete table stays.
 pub record WereListed (e : Listed) (left : Option ℕ) (count : ℕ) : Type 0 where
   pub are_listed : AreListed e.page_size e.limit left (take count e.blocks)
   pub same_table : is_used_up left ≡ true → (e.left ≡ left) × (take count e.blocks ≡ e.blocks)

@@ -23,7 +23,7 @@ pub record Giver : Type 0 where
   pub found : Option StreamState
   -- what it gave last
   pub given : RoundOfRecords
-  -- how many bytes the text has up to the end of the rest
+  -- how many bytes the stream has up to the end of the rest
   pub fed : ℕ
 
 -- the records that were given so far: those of each section that is whole, and those of the one
@@ -63,13 +63,13 @@ records_behind before (round ∷ rounds) records = records
 abbrev pub with_open : List PageRecord → StreamProgress → StreamProgress
 with_open before c = record c { records = records_behind before c.rounds c.records; rounds = rounds_behind before c.rounds }
 
--- how far a text has been read, with all records
+-- how far a stream has been read, with all records
 abbrev pub all_read : GivenSoFar → StreamProgress → StreamProgress
 all_read so_far c = with_taken so_far.sections (with_open so_far.open_section c)
 
 -- ---- what the reader stands for
 
--- The reader was made with these settings and this text, and gave this so far.
+-- The reader was made with these settings and this stream, and gave this so far.
 pub record Gives (given : Settings) (text : List ℕ) (so_far : GivenSoFar) (r : Giver) : Type 0 where
   pub is_single : given.mode ≡ Single
   pub is_page_size : IsPageSize given.page_size
@@ -93,7 +93,7 @@ abbrev pub to_go : Option StreamState → ℕ
 to_go None = 1
 to_go (Some found) = 0
 
--- no more calls than so many give something before the end
+-- at most so many calls give something before the end
 abbrev pub left : Giver → ℕ
 left r = 2 * length r.rest + waiting_in r.progress + to_go r.found
 
@@ -102,14 +102,14 @@ abbrev pub LeavesLess : Given → Giver → Giver → Type 0
 LeavesLess (End found) old new = ⊤
 LeavesLess other old new = left new < left old
 
--- ---- what it tells
+-- ---- what it returns
 
 -- what is said of a reader by what it stands for alone
 abbrev pub GiverTells : Giver → (Settings → List ℕ → GivenSoFar → Type 0) → Type 0
 GiverTells r says = (given : Settings) (text : List ℕ) (so_far : GivenSoFar) → Gives given text so_far r → says given text so_far
 
--- Where it gives no more, this is the reading of the text: its rounds are the sections that were
--- given. A closed text leaves none open.
+-- Where it gives no more, this is the reading of the stream: its rounds are the sections that were
+-- given. A closed stream leaves none open.
 pub record HasReading (given : Settings) (text : List ℕ) (so_far : GivenSoFar) (found : StreamState) : Type 0 where
   pub reading : StreamReading
   pub is_reading : IsReading given text reading
@@ -122,18 +122,18 @@ abbrev pub EndsSo : Given → Settings → List ℕ → GivenSoFar → Type 0
 EndsSo (End found) given text so_far = HasReading given text so_far found
 EndsSo other given text so_far = ⊤
 
--- what is given at the end: how the text was found to stand, and no records
+-- what is given at the end: how the stream was found to stand, and no records
 abbrev pub TellsFound : Given → Giver → Type 0
 TellsFound (End found) r = (r.found ≡ Some found) × (r.given.records ≡ [])
 TellsFound other r = ⊤
 
--- The text is closed before these last bytes of it.
+-- The stream is closed before these last bytes of it.
 pub record IsBehind (given : Settings) (text rest : List ℕ) : Type 0 where
   pub closed_at : ℕ
   pub is_closed_at : IsClosedAt given text closed_at
   pub has_rest : rest ≡ drop closed_at text
 
--- ---- between two pieces of a text
+-- ---- between two pieces of a stream
 
 -- where a reader reads no further: all that was read is given
 pub record HasNoneLeft (found : StreamState) (r : Giver) : Type 0 where
@@ -146,7 +146,7 @@ abbrev pub LeavesNone : Given → Giver → Type 0
 LeavesNone (End found) r = HasNoneLeft found r
 LeavesNone other r = ⊤
 
--- what is kept between two pieces: how far the text was read, the bytes after that, and how many
+-- what is kept between two pieces: how far the stream was read, the bytes after that, and how many
 -- bytes there were in all
 pub record Paused : Type 0 where
   pub progress : StreamProgress
@@ -157,7 +157,7 @@ pub record Paused : Type 0 where
 abbrev pub giver_at : Paused → Giver
 giver_at p = record { progress = p.progress; rest = p.pending; found = Some Reading; given = record { page_size = p.progress.page_size; records = [] }; fed = p.fed }
 
--- The pieces so far are this text, read with these settings, and so much of it was given.
+-- The pieces so far are this stream, read with these settings, and so much of it was given.
 abbrev pub PausesAt : Settings → List ℕ → GivenSoFar → Paused → Type 0
 PausesAt given text so_far p = Gives given text so_far (giver_at p)
 
@@ -168,7 +168,7 @@ PauseTells p says = (given : Settings) (text : List ℕ) (so_far : GivenSoFar) �
 -- ---- the inside
 
 -- What is pending of earlier pieces is a part of an item; and so is all that is left, where no more
--- is read of it. Nothing is pending where the text is closed: what is left then lies whole in the
+-- is read of it. Nothing is pending where the stream is closed: what is left then lies whole in the
 -- last piece.
 abbrev pub IsUnread : Option StreamState → StreamProgress → List ℕ → List ℕ → Type 0
 IsUnread None c pending rest = (pending ≡ []) ⊎ IsUnfinished c pending

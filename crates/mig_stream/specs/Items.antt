@@ -111,7 +111,7 @@ may_pass before.LastFooter byte = false
 abbrev pub is_passed : Frame → Before → ℕ → Bool
 is_passed frame before byte = may_pass before byte && is_machine frame
 
--- the footer of this section closes the text
+-- the footer of this section closes the stream
 abbrev pub closes : Frame → Section → Bool
 closes frame section.Start = false
 closes frame section.Part = false

@@ -15,7 +15,8 @@ abbrev pub bytes_of : Piece → List ℕ
 bytes_of (Passing bytes) = bytes.now
 bytes_of (Staying bytes) = bytes.now
 
--- ---- records and their buffers: one record may have a buffer, in which the bytes of records behind it lie too
+-- ---- records and their buffers: one record may have a buffer, in which the bytes of records after
+-- it lie too
 
 abbrev pub buffer_of : {A : Type 0} → Record A → List ℕ
 buffer_of (Kept block page end buffer) = buffer.value.items
@@ -55,12 +56,12 @@ IsHeld buffers (Kept block page end buffer) = end ≤ length buffer.value.items
 IsHeld buffers (Behind block page span) = IsWithin buffers span
 IsHeld buffers other = ⊤
 
--- A record whose buffer has more bytes behind those it had, and which says what it said.
+-- A record whose buffer has more bytes after those it had, and which says what it said.
 pub record IsGrown {A : Type 0} (old new : Record A) (more : List ℕ) : Type 0 where
   pub has_buffer : buffer_of new ≡ buffer_of old ++ more
   pub says_the_same : (buffers : List (List ℕ)) → IsHeld buffers old → IsHeld buffers new × (record_in buffers new ≡ record_in buffers old)
 
--- records behind others that have these buffers
+-- records after others that have these buffers
 abbrev pub records_after : {A : Type 0} → List (List ℕ) → List (Record A) → List PageRecord
 records_after buffers [] = []
 records_after buffers (r ∷ rs) = record_in buffers r ∷ records_after (buffers ++ buffer_of r ∷ []) rs

@@ -21,7 +21,7 @@ checkpoint_of c = record {
   rounds = length c.rounds;
 }
 
--- the round that wasn't whole has grown, or is whole and others have followed it
+-- the round that wasn't complete has grown, or is whole and others have followed it
 abbrev pub HasGrown : StreamProgress → StreamProgress → Type 0
 HasGrown old new =
     ((new.rounds ≡ old.rounds) × (more : List PageRecord) × (new.records ≡ old.records ++ more))

@@ -1,4 +1,4 @@
--- What holds between the texts of a stream and their readings.
+-- What holds between the streams and their readings.
 use Rattle.std.specs.Prelude.{◌≡◌, ◌≢◌, ◌↔◌, ℕ, ◌≤◌, ◌<◌, ◌^◌, false, List, [], ◌∷◌, ◌++◌, length, map, replicate, Some, None, All}
 use Rattle.mig_mem.specs.PageSize.{IsPageSize}
 use Rattle.mig_mem.specs.RamTable.{RamTable, IsTable}
@@ -18,11 +18,11 @@ use Rattle.mig_stream.specs.Text.{IsText, total_bytes}
 use Rattle.mig_stream.specs.Machine.{IsMachineText}
 use Rattle.mig_stream.specs.Written.{written_record, single, main}
 
--- the reading of a text that was read to its end
+-- the reading of a stream that was read to its end
 abbrev pub closed : RamTable → List (List PageRecord) → StreamReading
 closed table rounds = record { table = Some table; rounds = rounds; state = Closed }
 
--- Each text has exactly one reading.
+-- Each stream has exactly one reading.
 abbrev pub HasOneReading : Type 0
 HasOneReading = (given : Settings) (text : List ℕ) → IsPageSize given.page_size
     → (reading : StreamReading) × IsReading given text reading × ((other : StreamReading) → IsReading given text other → other ≡ reading)
@@ -32,7 +32,7 @@ abbrev pub SpelledIsRead : Type 0
 SpelledIsRead = (mode : Mode) (limit : ℕ) (text rest : List ℕ) (table : RamTable) (rounds : List (List PageRecord))
     → IsText mode limit text table rounds → IsReading (settings mode table.page_size limit) (text ++ rest) (closed table rounds)
 
--- a prefix of these bytes is a text of this table and these rounds
+-- a prefix of these bytes is a stream of this table and these rounds
 abbrev pub HasText : Mode → ℕ → List ℕ → RamTable → List (List PageRecord) → Type 0
 HasText mode limit bytes table rounds = (text rest : List ℕ) × (bytes ≡ text ++ rest) × IsText mode limit text table rounds
 
@@ -42,20 +42,20 @@ ReadIsSpelled = (given : Settings) (bytes : List ℕ) (reading : StreamReading)
     → given.frame ≡ Ram → IsPageSize given.page_size → given.limit ≤ 2 ^ 40 → All (λ byte. byte < 2 ^ 8) bytes → IsReading given bytes reading → reading.state ≡ Closed
     → (table : RamTable) × (table.page_size ≡ given.page_size) × (reading.table ≡ Some table) × HasText given.mode given.limit bytes table reading.rounds
 
--- So bytes are read to an end byte exactly where a prefix of them is a text of that table and those
--- rounds.
+-- So bytes are read to an end byte exactly where a prefix of them is a stream of that table and
+-- those rounds.
 abbrev pub ClosedIsText : Type 0
 ClosedIsText = (mode : Mode) (limit : ℕ) (bytes : List ℕ) (table : RamTable) (rounds : List (List PageRecord))
     → IsPageSize table.page_size → limit ≤ 2 ^ 40 → All (λ byte. byte < 2 ^ 8) bytes
     → IsReading (settings mode table.page_size limit) bytes (closed table rounds) ↔ HasText mode limit bytes table rounds
 
--- And no bytes have two prefixes that are texts.
+-- And no bytes have two prefixes that are streams.
 abbrev pub HasOneText : Type 0
 HasOneText = (mode : Mode) (limit : ℕ) (a b x y : List ℕ) (s t : RamTable) (p q : List (List PageRecord))
     → s.page_size ≡ t.page_size → IsText mode limit a s p → IsText mode limit b t q → a ++ x ≡ b ++ y
     → (a ≡ b) × (s ≡ t) × (p ≡ q)
 
--- a prefix of these bytes is the text of a machine's stream, of this table and these rounds
+-- a prefix of these bytes is a machine's stream, of this table and these rounds
 abbrev pub HasMachineText : Mode → ℕ → List ℕ → RamTable → List (List PageRecord) → Type 0
 HasMachineText mode limit bytes table rounds = (text rest : List ℕ) × (bytes ≡ text ++ rest) × IsMachineText mode limit text table rounds
 
@@ -77,7 +77,7 @@ MachineClosedIsText = (mode : Mode) (limit : ℕ) (bytes : List ℕ) (table : Ra
     → IsPageSize table.page_size → limit ≤ 2 ^ 40 → All (λ byte. byte < 2 ^ 8) bytes
     → IsReading (in_frame Machine (settings mode table.page_size limit)) bytes (closed table rounds) ↔ HasMachineText mode limit bytes table rounds
 
--- What a writer makes of rounds is a text: a single stream of them, with an empty round for START
+-- What a writer makes of rounds is a stream: a single stream of them, with an empty round for START
 -- and for END.
 abbrev pub SinglesAreTexts : Type 0
 SinglesAreTexts = (limit : ℕ) (table : RamTable) (rounds : List (List Page)) → IsTable table → total_bytes table ≤ limit → All (IsRound table) rounds
@@ -91,8 +91,8 @@ MainsAreTexts = (limit : ℕ) (table : RamTable) (n : ℕ) → IsTable table →
 abbrev pub RecordsStandForPages : Type 0
 RecordsStandForPages = (table : RamTable) (round : List Page) → IsRound table round → map (page_of table.page_size) (map written_record round) ≡ round
 
--- A text has no more whole rounds than bytes, none before its table is known, and a table of the
--- page size that was handed in.
+-- A stream has no more complete rounds than bytes, none before its table is known, and a table of
+-- the page size that was passed.
 pub record KeepsLimits (page_size : ℕ) (text : List ℕ) (reading : StreamReading) : Type 0 where
   pub has_few : length reading.rounds ≤ length text
   pub has_table_first : reading.table ≡ None → reading.rounds ≡ []
@@ -102,9 +102,9 @@ abbrev pub ReadingsKeepLimits : Type 0
 ReadingsKeepLimits = (given : Settings) (text : List ℕ) (reading : StreamReading) → IsPageSize given.page_size
     → IsReading given text reading → KeepsLimits given.page_size text reading
 
--- What is read of a text stays, whatever bytes follow: its whole rounds are the first ones of the
--- longer text, and its table is that text's too. After the end byte, or a fault, nothing changes
--- any more.
+-- What is read of a stream stays, whatever bytes follow: its complete rounds are the first ones of
+-- the longer stream, and its table is that stream's too. After the end byte, or a fault, nothing
+-- changes any more.
 pub record StaysRead (before now : StreamReading) : Type 0 where
   pub more_rounds : List (List PageRecord)
   pub has_rounds : now.rounds ≡ before.rounds ++ more_rounds
@@ -115,24 +115,26 @@ abbrev pub LongerTextsStay : Type 0
 LongerTextsStay = (given : Settings) (text more : List ℕ) (before now : StreamReading) → IsPageSize given.page_size
     → IsReading given text before → IsReading given (text ++ more) now → StaysRead before now
 
--- ---- up to where a text is valid
+-- ---- up to where a stream is valid
 
--- A text is valid up to exactly one place, and none of its fronts is longer.
+-- A stream is valid up to exactly one place, and none of its fronts is longer.
 abbrev pub IsValidUpToOnePlace : Type 0
 IsValidUpToOnePlace = (given : Settings) (text : List ℕ) → IsPageSize given.page_size
     → (n : ℕ) × IsValidUpTo given text n × (n ≤ length text)
     × ((m : ℕ) → HasFront given text m → m ≤ n) × ((m : ℕ) → IsValidUpTo given text m → m ≡ n)
 
--- Bytes that follow leave it where it was, or move it on. Once the text is closed or bad, it stays.
+-- Bytes that follow leave it where it was, or move it on. Once the stream is closed or bad, it
+-- stays.
 abbrev pub LongerTextsStayValid : Type 0
 LongerTextsStayValid = (given : Settings) (text more : List ℕ) (m n : ℕ) → IsValidUpTo given text m → IsValidUpTo given (text ++ more) n
     → (m ≤ n) × (IsSettled given text → m ≡ n)
 
--- A closed text is valid up to where it is closed.
+-- A closed stream is valid up to where it is closed.
 abbrev pub ClosedIsValid : Type 0
 ClosedIsValid = (given : Settings) (text : List ℕ) (n : ℕ) → HasState given text false Closed → IsValidUpTo given text n ↔ IsClosedAt given text n
 
--- whole items without a fault are the first n bytes, and the whole item after them has this fault
+-- complete items without a fault are the first n bytes, and the whole item after them has this
+-- fault
 pub record HasFaultAt (given : Settings) (text : List ℕ) (n : ℕ) (fault : StreamFault) : Type 0 where
   pub to : StreamProgress
   pub front : List ℕ
@@ -144,6 +146,6 @@ pub record HasFaultAt (given : Settings) (text : List ℕ) (n : ℕ) (fault : St
   pub is_item : IsItem to.page_size to.due item
   pub has_fault : first_fault to item ≡ Some fault
 
--- A bad text is valid up to where the item at fault begins.
+-- A bad stream is valid up to where the item at fault begins.
 abbrev pub BadIsValidBefore : Type 0
 BadIsValidBefore = (given : Settings) (text : List ℕ) (n : ℕ) (fault : StreamFault) → HasState given text false (Bad fault) → IsValidUpTo given text n → HasFaultAt given text n fault

@@ -1,4 +1,4 @@
--- The texts of a machine's stream, as QEMU writes them, up to the footer of RAM's END
+-- Machines' streams, as QEMU writes them, up to the footer of RAM's END
 -- (`qemu_savevm_state_header`, `vmstate_configuration` and `qemu_savevm_command_send` in
 -- `migration/savevm.c`).
 use Rattle.std.specs.Prelude.{◌≡◌, ℕ, ◌<◌, ◌≤◌, ◌^◌, true, false, List, [], ◌∷◌, ◌++◌, length, Option, None, Some, IfSome, ⊤}
@@ -102,9 +102,9 @@ parts_of [] = []
 parts_of (PartOf records ∷ others) = records ∷ parts_of others
 parts_of (CommandOf c ∷ others) = parts_of others
 
--- ---- the whole text
+-- ---- the complete stream
 
--- The text is a machine's stream up to the footer of RAM's END: file header, configuration with
+-- The bytes are a machine's stream up to the footer of RAM's END: file header, configuration with
 -- subsections or none, COMMANDs, START with the size list, PARTs and COMMANDs, and END, each
 -- section with any records.
 pub record IsMachineText (mode : Mode) (limit : ℕ) (text : List ℕ) (table : RamTable) (rounds : List (List PageRecord)) : Type 0 where

@@ -1,4 +1,4 @@
--- What a writer makes of RAM in a machine's stream: whoever has the devices writes on behind it.
+-- What a writer makes of RAM in a machine's stream: whoever has the devices writes on after it.
 use Rattle.std.specs.Prelude.{◌≡◌, ℕ, ◌≤◌, List, [], ◌∷◌, ◌++◌, length, map, replicate, Option, None, IfSome, All}
 use Rattle.mig_mem.specs.Image.{Page}
 use Rattle.mig_mem.specs.RamTable.{RamTable, IsTable}
@@ -16,7 +16,7 @@ abbrev pub machine_written : Option (List ℕ) → RamTable → List Part → Li
 machine_written name table parts = file_header ++ configuration name ++ start_head written_id ++ size_list table ++ body table written_id []
     ++ written_parts table None parts ++ section table sections.End written_id []
 
--- with the end byte after RAM's END: a whole stream
+-- with the end byte after RAM's END: a complete stream
 abbrev pub machine_closed : Option (List ℕ) → RamTable → List Part → List ℕ
 machine_closed name table parts = machine_written name table parts ++ end_byte ∷ []
 
@@ -33,7 +33,7 @@ abbrev pub ConfiguredIsClosed : Type 0
 ConfiguredIsClosed = (name : Option (List ℕ)) (table : RamTable) (parts : List Part) (bytes : List ℕ) → file_header ++ bytes ≡ written table parts
     → file_header ++ configuration name ++ bytes ≡ machine_closed name table parts
 
--- What a writer makes so of rounds, or of FLUSHes, is a machine's text.
+-- What a writer makes so of rounds, or of FLUSHes, is a machine's stream.
 abbrev pub MachineSinglesAreTexts : Type 0
 MachineSinglesAreTexts = (limit : ℕ) (name : Option (List ℕ)) (table : RamTable) (rounds : List (List Page)) → IfSome name (λ bytes. length bytes ≤ most_name_bytes)
     → IsTable table → total_bytes table ≤ limit → All (IsRound table) rounds

@@ -11,8 +11,8 @@ use Rattle.mig_stream.specs.declared.item.Due.TheVariants as due
 use Rattle.mig_stream.specs.PageRecord.{PageRecord}
 
 pub record StreamProgress : Type 0 where
-  -- what no byte says: what it is the stream of, which stream it is, the size of a page, the limit on
-  -- the table's total, and the most page records of an open round, or None for any number
+  -- what no stream says: what it is the stream of, which stream it is, the size of a page, and the
+  -- limit on the table's total
   pub frame : Frame
   pub mode : Mode
   pub page_size : ℕ
@@ -29,9 +29,8 @@ pub record StreamProgress : Type 0 where
   pub blocks : List Block
   -- the block that a page record named last
   pub named : Option ℕ
-  -- how many page records more the round may have that isn't whole yet
+  -- the page records of the round that isn't complete yet, and the complete rounds
   pub room : Option ℕ
-  -- the page records of the round that isn't whole yet, and the whole rounds
   pub records : List PageRecord
   pub rounds : List (List PageRecord)
 

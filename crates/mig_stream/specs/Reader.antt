@@ -14,9 +14,9 @@ pub record Reader : Type 0 where
   pub progress : StreamProgress
   -- the bytes after it: a part of an item
   pub pending : List ℕ
-  -- how the bytes fed stand, whether or not the text is over
+  -- how the bytes fed stand, whether or not the stream has ended
   pub found : StreamState
-  -- how many bytes fed are whole items without a fault
+  -- how many bytes fed are complete items without a fault
   pub valid_up_to : ℕ
   pub fed : ℕ
   pub ended : Bool
@@ -25,7 +25,8 @@ pub record Reader : Type 0 where
 abbrev pub IsUnfinished : StreamProgress → List ℕ → Type 0
 IsUnfinished c bytes = length bytes < size c.page_size c.due bytes
 
--- bytes are read to there, with so many left, and of an item that isn't whole these bytes are kept
+-- bytes are read to there, with so many left, and of an item that isn't complete these bytes are
+-- kept
 pub record ReadsOn (from : StreamProgress) (bytes : List ℕ) (to : StreamProgress) (pending : List ℕ) (left : ℕ) (state : StreamState) : Type 0 where
   pub rest : List ℕ
   pub reads : Reads from bytes to rest state
@@ -38,8 +39,8 @@ with_taken taken c = record c { rounds = taken ++ c.rounds }
 
 -- ---- what a reader stands for
 
--- what a reader was given so far: this text, whether it was told that the text is over, and how
--- many rounds were taken from it
+-- what a reader was given so far: this stream, whether it was ended, and how many rounds were taken
+-- from it
 pub record SoFar : Type 0 where
   pub text : List ℕ
   pub ended : Bool
@@ -48,11 +49,11 @@ pub record SoFar : Type 0 where
 abbrev pub nothing_yet : SoFar
 nothing_yet = record { text = []; ended = false; taken = 0 }
 
--- a piece of the text more
+-- a piece of the stream more
 abbrev pub with_piece : List ℕ → SoFar → SoFar
 with_piece piece so_far = record so_far { text = so_far.text ++ piece }
 
--- it was told that the text is over
+-- it was ended
 abbrev pub over : SoFar → SoFar
 over so_far = record so_far { ended = true }
 
@@ -80,13 +81,13 @@ StepsOn step old new = (given : Settings) (so_far : SoFar) → Stands given so_f
 abbrev pub Tells : Reader → (Settings → SoFar → Type 0) → Type 0
 Tells r says = (given : Settings) (so_far : SoFar) → Stands given so_far r → says given so_far
 
--- how many whole rounds wait to be taken
+-- how many complete rounds wait to be taken
 abbrev pub waiting : Reader → ℕ
 waiting r = length r.progress.rounds
 
--- ---- what the reading of a text tells
+-- ---- what the reading of a stream says
 
--- the state of a text that may be over
+-- the state of a stream that may have ended
 abbrev pub HasState : Settings → List ℕ → Bool → StreamState → Type 0
 HasState given text ended state = (reading : StreamReading) × IsReading given text reading × (state ≡ state_at ended reading.state)
 
@@ -94,13 +95,13 @@ HasState given text ended state = (reading : StreamReading) × IsReading given t
 abbrev pub IsSettled : Settings → List ℕ → Type 0
 IsSettled given text = (reading : StreamReading) × IsReading given text reading × (reading.state ≢ Reading)
 
--- The text is closed by its first n bytes, and by no fewer.
+-- The stream is closed by its first n bytes, and by no fewer.
 pub record IsClosedAt (given : Settings) (text : List ℕ) (n : ℕ) : Type 0 where
   pub fits : n ≤ length text
   pub is_closed : HasState given (take n text) false Closed
   pub is_first : (m : ℕ) → m < n → HasState given (take m text) false Closed → ⊥
 
--- The first n bytes of the text are whole items without a fault.
+-- The first n bytes of the stream are complete items without a fault.
 pub record HasFront (given : Settings) (text : List ℕ) (n : ℕ) : Type 0 where
   pub to : StreamProgress
   pub front : List ℕ
@@ -109,7 +110,7 @@ pub record HasFront (given : Settings) (text : List ℕ) (n : ℕ) : Type 0 wher
   pub has_length : length front ≡ n
   pub leads : Front (start given.frame given.mode given.page_size given.limit given.waiting) front to
 
--- The text is read to its first n bytes: these are its longest front of whole items without a
+-- The stream is read to its first n bytes: these are its longest front of complete items without a
 -- fault. Where it is bad, the item at fault begins after them.
 pub record IsValidUpTo (given : Settings) (text : List ℕ) (n : ℕ) : Type 0 where
   pub to : StreamProgress
@@ -118,7 +119,7 @@ pub record IsValidUpTo (given : Settings) (text : List ℕ) (n : ℕ) : Type 0 w
   pub reads : Reads (start given.frame given.mode given.page_size given.limit given.waiting) text to rest state
   pub has_length : length reads.front ≡ n
 
--- where the text is closed, if it is
+-- where the stream is closed, if it is
 abbrev pub HasClosedAt : Settings → List ℕ → Option ℕ → Type 0
 HasClosedAt given text (Some n) = IsClosedAt given text n
 HasClosedAt given text None = (reading : StreamReading) × IsReading given text reading × (reading.state ≢ Closed)

@@ -1,4 +1,4 @@
--- The reading of a stream: its longest front of whole items without a fault, and how it stands
+-- The reading of a stream: its longest front of complete items without a fault, and how it stands
 -- after it.
 use Rattle.std.specs.Prelude.{◌≡◌, ◌≢◌, ℕ, Bool, true, false, List, [], ◌∷◌, ◌++◌, length, Option, Some, None, ⊤}
 use Rattle.std.specs.List.{concat}
@@ -29,42 +29,42 @@ abbrev pub after_all : StreamProgress → List (List ℕ) → StreamProgress
 after_all c [] = c
 after_all c (item ∷ items) = after_all (after c item) items
 
--- these bytes are whole items without a fault, and lead from here to there
+-- these bytes are complete items without a fault, and lead from here to there
 pub record Front (from : StreamProgress) (bytes : List ℕ) (to : StreamProgress) : Type 0 where
   pub items : List (List ℕ)
   pub has_bytes : bytes ≡ concat items
   pub are_faultless : AreFaultless from items
   pub leads_to : to ≡ after_all from items
 
--- How a text stands where these bytes follow a front: closed after its end, bad where a whole item
--- with a fault follows, and else not whole.
+-- How a stream stands where these bytes follow a front: closed after its end, bad where a complete
+-- item with a fault follows, and else not complete.
 abbrev pub Ends : StreamProgress → List ℕ → StreamState → Type 0
 Ends c rest Closed = c.due ≡ Nothing
 Ends c rest (Bad fault) = (item more : List ℕ) × (rest ≡ item ++ more) × IsItem c.page_size c.due item × (first_fault c item ≡ Some fault)
 Ends c rest Reading = (c.due ≢ Nothing) × ((item more : List ℕ) → rest ≡ item ++ more → IsItem c.page_size c.due item → ⊥)
 
--- a text is read to there, with these bytes left, and stands so
+-- a stream is read to there, with these bytes left, and stands so
 pub record Reads (from : StreamProgress) (text : List ℕ) (to : StreamProgress) (rest : List ℕ) (state : StreamState) : Type 0 where
   pub front : List ℕ
   pub has_text : text ≡ front ++ rest
   pub leads : Front from front to
   pub ends : Ends to rest state
 
--- How a text stands that may be over: where it is over before its end, it was cut short.
+-- How a stream stands that may have ended: where it ended before it was closed, it was cut short.
 abbrev pub state_at : Bool → StreamState → StreamState
 state_at true Reading = Bad Truncated
 state_at true Closed = Closed
 state_at true (Bad fault) = Bad fault
 state_at false state = state
 
--- what a text tells so far: its table, its whole rounds, and how it stands
+-- what a stream says so far: its table, its complete rounds, and how it stands
 pub record StreamReading : Type 0 where
   pub table : Option RamTable
   pub rounds : List (List PageRecord)
   pub state : StreamState
 
--- what no byte says: what it is the stream of, which stream it is, the size of a page, the limit on
--- the table's total, and the most page records of an open round, or None for any number
+-- what no stream says: what it is the stream of, which stream it is, the size of a page, and the
+-- limit on the table's total
 pub record Settings : Type 0 where
   pub frame : Frame
   pub mode : Mode

@@ -3,7 +3,7 @@ use Rattle.std.specs.Prelude.{ℕ, ◌≡◌, List, length, slice_index_or, None
 use Rattle.mig_mem.specs.Place.{place_at}
 use Rattle.mig_stream.specs.PageRecord.{PageRecord}
 
--- the size of a page, and the page records in the order of the text
+-- the size of a page, and the page records in the order of the stream
 pub record RoundOfRecords : Type 0 where
   pub page_size : ℕ
   pub records : List PageRecord

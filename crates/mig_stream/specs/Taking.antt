@@ -11,8 +11,8 @@ use Rattle.mig_stream.specs.declared.item.PassedItem.TheVariants.{SubsectionHead
 use Rattle.mig_stream.specs.Items.{faults, kind_faults, after_kind, after_item, subsection_faults, behind_passed}
 use Rattle.mig_stream.specs.Reading.{Front}
 
--- An item of this kind is taken where it has no fault, and else its first fault is told. Where an
--- allocation was refused nothing is told. Without the item nothing changes.
+-- An item of this kind is taken where it has no fault, and else its first fault is reported. Where
+-- an allocation was refused nothing is reported. Without the item nothing changes.
 abbrev pub TakesAs : StreamProgress → Due → List ℕ → StreamProgress → Result ⊤ Stop → Type 0
 TakesAs old due item new (Ok done) = (first_of (faults old due item) ≡ None) × (new ≡ after_item old due item)
 TakesAs old due item new (Err (stop.Fault fault)) = (first_of (faults old due item) ≡ Some fault) × (new ≡ old)
@@ -24,20 +24,20 @@ TakesHead old kind page new (Ok done) = (first_of (kind_faults old kind page) �
 TakesHead old kind page new (Err (stop.Fault fault)) = (first_of (kind_faults old kind page) ≡ Some fault) × (new ≡ old)
 TakesHead old kind page new (Err stop.Memory) = new ≡ old
 
--- the head of a subsection tells what stands behind it, or its fault
+-- the head of a subsection says what stands after it, or its fault
 abbrev pub TellsBody : List ℕ → Result Due Stop → Type 0
 TellsBody item (Ok due) = (first_of (subsection_faults item) ≡ None) × (due ≡ behind_passed SubsectionHead item)
 TellsBody item (Err (stop.Fault fault)) = first_of (subsection_faults item) ≡ Some fault
 TellsBody item (Err stop.Memory) = ⊥
 
--- some of these bytes, whole items without a fault, were taken
+-- some of these bytes, complete items without a fault, were taken
 pub record HasTaken (old : StreamProgress) (bytes : List ℕ) (new : StreamProgress) : Type 0 where
   pub front : List ℕ
   pub rest : List ℕ
   pub has_bytes : bytes ≡ front ++ rest
   pub leads : Front old front new
 
--- the bytes before this rest, whole items without a fault, were taken
+-- the bytes before this rest, complete items without a fault, were taken
 abbrev pub HasTakenTo : StreamProgress → List ℕ → List ℕ → StreamProgress → Type 0
 HasTakenTo old bytes rest new = (front : List ℕ) × (bytes ≡ front ++ rest) × Front old front new
 

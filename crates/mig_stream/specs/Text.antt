@@ -1,4 +1,4 @@
--- The texts of a stream, as they are spelled.
+-- The streams, as they are spelled.
 use Rattle.std.specs.Prelude.{◌≡◌, ℕ, ◌+◌, ◌*◌, ◌<◌, ◌≤◌, ◌^◌, Bool, true, false, IsTrue, List, [], ◌∷◌, ◌++◌, length, map, Option, Some, None, IfSome, All, ⊤}
 use Rattle.std.specs.List.{flat_map}
 use Rattle.mig_mem.specs.RamTable.{Block, RamTable, block, total_pages, IsTable}
@@ -105,7 +105,7 @@ total_bytes table = total_pages table.blocks * table.page_size
 unfoldable pub size_list : RamTable → List ℕ
 size_list table = be64 (total_bytes table + flags_of SizeList) ++ flat_map (entry table.page_size) table.blocks
 
--- ---- the whole text
+-- ---- the complete stream
 
 unfoldable pub file_header : List ℕ
 file_header = be32 magic ++ be32 version
@@ -117,7 +117,7 @@ configuration (Some name) = configuration_type ∷ (be32 (length name) ++ name)
 abbrev pub start_head : ℕ → List ℕ
 start_head id = section_type Start ∷ (be32 id ++ counted ram_name ++ be32 ram_instance ++ be32 ram_version)
 
--- The text is a whole stream, up to and with its end byte: file header, configuration or none,
+-- The bytes are a complete stream, up to and with its end byte: file header, configuration or none,
 -- START with the size list, PARTs, END and the end byte, each section with any records.
 pub record IsText (mode : Mode) (limit : ℕ) (text : List ℕ) (table : RamTable) (rounds : List (List PageRecord)) : Type 0 where
   pub id : ℕ

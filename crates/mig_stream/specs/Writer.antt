@@ -10,13 +10,13 @@ use Rattle.mig_stream.specs.Format.{section_type}
 use Rattle.mig_stream.specs.Text.{record_bytes, named_after, section}
 use Rattle.mig_stream.specs.Written.{Part, written_id, written_records, part_records, named_after_parts, written_so_far}
 
--- what a writer holds: its table, the text so far, and the block named last
+-- what a writer holds: its table, the stream so far, and the block named last
 pub record Writer : Type 0 where
   pub table : RamTable
   pub text : List ℕ
   pub named : Option ℕ
 
--- The writer has been given these parts, and these bytes of their text were drained of it.
+-- The writer has been given these parts, and these bytes of their stream were drained of it.
 pub record HasDrained (drained : List ℕ) (w : Writer) (parts : List Part) : Type 0 where
   pub has_text : drained ++ w.text ≡ written_so_far w.table parts
   pub has_named : w.named ≡ named_after_parts None parts

@@ -1,4 +1,4 @@
--- The one text that a writer makes of a table and parts.
+-- The one stream that a writer makes of a table and parts.
 use Rattle.std.specs.Prelude.{ℕ, Bool, false, ◌==◌, if◌then◌else◌, List, [], ◌∷◌, ◌++◌, map, replicate, Option, Some, None}
 use Rattle.mig_mem.specs.Image.{Page}
 use Rattle.mig_mem.specs.RamTable.{RamTable}

@@ -21,7 +21,7 @@ impl<A: Allocator> Model for Bytes<A> {
 }
 
 impl<A: Allocator> Bytes<A> {
-    /// A copy of these bytes.
+    /// Copies `bytes`.
     pub(crate) fn copied(alloc: A, bytes: &[u8]) -> Result<Bytes<A>, NoMemory>
         ensures { IfOk result (λ b. b ≡ bytes.now) }
     {

@@ -14,7 +14,7 @@ use mig_mem::{NoMemory, Table, TableFault};
 use std::alloc::Allocator;
 use std::marker::Model;
 
-/// A block that an entry tells.
+/// A block that an entry names.
 #[derive(Drop)]
 pub(crate) struct Entry<A: Allocator> {
     id: Bytes<A>,
@@ -53,14 +53,14 @@ impl<A: Allocator> Model for Entries<A> {
         × (e.table ≡ listed_table e.page_size e.left e.blocks.items) };
 }
 
-// All that a lawful table is refused for.
+// Returns `NoMemory`, the only fault for which a lawful table is refused.
 fn no_memory(_fault: TableFault) -> NoMemory
     requires { _fault ≡ fault.NoMemory }
 {
     NoMemory
 }
 
-// The table of these blocks.
+// Returns the table of these blocks.
 fn table_of<A: Allocator + Copy>(
     alloc: A,
     page_size: u64,
@@ -79,7 +79,7 @@ fn table_of<A: Allocator + Copy>(
     }
 }
 
-// The table of these blocks, where no byte is left.
+// Returns the table of these blocks, if no byte is left.
 fn whole_table<A: Allocator + Copy>(
     alloc: A,
     page_size: u64,
@@ -96,7 +96,7 @@ fn whole_table<A: Allocator + Copy>(
 }
 
 impl<A: Allocator> Entries<A> {
-    /// Before the size list.
+    /// Creates the entries before the size list.
     pub(crate) fn new(alloc: A, page_size: u64, limit: u64) -> Entries<A>
         requires page_size { IsPageSize page_size }
         requires limit { limit ≤ 2 ^ 40 }
@@ -125,14 +125,14 @@ impl<A: Allocator> Entries<A> {
         self.limit
     }
 
-    /// How many bytes of the total no entry has.
+    /// Returns how many bytes of the total no entry has.
     pub(crate) fn left(&self) -> Option<u64>
         ensures { result ≡ self.now.left }
     {
         self.left
     }
 
-    /// The number of entries. It also says what is kept of them.
+    /// Returns the number of entries. The contract also says what is kept of them.
     pub(crate) fn len(&self) -> usize
         ensures value { result ≡ length self.now.blocks }
         ensures listed { AreListed self.now.page_size self.now.limit self.now.left self.now.blocks }
@@ -140,7 +140,7 @@ impl<A: Allocator> Entries<A> {
         self.blocks.len()
     }
 
-    /// The number of pages of a block, 0 where there is no such block.
+    /// Returns the number of pages of a block, or 0 if there is no such block.
     pub(crate) fn pages(&self, i: usize) -> u64
         ensures value { result ≡ (block self.now.blocks i).pages }
         ensures block { 0 < result → i < 2 ^ 8 }
@@ -152,7 +152,7 @@ impl<A: Allocator> Entries<A> {
         }
     }
 
-    /// The number of the block with an id.
+    /// Returns the number of the block with an id.
     pub(crate) fn find(&self, id: &[u8]) -> Option<usize>
         ensures { result ≡ block_of self.now.blocks id.now }
     {
@@ -165,14 +165,14 @@ impl<A: Allocator> Entries<A> {
         }
     }
 
-    /// The table, once the list is whole.
+    /// Returns the table, once the list is complete.
     pub(crate) fn table(&self) -> Option<&Table<A>>
         ensures { option_copied result ≡ listed_table self.now.page_size self.now.left self.now.blocks }
     {
         self.table.as_ref()
     }
 
-    /// Begins the list, with a total of this many bytes.
+    /// Begins the list, with a total of `total` bytes.
     pub(crate) fn begin(&mut self, total: u64)
         requires first { self.old.left ≡ None }
         requires some { 0 < total }
@@ -182,7 +182,7 @@ impl<A: Allocator> Entries<A> {
         self.left = Some(total);
     }
 
-    /// Goes back to where this many bytes were left and this many entries read.
+    /// Goes back to where `left` bytes were left and `count` entries read.
     pub(crate) fn go_back(&mut self, left: Option<u64>, count: usize)
         requires { WereListed self.old left count }
         ensures { self.new ≡ record self.old { left = left; blocks = take count self.old.blocks } }

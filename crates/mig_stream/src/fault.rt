@@ -1,4 +1,4 @@
-//! Why a stream is refused, by name and number: what `StreamReader::state` answers, and loads pass
+//! Why a stream is refused, by name and number: what `StreamReader::state` returns, and loads pass
 //! on.
 
 ghost use Rattle.std.specs.Prelude.{◌≡◌};
@@ -7,14 +7,14 @@ ghost use Rattle.mig_stream.specs.FaultNumber.{fault_number};
 use std::error::Error;
 use std::fmt::{self, Display, Formatter};
 
-/// Why a text is no stream of guest memory: the first fault of its first faulty item.
+/// Why bytes are no stream of guest memory: the first fault of their first faulty item.
 #[derive(Clone, Copy, Debug, PartialEq, Eq)]
 pub enum StreamFault {
-    /// The text doesn't begin with QEMU's magic, `QEVM`.
+    /// The stream doesn't begin with QEMU's magic, `QEVM`.
     Magic,
     /// The version of the stream isn't 3.
     Version,
-    /// The type byte may not stand there.
+    /// Unexpected section type: the type byte may not stand there.
     SectionType,
     /// The section's name isn't `ram`.
     SectionName,
@@ -28,7 +28,7 @@ pub enum StreamFault {
     Footer,
     /// The configuration's name is longer than 1,024 bytes.
     ConfigLength,
-    /// The size list's total is 0, or above the limit handed in.
+    /// The size list's total is 0, or above the limit.
     Total,
     /// The id of an entry isn't 1 to 255 bytes of 0x20 to 0x7E.
     Id,
@@ -56,7 +56,7 @@ pub enum StreamFault {
     Flush,
     /// A main stream ends after a page record that no FLUSH follows.
     Tail,
-    /// The text was over before its end byte, or in a machine's stream before the footer of RAM's
+    /// The stream ended before its end byte, or in a machine's stream before the footer of RAM's
     /// END.
     Truncated,
     /// A subsection of the configuration has another name than those that are passed over, or a
@@ -73,7 +73,7 @@ pub enum StreamFault {
 }
 
 impl StreamFault {
-    /// The fault's number in documents and in the tool's output.
+    /// Returns the fault's number, as documents and the tool's output have it.
     pub fn number(self) -> u8
         ensures { result ≡ fault_number self }
     {
@@ -110,7 +110,7 @@ impl StreamFault {
         }
     }
 
-    // What a fault says that carries nothing.
+    // Returns the words of a fault that carries nothing.
     fn words(self) -> &'static str {
         match self {
             StreamFault::Magic => "the text doesn't begin with QEVM",
@@ -149,7 +149,7 @@ impl StreamFault {
     }
 }
 
-/// The fault's number, what it says, and what it carries.
+/// Writes the fault's number, its words, and what it carries.
 impl Display for StreamFault {
     fn fmt<W: fmt::Write>(&self, f: &mut Formatter<W>) -> fmt::Result {
         write!(f, "{}: {}", self.number(), self.words())?;

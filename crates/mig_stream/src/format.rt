@@ -35,13 +35,15 @@ pub(crate) const CAPABILITIES_NAME: &[u8] = b"configuration/capabilities";
 
 pub(crate) const SUBSECTION_VERSION: u32 = 1;
 
-// ---- capabilities that change the layout of RAM's section, the only ones that QEMU writes (`should_validate_capability`)
+// ---- capabilities that change the layout of RAM's section, the only ones that QEMU writes
+// (`should_validate_capability`)
 
 pub(crate) const IGNORE_SHARED: &[u8] = b"x-ignore-shared";
 
 pub(crate) const MAPPED_RAM: &[u8] = b"mapped-ram";
 
-// ---- COMMANDs that leave the reading of RAM's section alone (`enum qemu_vm_cmd` in `migration/savevm.c`)
+// ---- COMMANDs that leave the reading of RAM's section alone (`enum qemu_vm_cmd` in
+// `migration/savevm.c`)
 
 pub(crate) const MIG_CMD_OPEN_RETURN_PATH: u16 = 1;
 

@@ -1,10 +1,10 @@
-//! The reader of a single stream that gives page records as they come: of a whole text, or of piece
-//! after piece, with a `Pause` between two. `load_single` of `mig_load` reads a whole text by one,
-//! and `EagerState` the pieces as they come.
+//! The reader of a single stream that gives page records as they come: of a complete stream, or of
+//! piece after piece, with a `Pause` between two. `load_single` reads a complete stream by one, and
+//! `EagerState` the pieces as they come.
 //!
-//! A section's records are given before the section is whole, so that a page can be copied as soon
-//! as its bytes were read. Who takes them has to see to it that a text with a fault leaves nothing
-//! of a section that isn't whole, or says what it leaves. `StreamReader` keeps them instead.
+//! A section's records are given before the section is complete, so that a page can be copied as
+//! soon as its bytes were read. Who takes them must see to it that a stream with a fault leaves no
+//! records of an incomplete section, or say what it leaves. `StreamReader` keeps them instead.
 
 ghost use Rattle.std.specs.Prelude.{◌≡◌, ◌≢◌, ◌<◌, ◌≤◌, ◌+◌, ◌*◌, ◌^◌, length, [], All, IsTrue, IsFalse, IsSome, None, Some, IfOk, IfSome, OnOk, OnErr, ◌++◌, ℕ, List, take, IfNone};
 ghost use Rattle.std.specs.Option.{option_copied};
@@ -34,17 +34,17 @@ use std::{fmt, mem};
 /// What a call of `RecordReader::read_on` gave.
 #[derive(Clone, Copy, Debug, PartialEq, Eq)]
 pub enum Given {
-    /// Page records of a section that isn't whole yet. There may be none.
+    /// Page records of a section that isn't complete yet. There may be none.
     Records,
     /// The last page records of a section. There may be none.
     Section,
-    /// Nothing: all records were given, and the text stands so.
+    /// No records: all were given, and the stream stands so.
     End(StreamState),
 }
 
-/// Reads a single stream that is there whole, or its next piece after a `Pause`, and gives its page
-/// records as they come. Their pages are lent from those bytes, but for a page whose first bytes an
-/// earlier piece had.
+/// Reads a complete single stream, or its next piece after a `Pause`, and gives its page records as
+/// they come. Their pages are lent from those bytes, but for a page whose first bytes an earlier
+/// piece had.
 #[derive(Drop)]
 pub struct RecordReader<'a, A: Allocator = Global> {
     progress: Progress<'a, A>,
@@ -78,7 +78,7 @@ impl<'a, A: Allocator> fmt::Debug for RecordReader<'a, A> {
 }
 
 /// A single stream between two of its pieces: how far it was read, and the bytes of an item that
-/// isn't whole yet. All records that were read have been given.
+/// isn't complete yet. All records that were read have been given.
 ///
 /// Load piece after piece: `resume` with the next one, `read_on` until `End(Reading)`, and `pause`.
 /// A caller that reads pages straight to where they belong asks for each piece by `wanted`.
@@ -202,7 +202,8 @@ impl<A: Allocator + Copy> Pause<A> {
         }
     }
 
-    /// Returns a reader of `piece`, the next bytes of the stream, which gave nothing of them yet.
+    /// Returns a reader of `piece`, the next bytes of the stream, which gave no records of them
+    /// yet.
     pub fn resume<'b>(self, piece: &'b [u8]) -> RecordReader<'b, A>
         ensures gives { (given : Settings) (text : List ℕ) (so_far : GivenSoFar)
             → PausesAt given text so_far self → Gives given (text ++ piece.now) so_far result }
@@ -238,7 +239,7 @@ impl<A: Allocator> Pause<A> {
         self.fed.saturating_sub(self.pending.len() as u64)
     }
 
-    /// Returns how many bytes a page of the stream has: `take_page` takes so many.
+    /// Returns how many bytes a page of the stream has, which is what `take_page` takes.
     pub fn page_size(&self) -> u64
         ensures value { result ≡ self.now.progress.page_size }
         ensures given { PauseTells self.now (λ given text so_far. result ≡ given.page_size) }
@@ -246,7 +247,7 @@ impl<A: Allocator> Pause<A> {
         self.progress.entries.page_size()
     }
 
-    /// Returns the stream's table, once its size list was read whole.
+    /// Returns the stream's table, once its size list was read completely.
     pub fn table(&self) -> Option<&Table<A>>
         ensures whole { option_copied result ≡ whole_table self.now.progress }
         ensures table { PauseTells self.now (λ given text so_far. HasTable given text (option_copied result)) }
@@ -256,8 +257,8 @@ impl<A: Allocator> Pause<A> {
 }
 
 impl<'a, A: Allocator + Copy> RecordReader<'a, A> {
-    /// A reader of this text, of a single stream of this page size whose size list has at most
-    /// `limit` bytes.
+    /// Creates a reader of `text`, a single stream of RAM's sections alone with pages of
+    /// `page_size` bytes. Its size list may add up to at most `limit` bytes.
     pub fn new(alloc: A, page_size: u64, limit: u64, text: &'a [u8]) -> RecordReader<'a, A>
         requires page_size { IsPageSize page_size }
         requires limit { limit ≤ 2 ^ 40 }
@@ -314,7 +315,11 @@ impl<'a, A: Allocator + Copy> RecordReader<'a, A> {
     }
 
     /// Reads on, for the most part up to the end of a page or of a section, and gives the records
-    /// that it found: `given` has them until the next call. An `Err` changes nothing.
+    /// that it found: `given` has them until the next call.
+    ///
+    /// # Errors
+    ///
+    /// `NoMemory`: an allocation was refused. Nothing changes.
     pub fn read_on(&mut self) -> Result<Given, NoMemory>
         ensures ok { IfOk result (λ gave. GivesOn (with_given gave self.new.given.records) self.old self.new) }
         ensures page_size { OnOk result (GiverTells self.old (λ given text so_far. self.new.given.page_size ≡ given.page_size)) }
@@ -356,7 +361,7 @@ impl<'a, A: Allocator + Copy> RecordReader<'a, A> {
     }
 
     /// Returns the pause after this piece, once `read_on` returned `End(Reading)`. It keeps a copy
-    /// of the bytes of an item that isn't whole.
+    /// of the bytes of an item that isn't complete.
     ///
     /// # Errors
     ///
@@ -384,7 +389,7 @@ impl<'a, A: Allocator + Copy> RecordReader<'a, A> {
 }
 
 impl<'a, A: Allocator> RecordReader<'a, A> {
-    // Gives what was read and not given.
+    // Returns what was read and not given.
     fn give(&mut self) -> Given
         ensures less { self.old.found ≢ None → LeavesLess result self.old self.new }
         ensures no_more { left self.new ≤ left self.old }
@@ -405,7 +410,7 @@ impl<'a, A: Allocator> RecordReader<'a, A> {
         }
     }
 
-    // The same where no section is whole.
+    // Returns what was read and not given, where no section is complete.
     fn give_open(&mut self) -> Given
         requires { self.old.progress.rounds ≡ [] }
         ensures less { self.old.found ≢ None → LeavesLess result self.old self.new }
@@ -428,7 +433,8 @@ impl<'a, A: Allocator> RecordReader<'a, A> {
         }
     }
 
-    /// What the last call of `read_on` gave: no records before the first call, and at the end.
+    /// Returns what the last call of `read_on` gave: no records before the first call, and at the
+    /// end.
     pub fn given(&self) -> &StreamRound<'a, A>
         ensures { result.now ≡ self.now.given }
     {
@@ -472,7 +478,8 @@ impl<'a, A: Allocator> RecordReader<'a, A> {
         }
     }
 
-    /// The text's table, as soon as the size list was read whole. Page records come behind it.
+    /// Returns the stream's table, as soon as the size list was read completely. Page records come
+    /// after it.
     pub fn table(&self) -> Option<&Table<A>>
         ensures whole { option_copied result ≡ whole_table self.now.progress }
         ensures table { IfSome (option_copied result) (λ table. GiverTells self.now (λ given text so_far. HasTable given text (Some table))) }

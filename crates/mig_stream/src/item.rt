@@ -4,7 +4,7 @@
 use crate::StreamFault;
 use mig_mem::Place;
 
-/// Which stream a text is.
+/// Which kind of stream bytes are.
 #[derive(Clone, Copy, Debug, PartialEq, Eq)]
 pub enum Mode {
     /// All pages come in this stream; each section is a round.
@@ -29,14 +29,14 @@ pub enum Frame {
     Machine,
 }
 
-/// How far a text has come.
+/// How far a stream has come.
 #[derive(Clone, Copy, Debug, PartialEq, Eq)]
 pub enum StreamState {
     /// More bytes are needed.
     Reading,
     /// The end byte was read, or in a machine's stream the footer of RAM's END.
     Closed,
-    /// The text has a fault.
+    /// The stream has a fault.
     Bad(StreamFault),
 }
 
@@ -63,7 +63,7 @@ pub enum Before {
     LastFooter,
 }
 
-/// How a page record holds its page: as a zero record, or whole.
+/// How a page record holds its page: as a zero record, or with its bytes.
 #[derive(Clone, Copy)]
 pub enum Filling {
     /// `RAM_SAVE_FLAG_ZERO`.
@@ -72,7 +72,7 @@ pub enum Filling {
     Normal,
 }
 
-/// The kinds of a record, which its flags tell.
+/// The kinds of a record, which its flags name.
 #[derive(Clone, Copy)]
 pub enum RecordKind {
     /// `RAM_SAVE_FLAG_MEM_SIZE`.
@@ -99,7 +99,7 @@ pub enum Subsection {
     Capabilities,
 }
 
-/// An item of a machine's stream that is checked and passed over, since it says nothing of RAM.
+/// An item of a machine's stream that is checked and passed over, since it has nothing on RAM.
 #[derive(Clone, Copy)]
 pub enum PassedItem {
     /// A COMMAND after its type byte, and what the next type byte follows.
@@ -108,7 +108,7 @@ pub enum PassedItem {
     SubsectionHead,
     /// What a subsection holds; of the capabilities only their number.
     SubsectionBody(Subsection),
-    /// The name of a capability, with this many others after it.
+    /// The name of a capability, and how many others come after it.
     Capability(u32),
 }
 
@@ -119,7 +119,7 @@ pub enum Due {
     FileHeader,
     TypeByte(Before),
     ConfigLength,
-    /// The configuration's name, of this many bytes.
+    /// The configuration's name, with its length in bytes.
     ConfigName(u32),
     /// START's head after its type byte.
     StartHead,
@@ -135,6 +135,6 @@ pub enum Due {
     Footer,
     /// An item of a machine's stream that is passed over.
     Passed(PassedItem),
-    /// The text was closed.
+    /// None: the stream was closed.
     Nothing,
 }

@@ -1,7 +1,7 @@
 //! How each item of a stream is taken. `Progress::run` calls it for the kind that is due.
 //!
-//! A function takes one kind of item, whole: it judges it, in the order of the item's faults, and
-//! notes what it tells.
+//! A function takes one complete item of one kind: it judges it, in the order of the item's faults,
+//! and notes what it says.
 
 ghost use Rattle.std.specs.Prelude.{◌≡◌, ◌+◌, ◌/◌, ◌%◌, ◌^◌, ◌≤◌, ◌==◌, ◌&&◌, not, if◌then◌else◌, length, slice_index, OnOk, OnErr};
 ghost use Rattle.mig_mem.specs.PageSize.{IsPageSize};
@@ -254,7 +254,7 @@ impl<'a, A: Allocator + Copy> Progress<'a, A> {
         Ok(())
     }
 
-    // The records so far are a whole round. An `Err` changes nothing.
+    // Makes a complete round of the records so far. An `Err` changes nothing.
     fn end_round(&mut self) -> Result<(), NoMemory>
         ensures ok { OnOk result (self.new ≡ end_round self.old) }
         ensures err { OnErr result (self.new ≡ self.old) }
@@ -319,7 +319,7 @@ impl<'a, A: Allocator + Copy> Progress<'a, A> {
         requires size { length (bytes_of item) ≡ self.old.page_size }
         ensures { TakesAs self.old (due.Content filling.Normal place) (bytes_of item.entry) self.new result }
     {
-        // for what `page_size` tells of itself: it is at most 8,192
+        // for what the contract of `page_size` says of it: it is at most 8,192
         let _page_size = self.entries.page_size();
         self.filling = self.records.push_page(self.filling, place, item)?;
         self.room = less_room(self.room);
@@ -348,7 +348,7 @@ impl<'a, A: Allocator + Copy> Progress<'a, A> {
 }
 
 impl<'a, A: Allocator> Progress<'a, A> {
-    /// Passes over an item of a machine's stream that says nothing of RAM.
+    /// Passes over an item of a machine's stream that has nothing on RAM.
     pub(crate) fn pass(&mut self, passed: PassedItem, item: &[u8]) -> Result<(), Stop>
         requires { length item.now ≡ passed_size passed item.now }
         ensures { TakesAs self.old (due.Passed passed) item.now self.new result }
@@ -380,7 +380,7 @@ impl<'a, A: Allocator> Progress<'a, A> {
     }
 }
 
-// The item after the name and the version of a subsection.
+// Returns the item after the name and the version of a subsection.
 fn subsection_head(item: &[u8]) -> Result<Due, Stop>
     requires { length item.now ≡ 5 + slice_index item.now 0 }
     ensures { TellsBody item.now result }
@@ -395,7 +395,7 @@ fn subsection_head(item: &[u8]) -> Result<Due, Stop>
     Ok(Due::Passed(PassedItem::SubsectionBody(subsection)))
 }
 
-// The subsection of a name.
+// Returns the subsection of a name.
 #[tactic(auto, unfolding(crate::specs::Format::subsection_name))]
 fn subsection_of(name: &[u8]) -> Option<Subsection>
     ensures { result ≡ subsection_of name.now }
@@ -412,7 +412,7 @@ fn subsection_of(name: &[u8]) -> Option<Subsection>
     None
 }
 
-// Whether a COMMAND of this number leaves the reading of RAM's section alone.
+// Returns whether COMMAND `number` leaves the reading of RAM's section alone.
 fn is_passed_command(number: u16) -> bool
     ensures { result ≡ is_passed_command number }
 {
@@ -426,14 +426,14 @@ fn is_passed_command(number: u16) -> bool
     }
 }
 
-// Whether a page has 2^`bits` bytes.
+// Returns whether a page has 2^`bits` bytes.
 fn are_page_bits(bits: u32, page_size: u64) -> bool
     ensures { result ≡ (2 ^ bits == page_size) }
 {
     2u64.checked_pow(bits) == Some(page_size)
 }
 
-// Whether a capability of this name changes the layout of RAM's section.
+// Returns whether a capability of this name changes the layout of RAM's section.
 #[tactic(auto, unfolding(crate::specs::Format::layout_capabilities))]
 fn is_layout(name: &[u8]) -> bool
     ensures { result ≡ list_any (λ known. bytes_eq name.now known) layout_capabilities }
@@ -441,7 +441,8 @@ fn is_layout(name: &[u8]) -> bool
     name == IGNORE_SHARED || name == MAPPED_RAM
 }
 
-// The item after the count of capabilities, or after one of them, with so many to come.
+// Returns the item after the count of capabilities, or after one of them, where `others` are to
+// come.
 fn capabilities_due(others: u32) -> Due
     ensures { result ≡ capabilities_due others }
 {
@@ -452,7 +453,7 @@ fn capabilities_due(others: u32) -> Due
     }
 }
 
-// The item after the type byte of one that is passed over.
+// Returns the item after the type byte of one that is passed over.
 fn passed_by(before: Before, byte: u8) -> PassedItem
     ensures { result ≡ passed_by before byte }
 {
@@ -463,7 +464,7 @@ fn passed_by(before: Before, byte: u8) -> PassedItem
     }
 }
 
-// What the type byte after a COMMAND follows.
+// Returns what the type byte after a COMMAND follows.
 fn behind_command(before: Before) -> Before
     ensures { result ≡ behind_command before }
 {
@@ -474,7 +475,7 @@ fn behind_command(before: Before) -> Before
     }
 }
 
-// Whether a section of this type byte is passed over there.
+// Returns whether a section of this type byte is passed over there.
 fn is_passed(frame: Frame, before: Before, byte: u8) -> bool
     ensures { result ≡ is_passed frame before byte }
 {
@@ -486,7 +487,7 @@ fn is_passed(frame: Frame, before: Before, byte: u8) -> bool
     may_pass && frame == Frame::Machine
 }
 
-// Whether the footer of this section closes the text.
+// Returns whether the footer of this section closes the stream.
 fn closes(frame: Frame, section: Section) -> bool
     ensures { result ≡ closes frame section }
 {
@@ -508,7 +509,7 @@ fn behind_footer(frame: Frame, section: Section) -> Due
     })
 }
 
-// The type bytes that may stand there.
+// Returns whether this type byte may stand there.
 fn is_allowed(before: Before, byte: u8) -> bool
     ensures { result ≡ is_allowed before byte }
 {
@@ -520,7 +521,7 @@ fn is_allowed(before: Before, byte: u8) -> bool
     }
 }
 
-// The item that follows an entry of the size list, by how many bytes of the total are left.
+// Returns the item that follows an entry of the size list, by how many bytes of the total are left.
 fn after_entry(left: u64) -> Due
     ensures { result ≡ (if left == 0 then due.RecordHead else due.ListEntry) }
 {
@@ -531,8 +532,8 @@ fn after_entry(left: u64) -> Due
     }
 }
 
-// The page number and the flags of a record's head. The sizes are named, so that none is divided by
-// at run time.
+// Returns the page number and the flags of a record's head. The sizes are named, so that none is
+// divided by at run time.
 pub(crate) fn split_head(head: u64, page_size: u64) -> (u64, u16)
     requires { IsPageSize page_size }
     ensures page { result.0 ≡ head / page_size }
@@ -545,7 +546,7 @@ pub(crate) fn split_head(head: u64, page_size: u64) -> (u64, u16)
     }
 }
 
-// Returns whether no page record more fits into the open round.
+// Returns the kind of a record by its flags.
 #[inline(always)]
 pub(crate) fn is_full(room: Option<u64>) -> bool
     ensures { result ≡ is_full room }
@@ -555,8 +556,6 @@ pub(crate) fn is_full(room: Option<u64>) -> bool
         None => false,
     }
 }
-
-// Returns the room for page records after a footer.
 fn open_room(mode: Mode, waiting: Option<u64>, room: Option<u64>) -> Option<u64>
     ensures { result ≡ open_room mode waiting room }
 {
@@ -566,8 +565,6 @@ fn open_room(mode: Mode, waiting: Option<u64>, room: Option<u64>) -> Option<u64>
         (Some(_), Mode::Main) => room,
     }
 }
-
-// Returns the room for page records after one more.
 #[inline(always)]
 pub(crate) fn less_room(room: Option<u64>) -> Option<u64>
     ensures { result ≡ less_room room }
@@ -577,8 +574,6 @@ pub(crate) fn less_room(room: Option<u64>) -> Option<u64>
         None => None,
     }
 }
-
-// The kind of a record by its flags.
 fn record_kind(flags: u16) -> Option<RecordKind>
     ensures { result ≡ record_kind flags }
 {

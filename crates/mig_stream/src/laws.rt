@@ -1,66 +1,66 @@
-//! Laws of the definitions alone: what holds between the texts of a stream and their readings,
-//! whatever code writes and reads them.
+//! Laws of the definitions alone: what holds between streams and their readings, whatever code
+//! writes and reads them.
 //!
-//! Each law is the clause of a function that does nothing, so that it is proved with the crate and
+//! Each law is the clause of a function that does nothing. So it is proved with the crate, and
 //! callers can have it.
 
 ghost use Rattle.mig_stream.specs.MachineWritten.{MachineSinglesAreTexts, MachineMainsAreTexts, WrittenIsClosed, ConfiguredIsWritten, ConfiguredIsClosed};
 ghost use Rattle.mig_stream.specs.Law.{HasOneReading, SpelledIsRead, ReadIsSpelled, ClosedIsText, MachineClosedIsText, HasOneText, SinglesAreTexts, MainsAreTexts, RecordsStandForPages, ReadingsKeepLimits, LongerTextsStay};
 ghost use Rattle.mig_stream.specs.Law.{IsValidUpToOnePlace, LongerTextsStayValid, ClosedIsValid, BadIsValidBefore};
 
-/// Each text has exactly one reading. So whoever reads it, in whatever pieces, finds the same
-/// table, the same rounds and the same first fault.
+/// Bytes have exactly one reading. So whoever reads them, in whatever pieces, finds one and the
+/// same table, rounds and first fault.
 pub fn text_has_one_reading()
     ensures { HasOneReading }
 {}
 
-/// Whatever is spelled as a text is read as that text, whatever bytes follow it.
+/// Whatever is spelled as a stream is read as that stream, whatever bytes follow it.
 pub fn spelled_is_read()
     ensures { SpelledIsRead }
 {}
 
-/// Whatever is read to its end byte has a prefix that is spelled as that text.
+/// Whatever is read to its end byte has a prefix that is spelled as that stream.
 pub fn read_is_spelled()
     ensures { ReadIsSpelled }
 {}
 
-/// Bytes are read to an end byte exactly where a prefix of them is a text, of that table and those
-/// rounds.
+/// Bytes are read to an end byte exactly where a prefix of them is a stream, of that table and
+/// those rounds.
 pub fn closed_is_text()
     ensures { ClosedIsText }
 {}
 
-/// No bytes have two prefixes that are texts.
+/// No bytes have two prefixes that are streams.
 pub fn bytes_have_one_text()
     ensures { HasOneText }
 {}
 
-/// What a writer makes of rounds of a lawful table, which a limit admits, is a single stream, with
-/// a round for START and one for END around them, and its records stand for the pages of the
-/// rounds. What it makes of FLUSHes is a main stream with as many rounds.
+/// What a writer makes of rounds of a lawful table, which a limit admits, is a single stream. It
+/// has a round for START and one for END around them, and its records stand for the pages of the
+/// rounds. What a writer makes of FLUSHes is a main stream with as many rounds.
 pub fn written_is_text()
     ensures single { SinglesAreTexts }
     ensures main { MainsAreTexts }
     ensures pages { RecordsStandForPages }
 {}
 
-/// A text has no more whole rounds than bytes, and none before its table is known; and its table
-/// has the page size that was handed in.
+/// A stream has no more complete rounds than bytes, and none before its table is known. The table
+/// has the page size that was passed.
 pub fn readings_keep_limits()
     ensures { ReadingsKeepLimits }
 {}
 
-/// What is read of a text stays, whatever bytes follow: its whole rounds are the first ones of the
-/// longer text, and its table is that text's too. After the end byte, or a fault, nothing changes
-/// any more.
+/// What is read of a stream stays, whatever bytes follow: its complete rounds are the first ones of
+/// the longer stream, and its table is that stream's too. After the end byte, or a fault, nothing
+/// changes any more.
 pub fn longer_texts_stay()
     ensures { LongerTextsStay }
 {}
 
-/// A text is valid up to exactly one place, which `valid_up_to` of each reader returns: so many of
-/// its bytes are complete items without a fault, and no more are. Bytes that follow only move it
-/// on. Once the text is closed or bad, it stays: where the text is closed, or where the item at
-/// fault begins.
+/// A stream is valid up to exactly one place, which `valid_up_to` of each reader returns. So many
+/// of its bytes are complete items without a fault, and no more are. Bytes that follow only move
+/// the place on. Once the stream is closed or bad, it stays: where the stream is closed, or where
+/// the item at fault begins.
 pub fn text_is_valid_up_to_one_place()
     ensures one { IsValidUpToOnePlace }
     ensures longer { LongerTextsStayValid }
@@ -69,20 +69,19 @@ pub fn text_is_valid_up_to_one_place()
 {}
 
 /// Bytes are read as a machine's stream to the footer of RAM's END exactly where a prefix of them
-/// is the text of one, of that table and those rounds, whatever follows it.
+/// is one. The prefix is of that table and those rounds, whatever follows it.
 pub fn machine_closed_is_text()
     ensures { MachineClosedIsText }
 {}
 
-/// What a writer makes of rounds, or of FLUSHes, for a machine's stream is the text of one, of the
-/// same rounds. So it is with a machine's name of at most 1,024 bytes in front of RAM's START, and
-/// without one.
+/// What a writer makes of rounds, or of FLUSHes, for a machine's stream is one, of these rounds. So
+/// it is with a machine's name of at most 1,024 bytes in front of RAM's START, and without one.
 pub fn machine_written_is_text()
     ensures single { MachineSinglesAreTexts }
     ensures main { MachineMainsAreTexts }
 {}
 
-/// The bytes that a writer makes after the file header go with each machine: with a configuration
+/// The bytes that a writer makes after the file header go with each machine. With a configuration
 /// between them they are what it makes for a machine of that name, up to RAM's END or with the end
 /// byte. Without a name that is what it makes of RAM alone.
 pub fn configured_is_written()

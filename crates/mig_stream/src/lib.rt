@@ -1,14 +1,18 @@
 //! The migration stream: the RAM section of QEMU's stream version 3, alone or as the main stream of
-//! multifd. `Frame::Ram` is that section with nothing beside it, as `StreamWriter` writes it, and
-//! `Frame::Machine` a whole machine's stream as QEMU writes it, read up to the footer of RAM's END.
+//! multifd. `Frame::Ram` is that section with nothing beside it, as `StreamWriter` writes it.
+//! `Frame::Machine` is a complete machine's stream as QEMU writes it, read up to the footer of
+//! RAM's END.
 //!
-//! The definitions stand in `specs/`, apart from the code of both directions: what a text of a
-//! stream is (`Text`, `Machine`), how any bytes are read, item by item, with every fault by name
-//! (`Items`, `Reading`), and the one text that a writer makes (`Written`, `MachineWritten`). The
-//! laws between them are in `laws`. `StreamWriter` writes, and `StreamReader` reads; `RecordReader`
-//! reads a single stream, whole or piece by piece with a `Pause` between, and gives its page
-//! records before their section is whole. What travels on the channels beside a main stream, and
-//! what becomes of the pages, is for other crates.
+//! The definitions stand in `specs/`, apart from the code of both directions:
+//!
+//! - `Text`, `Machine`: which bytes are a stream.
+//! - `Items`, `Reading`: how any bytes are read, item by item, with every fault by name.
+//! - `Written`, `MachineWritten`: the one stream that a writer makes.
+//!
+//! The laws between them are in `laws`. `StreamWriter` writes, and `StreamReader` reads.
+//! `RecordReader` reads a single stream, at once or piece by piece with a `Pause` between, and
+//! gives its page records before their section is complete. What travels on the channels beside a
+//! main stream, and what becomes of the pages, is for other crates.
 #![tactic(auto)]
 
 mod bytes;

@@ -30,7 +30,7 @@ const START_HEAD: [u8; 17] = [
 /// RAM_SAVE_FLAG_EOS, and QEMU_VM_SECTION_FOOTER with the section id, with which each section ends.
 pub(crate) const SECTION_END: [u8; 13] = [0, 0, 0, 0, 0, 0, 0, 0x10, 0x7E, 0, 0, 0, 1];
 
-/// The text up to the first part.
+/// Makes the stream's bytes up to the first part.
 #[tactic(auto, unfolding(crate::specs::Written::opening, crate::specs::Text::file_header, crate::specs::Text::size_list))]
 pub(crate) fn opening_of<A: Allocator, B: Allocator>(
     alloc: A,
@@ -47,7 +47,7 @@ pub(crate) fn opening_of<A: Allocator, B: Allocator>(
     Ok(text)
 }
 
-/// The file header, and a configuration with `name`.
+/// Makes the file header, and a configuration with `name`.
 #[tactic(auto, unfolding(crate::specs::Text::file_header))]
 pub(crate) fn configuration_of<A: Allocator>(alloc: A, name: &[u8]) -> Result<Vec<u8, A>, NoMemory>
     requires { length name.now ≤ most_name_bytes }
@@ -61,7 +61,7 @@ pub(crate) fn configuration_of<A: Allocator>(alloc: A, name: &[u8]) -> Result<Ve
     Ok(text)
 }
 
-/// The text from START up to the first part.
+/// Makes the stream's bytes from START up to the first part.
 #[tactic(auto, unfolding(crate::specs::Written::opening, crate::specs::Text::file_header, crate::specs::Text::size_list))]
 pub(crate) fn start_of<A: Allocator, B: Allocator>(
     alloc: A,
@@ -78,7 +78,7 @@ pub(crate) fn start_of<A: Allocator, B: Allocator>(
     Ok(text)
 }
 
-// The bytes of all blocks.
+// Returns the number of bytes of all blocks.
 fn total_of<B: Allocator>(table: &Table<B>) -> u64
     ensures value { result ≡ total_bytes table.now }
     ensures room { result ≤ 2 ^ 40 }
@@ -90,7 +90,7 @@ fn total_of<B: Allocator>(table: &Table<B>) -> u64
     pages * table.page_size()
 }
 
-// An entry of the size list for each block.
+// Appends an entry of the size list for each block.
 fn put_entries<A: Allocator, B: Allocator>(
     text: &mut Vec<u8, A>,
     table: &Table<B>,

@@ -23,7 +23,7 @@ impl<'a, 'b> Piece<'a, 'b> {
         }
     }
 
-    /// The first bytes, and those behind them.
+    /// Returns the first `mid` bytes, and those after them.
     pub(crate) fn split_at(self, mid: usize) -> (Piece<'a, 'b>, Piece<'a, 'b>)
         requires { mid ≤ length (bytes_of self) }
         ensures front { bytes_of result.0 ≡ take mid (bytes_of self.entry) }
@@ -43,7 +43,7 @@ impl<'a, 'b> Piece<'a, 'b> {
 }
 
 impl<'a> Piece<'a, 'a> {
-    /// The bytes, for as long as they are lent.
+    /// Returns the bytes, for as long as they are lent.
     pub(crate) fn into_bytes(self) -> &'a [u8]
         ensures { result.now ≡ bytes_of self.entry }
     {

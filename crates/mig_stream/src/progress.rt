@@ -38,10 +38,9 @@ pub(crate) struct Progress<'a, A: Allocator> {
     pub(crate) section: Section,
     pub(crate) section_id: u32,
     pub(crate) named: Option<usize>,
-    // the most page records of a round, and how many more the open one may have: None is any number
+    // the records of the open round, and the complete rounds that were not given away
     pub(crate) waiting: Option<u64>,
     pub(crate) room: Option<u64>,
-    // the records of the round that isn't whole yet, and the whole rounds that were not given away
     pub(crate) records: Records<'a, A>,
     // the record whose buffer is being filled, if there is one
     pub(crate) filling: usize,
@@ -77,7 +76,7 @@ impl<'a, A: Allocator> Model for Progress<'a, A> {
         × HasShortPlace c.due };
 }
 
-/// How far a stream had been read, to go back to: its lists only grow.
+/// How far a stream had been read, to go back to. Its lists only grow.
 #[derive(Clone, Copy)]
 pub(crate) struct Checkpoint {
     due: Due,
@@ -92,7 +91,7 @@ pub(crate) struct Checkpoint {
 }
 
 impl<'a, A: Allocator + Copy> Progress<'a, A> {
-    /// Before the first byte.
+    /// Creates the progress before the first byte.
     pub(crate) fn new(
         alloc: A,
         frame: Frame,
@@ -129,7 +128,7 @@ impl<'a, A: Allocator + Copy> Progress<'a, A> {
         self.due = Due::RecordHead;
     }
 
-    /// Lets go of the bytes read so far, where it has no records that lend them.
+    /// Lets go of the bytes read so far. No record lends them.
     pub(crate) fn without_records<'b>(self) -> Progress<'b, A>
         requires records { self.records ≡ [] }
         requires rounds { self.rounds ≡ [] }
@@ -152,7 +151,7 @@ impl<'a, A: Allocator + Copy> Progress<'a, A> {
         }
     }
 
-    /// A round of no records.
+    /// Returns a round of no records.
     pub(crate) fn no_round(&self) -> StreamRound<'a, A>
         ensures { result ≡ record { page_size = self.now.page_size; records = [] } }
     {
@@ -186,8 +185,9 @@ impl<'a, A: Allocator + Copy> Progress<'a, A> {
         }
     }
 
-    /// Takes items from the beginning of the bytes, as far as they are whole and without a fault.
-    /// Gives the bytes that are left, and how they stand. After an `Err` some items were taken.
+    /// Takes items from the beginning of the bytes, as far as they are complete and without a
+    /// fault. Returns the bytes that are left, and how they stand. After an `Err` some items were
+    /// taken.
     pub(crate) fn run<'b>(
         &mut self,
         text: Piece<'a, 'b>,
@@ -201,8 +201,8 @@ impl<'a, A: Allocator + Copy> Progress<'a, A> {
         }
     }
 
-    /// The same, and where pauses are asked for, it may pause after any item: how the bytes that
-    /// are left stand isn't told then.
+    /// Takes items as `run` does. If `pauses` is true, it may pause after any item: then the state
+    /// of the remaining bytes is not reported.
     pub(crate) fn run_on<'b>(
         &mut self,
         text: Piece<'a, 'b>,
@@ -238,7 +238,7 @@ impl<'a, A: Allocator + Copy> Progress<'a, A> {
     }
 }
 
-// How many bytes an item has that is passed over, as its first bytes say.
+// Returns how many bytes an item has that is passed over, as its first bytes say.
 fn passed_size(passed: PassedItem, bytes: &[u8]) -> usize
     ensures { result ≡ passed_size passed bytes.now }
 {
@@ -256,7 +256,7 @@ fn passed_size(passed: PassedItem, bytes: &[u8]) -> usize
 }
 
 impl<'a, A: Allocator> Progress<'a, A> {
-    /// How many bytes the item has that is due, as its first bytes say.
+    /// Returns how many bytes the item has that is due, as its first bytes say.
     pub(crate) fn size(&self, bytes: &[u8]) -> usize
         ensures size { result ≡ size self.now.page_size self.now.due bytes.now }
         ensures page_size { IsPageSize self.now.page_size }
@@ -282,9 +282,9 @@ impl<'a, A: Allocator> Progress<'a, A> {
         }
     }
 
-    // Whether it is time to give the records so far, behind the item that is due: it is a page,
-    // whose bytes were just read and lead to the head that follows them, or the end of a section,
-    // or the records are many.
+    // Returns whether it is time to give the records so far, after the item that is due. So it is
+    // if that is the end of a section, or if the records are many. So it is after a page, too: its
+    // bytes were just read, and lead to the head that follows them.
     fn ends_piece(&self) -> bool {
         match self.due {
             Due::Content(Filling::Normal, _) | Due::Footer => true,
@@ -292,7 +292,7 @@ impl<'a, A: Allocator> Progress<'a, A> {
         }
     }
 
-    // Nothing comes after the text's end.
+    // Returns whether the stream is closed: no item follows.
     fn is_closed(&self) -> bool
         ensures closed { IsTrue result → self.now.due ≡ due.Nothing }
         ensures open { IsFalse result → self.now.due ≢ due.Nothing }
@@ -303,14 +303,14 @@ impl<'a, A: Allocator> Progress<'a, A> {
         }
     }
 
-    /// The table, once the size list is whole.
+    /// Returns the table, once the size list is complete.
     pub(crate) fn table(&self) -> Option<&Table<A>>
         ensures { option_copied result ≡ whole_table self.now }
     {
         self.entries.table()
     }
 
-    /// The first whole round that was not given away.
+    /// Takes the first complete round that was not given away.
     pub(crate) fn take_round(&mut self) -> Option<StreamRound<'a, A>>
         ensures none { IfNone result ((self.old.rounds ≡ []) × (self.new ≡ self.old)) }
         ensures some { IfSome result (λ r. self.old ≡ with_taken (r.records ∷ []) self.new) }
@@ -322,7 +322,7 @@ impl<'a, A: Allocator> Progress<'a, A> {
         }
     }
 
-    /// Gives the records of the round that isn't whole yet, in place of those that were there.
+    /// Gives the records of the open round, in place of those that were there.
     pub(crate) fn give_records(&mut self, given: &mut StreamRound<'a, A>)
         ensures given { given.new ≡ record { page_size = self.old.page_size; records = self.old.records } }
         ensures same { self.new ≡ record self.old { records = [] } }
@@ -331,7 +331,7 @@ impl<'a, A: Allocator> Progress<'a, A> {
         self.filling = 0;
     }
 
-    /// The mark of this place.
+    /// Returns the mark of how far the stream was read.
     pub(crate) fn checkpoint(&self) -> Checkpoint
         ensures value { result ≡ checkpoint_of self.now }
         ensures listed { AreListed self.now.page_size self.now.limit self.now.left self.now.blocks }

@@ -1,8 +1,7 @@
-//! The reader of a stream that comes in pieces, or is there whole. The loaders of `mig_load` call
-//! it.
+//! The reader of a stream that comes in pieces, or is complete. Loaders keep one.
 //!
-//! It keeps what was read as a `Progress`, and of the text only the bytes of an item that isn't
-//! whole yet. A piece is read in place, but for what such an item needs of its beginning.
+//! It keeps what was read as a `Progress`. Of the stream's bytes it keeps only those of an item
+//! that isn't complete yet. A piece is read in place, but for the bytes that complete such an item.
 
 ghost use Rattle.std.specs.Prelude.{◌≡◌, ◌≢◌, ◌+◌, ◌<◌, ◌≤◌, ◌^◌, ◌++◌, ◌↔◌, ℕ, Bool, List, [], ◌∷◌, length, take, true, false, IsTrue, IsFalse, IsOk, Some, All, IfOk, IfSome, IfNone, OnOk, OnErr};
 ghost use Rattle.std.specs.Option.{option_copied};
@@ -28,12 +27,12 @@ use std::alloc::{Allocator, Global};
 use std::fmt;
 use std::marker::Model;
 
-/// Reads a stream from pieces of its text. What it tells is the reading of all bytes fed, however
-/// they were cut.
+/// Reads a stream from pieces of its bytes. What it returns is the reading of all bytes fed,
+/// however they were cut.
 #[derive(Drop)]
 pub struct StreamReader<'a, A: Allocator = Global> {
     progress: Progress<'a, A>,
-    // the bytes of the item that isn't whole yet
+    // the bytes of the item that isn't complete yet
     pending: Vec<u8, A>,
     // how the bytes fed stand
     found: StreamState,
@@ -62,7 +61,7 @@ impl<'a, A: Allocator> fmt::Debug for StreamReader<'a, A> {
     }
 }
 
-// How a text stands that may be over.
+// Returns how a stream stands that may have ended.
 fn state_at(ended: bool, found: StreamState) -> StreamState
     ensures { result ≡ state_at ended found }
 {
@@ -72,8 +71,8 @@ fn state_at(ended: bool, found: StreamState) -> StreamState
     }
 }
 
-/// Fills the pending item up from the beginning of a piece. Gives what is left of the piece, or
-/// None where the item isn't whole with all of it.
+/// Fills the pending item up from the beginning of a piece. Returns what is left of the piece, or
+/// None if the item isn't complete with all of it.
 pub(crate) fn complete<'b, A: Allocator>(
     progress: &Progress<'_, A>,
     pending: &mut Vec<u8, A>,
@@ -98,7 +97,7 @@ pub(crate) fn complete<'b, A: Allocator>(
     Ok(Some(rest))
 }
 
-// Puts these bytes in place of others. An `Err` changes nothing.
+// Replaces the bytes of `kept` by `bytes`. An `Err` changes nothing.
 fn keep<A: Allocator>(kept: &mut Vec<u8, A>, bytes: &[u8]) -> Result<(), NoMemory>
     ensures ok { OnOk result (kept.new.items ≡ bytes.now) }
     ensures err { OnErr result (kept.new.items ≡ kept.old.items) }
@@ -112,8 +111,8 @@ fn keep<A: Allocator>(kept: &mut Vec<u8, A>, bytes: &[u8]) -> Result<(), NoMemor
     Ok(())
 }
 
-// Reads bytes in place, and keeps those of an item that isn't whole. Returns how the text stands,
-// and how many bytes are left. After an `Err` some items were taken.
+// Reads bytes in place, and keeps those of an item that isn't complete. Returns how the stream
+// stands, and how many bytes are left. After an `Err` some items were taken.
 fn read_in_place<'a, A: Allocator + Copy>(
     progress: &mut Progress<'a, A>,
     pending: &mut Vec<u8, A>,
@@ -157,8 +156,8 @@ fn read<A: Allocator + Copy>(
 }
 
 impl<'a, A: Allocator + Copy> StreamReader<'a, A> {
-    /// A reader that was fed nothing, of a stream of this mode and page size whose size list has at
-    /// most `limit` bytes.
+    /// Creates a reader that was fed nothing, for a stream of `mode` of RAM's sections alone with
+    /// pages of `page_size` bytes. Its size list may add up to at most `limit` bytes.
     pub fn new(alloc: A, mode: Mode, page_size: u64, limit: u64) -> StreamReader<'a, A>
         requires page_size { IsPageSize page_size }
         requires limit { limit ≤ 2 ^ 40 }
@@ -214,8 +213,13 @@ impl<'a, A: Allocator + Copy> StreamReader<'a, A> {
         }
     }
 
-    /// A reader that was fed this text. The bytes of its pages are not copied: the rounds lend them
-    /// from the text.
+    /// Creates a reader that was fed `text`, a stream of `mode` of RAM's sections alone with pages
+    /// of `page_size` bytes. Its size list may add up to at most `limit` bytes. The bytes of pages
+    /// are not copied: the rounds lend them from `text`.
+    ///
+    /// # Errors
+    ///
+    /// `NoMemory`: an allocation was refused.
     pub fn of_text(
         alloc: A,
         mode: Mode,
@@ -291,8 +295,12 @@ impl<'a, A: Allocator + Copy> StreamReader<'a, A> {
         })
     }
 
-    /// Takes the next piece of the text. Once it is closed or bad, the bytes fed are only
-    /// counted, which is never refused. An `Err` changes nothing.
+    /// Takes the next piece of the stream. Once the stream is closed or bad, the bytes fed are only
+    /// counted, and the call never fails.
+    ///
+    /// # Errors
+    ///
+    /// `NoMemory`: an allocation was refused. Nothing changes.
     pub fn feed(&mut self, piece: &[u8]) -> Result<(), NoMemory>
         requires open { IsFalse self.old.ended }
         requires room { self.old.fed + length piece.now < 2 ^ 64 }
@@ -346,7 +354,7 @@ impl<'a, A: Allocator> StreamReader<'a, A> {
         }
     }
 
-    /// The text is over: a reader that isn't closed or bad is bad from now on, with `Truncated`. A
+    /// Ends the stream: a reader that isn't closed or bad is bad from now on, with `Truncated`. A
     /// second call changes nothing.
     pub fn end(&mut self)
         ensures value { self.new ≡ record self.old { ended = true } }
@@ -355,21 +363,21 @@ impl<'a, A: Allocator> StreamReader<'a, A> {
         self.ended = true;
     }
 
-    /// Whether the reader was told that the text is over.
+    /// Returns whether the stream was ended.
     pub fn ended(&self) -> bool
         ensures { result ≡ self.now.ended }
     {
         self.ended
     }
 
-    /// How many bytes were fed.
+    /// Returns how many bytes were fed.
     pub fn fed(&self) -> u64
         ensures { result ≡ self.now.fed }
     {
         self.fed
     }
 
-    /// How the text stands that was fed: still to be read on, closed, or bad.
+    /// Returns how the stream stands that was fed: still to be read on, closed, or bad.
     pub fn state(&self) -> StreamState
         ensures { Tells self.now (λ given so_far. HasState given so_far.text so_far.ended result) }
     {
@@ -397,15 +405,15 @@ impl<'a, A: Allocator> StreamReader<'a, A> {
         }
     }
 
-    /// The table, as soon as the size list is whole. It stays, also where a fault follows.
+    /// Returns the table, as soon as the size list is complete. It stays, also if a fault follows.
     pub fn table(&self) -> Option<&Table<A>>
         ensures { Tells self.now (λ given so_far. HasTable given so_far.text (option_copied result)) }
     {
         self.progress.table()
     }
 
-    /// The next whole round that was not taken, in the order of the text. It allocates nothing, and
-    /// is always `Ok`.
+    /// Takes the next complete round that was not taken, in the order of the stream. It allocates
+    /// nothing, and is always `Ok`.
     pub fn take_round(&mut self) -> Result<Option<StreamRound<'a, A>>, NoMemory>
         ensures ok { IsOk result }
         ensures none { IfOk result (λ o. IfNone o (self.new ≡ self.old)) }

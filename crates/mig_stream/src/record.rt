@@ -1,8 +1,8 @@
 //! Page records as they are kept, each in 24 bytes, for `round`.
 //!
 //! The bytes of copied pages lie together in buffers, so that most pages need no allocation of
-//! their own. A buffer belongs to the record of its first page, and the records behind it say where
-//! in it their bytes are.
+//! their own. A buffer belongs to the record of its first page. The records after it say where in
+//! it their bytes are.
 
 ghost use Rattle.std.specs.Prelude.{◌≡◌, ◌+◌, ◌<◌, ◌≤◌, ◌^◌, ◌++◌, [], ◌∷◌, length, take, None, Some, IfOk, IfSome, IfNone};
 ghost use Rattle.std.specs.Option.{option_copied};
@@ -33,7 +33,7 @@ pub(crate) enum Record<'a, A: Allocator> {
     Kept(u8, u32, u32, Box<Vec<u8, A>, A>),
     /// Its bytes, in the buffer of a record before it.
     Behind(u8, u32, Span),
-    /// Its bytes, as they stand in the text.
+    /// Its bytes, as they stand in the stream.
     Lent(u8, u32, &'a [u8]),
 }
 
@@ -51,7 +51,7 @@ impl<'a, A: Allocator> Record<'a, A> {
     }
 }
 
-/// The place of these numbers.
+/// Returns the place of these numbers.
 pub(crate) fn place_of(block: u8, page: u32) -> Place
     ensures { result ≡ place_at block page }
 {
@@ -61,8 +61,7 @@ pub(crate) fn place_of(block: u8, page: u32) -> Place
     }
 }
 
-// Puts bytes behind those of a buffer, where there is room. Gives from where on, and up to where,
-// they lie.
+// Appends bytes to a buffer, if there is room. Returns from where on, and up to where, they lie.
 fn append<A: Allocator>(buffer: &mut Vec<u8, A>, bytes: &[u8]) -> Option<(u32, u32)>
     ensures some { IfSome result (λ s. (buffer.new.items ≡ buffer.old.items ++ bytes.now)
         × (s.0 ≡ length buffer.old.items) × (s.1 ≡ length buffer.new.items)) }
@@ -79,7 +78,7 @@ fn append<A: Allocator>(buffer: &mut Vec<u8, A>, bytes: &[u8]) -> Option<(u32, u
     }
 }
 
-// The same of a record's buffer.
+// Appends bytes to a record's buffer, as `append` does.
 fn extend<A: Allocator>(item: &mut Record<'_, A>, bytes: &[u8]) -> Option<(u32, u32)>
     ensures some { IfSome result (λ s. IsGrown item.old item.new bytes.now
         × (s.0 ≡ length (buffer_of item.old)) × (s.1 ≡ length (buffer_of item.new))) }
@@ -91,7 +90,7 @@ fn extend<A: Allocator>(item: &mut Record<'_, A>, bytes: &[u8]) -> Option<(u32, 
     }
 }
 
-/// Puts bytes behind those of the buffer of a record, where it has one and there is room.
+/// Appends bytes to the buffer of a record, if it has one and there is room.
 pub(crate) fn put_behind<A: Allocator>(
     records: &mut Vec<Record<'_, A>, A>,
     owner: usize,
@@ -112,7 +111,7 @@ pub(crate) fn put_behind<A: Allocator>(
     })
 }
 
-// How much room the buffer behind the one of a record is to have, for so many bytes.
+// Returns how much room the buffer after the one of a record is to have, for `len` bytes.
 fn next_capacity<A: Allocator>(records: &[Record<'_, A>], owner: usize, len: usize) -> usize {
     match records.get(owner) {
         Some(Record::Kept(_, _, _, buffer)) => {
@@ -122,7 +121,7 @@ fn next_capacity<A: Allocator>(records: &[Record<'_, A>], owner: usize, len: usi
     }
 }
 
-/// A buffer with these bytes, to follow the one of a record.
+/// Makes a buffer with these bytes, to follow the one of a record.
 pub(crate) fn next_buffer<A: Allocator + Copy>(
     alloc: A,
     records: &[Record<'_, A>],
@@ -136,7 +135,7 @@ pub(crate) fn next_buffer<A: Allocator + Copy>(
     Ok(Box::new(alloc, buffer)?)
 }
 
-// The bytes of a span.
+// Returns the bytes of a span.
 fn bytes_behind<'b, A: Allocator>(records: &'b [Record<'_, A>], span: Span) -> &'b [u8]
     requires { IsWithin (buffers_of_records records.now) span }
     ensures { result.now ≡ bytes_at (buffers_of_records records.now) span }
@@ -147,7 +146,7 @@ fn bytes_behind<'b, A: Allocator>(records: &'b [Record<'_, A>], span: Span) -> &
     }
 }
 
-/// The bytes that the record of a number has of its page.
+/// Returns the bytes that record `i` has of its page.
 pub(crate) fn content_at<'b, A: Allocator>(
     records: &'b [Record<'_, A>],
     i: usize,

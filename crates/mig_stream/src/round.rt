@@ -13,8 +13,8 @@ use std::alloc::{Allocator, Global};
 use std::marker::Model;
 use std::{fmt, mem};
 
-// Makes room for one more record: as much again as there is, and at first for one, since a text may
-// have many rounds of few records.
+// Makes room for one more record: as much again as there is, and at first for one, since a stream
+// may have many rounds of few records.
 #[inline(never)]
 fn grow<A: Allocator>(records: &mut Vec<Record<'_, A>, A>) -> Result<(), NoMemory>
     ensures items { records.new.items ≡ records.old.items }
@@ -24,7 +24,7 @@ fn grow<A: Allocator>(records: &mut Vec<Record<'_, A>, A>) -> Result<(), NoMemor
     Ok(())
 }
 
-// The same where there is none.
+// Makes room for one more record, if there is none.
 #[inline(always)]
 fn make_room<A: Allocator>(records: &mut Vec<Record<'_, A>, A>) -> Result<(), NoMemory>
     ensures items { records.new.items ≡ records.old.items }
@@ -118,7 +118,8 @@ impl<'a, A: Allocator> Records<'a, A> {
         content_at(&self.items, i)
     }
 
-    /// The place and the content together; of a page of zeros, whose item says both, in one look.
+    /// Returns the place and the content together; of a page of zeros, whose item says both, in one
+    /// look.
     #[inline(always)]
     pub(crate) fn get(&self, i: usize) -> (Place, Option<&[u8]>)
         requires { i < length self.now }
@@ -141,13 +142,13 @@ impl<'a, A: Allocator + Copy> Records<'a, A> {
         }
     }
 
-    /// The allocator of its lists and buffers.
+    /// Returns the allocator of its lists and buffers.
     pub(crate) fn alloc(&self) -> A {
         *self.items.allocator()
     }
 
-    /// Adds a record of a page with these bytes, which may go into the buffer of the record of a
-    /// number. Gives the number of the record whose buffer may have room for the next one. An `Err`
+    /// Adds a record of a page with these bytes, which may go into the buffer of record `owner`.
+    /// Returns the number of the record whose buffer may have room for the next one. An `Err`
     /// changes nothing.
     pub(crate) fn push_page(
         &mut self,
@@ -199,7 +200,7 @@ impl<'a, A: Allocator + Copy> Records<'a, A> {
     }
 }
 
-/// A whole round: its page records, in the order of the text.
+/// A complete round: its page records, in the order of the stream.
 #[derive(Drop)]
 pub struct StreamRound<'a, A: Allocator = Global> {
     page_size: u64,
@@ -231,7 +232,7 @@ impl<'a, A: Allocator> StreamRound<'a, A> {
         StreamRound { page_size, records }
     }
 
-    /// Takes these records, of pages of this size, in place of its own.
+    /// Takes these records, of pages of `page_size` bytes, in place of its own.
     pub(crate) fn fill(&mut self, page_size: u64, records: &mut Records<'a, A>)
         requires { AreWhole page_size records.old }
         ensures filled { self.new ≡ record { page_size = page_size; records = records.old } }
@@ -242,7 +243,7 @@ impl<'a, A: Allocator> StreamRound<'a, A> {
         mem::swap(&mut self.records, records);
     }
 
-    /// The number of page records. It may be 0.
+    /// Returns the number of page records. It may be 0.
     #[allow(clippy::len_without_is_empty)]
     pub fn len(&self) -> usize
         ensures { result ≡ length self.now.records }
@@ -250,7 +251,7 @@ impl<'a, A: Allocator> StreamRound<'a, A> {
         self.records.len()
     }
 
-    /// Where the page of a record is.
+    /// Returns where the page of record `i` is.
     pub fn place(&self, i: usize) -> Place
         requires { i < length self.now.records }
         ensures { result ≡ (record_at self.now.records i).place }
@@ -258,8 +259,8 @@ impl<'a, A: Allocator> StreamRound<'a, A> {
         self.records.place(i)
     }
 
-    /// What a record says that its page holds, as many bytes as the page size: None is a zero
-    /// record.
+    /// Returns what record `i` says that its page holds, as many bytes as the page size. None is a
+    /// zero record.
     pub fn content(&self, i: usize) -> Option<&[u8]>
         requires { i < length self.now.records }
         ensures value { option_copied result ≡ (record_at self.now.records i).content }
@@ -268,7 +269,7 @@ impl<'a, A: Allocator> StreamRound<'a, A> {
         self.records.content(i)
     }
 
-    /// Both: where the page of a record is, and what the record says that it holds.
+    /// Returns where the page of record `i` is, and what the record says that it holds.
     #[inline(always)]
     pub fn record(&self, i: usize) -> (Place, Option<&[u8]>)
         requires { i < length self.now.records }
@@ -279,7 +280,7 @@ impl<'a, A: Allocator> StreamRound<'a, A> {
         self.records.get(i)
     }
 
-    /// The number of bytes of a page.
+    /// Returns the number of bytes of a page.
     pub fn page_size(&self) -> u64
         ensures { result ≡ self.now.page_size }
     {

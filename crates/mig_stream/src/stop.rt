@@ -1,5 +1,5 @@
-//! Why an item was not taken: a fault, or a refused allocation. `items` tells it `progress`, and
-//! that the reader.
+//! Why an item was not taken: a fault, or a refused allocation. `items` returns it to `progress`,
+//! and that to the reader.
 
 ghost use Rattle.std.specs.Prelude.{◌≡◌};
 ghost use Rattle.mig_stream.specs.declared.stop.Stop.TheVariants.{Memory};

@@ -18,15 +18,15 @@ use std::alloc::Allocator;
 pub enum Wanted {
     /// The content of the page at this place, from its first byte on.
     Page(Place),
-    /// So many bytes belong to an item that isn't complete: at least 1. With fewer it isn't complete
-    /// either.
+    /// At least 1 byte: so many bytes belong to an item that isn't complete. With fewer it isn't
+    /// complete either.
     Bytes(usize),
 }
 
 impl<A: Allocator + Copy> Pause<A> {
     /// Returns what the next bytes of the stream are. A caller that has `Bytes` reads no more than
-    /// those, and resumes with them; one that has a `Page` reads its content to where it belongs, and
-    /// calls `take_page`, or resumes with it as with any other bytes.
+    /// those, and resumes with them. One that has a `Page` reads its content to where it belongs,
+    /// and calls `take_page`, or resumes with it as with any other bytes.
     pub fn wanted(&self) -> Wanted
         ensures { MatchOption (page_due self.now) ((n : ℕ) × (result ≡ wanted.Bytes n) × AreWanted self.now n) (λ place. result ≡ wanted.Page place) }
     {

@@ -1,5 +1,5 @@
-//! The writer of a stream: of one table and some parts it makes the one text that
-//! `specs/Written.antt` says. The senders of `mig_send` call it.
+//! The writer of a stream: of one table and some parts it makes the one stream that
+//! `specs/Written.antt` defines. The senders of `mig_send` call it.
 //!
 //! It only appends. Which rounds there are, and which stream a part belongs to, is for its caller.
 
@@ -67,7 +67,7 @@ impl<A: Allocator> fmt::Debug for StreamWriter<A> {
     }
 }
 
-// Whether a page is of zeros.
+// Returns whether a page is of zeros.
 fn is_zero_page(content: &[u8]) -> bool
     ensures { result ≡ zero_test content.now }
 {
@@ -75,7 +75,11 @@ fn is_zero_page(content: &[u8]) -> bool
 }
 
 impl<A: Allocator + Copy> StreamWriter<A> {
-    /// A writer that was given no part yet. It keeps a copy of the table.
+    /// Creates a writer that was given no part yet. It keeps a copy of the table.
+    ///
+    /// # Errors
+    ///
+    /// `NoMemory`: an allocation was refused.
     pub fn new<B: Allocator>(alloc: A, table: &Table<B>) -> Result<StreamWriter<A>, NoMemory>
         ensures table { IfOk result (λ w. w.table ≡ table.now) }
         ensures none { IfOk result (λ w. HasWritten w []) }
@@ -117,14 +121,18 @@ impl<A: Allocator + Copy> StreamWriter<A> {
 }
 
 impl<A: Allocator> StreamWriter<A> {
-    /// The table whose pages it writes.
+    /// Returns the table whose pages it writes.
     pub fn table(&self) -> &Table<A>
         ensures { result.now ≡ self.now.table }
     {
         &self.table
     }
 
-    /// Writes the round of an image and its dirty pages, as one PART. An `Err` changes nothing.
+    /// Writes the round of an image and its dirty pages, as one PART.
+    ///
+    /// # Errors
+    ///
+    /// `NoMemory`: an allocation was refused. Nothing changes.
     pub fn part<G: GuestPages, C: Allocator>(
         &mut self,
         image: &G,
@@ -146,7 +154,7 @@ impl<A: Allocator> StreamWriter<A> {
         put
     }
 
-    // Goes back to where its text was so long and this block was named last.
+    // Goes back to where its stream had `len` bytes and block `named` was named last.
     fn go_back(&mut self, len: usize, named: Option<usize>)
         ensures { self.new ≡ record self.old { text = take len self.old.text; named = named } }
     {
@@ -154,7 +162,7 @@ impl<A: Allocator> StreamWriter<A> {
         self.named = named;
     }
 
-    // Writes a PART; after an `Err` a part of it may stand.
+    // Writes a PART. After an `Err` a part of it may stand.
     fn put_part<G: GuestPages, C: Allocator>(
         &mut self,
         image: &G,
@@ -171,7 +179,7 @@ impl<A: Allocator> StreamWriter<A> {
         Ok(())
     }
 
-    // Writes the records of the dirty pages, in the order of their places; after an `Err` some of
+    // Writes the records of the dirty pages, in the order of their places. After an `Err` some of
     // them may stand.
     fn put_pages<G: GuestPages, C: Allocator>(
         &mut self,
@@ -199,7 +207,7 @@ impl<A: Allocator> StreamWriter<A> {
         Ok(())
     }
 
-    // Writes the record of a page; after an `Err` a part of it may stand.
+    // Writes the record of a page. After an `Err` a part of it may stand.
     fn put_page(&mut self, place: Place, content: &[u8]) -> Result<(), NoMemory>
         requires { IsPlace self.old.table place }
         ensures ok { OnOk result (self.new ≡ with_pages self.old (record { place = place; content = content.now } ∷ [])) }
@@ -221,7 +229,7 @@ impl<A: Allocator> StreamWriter<A> {
         Ok(())
     }
 
-    // The head of a page record.
+    // Returns the head of a page record.
     fn head(&self, place: Place, is_named: bool, is_zero: bool) -> u64
         requires { IsPlace self.now.table place }
         ensures { (bytes : List ℕ) → let kind = page_kind is_named (if is_zero then None else Some bytes) in
@@ -249,7 +257,7 @@ impl<A: Allocator> StreamWriter<A> {
         Ok(())
     }
 
-    // Whether the last page record was of this block.
+    // Returns whether the last page record was of this block.
     fn is_named(&self, block: usize) -> bool
         ensures { result ≡ is_named self.now.named block }
     {
@@ -259,7 +267,11 @@ impl<A: Allocator> StreamWriter<A> {
         }
     }
 
-    /// Writes a FLUSH, as one PART. An `Err` changes nothing.
+    /// Writes a FLUSH, as one PART.
+    ///
+    /// # Errors
+    ///
+    /// `NoMemory`: an allocation was refused. Nothing changes.
     pub fn flush_part(&mut self) -> Result<(), NoMemory>
         ensures table { self.new.table ≡ self.old.table }
         ensures ok { OnOk result ((drained : List ℕ) (parts : List Part) → HasDrained drained self.old parts
@@ -270,7 +282,11 @@ impl<A: Allocator> StreamWriter<A> {
         Ok(())
     }
 
-    /// Begins a part whose pages are put one by one. An `Err` gives the writer back as it was.
+    /// Begins a part whose pages are put one by one.
+    ///
+    /// # Errors
+    ///
+    /// The writer, as it was: an allocation was refused.
     pub fn begin_part(mut self) -> Result<OpenPart<A>, StreamWriter<A>>
         ensures before { IfOk result (λ part. part.before ≡ self) }
         ensures none { IfOk result (λ part. HasPut part []) }
@@ -288,9 +304,9 @@ impl<A: Allocator> StreamWriter<A> {
         }
     }
 
-    /// Hands out the bytes that were written and not drained yet: all that stands of the text so
-    /// far is what was drained in all. What is drained, piece after piece, and then what `finish`
-    /// gives is the text. It allocates nothing.
+    /// Returns the bytes that were written and not drained yet. All that stands of the stream so
+    /// far is what was drained in all. The pieces that were drained, and then what `finish`
+    /// returns, are the stream. It allocates nothing.
     pub fn drain(&mut self) -> Vec<u8, A>
     where
         A: Copy,
@@ -305,8 +321,8 @@ impl<A: Allocator> StreamWriter<A> {
         bytes
     }
 
-    /// As `drain`, into a buffer: what it held is dropped, and its room is used for what is written
-    /// next. So two buffers serve for a stream of any length.
+    /// Drains into `bytes`, as `drain` does. What the buffer held is dropped, and its room is used
+    /// for what is written next. So two buffers serve for a stream of any length.
     pub fn drain_into(&mut self, bytes: &mut Vec<u8, A>)
         ensures table { self.new.table ≡ self.old.table }
         ensures all { (drained : List ℕ) (parts : List Part) → HasDrained drained self.old parts
@@ -318,8 +334,11 @@ impl<A: Allocator> StreamWriter<A> {
         std::mem::swap(&mut self.text, bytes);
     }
 
-    /// Ends the stream and gives its text, or what of it wasn't drained; an `Err` gives the writer
-    /// back as it was.
+    /// Ends the stream, and returns the bytes that weren't drained.
+    ///
+    /// # Errors
+    ///
+    /// The writer, as it was: an allocation was refused.
     pub fn finish(self) -> Result<Vec<u8, A>, StreamWriter<A>>
         ensures ok { IfOk result (λ text. (drained : List ℕ) (parts : List Part) → HasDrained drained self parts
             → drained ++ text.items ≡ written self.table parts) }
@@ -343,8 +362,8 @@ impl<A: Allocator> StreamWriter<A> {
         self.finish_with(&END)
     }
 
-    // Appends the stream's last bytes, and gives those that weren't drained; an `Err` gives the
-    // writer back as it was.
+    // Appends the stream's last bytes, and returns the bytes that weren't drained. An `Err` gives
+    // the writer back as it was.
     fn finish_with(mut self, last: &[u8]) -> Result<Vec<u8, A>, StreamWriter<A>>
         ensures ok { IfOk result (λ text. text.items ≡ self.text ++ last.now) }
         ensures err { IfErr result (λ w. w ≡ self) }
@@ -364,12 +383,12 @@ impl<A: Allocator> StreamWriter<A> {
 }
 
 /// A part that is being written, page after page: a round whose pages are what its caller read, as
-/// of a guest that runs on. It has the writer until the part is ended or cancelled; whoever drops
+/// of a guest that runs on. It has the writer until the part is ended or cancelled. Whoever drops
 /// it drops the writer too, and so gives up the stream.
 #[derive(Drop)]
 pub struct OpenPart<A: Allocator = Global> {
     writer: StreamWriter<A>,
-    // how long the text was before the part, and which block was named last there
+    // how long the stream was before the part, and which block was named last there
     len: usize,
     named: Option<usize>,
 }
@@ -393,7 +412,7 @@ impl<A: Allocator> fmt::Debug for OpenPart<A> {
 }
 
 impl<A: Allocator> OpenPart<A> {
-    /// The table whose pages it writes.
+    /// Returns the table whose pages it writes.
     pub fn table(&self) -> &Table<A>
         ensures { result.now ≡ self.now.before.table }
     {
@@ -401,8 +420,11 @@ impl<A: Allocator> OpenPart<A> {
     }
 
     /// Writes a page: a place of the table, for which `Table::holds` is the test, and its bytes.
-    /// Places come in any order, and of several pages at one place the last one counts. An `Err`
-    /// changes nothing, so the page can be put again.
+    /// Places come in any order. Of several pages at one place the last one counts.
+    ///
+    /// # Errors
+    ///
+    /// `NoMemory`: an allocation was refused. Nothing changes, so the page can be put again.
     pub fn put_page(&mut self, place: Place, bytes: &[u8]) -> Result<(), NoMemory>
         requires place { IsPlace self.old.before.table place }
         requires bytes { length bytes.now ≡ self.old.before.table.page_size }
@@ -420,8 +442,11 @@ impl<A: Allocator> OpenPart<A> {
         put
     }
 
-    /// Ends the part: the round of the pages that were put, in the order in which they were. An
-    /// `Err` gives it back as it was.
+    /// Ends the part: the round of the pages that were put, in the order in which they were.
+    ///
+    /// # Errors
+    ///
+    /// The part, as it was: an allocation was refused.
     pub fn end_part(mut self) -> Result<StreamWriter<A>, OpenPart<A>>
         ensures table { IfOk result (λ w. w.table ≡ self.before.table) }
         ensures ok { IfOk result (λ w. (pages : List Page) → HasPut self pages → (drained : List ℕ) (parts : List Part) → HasDrained drained self.before parts
@@ -434,7 +459,7 @@ impl<A: Allocator> OpenPart<A> {
         }
     }
 
-    /// Leaves out the part: the writer as it was before.
+    /// Leaves out the part, and returns the writer as it was before.
     pub fn cancel(mut self) -> StreamWriter<A>
         ensures { result ≡ self.before }
     {

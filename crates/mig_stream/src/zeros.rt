@@ -1,8 +1,8 @@
 //! The records of zero pages, many at once.
 //!
-//! Most records of a guest that has hardly been used are such. A record is two items, or three
-//! where it names its block; here it is judged and noted whole. Whatever isn't a whole record of a
-//! zero page without a fault is left to the items one by one, which judge it anew.
+//! Most records of a guest that has hardly been used are such. A record is two items, or three if
+//! it names its block. Here it is judged and noted in one step. Whatever isn't a complete record of
+//! a zero page without a fault is left to the items one by one, which judge it anew.
 
 ghost use Rattle.std.specs.Prelude.{◌≡◌, ◌+◌, ◌<◌, ◌≤◌, ◌++◌, [], ◌∷◌, false, is_none, length, slice_index, Some, None, IfOk, IfSome, OnOk, OnErr};
 ghost use Rattle.mig_mem.specs.RamTable.{block, block_of};
@@ -32,9 +32,9 @@ const CONTINUED_LEN: usize = 9;
 const NEAR: usize = 1 << 14;
 
 impl<'a, A: Allocator> Progress<'a, A> {
-    /// Takes the records of zero pages at the front of the bytes, as far as they are whole and
-    /// without a fault, where a record is due, or the first of very many. Gives the bytes behind
-    /// them. After an `Err` some were taken.
+    /// If a record is due, takes the records of zero pages at the front of the bytes, as far as
+    /// these are complete and without a fault. Of very many it takes those in the first `NEAR`
+    /// bytes. Returns the bytes after them. After an `Err` some were taken.
     #[tactic(auto, using(crate::proofs::ZeroRecords::none_taken))]
     #[inline(always)]
     pub(crate) fn pass_zeros<'b>(&mut self, text: Piece<'a, 'b>) -> Result<Piece<'a, 'b>, NoMemory>
@@ -49,7 +49,7 @@ impl<'a, A: Allocator> Progress<'a, A> {
         }
     }
 
-    // The same where a record is due.
+    // Takes the records of zero pages as `pass_zeros` does, where a record is due.
     #[tactic(auto, using(crate::proofs::ZeroRecords::records_none))]
     fn pass_zero_records<'b>(&mut self, text: Piece<'a, 'b>) -> Result<Piece<'a, 'b>, NoMemory>
         requires { self.old.due ≡ due.RecordHead }
@@ -72,7 +72,7 @@ impl<'a, A: Allocator> Progress<'a, A> {
         Ok(rest)
     }
 
-    // Takes those of one kind. Gives how many bytes they have.
+    // Takes those of one kind. Returns how many bytes they have.
     #[tactic(auto, using(crate::proofs::ZeroRecords::records_none))]
     fn zero_run(&mut self, bytes: &[u8]) -> Result<usize, NoMemory>
         requires { self.old.due ≡ due.RecordHead }
@@ -138,7 +138,7 @@ impl<'a, A: Allocator> Progress<'a, A> {
         Ok(at)
     }
 
-    // Takes the one at the front. Gives how many bytes it has, or 0 where there is none.
+    // Takes the one at the front. Returns how many bytes it has, or 0 if there is none.
     #[tactic(auto, using(crate::proofs::ZeroRecords::records_none))]
     #[inline(always)]
     fn named_zero(&mut self, bytes: &[u8]) -> Result<usize, NoMemory>
@@ -164,8 +164,8 @@ impl<'a, A: Allocator> Progress<'a, A> {
         Ok(CONTINUED_LEN + name_len)
     }
 
-    // The place of a page in the block that a length byte and an id name. None where there is no
-    // such block or page.
+    // Returns the place of a page in the block that a length byte and an id name. None if there is
+    // no such block or page.
     #[inline(always)]
     fn named_place(&self, name: &[u8], page: u64) -> Option<Place>
         requires { length name.now ≡ 1 + slice_index name.now 0 }
