@@ -40,8 +40,8 @@ SendingsAreLoaded = (table : RamTable) (uuid : List ℕ) (limit : ℕ) (rounds :
     → IsSentInAnyOrder table uuid rounds main channels → total_bytes table ≤ limit
     → IsAnswer (ram_settings table.page_size limit) uuid (ended_texts main channels) answer → answer ≡ sent_answer table rounds
 
--- a load of several channels and one of a single stream gave the same memory, and both are Ok; a
--- single stream has two sections more, START and END
+-- The streams are those of a sending in a machine's stream, with its name or without one. The
+-- channels are in any order, and anything may follow RAM's END in the main stream.
 pub record IsMachineSentInAnyOrder (table : RamTable) (uuid : List ℕ) (rounds : List DealtRound) (main : List ℕ) (channels : List (List ℕ)) : Type 0 where
   pub batch_limit : ℕ
   pub name : Option (List ℕ)
@@ -52,10 +52,16 @@ pub record IsMachineSentInAnyOrder (table : RamTable) (uuid : List ℕ) (rounds 
   pub in_order : List (List ℕ)
   pub is_sending : IsMachineSending name table uuid batch_limit (length channels) rounds ram in_order
   pub is_permutation : IsPermutation in_order channels
+
+-- What was sent so is loaded in a machine's frame, to the answer of what was sent alone. Any number
+-- of page records may wait.
 abbrev pub MachineSendingsAreLoaded : Type 0
 MachineSendingsAreLoaded = (given : LoadSettings) (table : RamTable) (uuid : List ℕ) (rounds : List DealtRound) (main : List ℕ) (channels : List (List ℕ)) (answer : Answer)
     → given.frame ≡ Machine → given.waiting ≡ None → table.page_size ≡ given.page_size → total_bytes table ≤ given.limit → IsMachineSentInAnyOrder table uuid rounds main channels
     → IsAnswer given uuid (ended_texts main channels) answer → answer ≡ sent_answer table rounds
+
+-- a load of several channels and one of a single stream gave the same memory, and both are Ok; a
+-- single stream has two sections more, START and END
 abbrev pub AgreesWith : {A : Type 0} → Answer → Loaded A → Type 0
 AgreesWith answer alone = (answer.memory ≡ alone.memory) × (answer.rounds + 2 ≡ alone.rounds) × (answer.verdict ≡ Done) × (alone.verdict ≡ Ok _)
 

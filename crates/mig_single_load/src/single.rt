@@ -52,7 +52,8 @@ pub fn load_single<A: Allocator + Copy>(
 ///
 /// A failed verdict has one of these, and no other `Fault`:
 ///
-/// - `Fault::Stream`: a fault of the stream, 11 to 34, in a machine's stream also 46 to 49.
+/// - `Fault::Stream`: a fault of the stream, 11 to 34, in a machine's stream also 46 to 49, and 64
+///   where a section has more page records than `settings.waiting`.
 /// - `NoMemory`: an allocation was refused.
 pub fn load_single_in<A: Allocator + Copy>(
     alloc: A,

@@ -11,8 +11,8 @@ use Rattle.mig_stream.specs.declared.item.Due.TheVariants as due
 use Rattle.mig_stream.specs.PageRecord.{PageRecord}
 
 pub record StreamProgress : Type 0 where
-  -- what no stream says: what it is the stream of, which stream it is, the size of a page, and the
-  -- limit on the table's total
+  -- what no stream says: what it is the stream of, which stream it is, the size of a page, the limit
+  -- on the table's total, and the most page records of an open round, or None for any number
   pub frame : Frame
   pub mode : Mode
   pub page_size : ℕ
@@ -29,8 +29,9 @@ pub record StreamProgress : Type 0 where
   pub blocks : List Block
   -- the block that a page record named last
   pub named : Option ℕ
-  -- the page records of the round that isn't complete yet, and the complete rounds
+  -- how many page records more the open round may have, or None for any number
   pub room : Option ℕ
+  -- the page records of the open round, and the complete rounds
   pub records : List PageRecord
   pub rounds : List (List PageRecord)
 

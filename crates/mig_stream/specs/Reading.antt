@@ -63,8 +63,8 @@ pub record StreamReading : Type 0 where
   pub rounds : List (List PageRecord)
   pub state : StreamState
 
--- what no stream says: what it is the stream of, which stream it is, the size of a page, and the
--- limit on the table's total
+-- what no stream says: what it is the stream of, which stream it is, the size of a page, the limit
+-- on the table's total, and the most page records of an open round, or None for any number
 pub record Settings : Type 0 where
   pub frame : Frame
   pub mode : Mode

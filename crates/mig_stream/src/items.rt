@@ -546,7 +546,7 @@ pub(crate) fn split_head(head: u64, page_size: u64) -> (u64, u16)
     }
 }
 
-// Returns the kind of a record by its flags.
+// Returns whether no page record more fits into the open round.
 #[inline(always)]
 pub(crate) fn is_full(room: Option<u64>) -> bool
     ensures { result ≡ is_full room }
@@ -556,6 +556,8 @@ pub(crate) fn is_full(room: Option<u64>) -> bool
         None => false,
     }
 }
+
+// Returns the room for page records after a footer: that of a main stream's round stays.
 fn open_room(mode: Mode, waiting: Option<u64>, room: Option<u64>) -> Option<u64>
     ensures { result ≡ open_room mode waiting room }
 {
@@ -565,6 +567,8 @@ fn open_room(mode: Mode, waiting: Option<u64>, room: Option<u64>) -> Option<u64>
         (Some(_), Mode::Main) => room,
     }
 }
+
+// Returns the room for page records after one more.
 #[inline(always)]
 pub(crate) fn less_room(room: Option<u64>) -> Option<u64>
     ensures { result ≡ less_room room }
@@ -574,6 +578,8 @@ pub(crate) fn less_room(room: Option<u64>) -> Option<u64>
         None => None,
     }
 }
+
+// Returns the kind of a record by its flags.
 fn record_kind(flags: u16) -> Option<RecordKind>
     ensures { result ≡ record_kind flags }
 {

@@ -38,9 +38,10 @@ pub(crate) struct Progress<'a, A: Allocator> {
     pub(crate) section: Section,
     pub(crate) section_id: u32,
     pub(crate) named: Option<usize>,
-    // the records of the open round, and the complete rounds that were not given away
+    // the most page records of a round, and how many more the open one may have: None is any number
     pub(crate) waiting: Option<u64>,
     pub(crate) room: Option<u64>,
+    // the records of the open round, and the complete rounds that were not given away
     pub(crate) records: Records<'a, A>,
     // the record whose buffer is being filled, if there is one
     pub(crate) filling: usize,
