@@ -35,7 +35,7 @@
  * with any C function, the system stops a thread that has too little. The library is for x86-64
  * alone, 64 bits, and is built for processors with x86-64-v2 (SSE4.2), which it doesn't check.
  *
- * A call that may be refused returns a status: ZIMGASOL_DONE, the number of a fault (1 to 63, see
+ * A call that may be refused returns a status: ZIMGASOL_DONE, the number of a fault (1 to 64, see
  * docs/FAULTS.md), or one of the numbers from 100 on. After anything but ZIMGASOL_DONE nothing has
  * changed, where nothing else is said.
  *
@@ -180,6 +180,8 @@ typedef enum zimgasol_status {
     ZIMGASOL_MACHINE_PAGE_BITS = 48,
     /* a COMMAND that isn't one that is passed over */
     ZIMGASOL_MACHINE_COMMAND = 49,
+    /* more page records than may wait for their round's end; no load of this library sets a limit */
+    ZIMGASOL_STREAM_WAITING = 64,
 
     /* ---- channels beside one another, and a round of them */
     /* a hello names an earlier channel's id */
