@@ -6,6 +6,7 @@
 
 use crate::guest::{Guest, fill};
 use crate::measure::{Measured, Ratio, best_of_five, peak, reset_peak};
+use crate::waiting;
 use mig_mem::{MAX_TOTAL, PAGE_SIZE_4K, Table};
 use mig_send::SingleSender;
 use mig_single_load::load_single;
@@ -34,12 +35,12 @@ const SMALL_ROUNDS: usize = 1 << 18;
 const ZERO_ROUNDS: usize = 8;
 
 /// What stands before the records of a PART, and after them: the head with the section id, and EOS with the footer.
-const PART_HEAD: [u8; 5] = [0x02, 0, 0, 0, 1];
+pub(crate) const PART_HEAD: [u8; 5] = [0x02, 0, 0, 0, 1];
 
 const SECTION_END: [u8; 13] = [0, 0, 0, 0, 0, 0, 0, 0x10, 0x7E, 0, 0, 0, 1];
 
 /// The bytes of END and the end byte.
-const CLOSING_LEN: usize = 19;
+pub(crate) const CLOSING_LEN: usize = 19;
 
 /// A FLUSH.
 const FLUSH: [u8; 8] = [0, 0, 0, 0, 0, 0, 0x02, 0];
@@ -64,8 +65,8 @@ enum Ids {
 
 /// Where the works allocate, and how many bytes were resident before the first text; None where the system doesn't tell.
 #[derive(Clone, Copy)]
-struct Meter {
-    alloc: Global,
+pub(crate) struct Meter {
+    pub alloc: Global,
     start: Option<u64>,
 }
 
@@ -76,7 +77,8 @@ pub fn run<R: Clock + Print + Files + AllocGlobal>(rt: &R, alloc: Global) -> io:
     )?;
     let meter = warmed(rt, alloc);
     report_small(rt, meter)?;
-    report_large(rt, meter)
+    report_large(rt, meter)?;
+    waiting::run(rt, meter)
 }
 
 // What is resident once the program's own pages are there, which a small text brings in.
@@ -187,7 +189,15 @@ fn report_reading<R: Clock + Print + Files + AllocGlobal>(
 ) -> io::Result<()> {
     let unit = "rounds and records read";
     let work = || items_read(meter.alloc, mode, text);
-    report_cost(rt, meter, name, unit, text.len() as u64, work)
+    report_cost(
+        rt,
+        meter,
+        name,
+        unit,
+        text.len() as u64,
+        text.len() as u64,
+        work,
+    )
 }
 
 fn report_loading<R: Clock + Print + Files + AllocGlobal>(
@@ -198,7 +208,15 @@ fn report_loading<R: Clock + Print + Files + AllocGlobal>(
 ) -> io::Result<()> {
     let unit = "rounds loaded";
     let work = || rounds_loaded(meter.alloc, text);
-    report_cost(rt, meter, name, unit, text.len() as u64, work)
+    report_cost(
+        rt,
+        meter,
+        name,
+        unit,
+        text.len() as u64,
+        text.len() as u64,
+        work,
+    )
 }
 
 // How many rounds and records a text has that is fed in pieces, its rounds taken at the end; 0 where it isn't read.
@@ -238,19 +256,20 @@ fn rounds_loaded(alloc: Global, text: &[u8]) -> usize {
     load_single(alloc, PAGE_SIZE_4K, text, MAX_TOTAL).rounds as usize
 }
 
-// Measures a work on a text of so many bytes, and prints what a byte costs.
+// Measures a work on a text of `len` bytes, of which `held` are resident, and prints what a byte costs.
 //
 // The memory is the most that was resident during the five runs (Linux tells it as `VmHWM` in `/proc/self/status`, and a 5
 // written to `/proc/self/clear_refs` begins it anew), less what was resident before the first text, and less this text,
 // which is resident too. What the allocator keeps of the memory of an earlier text is counted where this one doesn't take it,
 // so the texts stand in the order of their peaks. With `MALLOC_MMAP_THRESHOLD_` and `MALLOC_TRIM_THRESHOLD_` set to 131072
 // in the environment glibc keeps hardly any.
-fn report_cost<R: Clock + Print + Files + AllocGlobal, F: FnMut() -> usize>(
+pub(crate) fn report_cost<R: Clock + Print + Files + AllocGlobal, F: FnMut() -> usize>(
     rt: &R,
     meter: Meter,
     name: &str,
     unit: &str,
     len: u64,
+    held: u64,
     work: F,
 ) -> io::Result<()>
     requires { F.IsAlwaysCallable work }
@@ -259,7 +278,7 @@ fn report_cost<R: Clock + Print + Files + AllocGlobal, F: FnMut() -> usize>(
     let measured = best_of_five(rt, work)?;
     put_time(rt, name, unit, len, &measured)?;
     match before.and(peak(rt)) {
-        Some(peak) => put_memory(rt, meter, len, peak),
+        Some(peak) => put_memory(rt, meter, len, held, peak),
         None => println!(rt; "memory: unknown"),
     }
 }
@@ -278,12 +297,12 @@ fn put_time(
     )
 }
 
-// What a text of so many bytes took, of that peak.
-fn put_memory(rt: &impl Print, meter: Meter, len: u64, peak: u64) -> io::Result<()> {
+// What a text of `len` bytes took, of that peak, beside the `held` bytes of it that are resident.
+fn put_memory(rt: &impl Print, meter: Meter, len: u64, held: u64, peak: u64) -> io::Result<()> {
     let Some(start) = meter.start else {
         return println!(rt; "memory: unknown");
     };
-    let taken = peak.saturating_sub(start).saturating_sub(len);
+    let taken = peak.saturating_sub(start).saturating_sub(held);
     println!(rt;
         "memory: {} times the text, {} MB",
         Ratio::of(taken, len),
@@ -364,7 +383,7 @@ fn small_rounds_text(alloc: Global) -> Option<Vec<u8>> {
 }
 
 // The table of one block of so many pages.
-fn table_of_one(alloc: Global, pages: u64) -> Option<Table> {
+pub(crate) fn table_of_one(alloc: Global, pages: u64) -> Option<Table> {
     let mut list = Vec::new(alloc);
     let id = Vec::from_slice(alloc, b"a").ok()?;
     list.push((id, pages)).ok()?;
@@ -457,7 +476,7 @@ fn small_rounds(alloc: Global) -> Option<Vec<u8>> {
 }
 
 // The stream of a table without rounds.
-fn without_rounds(alloc: Global, table: &Table) -> Option<Vec<u8>> {
+pub(crate) fn without_rounds(alloc: Global, table: &Table) -> Option<Vec<u8>> {
     StreamWriter::new(alloc, table).ok()?.finish().ok()
 }
 

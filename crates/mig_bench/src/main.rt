@@ -14,6 +14,7 @@ mod measure;
 mod multi;
 mod sending;
 mod session;
+mod waiting;
 mod yardstick;
 mod zero;
 

@@ -6,7 +6,7 @@ use Rattle.mig_stream.specs.Round.{RoundOfRecords}
 use Rattle.mig_assemble.specs.Target.{pages_of_round, FitsTable}
 use Rattle.mig_mem.specs.RamTable.{RamTable}
 use Rattle.mig_single_load.specs.Eager.{IsEnd}
-use Rattle.mig_single_load.proofs.Eager.{Step, one_more, put_fits, few_more, some_on, puts_on, gives_on, puts_none, gives_none, puts_some, any_err, no_end_records, no_end_section}
+use Rattle.mig_single_load.proofs.Eager.{Step, one_more, put_fits, few_more, some_on, puts_on, gives_on, puts_all, puts_none, gives_none, puts_some, any_err, no_end_records, no_end_section}
 use Rattle.mig_single_load.proofs.eager_state.put_given.Goals as goal
 use Rattle.mig_single_load.proofs.eager_state.put_given.Goals.{in-Records, in-Section}
 
@@ -67,3 +67,8 @@ returns-in_err-gave-clause-err g c =
       | in-Section w ↦ w.sections-is ∙ ap (λ (x : Given). one_more x n) (sym w.in-Section.is)
     ] in
     any_err c.from_residual.result _ (puts_some c.args.first gave c.args.reader.now r (g.M.GuestTarget.image c.args.memory.now) m new c.args.sections.now n c.match-gave.sections more count is c.records.invariant.put)
+
+pub returns-in-End-clause-ok : goal.returns-in-End-clause-ok
+returns-in-End-clause-ok g c =
+    puts_all c.args.first c.records.gave c.in-End.found c.args.reader.now c.records.reader (g.M.GuestTarget.image c.args.memory.now) (g.M.GuestTarget.image c.records.memory)
+    c.args.sections.now c.records.sections c.in-End.is c.records.invariant.put

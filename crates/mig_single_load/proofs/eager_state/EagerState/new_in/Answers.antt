@@ -1,4 +1,4 @@
-use Rattle.std.proofs.Common.{◌≡◌, ℕ, [], sym, ap, subst, ◌∙◌}
+use Rattle.std.proofs.Common.{◌≡◌, ℕ, [], refl, sym, ap, subst, ◌∙◌}
 use Rattle.mig_mem.specs.RamTable.{RamTable, IsTable}
 use Rattle.mig_stream.specs.declared.item.Mode.TheVariants.{Single}
 use Rattle.mig_stream.specs.Reading.{settings, in_frame, with_waiting}
@@ -14,3 +14,14 @@ returns-clause-loads g c = λ first image same.
     let at : PausesAt (settings_for first.table c.args.settings) [] none_given c.new_within.result =
     subst (λ (n : ℕ). PausesAt (with_waiting c.args.settings.waiting (in_frame c.args.settings.frame (settings Single n c.args.settings.limit))) [] none_given c.new_within.result) size c.new_within.ensures.pauses in
     eager_first c.args.settings first c.new_within.result c.in_ok-table.table is image (same ∙ sym c.in_ok-table.ensures) at
+
+pub invariant_of-result : goal.invariant_of-result
+invariant_of-result g c =
+    let table : RamTable = c.in_ok-table.table in
+    let size : c.page_size-page_size.result ≡ table.page_size = c.page_size-page_size.ensures ∙ ap (λ (t : RamTable). t.page_size) (sym c.in_ok-table.ensures) in
+    let at : PausesAt (settings_for table c.args.settings) [] none_given c.new_within.result =
+    subst (λ (n : ℕ). PausesAt (with_waiting c.args.settings.waiting (in_frame c.args.settings.frame (settings Single n c.args.settings.limit))) [] none_given c.new_within.result) size c.new_within.ensures.pauses in
+    record {
+      is_table = subst IsTable (sym c.in_ok-table.ensures) c.keeps_limits.ensures;
+      pauses = (c.args.settings, record { text = []; has_fed = refl; so_far = none_given; pauses = at; has_sections = refl });
+    }
