@@ -57,8 +57,8 @@ documents: header ## at once | compares header, case lists, contracts, examples 
 site: ## at once | builds the documents as HTML into out/site, and checks their links
 	@tools/site.py
 
-test: ## some two hours | the gate: all proofs, planted bugs, tests and programs
+test: ## an hour and a half | the gate: all proofs, planted bugs, tests and programs
 	@.ci/run
 
-gate: ## some two hours | the gate, taking nothing from earlier runs
+gate: ## an hour and a half | the gate, taking nothing from earlier runs
 	@.ci/run --anew
