@@ -89,7 +89,7 @@ stops table limit channels rounds readings is =
 
 -- ---- the law
 
-of_read : (frame : Frame) (table : RamTable) (uuid : List ℕ) (limit : ℕ) (rounds : List DealtRound) (main : List ℕ) (channels : List (List ℕ)) (readings : Readings)
+pub of_read : (frame : Frame) (table : RamTable) (uuid : List ℕ) (limit : ℕ) (rounds : List DealtRound) (main : List ℕ) (channels : List (List ℕ)) (readings : Readings)
     → (sent : IsReadAsSent frame table uuid limit rounds main channels) → AreReadings (framed frame table.page_size limit) uuid (ended_texts main channels) readings
     → AreOfSending table sent.batch_limit (length channels) rounds readings
 of_read frame table uuid limit rounds main channels readings sent are = record {
@@ -101,7 +101,7 @@ of_read frame table uuid limit rounds main channels readings sent are = record {
       (All-get_or (IsDealtRound table sent.batch_limit (length channels)) rounds k (no_round table) below sent.is_sending.are_dealt);
 }
 
-read_law : (frame : Frame) (table : RamTable) (uuid : List ℕ) (limit : ℕ) (rounds : List DealtRound) (main : List ℕ) (channels : List (List ℕ)) (answer : Answer)
+pub read_law : (frame : Frame) (table : RamTable) (uuid : List ℕ) (limit : ℕ) (rounds : List DealtRound) (main : List ℕ) (channels : List (List ℕ)) (answer : Answer)
     → IsReadAsSent frame table uuid limit rounds main channels → IsAnswer (framed frame table.page_size limit) uuid (ended_texts main channels) answer → answer ≡ sent_answer table rounds
 read_law frame table uuid limit rounds main channels answer sent answers =
     let size : IsPageSize table.page_size = sent.is_sending.is_set.has_table.has_page_size in
@@ -144,7 +144,7 @@ sendings_law back = λ table uuid limit rounds main channels answer sent room an
 
 -- ---- a machine's main stream
 
-machine_as_sent : MachineSendingsAreReadBack → (table : RamTable) (uuid : List ℕ) (limit : ℕ) (rounds : List DealtRound) (main : List ℕ) (channels : List (List ℕ))
+abbrev pub machine_as_sent : MachineSendingsAreReadBack → (table : RamTable) (uuid : List ℕ) (limit : ℕ) (rounds : List DealtRound) (main : List ℕ) (channels : List (List ℕ))
     → IsMachineSentInAnyOrder table uuid rounds main channels → total_bytes table ≤ limit → IsReadAsSent Machine table uuid limit rounds main channels
 machine_as_sent back table uuid limit rounds main channels sent room =
     let read = back sent.name table uuid sent.batch_limit (length channels) rounds sent.ram sent.in_order sent.has_name sent.is_sending in

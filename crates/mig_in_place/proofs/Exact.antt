@@ -87,7 +87,7 @@ main_names_none given k text reading p is e clean names =
     let same = one_stream _ text.bytes its.to mine.to its.rest mine.rest names.reading.state is.found.state its.reads mine.reads in
     let closed : is.found.state ≡ stream_state.Closed = stream_closed text.ended is.found.state (sym (ap (λ (r : StreamReading). is_clean (stream_end r.state)) is.has_end) ∙ clean) in
     let ends : Ends mine.to mine.rest stream_state.Closed = subst (λ (s : StreamState). Ends mine.to mine.rest s) closed mine.reads.ends in
-    let none : mine.to.records ≡ [] = closed_has_none given.frame Main given.page_size given.limit mine.reads.front mine.to refl mine.reads.leads ends in
+    let none : mine.to.records ≡ [] = closed_has_none given.frame Main given.page_size given.limit given.waiting mine.reads.front mine.to refl mine.reads.leads ends in
     let rounds : length names.reading.rounds ≡ k =
     ap (λ (l : List (List PageRecord)). length l) (its.has_rounds ∙ ap (λ (c : StreamProgress). c.rounds) same.0 ∙ sym mine.has_rounds ∙ sym (ap (λ (r : StreamReading). r.rounds) is.has_end)) ∙ sym e in
     let here : round_so_far k names.reading.rounds its.to.records ≡ [] =

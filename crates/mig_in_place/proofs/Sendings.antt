@@ -1,20 +1,23 @@
 -- What was sent on several channels is loaded in place: the memory has the rounds sent on top of what it held.
-use Rattle.std.proofs.Common.{ℕ, zero, suc, ◌≡◌, ◌+◌, ◌<◌, ◌≤◌, List, [], ◌∷◌, ◌++◌, length, map, take, get_or, refl, sym, ap, subst, ◌∙◌, inr, arith}
+use Rattle.std.proofs.Common.{ℕ, zero, suc, ◌≡◌, ◌+◌, ◌<◌, ◌≤◌, List, [], ◌∷◌, ◌++◌, length, map, take, get_or, Option, refl, sym, ap, subst, ◌∙◌, inr, arith}
 use Rattle.std.specs.List.{range_with_len}
 use Rattle.std.proofs.lemmas.List.{length-map, get_or-map, take_more, take_all}
 use Rattle.std.proofs.lemmas.List.FromFn.{map-range_with_len_more}
-use Rattle.mig_mem.specs.RamTable.{RamTable}
-use Rattle.mig_mem.specs.Image.{Page, Image}
+use Rattle.mig_mem.specs.RamTable.{RamTable, IsTable}
+use Rattle.mig_mem.specs.Image.{Page, Image, IsImage}
 use Rattle.mig_mem.specs.Round.{round_of, with_round, with_rounds}
 use Rattle.mig_mem.specs.Tracking.{Snapshot}
 use Rattle.mig_mem.proofs.Rounds.{rounds_onto as go_onto}
+use Rattle.mig_stream.specs.declared.item.Frame.{Frame}
+use Rattle.mig_stream.specs.declared.item.Frame.TheVariants.{Ram, Machine}
 use Rattle.mig_stream.specs.Reading.{StreamReading}
 use Rattle.mig_stream.proofs.WrittenText.{written_main}
+use Rattle.mig_stream.proofs.WrittenMachine.{machine_mains}
 use Rattle.mig_stream.proofs.SpelledText.{spelled_law}
 use Rattle.mig_send.specs.DealtRounds.{DealtRound}
 use Rattle.mig_send.specs.ReadBack.{SendingsAreReadBack}
-use Rattle.mig_send.proofs.ReadBack.{sendings_are_read_back}
-use Rattle.mig_single_load.specs.Settings.{ram_settings}
+use Rattle.mig_send.proofs.ReadBack.{sendings_are_read_back, machine_sendings_are_read_back}
+use Rattle.mig_single_load.specs.Settings.{for_table}
 use Rattle.mig_single_load.specs.InPlace.{IsOfOwnTable}
 use Rattle.mig_single_load.specs.declared.settings.LoadSettings.{LoadSettings}
 use Rattle.mig_answer.specs.declared.verdict.Verdict.{Verdict}
@@ -24,9 +27,10 @@ use Rattle.mig_answer.specs.Rounds.{pages_at, memory_at}
 use Rattle.mig_answer.specs.MultiLoad.{Answer, IsAnswer}
 use Rattle.mig_answer.specs.Sent.{sent_rounds, sent_answer}
 use Rattle.mig_answer.proofs.SentRounds.{AreOfSending, brings, round_at, no_round}
-use Rattle.mig_answer.proofs.Headline.{of_sending, sendings_are_loaded}
+use Rattle.mig_answer.proofs.Sent.{framed, IsReadAsSent}
+use Rattle.mig_answer.proofs.Headline.{of_read, read_law, as_sent, machine_as_sent}
 use Rattle.mig_in_place.specs.Answer.{rounds_onto, IsOwnAnswer, IsOtherAnswer, IsInPlaceAnswer}
-use Rattle.mig_in_place.specs.Law.{SentIsLoadedInPlace}
+use Rattle.mig_in_place.specs.Law.{SentIsLoadedInPlace, MachineSentIsLoadedInPlace}
 use Rattle.mig_in_place.proofs.Exact.{exact_law}
 
 -- the first rounds of the readings leave what the first ones sent do, whatever the memory held
@@ -69,18 +73,22 @@ all_rounds table limit channels rounds readings is m =
 read_back : SendingsAreReadBack
 read_back = sendings_are_read_back (λ limit table n is room. written_main table n limit is room) spelled_law
 
-pub sent_law : SentIsLoadedInPlace
-sent_law uuid limit first rounds main channels memory k verdict is_table is_image is_memory sent room here =
-    let given : LoadSettings = ram_settings first.table.page_size limit in
+-- the channels are those of a sending, and the main stream is read in a frame as what it has of RAM
+read_in_place : (frame : Frame) (uuid : List ℕ) (limit : ℕ) (first : Image) (rounds : List DealtRound) (main : List ℕ) (channels : List (List ℕ)) (memory : Image) (k : ℕ) (verdict : Verdict)
+    → IsTable first.table → IsImage first → IsImage memory → IsReadAsSent frame first.table uuid limit rounds main channels
+    → IsInPlaceAnswer (framed frame first.table.page_size limit) uuid first (ended_texts main channels) memory k verdict
+    → (verdict ≡ Done) × (k ≡ length rounds) × (memory ≡ with_rounds first (sent_rounds rounds))
+read_in_place frame uuid limit first rounds main channels memory k verdict is_table is_image is_memory sent here =
+    let given : LoadSettings = framed frame first.table.page_size limit in
     let texts : Texts = ended_texts main channels in
     let readings : Readings = here.readings in
-    let is : AreOfSending first.table sent.batch_limit (length channels) rounds readings = of_sending read_back first.table uuid limit rounds main channels readings sent room here.are_readings in
+    let is : AreOfSending first.table sent.batch_limit (length channels) rounds readings = of_read frame first.table uuid limit rounds main channels readings sent here.are_readings in
     let own : IsOfOwnTable first readings.main = inr (ap (λ (r : StreamReading). r.table) is.told.has_main) in
     let mine : IsOwnAnswer given uuid first texts readings memory k verdict = here.own own in
     let answer : Answer = record { memory = memory_at k readings; rounds = k; verdict = verdict } in
     let answers : IsAnswer given uuid texts answer =
     record { readings = readings; are_readings = here.are_readings; has_rounds = mine.has_rounds; has_memory = refl; has_verdict = mine.has_verdict } in
-    let same : answer ≡ sent_answer first.table rounds = sendings_are_loaded first.table uuid limit rounds main channels answer sent room answers in
+    let same : answer ≡ sent_answer first.table rounds = read_law frame first.table uuid limit rounds main channels answer sent answers in
     let done : verdict ≡ Done = ap (λ (a : Answer). a.verdict) same in
     let all : k ≡ length rounds = ap (λ (a : Answer). a.rounds) same in
     let there : IsInPlaceAnswer given uuid first texts memory k Done = record {
@@ -95,3 +103,18 @@ sent_law uuid limit first rounds main channels memory k verdict is_table is_imag
       all,
       exact ∙ ap (λ (n : ℕ). rounds_onto first n readings) all ∙ all_rounds first.table sent.batch_limit (length channels) rounds readings is first,
     )
+
+pub sent_law : SentIsLoadedInPlace
+sent_law uuid limit first rounds main channels memory k verdict is_table is_image is_memory sent room here =
+    read_in_place Ram uuid limit first rounds main channels memory k verdict is_table is_image is_memory (as_sent read_back first.table uuid limit rounds main channels sent room) here
+
+pub machine_sent_law : MachineSentIsLoadedInPlace
+machine_sent_law given uuid first rounds main channels memory k verdict is_table is_image is_memory is_machine unlimited sent room here =
+    let own : LoadSettings = for_table first.table given in
+    let named : own ≡ framed Machine first.table.page_size given.limit =
+    ap (λ (f : Frame). record own { frame = f }) is_machine ∙ ap (λ (n : Option ℕ). record own { frame = Machine; waiting = n }) unlimited in
+    let there : IsInPlaceAnswer own uuid first (ended_texts main channels) memory k verdict =
+    record { readings = here.readings; are_readings = here.are_readings; own = here.own; unknown = here.unknown; other = here.other } in
+    read_in_place Machine uuid given.limit first rounds main channels memory k verdict is_table is_image is_memory
+    (machine_as_sent (machine_sendings_are_read_back machine_mains read_back) first.table uuid given.limit rounds main channels sent room)
+    (subst (λ (g : LoadSettings). IsInPlaceAnswer g uuid first (ended_texts main channels) memory k verdict) named there)

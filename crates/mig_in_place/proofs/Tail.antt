@@ -167,7 +167,7 @@ all_flushed c (item ∷ items) main so_far free =
     let there = (IsLater-front c (after c item) item (front_item c item free.0 free.1)).same_mode ∙ main in
     all_flushed (after c item) items there (λ closed. item_closes c c.due item refl main free.1 free.0.is_due closed) free.2
 
-pub closed_has_none : (frame : Frame) (m : Mode) (p limit : ℕ) (bytes : List ℕ) (to : StreamProgress) → m ≡ Main → Front (start frame m p limit) bytes to → to.due ≡ Nothing → to.records ≡ []
-closed_has_none frame m p limit bytes to main f closed =
-    let last : IsFlushed to = subst IsFlushed (sym f.leads_to) (all_flushed (start frame m p limit) f.items main (λ e. refl) f.are_faultless) in
+pub closed_has_none : (frame : Frame) (m : Mode) (p limit : ℕ) (waiting : Option ℕ) (bytes : List ℕ) (to : StreamProgress) → m ≡ Main → Front (start frame m p limit waiting) bytes to → to.due ≡ Nothing → to.records ≡ []
+closed_has_none frame m p limit waiting bytes to main f closed =
+    let last : IsFlushed to = subst IsFlushed (sym f.leads_to) (all_flushed (start frame m p limit waiting) f.items main (λ e. refl) f.are_faultless) in
     last closed

@@ -1,8 +1,9 @@
 -- What holds of each answer of a load in place.
-use Rattle.std.specs.Prelude.{ℕ, ◌≡◌, ◌≢◌, ◌≤◌, List, length}
+use Rattle.std.specs.Prelude.{ℕ, ◌≡◌, ◌≢◌, ◌≤◌, List, None, length}
 use Rattle.mig_mem.specs.RamTable.{IsTable}
 use Rattle.mig_mem.specs.Image.{Image, IsImage}
 use Rattle.mig_mem.specs.Round.{with_rounds}
+use Rattle.mig_stream.specs.declared.item.Frame.TheVariants.{Machine}
 use Rattle.mig_stream.specs.Text.{total_bytes}
 use Rattle.mig_send.specs.DealtRounds.{DealtRound}
 use Rattle.mig_single_load.specs.Settings.{ram_settings, for_table}
@@ -14,7 +15,7 @@ use Rattle.mig_answer.specs.declared.verdict.Verdict.TheVariants.{Running, Done}
 use Rattle.mig_answer.specs.Texts.{Text, Texts, ended_texts}
 use Rattle.mig_answer.specs.Growing.{GoesOn}
 use Rattle.mig_answer.specs.MultiLoad.{Answer, IsAnswer, failed}
-use Rattle.mig_answer.specs.Sent.{IsSentInAnyOrder, sent_rounds}
+use Rattle.mig_answer.specs.Sent.{IsSentInAnyOrder, IsMachineSentInAnyOrder, sent_rounds}
 use Rattle.mig_session.specs.declared.source.Source.{Source}
 use Rattle.mig_session.specs.Session.{at_source}
 use Rattle.mig_in_place.specs.Answer.{rounds_onto, IsInPlaceAnswer}
@@ -44,4 +45,13 @@ abbrev pub SentIsLoadedInPlace : Type 0
 SentIsLoadedInPlace = (uuid : List ℕ) (limit : ℕ) (first : Image) (rounds : List DealtRound) (main : List ℕ) (channels : List (List ℕ)) (memory : Image) (k : ℕ) (verdict : Verdict)
     → IsTable first.table → IsImage first → IsImage memory → IsSentInAnyOrder first.table uuid rounds main channels → total_bytes first.table ≤ limit
     → IsInPlaceAnswer (ram_settings first.table.page_size limit) uuid first (ended_texts main channels) memory k verdict
+    → (verdict ≡ Done) × (k ≡ length rounds) × (memory ≡ with_rounds first (sent_rounds rounds))
+
+-- So is what it has sent with a machine's main stream, by a load in a machine's frame, whatever
+-- follows RAM's END. Any number of page records may wait.
+abbrev pub MachineSentIsLoadedInPlace : Type 0
+MachineSentIsLoadedInPlace = (given : LoadSettings) (uuid : List ℕ) (first : Image) (rounds : List DealtRound) (main : List ℕ) (channels : List (List ℕ)) (memory : Image) (k : ℕ) (verdict : Verdict)
+    → IsTable first.table → IsImage first → IsImage memory → given.frame ≡ Machine → given.waiting ≡ None
+    → IsMachineSentInAnyOrder first.table uuid rounds main channels → total_bytes first.table ≤ given.limit
+    → IsInPlaceAnswer given uuid first (ended_texts main channels) memory k verdict
     → (verdict ≡ Done) × (k ≡ length rounds) × (memory ≡ with_rounds first (sent_rounds rounds))

@@ -1,7 +1,7 @@
 //! What holds of each answer of a load in place: laws over the definitions, as clauses of functions
 //! that do nothing.
 
-ghost use Rattle.mig_in_place.specs.Law.{InPlaceTellsAlike, InPlaceDoneIsExact, WaitingBytesChangeNothing, SentIsLoadedInPlace};
+ghost use Rattle.mig_in_place.specs.Law.{InPlaceTellsAlike, InPlaceDoneIsExact, WaitingBytesChangeNothing, SentIsLoadedInPlace, MachineSentIsLoadedInPlace};
 
 /// Rounds and verdict are those of any load on several channels.
 pub fn in_place_tells_alike()
@@ -21,4 +21,10 @@ pub fn waiting_bytes_change_nothing()
 /// What a sender on several channels has sent is loaded in place.
 pub fn sent_is_loaded_in_place()
     ensures { SentIsLoadedInPlace }
+{}
+
+/// What a sender on several channels has sent with a machine's main stream is loaded in place, whatever
+/// follows RAM's END.
+pub fn machine_sent_is_loaded_in_place()
+    ensures { MachineSentIsLoadedInPlace }
 {}
