@@ -23,8 +23,8 @@ pub fn sent_is_loaded_in_place()
     ensures { SentIsLoadedInPlace }
 {}
 
-/// What a sender on several channels has sent with a machine's main stream is loaded in place, whatever
-/// follows RAM's END.
+/// What a sender on several channels has sent with a machine's main stream is loaded in place,
+/// whatever follows RAM's END.
 pub fn machine_sent_is_loaded_in_place()
     ensures { MachineSentIsLoadedInPlace }
 {}

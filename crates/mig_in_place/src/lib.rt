@@ -1,5 +1,6 @@
 //! Loads several channels into memory that is there already, each page as soon as its bytes have
-//! come. No round is kept.
+//! come. Of a round its numbers and marks are kept, and the main stream's page records, which are
+//! written once their FLUSH has come and their round is the one in hand.
 //!
 //! An `InPlaceSession` is for a guest whose memory the caller has mapped where it is to run. A
 //! `Session` (`mig_session`) keeps each round until all sources have it, and judges it before it

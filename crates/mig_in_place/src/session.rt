@@ -45,11 +45,14 @@ const PACKET_LIMIT: u64 = 1 << 63;
 const ROUND_LIMIT: u64 = 1 << 63;
 
 /// Loads a guest from the pieces of a main stream and of its channels, into memory that is passed
-/// with each piece, and writes each page once, when its bytes have come.
+/// with each piece, and writes each page once: a channel's when its bytes have come.
 ///
-/// A source takes bytes up to the end of the round in hand. What follows waits with the caller
-/// until all sources have the round, and it was judged. Verdict and rounds are a `Session`'s of the
-/// bytes taken.
+/// A channel takes bytes up to the end of the round in hand. What follows waits with the caller
+/// until all sources have the round, and it was judged. The main stream takes a whole piece, and its
+/// page records of later rounds are kept. Verdict and rounds are a `Session`'s of the bytes taken.
+///
+/// All calls take the memory as the call before left it. Of a page that was written meanwhile nothing
+/// is promised.
 #[derive(Drop)]
 pub struct InPlaceSession<A: Allocator = Global> {
     table: Table<A>,
@@ -223,7 +226,7 @@ impl<A: Allocator + Copy> InPlaceSession<A> {
     }
 
     /// Creates a load into memory of `table`, of which it takes a copy, from `channels` channels
-    /// under `uuid`. Of `settings` the limit and the frame count: the pages have the size that
+    /// under `uuid`. Of `settings` all but the page size counts: the pages have the size that
     /// `table` has. The limit must be at least the table's own total.
     ///
     /// # Errors
@@ -261,9 +264,9 @@ impl<A: Allocator + Copy> InPlaceSession<A> {
         })
     }
 
-    /// Takes the first bytes of `piece`, the next of `source`, as far as they belong to the round in
-    /// hand, and writes their pages into the memory. Returns how many bytes it took. The others are
-    /// to be fed again once `takes` returns true for the source.
+    /// Takes the first bytes of `piece`, the next of `source`, and writes their pages into the memory.
+    /// Of a channel it takes those of the round in hand, of the main stream all. Returns how many
+    /// bytes it took. The others are to be fed again once `takes` returns true for the source.
     ///
     /// # Errors
     ///

@@ -2,7 +2,7 @@
 //! pieces, with each allocation refused; and which sources and how long pieces a session takes.
 
 use crate::feeding::text_of;
-use crate::texts::{main_of, page_and_zeros};
+use crate::texts::{main_of, page_and_zeros, put_sync};
 use mig_answer::Verdict;
 use mig_fixtures::{TestHeap, at, has_byte, is_full};
 use mig_mem::NoMemory;
@@ -189,35 +189,43 @@ fn sources_and_room(rt: HostRuntime) {
     assert!(rt; session.has_room(Source::Channel(1), usize::MAX));
 }
 
-// The round of `page_and_zeros`, for a guest of three pages, whose main stream has a record of page 2
-// as zeros before its FLUSH, which begins with byte 61.
-fn texts_with_a_record(rt: &(impl AllocGlobal + Abort)) -> Sent {
+// Two rounds of a guest of three pages, each with a record of page 2 as zeros in the main stream
+// before its FLUSH: the round of `page_and_zeros`, and one without packets but SYNC's. The FLUSHes
+// begin with bytes 61 and 87 of a main stream without records.
+fn texts_with_records(rt: &(impl AllocGlobal + Abort)) -> Sent {
+    const RECORD: &[u8] = b"\x00\x00\x00\x00\x00\x00\x20\x02\x01a\x00";
     let mut texts = page_and_zeros(rt);
-    let flushes = main_of(rt, 3, 1);
+    let flushes = main_of(rt, 3, 2);
     let mut main = Vec::new(rt.alloc());
     append(rt, &mut main, flushes.get(..61).expect(rt, "a PART's head"));
-    append(rt, &mut main, b"\x00\x00\x00\x00\x00\x00\x20\x02\x01a\x00");
-    append(rt, &mut main, flushes.get(61..).expect(rt, "a FLUSH"));
+    append(rt, &mut main, RECORD);
+    append(rt, &mut main, flushes.get(61..87).expect(rt, "a FLUSH"));
+    append(rt, &mut main, RECORD);
+    append(rt, &mut main, flushes.get(87..).expect(rt, "a FLUSH"));
     texts.main = main;
+    for channel in &mut texts.channels {
+        put_sync(rt, channel, 2);
+    }
     texts
 }
 
-// The main stream's record fits where one may wait. Where none may, it is a fault.
+// Where one record may wait each round has room for its own, since a FLUSH ends the round before.
+// Where none may, the first is a fault.
 #[test]
 fn page_records_that_may_wait(rt: HostRuntime) {
-    let texts = texts_with_a_record(&rt);
+    let texts = texts_with_records(&rt);
     let failed = Verdict::Failed(LoadFault {
         round: 0,
         source: Origin::Main,
         fault: Fault::Stream(StreamFault::Waiting),
     });
-    for (most, wanted) in [(1u64, Verdict::Done), (0, failed)] {
+    for (most, wanted, rounds) in [(1u64, Verdict::Done, 2u64), (0, failed, 0)] {
         let settings = LoadSettings::new(4096, 1 << 40).with_waiting(Some(most));
         let made = Session::new_in(rt.alloc(), settings, &Uuid::nil(), 1);
         let mut session = made.expect(&rt, "a session");
         assert!(rt; feed_all(&rt, &mut session, &texts, 7) == Ok(()));
         end(&rt, &mut session, CHANNEL);
         end(&rt, &mut session, Source::Main);
-        assert!(rt; session.verdict() == wanted);
+        assert!(rt; session.verdict() == wanted && session.rounds() == rounds);
     }
 }

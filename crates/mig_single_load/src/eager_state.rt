@@ -205,9 +205,9 @@ impl<A: Allocator + Copy> EagerState<A> {
         EagerState::new_in(alloc, table, LoadSettings::new(table.page_size(), limit))
     }
 
-    /// Creates a load into a memory of `table`, of which it takes a copy. Of `settings` the limit
-    /// and the frame count: the pages have the size that `table` has. The limit must be at least
-    /// what the table's blocks have together.
+    /// Creates a load into a memory of `table`, of which it takes a copy. Of `settings` all but the
+    /// page size counts: the pages have the size that `table` has. The limit must be at least what
+    /// the table's blocks have together.
     ///
     /// # Errors
     ///

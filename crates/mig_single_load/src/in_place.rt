@@ -69,7 +69,7 @@ impl<A: Allocator + Copy, M: GuestTarget> InPlaceLoader<A, M> {
     }
 
     /// Creates a loader that was fed nothing, into `memory`. It takes a copy of the table. Of
-    /// `settings` the limit and the frame count: the pages have the size that the memory has. The
+    /// `settings` all but the page size counts: the pages have the size that the memory has. The
     /// limit must be at least what the memory's blocks have together.
     ///
     /// # Errors

@@ -122,7 +122,7 @@ impl<A: Allocator + Copy> InPlaceState<A> {
     }
 
     /// Creates a load that was fed nothing, into a memory of `table`, of which it takes a copy. Of
-    /// `settings` the limit and the frame count: the pages have the size that `table` has. The
+    /// `settings` all but the page size counts: the pages have the size that `table` has. The
     /// limit must be at least what the table's blocks have together.
     ///
     /// # Errors

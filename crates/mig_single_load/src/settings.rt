@@ -17,7 +17,8 @@ pub struct LoadSettings {
     pub frame: Frame,
     /// The most page records that a section of a single stream may have, or a round of a main
     /// stream: so many wait until it is complete. One more is the fault `StreamFault::Waiting`.
-    /// `None` is any number. The packets of channels aren't counted.
+    /// `None` is any number. Every load judges it, also those that keep no records, so that all give
+    /// one answer. The packets of channels aren't counted.
     pub waiting: Option<u64>,
 }
 

@@ -186,9 +186,9 @@ impl<'a, A: Allocator + Copy> StreamReader<'a, A> {
         StreamReader::new_within(alloc, frame, mode, page_size, limit, None)
     }
 
-    /// Creates a reader as `new_in` does, which keeps at most `waiting` page records: so many may a
-    /// section of a single stream have, or a round of a main stream. One more is the fault
-    /// `Waiting`. `None` is any number.
+    /// Creates a reader as `new_in` does, in which a section of a single stream, or a round of a main
+    /// stream, may have at most `waiting` page records. One more is the fault `Waiting`. Complete
+    /// rounds that weren't taken aren't counted. `None` is any number.
     pub fn new_within(
         alloc: A,
         frame: Frame,

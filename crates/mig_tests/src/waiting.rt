@@ -3,11 +3,13 @@
 
 ghost use Rattle.std.specs.Prelude.{◌≡◌, ◌≤◌, ◌^◌};
 
-use crate::building::{append, feed, image_with, text_of, two_rounds_in};
+use crate::building::{append, dirty_of, feed, finished, image_with, part, text_of, two_rounds_in};
 use mig_fixtures::{at, has_byte, is_full};
 use mig_mem::{MAX_TOTAL, Memory, PAGE_SIZE_4K, Place};
-use mig_single_load::{Fault, LoadFault, LoadSettings, Origin, SingleLoader, load_single_in};
-use mig_stream::{Frame, Mode, StreamFault, StreamReader, StreamState};
+use mig_single_load::{
+    EagerState, Fault, LoadFault, LoadSettings, Origin, SingleLoader, load_single_in,
+};
+use mig_stream::{Frame, Mode, StreamFault, StreamReader, StreamState, StreamWriter};
 use std::alloc::{AllocGlobal, Allocator};
 use std::process::Abort;
 
@@ -130,14 +132,21 @@ fn assert_first_section<A: Allocator>(
     assert!(rt; has_byte(memory, at(1, 64), 0, 7) && is_full(memory, at(1, 0), 0));
 }
 
-// Sections of one page and of three, where two may wait: fed in pieces, and whole.
+// Sections of one page and of three, where two may wait. The second has page 64 as zeros.
+fn one_and_three(rt: &(impl AllocGlobal + Abort)) -> Vec<u8> {
+    let image = image_with(rt, 1, 64 * 4096);
+    let mut writer = StreamWriter::new(rt.alloc(), image.table()).expect(rt, "a writer");
+    let one = dirty_of(rt, &[at(1, 64)]);
+    assert!(rt; part(rt, &mut writer, &image, &one) == Ok(()));
+    let zeros = image_with(rt, 0, 0);
+    let three = dirty_of(rt, &[at(0, 0), at(1, 0), at(1, 64)]);
+    assert!(rt; part(rt, &mut writer, &zeros, &three) == Ok(()));
+    finished(rt, writer)
+}
+
 #[test]
 fn sections_before_the_one_too_long(rt: HostRuntime) {
-    let image = image_with(&rt, 1, 64 * 4096);
-    let one: &[Place] = &[at(1, 64)];
-    let three: &[Place] = &[at(0, 0), at(1, 0), at(1, 64)];
-    let mut stream = text_of(&rt, &image, &[one, three]);
-    append(&rt, &mut stream, b"\x06");
+    let stream = one_and_three(&rt);
     let whole = load_single_in(rt.alloc(), settings(2), &stream);
     assert_first_section(&rt, whole.rounds, whole.verdict, whole.memory.as_ref());
     let mut loader = SingleLoader::new_in(rt.alloc(), settings(2));
@@ -148,4 +157,36 @@ fn sections_before_the_one_too_long(rt: HostRuntime) {
     }
     let loaded = loader.finish();
     assert_first_section(&rt, loaded.rounds, loaded.verdict, loaded.memory.as_ref());
+}
+
+// A load that writes each page as it comes has the first two records of the section too long.
+#[test]
+fn records_before_the_one_too_many(rt: HostRuntime) {
+    let stream = one_and_three(&rt);
+    let mut memory = image_with(&rt, 1, 0);
+    let made = EagerState::new_in(rt.alloc(), memory.table(), settings(2));
+    let mut state = made.expect(&rt, "a load");
+    assert!(rt; !state.ended() && state.fed() == 0 && stream.len() as u64 <= MAX_TOTAL);
+    assert!(rt; state.feed(&mut memory, &stream) == Ok(()));
+    assert!(rt; state.rounds() == 2);
+    assert!(rt; is_full(&memory, at(1, 0), 0) && has_byte(&memory, at(1, 64), 0, 7));
+}
+
+// The first record of a section leaves its block's id out, and no block was named: where no record
+// may wait that is fault 64, and else 28. A size list in its place is 26 in both.
+#[test]
+fn judged_in_their_order(rt: HostRuntime) {
+    let empty = text_of(&rt, &image_with(&rt, 0, 0), &[]);
+    let front = empty.get(..71).expect(&rt, "START");
+    for (head, most, fault) in [
+        (0x22u8, 0u64, StreamFault::Waiting),
+        (0x22, 1, StreamFault::NoBlock),
+        (0x04, 0, StreamFault::SizePlace),
+    ] {
+        let mut stream = Vec::new(rt.alloc());
+        append(&rt, &mut stream, front);
+        append(&rt, &mut stream, b"\x02\x00\x00\x00\x01");
+        append(&rt, &mut stream, &[0, 0, 0, 0, 0, 0, 0, head]);
+        assert_stands(&rt, Frame::Ram, most, &stream, StreamState::Bad(fault), 76);
+    }
 }
