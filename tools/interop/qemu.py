@@ -1,11 +1,13 @@
-"""QEMU as the other end: guests without a processor, whose memory is a file, are migrated into files and loaded from them.
+"""QEMU as the other end: guests whose memory is a file are migrated into files and loaded from them.
 
-`Guest` starts a QEMU of machine `none` (or another one, by its words) with the memory in a shared file, so that what the guest
-has can be read without asking QEMU. `written` has it write its state, single or by multifd, as it does for `migrate`; `loaded` has
-it load such bytes, and gives its memory then.
+`Guest` starts a QEMU with its RAM in a shared file, so that what the guest has can be read without
+asking QEMU. `written` has it write its state to sockets, single or by multifd, and `written_file`
+into a file, each as `migrate` does. `loaded` and `loaded_file` have it load such bytes, and return
+its RAM after that.
 """
 import json
-import os
+import re
+import shlex
 import socket
 import subprocess
 import tempfile
@@ -20,7 +22,7 @@ HELLO = bytes.fromhex("11223344")
 class Qmp:
     """The monitor of a QEMU, by its socket."""
 
-    def __init__(self, path):
+    def __init__(self, path, process):
         self.socket = socket.socket(socket.AF_UNIX)
         until = time.monotonic() + SECONDS
         while True:
@@ -28,9 +30,12 @@ class Qmp:
                 self.socket.connect(str(path))
                 break
             except OSError:
+                if process.poll() is not None:
+                    raise RuntimeError(f"QEMU: {process.stderr.read().strip()}") from None
                 if time.monotonic() > until:
                     raise
                 time.sleep(0.02)
+        self.socket.settimeout(SECONDS)
         self.file = self.socket.makefile("rw")
         self.read()
         self.call("qmp_capabilities")
@@ -53,19 +58,25 @@ class Qmp:
 
 
 class Guest:
-    """A QEMU that doesn't run its guest, with `memory` as its RAM."""
+    """A QEMU with `memory` as its guest's RAM. The guest runs only where `running` is set."""
 
-    def __init__(self, program, memory, words=("-M", "none"), incoming=False):
+    def __init__(self, program, memory, words=("-M", "none"), incoming=False, running=False):
         self.folder = tempfile.TemporaryDirectory(prefix="interop-")
         self.ram = Path(self.folder.name) / "ram"
         self.ram.write_bytes(memory)
-        backend = f"memory-backend-file,id=ram,size={len(memory)},mem-path={self.ram},share=on"
+        size = len(memory)
+        backend = f"memory-backend-file,id=ram,size={size},mem-path={self.ram},share=on"
+        monitor = f"unix:{self.folder.name}/qmp,server=on,wait=off"
         self.process = subprocess.Popen(
-            [program, "-S", *words, "-machine", "memory-backend=ram", "-m", f"{len(memory) // 1024}K", "-object", backend,
-             "-nodefaults", "-display", "none", "-accel", "tcg", "-qmp", f"unix:{self.folder.name}/qmp,server=on,wait=off",
-             *(("-incoming", "defer") if incoming else ())],
-            stdout=subprocess.DEVNULL, stderr=subprocess.PIPE, text=True)
-        self.qmp = Qmp(f"{self.folder.name}/qmp")
+            [program, *(() if running else ("-S",)), *words, "-machine", "memory-backend=ram",
+             "-m", f"{size // 1024}K", "-object", backend, "-nodefaults", "-display", "none",
+             "-accel", "tcg", "-qmp", monitor, *(("-incoming", "defer") if incoming else ())],
+            stdin=subprocess.DEVNULL, stdout=subprocess.DEVNULL, stderr=subprocess.PIPE, text=True)
+        try:
+            self.qmp = Qmp(f"{self.folder.name}/qmp", self.process)
+        except BaseException:
+            self.__exit__()
+            raise
 
     def __enter__(self):
         return self
@@ -80,10 +91,11 @@ class Guest:
             states = [{"capability": name, "state": True} for name in capabilities]
             self.qmp.call("migrate-set-capabilities", capabilities=states)
         if parameters:
-            self.qmp.call("migrate-set-parameters", **{name.replace("_", "-"): value for name, value in parameters.items()})
+            named = {name.replace("_", "-"): value for name, value in parameters.items()}
+            self.qmp.call("migrate-set-parameters", **named)
 
     def wait(self, *wanted):
-        """Waits until the migration has one of these states, and gives it."""
+        """Waits until the migration has one of these states, and returns it."""
         until = time.monotonic() + SECONDS
         while time.monotonic() < until:
             if self.process.poll() is not None:
@@ -98,8 +110,35 @@ class Guest:
             time.sleep(0.02)
         return "no end"
 
+    def wait_for_rounds(self, count):
+        """Waits until the migration looked `count` times for the pages that were written."""
+        until = time.monotonic() + SECONDS
+        while self.qmp.call("query-migrate").get("ram", {}).get("dirty-sync-count", 0) < count:
+            if time.monotonic() > until:
+                raise RuntimeError(f"no {count} rounds in {SECONDS} seconds")
+            time.sleep(0.02)
+
     def contents(self):
         return self.ram.read_bytes()
+
+    def blocks(self):
+        """Returns the memory of each block that QEMU shows, by the block's id.
+
+        `info ramblock` of QEMU 8.0 and later has each block's address in the process, where the
+        memory is read. Of an older QEMU only RAM is returned, whose file is here.
+        """
+        said = self.qmp.call("human-monitor-command", **{"command-line": "info ramblock"})
+        row = r"^\s*(\S.*?)\s+\d+ KiB\s+0x\w+\s+0x(\w+)\s+0x(\w+)(?:\s+0x(\w+)\s+r[ow])?\s*$"
+        found = {}
+        with open(f"/proc/{self.process.pid}/mem", "rb", buffering=0) as memory:
+            for name, used, _, address in re.findall(row, said, re.M):
+                if address:
+                    memory.seek(int(address, 16))
+                    found[name] = memory.read(int(used, 16))
+        if found:
+            return found
+        first = re.search(r"^\s*(\S*ram)\s", said, re.M)
+        return {first[1]: self.contents()}
 
 
 def received(listener, count, found):
@@ -119,26 +158,57 @@ def received(listener, count, found):
         thread.join(SECONDS)
 
 
-def written(guest, channels=0):
-    """Has a guest migrate away. Gives the main stream, and the channels' bytes in the order of their ids."""
+def migrated(guest, uri, rounds=0):
+    """Has a guest migrate to `uri`. One that runs isn't stopped before it had `rounds` rounds."""
+    if rounds:
+        guest.set(max_bandwidth=64 << 20, downtime_limit=1)
+    guest.qmp.call("migrate", uri=uri)
+    if rounds:
+        guest.wait_for_rounds(rounds)
+        guest.set(max_bandwidth=1 << 30, downtime_limit=2000)
+    status = guest.wait("completed", "failed")
+    if status != "completed":
+        why = guest.qmp.call("query-migrate").get("error-desc", "")
+        raise RuntimeError(f"QEMU wrote no stream: {status} {why}")
+
+
+def written(guest, channels=0, rounds=0):
+    """Has a guest migrate away by sockets.
+
+    Returns the main stream, and the channels' bytes in the order of their ids.
+    """
     path = f"{guest.folder.name}/away"
     listener = socket.socket(socket.AF_UNIX)
     listener.bind(path)
     listener.listen(channels + 1)
+    listener.settimeout(SECONDS)
     if channels:
         guest.set(["multifd"], multifd_channels=channels)
     found = []
     thread = threading.Thread(target=received, args=(listener, channels + 1, found))
     thread.start()
-    guest.qmp.call("migrate", uri=f"unix:{path}")
-    status = guest.wait("completed", "failed")
-    if status != "completed":
-        raise RuntimeError(f"QEMU wrote no stream: {status}")
+    try:
+        migrated(guest, f"unix:{path}", rounds)
+    finally:
+        listener.close()
     thread.join(SECONDS)
     main = next(it for it in found if not it.startswith(HELLO))
     # a hello: magic, version, the UUID, and the channel's id
     hellos = sorted((it for it in found if it.startswith(HELLO)), key=lambda it: it[24])
     return main, hellos
+
+
+def by_file(guest, path, command):
+    """The URI for a file: QEMU has `file:` from 8.2 on, and commands before."""
+    number = guest.qmp.call("query-version")["qemu"]
+    if (number["major"], number["minor"]) >= (8, 2):
+        return f"file:{path}"
+    return f"exec:{command} {shlex.quote(str(path))}"
+
+
+def written_file(guest, path, rounds=0):
+    """Has a guest migrate into a file."""
+    migrated(guest, by_file(guest, path, "cat >"), rounds)
 
 
 def send_all(connection, bytes_):
@@ -150,7 +220,10 @@ def send_all(connection, bytes_):
 
 
 def loaded(guest, main, channels=()):
-    """Has a guest that waits for a migration load a stream. Gives the state that this ends in, and its memory."""
+    """Has a guest that waits for a migration load a stream, by sockets.
+
+    Returns the state that this ends in, and its RAM.
+    """
     path = f"{guest.folder.name}/here"
     if channels:
         guest.set(["multifd"], multifd_channels=len(channels))
@@ -167,7 +240,18 @@ def loaded(guest, main, channels=()):
     return status, guest.contents()
 
 
+def loaded_file(guest, path):
+    """Has a guest that waits for a migration load a file. Returns what `loaded` returns."""
+    guest.qmp.call("migrate-incoming", uri=by_file(guest, path, "cat"))
+    return guest.wait("completed", "failed"), guest.contents()
+
+
 def version(program):
     """The version that a QEMU prints of itself."""
-    first = subprocess.run([program, "--version"], capture_output=True, text=True, check=True).stdout.split("\n")[0]
-    return first.split("version ")[1].split(" ")[0]
+    said = subprocess.run([program, "--version"], capture_output=True, text=True, check=True).stdout
+    return said.split("version ")[1].split()[0]
+
+
+def number(version_):
+    """A version's number as a tuple, which compares as versions do."""
+    return tuple(int(it) for it in re.findall(r"\d+", version_)[:3])

@@ -1,0 +1,97 @@
+"""The guests that are migrated: machines with devices and without, stopped and running.
+
+A guest's memory is noise, zeros and one byte again and again, page by page. `WRITER` is firmware
+for a guest that writes 128 of its pages over and over: every fourth time with zeros.
+"""
+import random
+from dataclasses import dataclass
+
+PAGE = 4096
+MIB = 1 << 20
+# The segments of real mode between which the firmware writes, a page each.
+FIRST, LAST = 0x1000, 0x9000
+WRITER_CODE = bytes.fromhex(
+    "fa"          # cli
+    "31c0"        # xor ax, ax
+    "40"          # again: inc ax
+    "250300"      # and ax, 3
+    "bb0010"      # mov bx, FIRST
+    "8ec3"        # page: mov es, bx
+    "26a31000"    # mov [es:16], ax
+    "81c30001"    # add bx, 256
+    "81fb0090"    # cmp bx, LAST
+    "75f0"        # jne page
+    "ebe7"        # jmp again
+)
+# A processor's first instruction, 16 bytes before the end of the firmware: jmp 0xf000:0
+RESET = bytes.fromhex("ea000000f0")
+WRITER = (WRITER_CODE.ljust(65520, b"\0") + RESET).ljust(65536, b"\0")
+
+
+@dataclass(frozen=True)
+class Kind:
+    """A guest: what it is called, QEMU's words for it, and its RAM's size."""
+
+    name: str
+    words: tuple
+    mib: int
+    running: bool = False
+    # whether it writes pages while it is migrated
+    writes: bool = False
+
+
+NETWORK = ("-netdev", "user,id=net", "-device", "e1000,netdev=net,romfile=")
+NONE = Kind("none", ("-M", "none"), 4)
+NONE_RUNNING = Kind("none, running", ("-M", "none"), 4, running=True)
+PC = Kind("pc", ("-M", "pc"), 32)
+PC_WRITING = Kind("pc, running", ("-M", "pc"), 32, running=True, writes=True)
+Q35 = Kind("q35 with devices", ("-M", "q35", *NETWORK, "-device", "virtio-rng-pci"), 32)
+Q35_RUNNING = Kind("q35, running", ("-M", "q35", "-device", "virtio-rng-pci"), 32, running=True)
+KINDS = (NONE, NONE_RUNNING, PC, PC_WRITING, Q35, Q35_RUNNING)
+
+
+def words_of(kind, folder):
+    """QEMU's words for a guest. The firmware that writes is put into a folder."""
+    if not kind.writes:
+        return kind.words
+    firmware = folder / "writer.bin"
+    firmware.write_bytes(WRITER)
+    return (*kind.words, "-bios", str(firmware))
+
+
+def memory(pages, seed=5):
+    """Memory whose pages are noise, zeros, and one byte again and again, in turn."""
+    noise = random.Random(seed)
+    filled = (
+        lambda page: noise.randbytes(PAGE),
+        lambda page: bytes(PAGE),
+        lambda page: bytes([page % 255 + 1]) * PAGE,
+    )
+    return b"".join(filled[page % 3](page) for page in range(pages))
+
+
+def memory_of(kind):
+    return memory(kind.mib * MIB // PAGE)
+
+
+def scenario(pages, seed=7):
+    """A guest of one block `ram` for the tool, which sends an empty round and then three.
+
+    Returns the scenario's lines, and the memory after them. QEMU's threads for channels need the
+    empty round first.
+    """
+    drawn, lines = random.Random(seed), [f"block {pages} ram", "round"]
+    memory_ = bytearray(pages * PAGE)
+    for share in (1.0, 0.2, 0.05):
+        for page in range(pages):
+            if drawn.random() >= share:
+                continue
+            byte = drawn.choice((0, 0, drawn.randrange(256)))
+            lines.append(f"fill 0 {page} {byte}")
+            memory_[page * PAGE:(page + 1) * PAGE] = bytes([byte]) * PAGE
+            if drawn.random() < 0.3:
+                at, byte = page * PAGE + drawn.randrange(PAGE), drawn.randrange(256)
+                lines.append(f"set 0 {at} {byte}")
+                memory_[at] = byte
+        lines.append("round")
+    return "".join(f"{it}\n" for it in lines), bytes(memory_)
