@@ -1,0 +1,199 @@
+"""What is tried with each QEMU: a function for each kind of row.
+
+Each takes a `Bench`, and returns what was compared, or raises `Differs`.
+"""
+import time
+from dataclasses import dataclass
+from pathlib import Path
+
+import qemu
+from guests import MIB, NONE, PAGE, memory, memory_of, scenario, words_of
+from ours import (Captures, Differs, Programs, block_words, compare, extracted, fault_of, inspected,
+                  ran)
+
+# The rounds after which a guest that writes is stopped.
+ROUNDS = 4
+# A stream without a configuration is refused unless the receiver runs with this.
+NO_CONFIGURATION = ("-global", "migration.send-configuration=off")
+
+
+@dataclass(frozen=True)
+class Bench:
+    """A QEMU, the programs, a folder for files, and the captures that are loaded at the end."""
+
+    qemu: str
+    programs: Programs
+    folder: Path
+    captures: Captures
+
+    def guest(self, kind, **how):
+        words = words_of(kind, self.folder)
+        return qemu.Guest(self.qemu, memory_of(kind), words, running=kind.running, **how)
+
+    def waiting(self, size, words):
+        """A guest whose memory is zeros, which waits for a migration."""
+        return qemu.Guest(self.qemu, bytes(size), words, incoming=True)
+
+    def file(self, name):
+        return self.folder / name
+
+
+def rounds_of(kind):
+    return ROUNDS if kind.writes else 0
+
+
+def write_file(bench, kind, capabilities=(), **parameters):
+    """Has QEMU write a guest into a file. Returns the file, and the guest's memory after that."""
+    stream = bench.file("guest.sav")
+    stream.unlink(missing_ok=True)
+    with bench.guest(kind) as guest:
+        guest.set(capabilities, **parameters)
+        qemu.written_file(guest, stream, rounds_of(kind))
+        return stream, guest.blocks()
+
+
+def read_single(bench, kind, capabilities=(), **parameters):
+    """QEMU writes a file, and `zimgasol` verifies and extracts it."""
+    stream, wanted = write_file(bench, kind, capabilities, **parameters)
+    ran(bench.programs.zimgasol, "verify", stream, "--quiet")
+    return compare(wanted, extracted(bench.programs.zimgasol, stream, bench.file("memory")))
+
+
+def refuse_single(bench, kind, fault, capabilities=(), **parameters):
+    """QEMU writes a file that has what can't be read, and `zimgasol` says so."""
+    stream, _ = write_file(bench, kind, capabilities, **parameters)
+    return refused(bench, stream, fault)
+
+
+def refused(bench, stream, fault):
+    said = ran(bench.programs.zimgasol, "verify", stream, status=1)
+    if fault_of(said) != fault:
+        raise Differs(f"{said}; expected fault {fault}")
+    return f"fault {fault}"
+
+
+def write_several(bench, kind, channels, name, faults=(), **parameters):
+    """QEMU writes on several channels. What comes is loaded later, with all other captures."""
+    with bench.guest(kind) as guest:
+        guest.set((), **parameters)
+        main, streams = qemu.written(guest, channels, rounds_of(kind))
+        wanted = guest.blocks()
+    if faults:
+        bench.captures.add_refused(name, main, streams, faults)
+    else:
+        bench.captures.add(name, main, streams, wanted)
+
+
+def refuse_main(bench, fault):
+    """The main stream of two channels alone is no single stream."""
+    stream = bench.file("main.sav")
+    with bench.guest(NONE) as guest:
+        stream.write_bytes(qemu.written(guest, 2)[0])
+    return refused(bench, stream, fault)
+
+
+def load_file(bench, stream, wanted, words=NONE.words):
+    """Has QEMU load a file, and compares RAM with what it is to be."""
+    with bench.waiting(len(wanted), words) as guest:
+        status, came = qemu.loaded_file(guest, stream)
+    return loaded_as(status, {"ram": wanted}, {"ram": came})
+
+
+def loaded_as(status, wanted, came):
+    if status != "completed":
+        raise Differs(f"QEMU's load: {status}")
+    return compare(wanted, came)
+
+
+def load_saved(bench, words, qemu_words=()):
+    """`zimgasol save` writes a guest's memory, and QEMU loads it."""
+    wanted, out = memory(4 * MIB // PAGE, seed=9), bench.file("saved.sav")
+    bench.file("ram.bin").write_bytes(wanted)
+    ran(bench.programs.zimgasol, "save", "--block", f"ram={bench.file('ram.bin')}", *words,
+        "--replace", out)
+    return load_file(bench, out, wanted, (*NONE.words, *qemu_words))
+
+
+def sent(bench, channels):
+    """Has the tool send a scenario. Returns the streams' files, and the guest's memory."""
+    lines, wanted = scenario(4 * MIB // PAGE)
+    bench.file("scenario").write_text(lines)
+    out = bench.file("sent")
+    ran(bench.programs.tool, "send", bench.file("scenario"), out, "--channels", channels)
+    return [out, *(bench.file(f"sent.{number}") for number in range(channels))], wanted
+
+
+def load_sent(bench, channels):
+    """`mig_tool send` sends a guest, and QEMU loads it: from a file, or from channels."""
+    files, wanted = sent(bench, channels)
+    words = (*NONE.words, *NO_CONFIGURATION)
+    if not channels:
+        return load_file(bench, files[0], wanted, words)
+    streams = [it.read_bytes() for it in files]
+    with bench.waiting(len(wanted), words) as guest:
+        status, came = qemu.loaded(guest, streams[0], streams[1:])
+    return loaded_as(status, {"ram": wanted}, {"ram": came})
+
+
+def cannot_load_sent(bench, channels):
+    """QEMU before 8.1 knows no FLUSH, so its load of our channels fails."""
+    files, wanted = sent(bench, channels)
+    streams = [it.read_bytes() for it in files]
+    with bench.waiting(len(wanted), (*NONE.words, *NO_CONFIGURATION)) as guest:
+        status, _ = qemu.loaded(guest, streams[0], streams[1:])
+    if status != "failed":
+        raise Differs(f"QEMU's load: {status}; expected failed")
+    return "QEMU refuses it"
+
+
+def chain(bench, other):
+    """A QEMU's file, extracted and saved by `zimgasol`, is loaded by a QEMU that writes it again."""
+    zimgasol, out, last = bench.programs.zimgasol, bench.file("chain.sav"), bench.file("last.sav")
+    stream, _ = write_file(bench, NONE)
+    wanted, folder = memory_of(NONE), bench.file("memory")
+    extracted(zimgasol, stream, folder)
+    ran(zimgasol, "save", *block_words(folder), "--frame", "machine", "--machine", "none",
+        "--replace", out)
+    last.unlink(missing_ok=True)
+    with qemu.Guest(other, bytes(len(wanted)), NONE.words, incoming=True) as guest:
+        status, came = qemu.loaded_file(guest, out)
+        loaded_as(status, {"ram": wanted}, {"ram": came})
+        qemu.written_file(guest, last)
+    return compare({"ram": wanted}, extracted(zimgasol, last, folder))
+
+
+def with_devices(bench, stream):
+    """A machine's file whose RAM `zimgasol` wrote anew, and whose devices are as QEMU wrote them."""
+    zimgasol, folder, out = bench.programs.zimgasol, bench.file("memory"), bench.file("chain.sav")
+    extracted(zimgasol, stream, folder)
+    found = inspected(zimgasol, stream)
+    machine = next(it["machine"] for it in found["notes"] if "machine" in it)
+    ran(zimgasol, "save", *block_words(folder), "--frame", "machine", "--machine", machine,
+        "--replace", out)
+    # (what `save` writes ends with the byte that ends it all)
+    out.write_bytes(out.read_bytes()[:-1] + stream.read_bytes()[found["end"]:])
+    return out
+
+
+def chain_devices(bench, kind):
+    """A machine's RAM goes through `zimgasol`, and QEMU loads it with the devices it had written.
+
+    A guest that ran runs on: the pages that its firmware writes change.
+    """
+    stream, wanted = write_file(bench, kind)
+    out = with_devices(bench, stream)
+    with bench.waiting(kind.mib * MIB, words_of(kind, bench.folder)) as guest:
+        status, ram = qemu.loaded_file(guest, out)
+        compared = loaded_as(status, wanted, {**guest.blocks(), "ram": ram})
+        if kind.writes:
+            guest.qmp.call("cont")
+            wait_for_change(guest, ram)
+    return compared
+
+
+def wait_for_change(guest, ram):
+    until = time.monotonic() + qemu.SECONDS
+    while guest.contents() == ram:
+        if time.monotonic() > until:
+            raise Differs("the guest doesn't run on")
+        time.sleep(0.05)

@@ -1,0 +1,203 @@
+#!/usr/bin/env python3
+"""Has QEMU read what the project's programs write, and they what QEMU writes. Prints a table.
+
+    make interop                             # with QEMU 7.2, 10.0 and 11.1 of Debian's packages
+    tools/interop/interop.py [--suites 'SUITE ..'] [--qemu 'PROGRAM ..'] [--programs FOLDER]
+
+SUITE is one of Debian's, as `trixie-backports`. Its QEMU is downloaded into out/interop where it
+isn't there yet (packages.py). PROGRAM is a qemu-system-x86_64 that is there already; with it
+nothing is downloaded. Else the one of PATH is taken beside those of the suites. FOLDER has
+`zimgasol_cli`, `mig_tool` and `mig_captures`, in place of crates/NAME/out. Where `mig_captures`
+isn't built, it runs from its source.
+
+Each row says what wrote and what read, and `ok` or what differs. The status is 0 where all hold.
+It is no part of the gate.
+"""
+import argparse
+import sys
+import tempfile
+from dataclasses import dataclass
+from pathlib import Path
+
+import packages
+import qemu
+from checks import (NO_CONFIGURATION, Bench, cannot_load_sent, chain, chain_devices, load_saved,
+                    load_sent, read_single, refuse_main, refuse_single, write_several)
+from guests import KINDS, NONE, PC, PC_WRITING
+from ours import Captures, Differs, Programs
+
+CHANNELS = (1, 2, 4)
+UUID = "01020304-0506-0708-090a-0b0c0d0e0f10"
+# QEMU's multifd before 8.1 has no FLUSH: the faults of docs/EMBEDDING.md
+NO_FLUSH = (33, 52, 54, 55, 56, 59)
+HEADS = ("QEMU", "from, to", "guest", "how", "compared", "")
+
+
+@dataclass
+class Row:
+    version: str
+    way: str
+    guest: str
+    how: str
+    compared: str = ""
+    result: str = ""
+
+    def cells(self):
+        return self.version, self.way, self.guest, self.how, self.compared, self.result
+
+
+class Table:
+    """The rows of all that was tried."""
+
+    def __init__(self):
+        self.rows = []
+
+    def try_(self, row, check):
+        """Runs a check, and adds its row."""
+        self.rows.append(row)
+        try:
+            row.compared, row.result = check() or "", "ok"
+        except Differs as differs:
+            row.result = str(differs)
+        except (RuntimeError, OSError, ValueError, KeyError, StopIteration) as error:
+            row.result = f"{type(error).__name__}: {error}"
+
+    def wrong(self):
+        return sum(it.result != "ok" for it in self.rows)
+
+    def show(self):
+        lines = [HEADS, *(it.cells() for it in self.rows)]
+        widths = [max(len(it) for it in column) for column in zip(*lines)]
+        for line in lines:
+            cells = [cell.ljust(width) for cell, width in zip(line[:-1], widths)]
+            print("  ".join((*cells, line[-1])).rstrip())
+
+
+def read_files(table, bench, version):
+    """QEMU's files, which `zimgasol` extracts."""
+    for kind in KINDS:
+        row = Row(version, "QEMU, extract", kind.name, "default words")
+        table.try_(row, lambda: read_single(bench, kind))
+    named = ("validate-uuid",)
+    settings = [("x-ignore-shared", 47, PC, ("x-ignore-shared",), {}),
+                ("xbzrle", 27, PC_WRITING, ("xbzrle",), {})]
+    if qemu.number(version) >= (9, 0):
+        settings.append(("mapped-ram", 47, PC, ("mapped-ram",), {}))
+    for how, fault, kind, capabilities, parameters in settings:
+        row = Row(version, "QEMU, verify", kind.name, how)
+        table.try_(row, lambda: refuse_single(bench, kind, fault, capabilities, **parameters))
+    table.try_(Row(version, "QEMU, extract", PC.name, named[0]),
+               lambda: read_single(bench, PC, named))
+    if qemu.number(version) >= (9, 0):
+        for way in ("none", "legacy"):
+            row = Row(version, "QEMU, extract", PC_WRITING.name, f"zero-page-detection={way}")
+            table.try_(row, lambda: read_single(bench, PC_WRITING, zero_page_detection=way))
+
+
+def read_channels(table, bench, version, later):
+    """QEMU's channels, which `mig_captures` loads at the end. `later` is passed each row's name."""
+    has_flush = qemu.number(version) >= (8, 1)
+    tries = [(kind, channels, () if has_flush else NO_FLUSH, "", {})
+             for kind in (NONE, PC, PC_WRITING) for channels in CHANNELS]
+    if has_flush:
+        tries.append((NONE, 2, (41,), ", zlib", {"multifd_compression": "zlib"}))
+    if qemu.number(version) >= (9, 0):
+        for way in ("none", "legacy"):
+            how = f", zero-page-detection={way}"
+            tries.append((PC_WRITING, 2, (), how, {"zero_page_detection": way}))
+    for number, (kind, channels, faults, how, parameters) in enumerate(tries):
+        name = f"{version}-{number}"
+        row = Row(version, "QEMU, mig_captures", kind.name, f"multifd, {channels} channels{how}")
+        table.try_(row, lambda: write_several(bench, kind, channels, name, faults, **parameters))
+        if row.result == "ok":
+            later[name] = row
+    if has_flush:
+        row = Row(version, "QEMU, verify", NONE.name, "the main stream of 2 channels")
+        table.try_(row, lambda: refuse_main(bench, 32))
+
+
+def load_ours(table, bench, version):
+    """What `zimgasol save` and `mig_tool send` write, which QEMU loads."""
+    saves = (("--frame ram", ("--frame", "ram"), NO_CONFIGURATION),
+             ("--frame machine", ("--frame", "machine"), NO_CONFIGURATION),
+             ("--machine none", ("--frame", "machine", "--machine", "none"), ()))
+    for how, words, qemu_words in saves:
+        row = Row(version, "save, QEMU", NONE.name, how)
+        table.try_(row, lambda: load_saved(bench, words, qemu_words))
+    table.try_(Row(version, "mig_tool send, QEMU", NONE.name, "single, 4 rounds"),
+               lambda: load_sent(bench, 0))
+    load = load_sent if qemu.number(version) >= (8, 1) else cannot_load_sent
+    for channels in CHANNELS:
+        row = Row(version, "mig_tool send, QEMU", NONE.name, f"multifd, {channels} channels")
+        table.try_(row, lambda: load(bench, channels))
+
+
+def run_chains(table, bench, version, programs):
+    """QEMU's files, which `zimgasol` extracts and saves, and which a QEMU loads."""
+    for other, program in programs.items():
+        row = Row(version, f"QEMU, extract, save, QEMU {other}", NONE.name, "and extracted again")
+        table.try_(row, lambda: chain(bench, program))
+    for kind in (PC, PC_WRITING):
+        how = "with its devices" + (", and runs on" if kind.writes else "")
+        row = Row(version, "QEMU, extract, save, QEMU", kind.name, how)
+        table.try_(row, lambda: chain_devices(bench, kind))
+
+
+def settle(table, captures, rows, programs):
+    """Loads the captures of all channels, and writes what came into their rows."""
+    try:
+        lines = captures.lines(programs.captures)
+    except Differs as differs:
+        lines = None
+        for row in rows.values():
+            row.result = str(differs)
+    for name, row in rows.items() if lines else ():
+        try:
+            row.compared = captures.answer(name, lines[name])
+        except Differs as differs:
+            row.result = str(differs)
+
+
+def at_hand(words):
+    """The QEMUs, by their versions."""
+    say = lambda line: print(line, file=sys.stderr)  # noqa: E731
+    named = words.qemu.split() if words.qemu else packages.programs(words.suites.split(), say)
+    found = {}
+    for program in named:
+        found.setdefault(qemu.version(program), program)
+    if not found:
+        sys.exit("there is no QEMU: name one by --qemu, or a suite of Debian's by --suites")
+    return dict(sorted(found.items(), key=lambda it: qemu.number(it[0])))
+
+
+def main():
+    parser = argparse.ArgumentParser(description="Tries the programs with QEMU at the other end.")
+    parser.add_argument("--suites", default=" ".join(packages.SUITES))
+    parser.add_argument("--qemu", default="")
+    parser.add_argument("--programs")
+    words = parser.parse_args()
+    programs = Programs(words.programs)
+    found, table, later = at_hand(words), Table(), {}
+    with tempfile.TemporaryDirectory(prefix="interop-") as room:
+        folder, kept = Path(room), Path(room) / "captures"
+        kept.mkdir()
+        captures = Captures(kept)
+        for version, program in found.items():
+            print(f"QEMU {version}: {program}", file=sys.stderr, flush=True)
+            bench = Bench(program, programs, folder, captures)
+            read_files(table, bench, version)
+            read_channels(table, bench, version, later)
+            load_ours(table, bench, version)
+            run_chains(table, bench, version, found)
+        settle(table, captures, later, programs)
+    table.show()
+    wrong = table.wrong()
+    print(f"{len(table.rows)} rows, {wrong or 'none'} that {'differs' if wrong == 1 else 'differ'}")
+    return 1 if wrong else 0
+
+
+if __name__ == "__main__":
+    try:
+        sys.exit(main())
+    except KeyboardInterrupt:
+        sys.exit(130)

@@ -1,0 +1,186 @@
+"""The project's programs, as interop runs them: `zimgasol`, `mig_tool` and `mig_captures`."""
+import hashlib
+import json
+import os
+import re
+import shutil
+import subprocess
+import sys
+from pathlib import Path
+
+from guests import PAGE
+
+TOP = Path(__file__).resolve().parent.parent.parent
+CRATES = TOP / "crates"
+SECONDS = 300
+# which target of make builds a program
+TARGETS = {"zimgasol_cli": "make program", "mig_tool": "make build"}
+EOS = (16).to_bytes(8, "big")
+RAM_HEAD = b"\x03ram" + bytes(4) + (4).to_bytes(4, "big")
+
+
+class Differs(Exception):
+    """What isn't as it should be."""
+
+
+class Programs:
+    """Where the programs are: in a folder, or where make builds them."""
+
+    def __init__(self, folder=None):
+        places = {name: CRATES / name / "out" / name for name in (*TARGETS, "mig_captures")}
+        if folder:
+            places = {name: Path(folder).resolve() / name for name in places}
+        missing = [name for name in TARGETS if not os.access(places[name], os.X_OK)]
+        if missing:
+            sys.exit("\n".join(f"there is no {places[it]}: {TARGETS[it]}" for it in missing))
+        self.zimgasol, self.tool = str(places["zimgasol_cli"]), str(places["mig_tool"])
+        captures = places["mig_captures"]
+        self.captures = str(captures) if os.access(captures, os.X_OK) else None
+
+
+def ran(*words, status=0, folder=None):
+    """Runs a program, which has to end with a status. Returns all that it printed."""
+    how = {"stdin": subprocess.DEVNULL, "capture_output": True, "timeout": SECONDS}
+    done = subprocess.run([str(it) for it in words], cwd=folder, text=True, **how)
+    said = (done.stdout + done.stderr).strip()
+    if done.returncode != status:
+        name = " ".join(Path(words[0]).name.split("_")[:1] + [str(words[1])])
+        raise Differs(f"{name}: status {done.returncode}, not {status}: {said[-300:]}")
+    return said
+
+
+def difference(wanted, came):
+    """Says where memory first differs from what is wanted; None where it is the same."""
+    if wanted == came:
+        return None
+    if len(wanted) != len(came):
+        return f"{len(came)} bytes, not {len(wanted)}"
+    pages = [at // PAGE for at in range(0, len(wanted), PAGE)
+             if wanted[at:at + PAGE] != came[at:at + PAGE]]
+    return f"{len(pages)} pages differ, the first is {pages[0]}"
+
+
+def compare(wanted, came):
+    """Compares a guest's memory. Returns what was compared.
+
+    QEMU before 8.0 doesn't show all blocks, so `came` may have more than `wanted`.
+    """
+    lacking = [name for name in wanted if name not in came]
+    if lacking:
+        raise Differs(f"there is no block {lacking[0]}")
+    for name, memory in wanted.items():
+        where = difference(memory, came[name])
+        if where:
+            raise Differs(f"block {name}: {where}")
+    size = sum(len(it) for it in wanted.values()) / (1 << 20)
+    return f"{len(wanted)} of {len(came)} blocks, {size:.4g} MiB"
+
+
+def extracted(zimgasol, stream, folder, *words):
+    """Has `zimgasol extract` take out a file's memory. Returns it by the blocks' ids.
+
+    Compares the SHA-256 that the list of blocks has.
+    """
+    shutil.rmtree(folder, ignore_errors=True)
+    ran(zimgasol, "extract", stream, folder, *words)
+    found = {}
+    for block in json.loads((folder / "blocks.json").read_text())["blocks"]:
+        memory = (folder / block["file"]).read_bytes()
+        if hashlib.sha256(memory).hexdigest() != block["sha256"]:
+            raise Differs(f"block {block['id']}: blocks.json has another SHA-256")
+        found[block["id"]] = memory
+    return found
+
+
+def block_words(folder):
+    """The words of `save` for the blocks in a folder that `extract` made."""
+    blocks = json.loads((folder / "blocks.json").read_text())["blocks"]
+    return [word for it in blocks for word in ("--block", f"{it['id']}={folder / it['file']}")]
+
+
+def inspected(zimgasol, stream):
+    return json.loads(ran(zimgasol, "inspect", stream, "--json"))
+
+
+def fault_of(said):
+    """The number of the fault that a program printed; None where there is none."""
+    found = re.search(r"\bfault (\d+)", said)
+    return int(found[1]) if found else None
+
+
+def size_list(main):
+    """The ids of the blocks, in the order of a stream's size list."""
+    at = main.find(RAM_HEAD) + len(RAM_HEAD)
+    left, at, names = int.from_bytes(main[at:at + 8], "big") & -PAGE, at + 8, []
+    while left > 0:
+        end = at + 1 + main[at]
+        names.append(main[at + 1:end].decode("ascii"))
+        left, at = left - int.from_bytes(main[end:end + 8], "big"), end + 8
+    return names
+
+
+def ram_end(main):
+    """Where RAM ends: after the last footer of its section, whose id stands before its name."""
+    at = main.find(RAM_HEAD)
+    footer = EOS + b"\x7e" + main[at - 4:at]
+    return main.rfind(footer) + len(footer)
+
+
+class Captures:
+    """Migrations on several channels, which `mig_captures` loads in one run at the end.
+
+    From its source it takes a minute to start, and no more for many captures.
+    """
+
+    PIECES = (0, 1000)
+
+    def __init__(self, folder):
+        self.folder, self.expected = folder, {}
+
+    def add(self, name, main, channels, memory):
+        """Adds a capture, which is to be loaded as the memory of these blocks."""
+        digest = hashlib.sha256(b"".join(memory[it] for it in size_list(main))).hexdigest()
+        self.put(name, main, channels, f"ok, closed at {ram_end(main)}, memory {digest}")
+
+    def add_refused(self, name, main, channels, faults):
+        """Adds a capture that is to be refused, with one of some faults."""
+        self.put(name, main, channels, faults)
+
+    def put(self, name, main, channels, expected):
+        (self.folder / f"{name}.main").write_bytes(main)
+        for number, channel in enumerate(channels):
+            (self.folder / f"{name}.{number}").write_bytes(channel)
+        self.expected[name] = expected, len(channels)
+
+    def words(self):
+        return [word for name, (_, count) in self.expected.items() for pieces in self.PIECES
+                for word in (f"pieces={pieces}", f"{name}.main",
+                             *(f"{name}.{number}" for number in range(count)))]
+
+    def lines(self, program):
+        """What `mig_captures` prints of all: each capture's lines by its name."""
+        if program:
+            said = ran(program, *self.words(), folder=self.folder)
+        else:
+            files = sorted(it for it in self.folder.iterdir() if it.is_file())
+            data = [word for it in files for word in ("--data", f"{it.name}={it}")]
+            command = ("rt", "try", "--seconds", SECONDS, *data, "--", *self.words())
+            said = ran(*command, folder=CRATES / "mig_captures")
+        found = {name: [] for name in self.expected}
+        for line in said.splitlines():
+            name = line.split(".main ")[0]
+            if name in found and ": " in line:
+                found[name].append(line.split(": ", 1)[1])
+        return found
+
+    def answer(self, name, lines):
+        """Compares a capture's lines. Returns what was compared."""
+        expected = self.expected[name][0]
+        if len(lines) != len(self.PIECES):
+            raise Differs(f"{len(lines)} lines of mig_captures, not {len(self.PIECES)}")
+        for line in lines:
+            if isinstance(expected, str) and line != expected:
+                raise Differs(f"{line}; expected {expected}")
+            if not isinstance(expected, str) and fault_of(line) not in expected:
+                raise Differs(f"{line}; expected fault {' or '.join(map(str, expected))}")
+        return "all blocks" if isinstance(expected, str) else f"fault {fault_of(lines[0])}"
