@@ -33,6 +33,10 @@ NO_FLUSH = (33, 52, 54, 55, 56, 59)
 HEADS = ("QEMU", "from, to", "guest", "how", "compared", "")
 
 
+def say(line):
+    print(line, file=sys.stderr, flush=True)
+
+
 @dataclass
 class Row:
     version: str
@@ -61,6 +65,8 @@ class Table:
             row.result = str(differs)
         except (RuntimeError, OSError, ValueError, KeyError, StopIteration) as error:
             row.result = f"{type(error).__name__}: {error}"
+        # (in the table all rows come together, at the end)
+        say(f"  {row.way}; {row.guest}; {row.how}: {row.result}")
 
     def wrong(self):
         return sum(it.result != "ok" for it in self.rows)
@@ -107,7 +113,7 @@ def read_channels(table, bench, version, later):
             tries.append((PC_WRITING, 2, (), how, {"zero_page_detection": way}))
     for number, (kind, channels, faults, how, parameters) in enumerate(tries):
         name = f"{version}-{number}"
-        row = Row(version, "QEMU, mig_captures", kind.name, f"multifd, {channels} channels{how}")
+        row = Row(version, "QEMU, mig_captures", kind.name, on_channels(channels) + how)
         table.try_(row, lambda: write_several(bench, kind, channels, name, faults, **parameters))
         if row.result == "ok":
             later[name] = row
@@ -128,7 +134,7 @@ def load_ours(table, bench, version):
                lambda: load_sent(bench, 0))
     load = load_sent if qemu.number(version) >= (8, 1) else cannot_load_sent
     for channels in CHANNELS:
-        row = Row(version, "mig_tool send, QEMU", NONE.name, f"multifd, {channels} channels")
+        row = Row(version, "mig_tool send, QEMU", NONE.name, on_channels(channels))
         table.try_(row, lambda: load(bench, channels))
 
 
@@ -160,7 +166,6 @@ def settle(table, captures, rows, programs):
 
 def at_hand(words):
     """The QEMUs, by their versions."""
-    say = lambda line: print(line, file=sys.stderr)  # noqa: E731
     named = words.qemu.split() if words.qemu else packages.programs(words.suites.split(), say)
     found = {}
     for program in named:
@@ -168,6 +173,10 @@ def at_hand(words):
     if not found:
         sys.exit("there is no QEMU: name one by --qemu, or a suite of Debian's by --suites")
     return dict(sorted(found.items(), key=lambda it: qemu.number(it[0])))
+
+
+def on_channels(count):
+    return f"multifd, {count} channel{'s' if count > 1 else ''}"
 
 
 def main():
@@ -183,7 +192,7 @@ def main():
         kept.mkdir()
         captures = Captures(kept)
         for version, program in found.items():
-            print(f"QEMU {version}: {program}", file=sys.stderr, flush=True)
+            say(f"QEMU {version}: {program}")
             bench = Bench(program, programs, folder, captures)
             read_files(table, bench, version)
             read_channels(table, bench, version, later)

@@ -44,7 +44,7 @@ def ran(*words, status=0, folder=None):
     done = subprocess.run([str(it) for it in words], cwd=folder, text=True, **how)
     said = (done.stdout + done.stderr).strip()
     if done.returncode != status:
-        name = " ".join(Path(words[0]).name.split("_")[:1] + [str(words[1])])
+        name = Path(words[0]).name
         raise Differs(f"{name}: status {done.returncode}, not {status}: {said[-300:]}")
     return said
 

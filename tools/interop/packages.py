@@ -9,6 +9,7 @@ downloads and 170 MB of disk for each suite.
 import shlex
 import shutil
 import subprocess
+import tarfile
 from pathlib import Path
 
 TOP = Path(__file__).resolve().parent.parent.parent
@@ -18,6 +19,7 @@ SUITES = ("bookworm", "bookworm-backports", "trixie", "trixie-backports")
 MIRROR = "http://deb.debian.org/debian"
 KEYS = "/usr/share/keyrings/debian-archive-keyring.gpg"
 PACKAGE = "qemu-system-x86"
+ANALYZER = "analyze-migration.py"
 NAME = "qemu-system-x86_64"
 LIBRARIES = ("lib/x86_64-linux-gnu", "usr/lib/x86_64-linux-gnu")
 LOADER = "ld-linux-x86-64.so.2"
@@ -32,20 +34,23 @@ class NoPackages(Exception):
     """Why a suite's QEMU can't be had."""
 
 
-def run(*words):
-    done = subprocess.run(words, stdin=subprocess.DEVNULL, capture_output=True, text=True)
+def run(*words, folder=None):
+    how = {"stdin": subprocess.DEVNULL, "capture_output": True, "text": True, "cwd": folder}
+    done = subprocess.run(words, **how)
     if done.returncode:
         raise NoPackages(f"{Path(words[0]).name}: {(done.stderr or done.stdout).strip()[-300:]}")
 
 
-def apt_words(folder, suite):
+def apt_words(folder, suite, kind="deb"):
     """Writes what apt is to read. Returns the words that have it keep all it does in a folder."""
+    for missing in (it for it in ("apt-get", "dpkg-deb") if not shutil.which(it)):
+        raise NoPackages(f"there is no {missing}")
     for name in ("lists/partial", "cache/archives/partial"):
         (folder / name).mkdir(parents=True)
     suites = dict.fromkeys((suite.removesuffix("-backports"), suite))
     signed = f" [signed-by={KEYS}]" if Path(KEYS).exists() else ""
     sources = folder / "sources.list"
-    sources.write_text("".join(f"deb{signed} {MIRROR} {it} main\n" for it in suites))
+    sources.write_text("".join(f"{kind}{signed} {MIRROR} {it} main\n" for it in suites))
     # (no package counts as installed, so the C library comes along)
     (folder / "status").write_text("")
     options = {
@@ -81,8 +86,6 @@ def fetched(suite):
     folder, begun = PLACE / suite, PLACE / f"{suite}.partial"
     if (folder / NAME).exists():
         return str(folder / NAME)
-    for missing in (it for it in ("apt-get", "dpkg-deb") if not shutil.which(it)):
-        raise NoPackages(f"there is no {missing}")
     shutil.rmtree(folder, ignore_errors=True)
     shutil.rmtree(begun, ignore_errors=True)
     apt = ("apt-get", "-qq", *apt_words(begun, suite))
@@ -94,6 +97,26 @@ def fetched(suite):
     begun.rename(folder)
     write_script(folder / "root", folder / NAME)
     return str(folder / NAME)
+
+
+def analyzer(suite):
+    """Returns scripts/analyze-migration.py of a suite's sources, downloaded where it isn't there."""
+    file, begun = PLACE / f"analyze-migration-{suite}.py", PLACE / f"{suite}-sources.partial"
+    if file.exists():
+        return str(file)
+    shutil.rmtree(begun, ignore_errors=True)
+    apt = ("apt-get", "-qq", *apt_words(begun, suite, "deb-src"))
+    run(*apt, "update")
+    run(*apt, "-t", suite, "--download-only", "source", "qemu", folder=begun)
+    for sources in begun.glob("*.orig.tar.*"):
+        with tarfile.open(sources) as tar:
+            name = next((it for it in tar if it.name.endswith(f"/scripts/{ANALYZER}")), None)
+            if name:
+                file.write_bytes(tar.extractfile(name).read())
+    shutil.rmtree(begun)
+    if not file.exists():
+        raise NoPackages(f"the sources have no {ANALYZER}")
+    return str(file)
 
 
 def programs(suites, say):

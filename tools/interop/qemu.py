@@ -58,14 +58,15 @@ class Qmp:
 
 
 class Guest:
-    """A QEMU with `memory` as its guest's RAM. The guest runs only where `running` is set."""
+    """A QEMU with `memory` as its guest's RAM. The guest runs only where `running` is set.
+
+    `memory` is the RAM's bytes, a file that has them, which the guest changes, or a number of bytes
+    for RAM of zeros that no file has.
+    """
 
     def __init__(self, program, memory, words=("-M", "none"), incoming=False, running=False):
         self.folder = tempfile.TemporaryDirectory(prefix="interop-")
-        self.ram = Path(self.folder.name) / "ram"
-        self.ram.write_bytes(memory)
-        size = len(memory)
-        backend = f"memory-backend-file,id=ram,size={size},mem-path={self.ram},share=on"
+        size, backend = self.backend(memory)
         monitor = f"unix:{self.folder.name}/qmp,server=on,wait=off"
         self.process = subprocess.Popen(
             [program, *(() if running else ("-S",)), *words, "-machine", "memory-backend=ram",
@@ -77,6 +78,17 @@ class Guest:
         except BaseException:
             self.__exit__()
             raise
+
+    def backend(self, memory):
+        """The RAM's size, and QEMU's words for it."""
+        if isinstance(memory, int):
+            return memory, f"memory-backend-ram,id=ram,size={memory}"
+        self.ram = memory
+        if isinstance(memory, bytes):
+            self.ram = Path(self.folder.name) / "ram"
+            self.ram.write_bytes(memory)
+        size = self.ram.stat().st_size
+        return size, f"memory-backend-file,id=ram,size={size},mem-path={self.ram},share=on"
 
     def __enter__(self):
         return self
@@ -111,48 +123,63 @@ class Guest:
         return "no end"
 
     def wait_for_rounds(self, count):
-        """Waits until the migration looked `count` times for the pages that were written."""
+        """Waits until the migration looked `count` times for written pages, or has ended."""
         until = time.monotonic() + SECONDS
-        while self.qmp.call("query-migrate").get("ram", {}).get("dirty-sync-count", 0) < count:
-            if time.monotonic() > until:
-                raise RuntimeError(f"no {count} rounds in {SECONDS} seconds")
+        while time.monotonic() < until:
+            said = self.qmp.call("query-migrate")
+            if said.get("ram", {}).get("dirty-sync-count", 0) >= count:
+                return
+            if said.get("status") in ("completed", "failed"):
+                return
             time.sleep(0.02)
+        raise RuntimeError(f"no {count} rounds in {SECONDS} seconds")
 
     def contents(self):
         return self.ram.read_bytes()
 
-    def blocks(self):
-        """Returns the memory of each block that QEMU shows, by the block's id.
+    def shown(self):
+        """The address in the process and the length of each block that QEMU shows, by its id.
 
-        `info ramblock` of QEMU 8.0 and later has each block's address in the process, where the
-        memory is read. Of an older QEMU only RAM is returned, whose file is here.
+        That is `info ramblock` of QEMU 8.0 and later.
         """
         said = self.qmp.call("human-monitor-command", **{"command-line": "info ramblock"})
-        row = r"^\s*(\S.*?)\s+\d+ KiB\s+0x\w+\s+0x(\w+)\s+0x(\w+)(?:\s+0x(\w+)\s+r[ow])?\s*$"
+        row = r"^\s*(\S+)\s+\d+ KiB\s+0x\w+\s+0x(\w+)\s+0x\w+\s+0x(\w+)\s+r[ow]\s*$"
+        found = re.findall(row, said, re.M)
+        return {name: (int(address, 16), int(length, 16)) for name, length, address in found}
+
+    def opened(self, block):
+        """Opens the process's memory, where the memory of a block begins."""
+        memory = open(f"/proc/{self.process.pid}/mem", "rb", buffering=0)
+        memory.seek(self.shown()[block][0])
+        return memory
+
+    def blocks(self):
+        """Returns the memory of each block that QEMU shows; of QEMU before 8.0 that of RAM."""
         found = {}
-        with open(f"/proc/{self.process.pid}/mem", "rb", buffering=0) as memory:
-            for name, used, _, address in re.findall(row, said, re.M):
-                if address:
-                    memory.seek(int(address, 16))
-                    found[name] = memory.read(int(used, 16))
-        if found:
-            return found
-        first = re.search(r"^\s*(\S*ram)\s", said, re.M)
-        return {first[1]: self.contents()}
+        for name, (_, length) in self.shown().items():
+            with self.opened(name) as memory:
+                found[name] = memory.read(length)
+        return found or {"ram": self.contents()}
+
+
+def read_all(connection, found):
+    """Reads a connection to its end, and adds its bytes to `found`."""
+    bytes_ = bytearray()
+    while piece := connection.recv(1 << 20):
+        bytes_ += piece
+    connection.close()
+    found.append(bytes(bytes_))
 
 
 def received(listener, count, found):
-    """Takes `count` connections, and reads each to its end."""
-    def read(connection):
-        bytes_ = bytearray()
-        while piece := connection.recv(1 << 20):
-            bytes_ += piece
-        found.append(bytes(bytes_))
-
+    """Takes `count` connections, and reads each to its end. Ends early where none comes."""
     threads = []
     for _ in range(count):
-        connection, _ = listener.accept()
-        threads.append(threading.Thread(target=read, args=(connection,)))
+        try:
+            connection, _ = listener.accept()
+        except OSError:
+            break
+        threads.append(threading.Thread(target=read_all, args=(connection, found), daemon=True))
         threads[-1].start()
     for thread in threads:
         thread.join(SECONDS)
@@ -185,13 +212,15 @@ def written(guest, channels=0, rounds=0):
     if channels:
         guest.set(["multifd"], multifd_channels=channels)
     found = []
-    thread = threading.Thread(target=received, args=(listener, channels + 1, found))
+    thread = threading.Thread(target=received, args=(listener, channels + 1, found), daemon=True)
     thread.start()
     try:
         migrated(guest, f"unix:{path}", rounds)
+        thread.join(SECONDS)
     finally:
         listener.close()
-    thread.join(SECONDS)
+    if len(found) != channels + 1:
+        raise RuntimeError(f"{len(found)} connections came, not {channels + 1}")
     main = next(it for it in found if not it.startswith(HELLO))
     # a hello: magic, version, the UUID, and the channel's id
     hellos = sorted((it for it in found if it.startswith(HELLO)), key=lambda it: it[24])
@@ -232,7 +261,8 @@ def loaded(guest, main, channels=()):
     for bytes_ in (main, *channels):
         connection = socket.socket(socket.AF_UNIX)
         connection.connect(path)
-        threads.append(threading.Thread(target=send_all, args=(connection, bytes_)))
+        how = {"args": (connection, bytes_), "daemon": True}
+        threads.append(threading.Thread(target=send_all, **how))
         threads[-1].start()
     status = guest.wait("completed", "failed")
     for thread in threads:
