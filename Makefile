@@ -5,7 +5,7 @@ WORDS ?=
 CRATES ?=
 PREFIX ?= /usr/local
 
-.PHONY: help run check build program lib install example header try promises documents site test gate
+.PHONY: help run check build program lib install example header try interop promises documents site test gate
 
 help: ## at once | lists the targets
 	@echo "Times on 4 processors, from a fresh clone:"
@@ -40,6 +40,9 @@ header: ## at once | compares include/zimgasol.h with the library's exports
 
 try: ## at once, after build | runs the built tool in a shell: docs/TOOL.md, pipes, closed streams
 	@tools/try_tool.py
+
+interop: ## minutes, after build | QEMU reads what programs write, and they QEMU's; QEMU='PROGRAM ..'
+	@tools/interop/interop.py $(if $(QEMU),--qemu '$(QEMU)') $(if $(SUITES),--suites '$(SUITES)')
 
 promises: ## at once | writes docs/contracts from the sources, and draws docs/proof.svg
 	@tools/promises.py

@@ -36,7 +36,8 @@ import packages  # noqa: E402
 import qemu  # noqa: E402
 
 PROGRAM = TOP / "crates" / "zimgasol_cli" / "out" / "zimgasol_cli"
-SUITE = "trixie-backports"
+# the suite whose QEMU is timed, and the one whose sources have analyze-migration.py
+SUITE, SOURCES = "trixie-backports", "trixie"
 FILES = "/dev/shm"
 PAGE, MIB = 4096, 1 << 20
 # a guest's name, and which of each ten pages have bytes
@@ -128,7 +129,7 @@ class Bench:
         """What is timed, in its order: the name, and the function, passed whether to compare."""
         found = [(WRITES, self.write), ("`zimgasol save`", self.save),
                  ("`zimgasol verify`", self.verify),
-                 ("`zimgasol extract --no-digest`", lambda first: self.extract(first, "--no-digest")),
+                 ("`zimgasol extract --no-digest`", self.extract_alone),
                  ("`zimgasol extract`", self.extract), (LOADS, self.load)]
         if self.words.analyze:
             found.append(("`analyze-migration.py -x`", self.analyze))
@@ -168,6 +169,9 @@ class Bench:
         else:
             shutil.rmtree(self.memory)
         return seconds
+
+    def extract_alone(self, first):
+        return self.extract(first, "--no-digest")
 
     def compare(self):
         """Compares what was extracted, and removes it."""
@@ -237,7 +241,7 @@ def words_given():
         sys.exit("turns and MiB are 1 and more")
     try:
         words.qemu = words.qemu or packages.fetched(SUITE)
-        words.analyze = os.path.abspath(words.analyze) if words.analyze else packages.analyzer(SUITE)
+        words.analyze = os.path.abspath(words.analyze or packages.analyzer(SOURCES))
     except packages.NoPackages as error:
         print(error, file=sys.stderr)
     if not words.qemu:

@@ -9,7 +9,7 @@ from pathlib import Path
 import qemu
 from guests import MIB, NONE, PAGE, memory, memory_of, scenario, words_of
 from ours import (Captures, Differs, Programs, block_words, compare, extracted, fault_of, inspected,
-                  ran)
+                  pages_that_differ, ran)
 
 # The rounds after which a guest that writes is stopped.
 ROUNDS = 4
@@ -52,10 +52,48 @@ def write_file(bench, kind, capabilities=(), **parameters):
         return stream, guest.blocks()
 
 
+def load_own(bench, kind, stream):
+    """Has a QEMU load a file of its own version's. Returns the memory."""
+    with bench.waiting(kind.mib * MIB, words_of(kind, bench.folder)) as guest:
+        status, _ = qemu.loaded_file(guest, stream)
+        if status != "completed":
+            raise Differs(f"QEMU's load of its own file: {status}")
+        return guest.blocks()
+
+
+def compare_written(bench, kind, stream, wanted, came):
+    """Compares what came of QEMU's file with the memory of the guest that it wrote.
+
+    QEMU 7.2 leaves out pages that a guest of TCG writes while it is migrated. There `came` has to
+    be what QEMU itself loads of the file.
+    """
+    try:
+        return compare(wanted, came)
+    except Differs:
+        own = load_own(bench, kind, stream) if kind.writes else wanted
+        lacking = pages_that_differ(wanted["ram"], own["ram"])
+        if not lacking:
+            raise
+        return f"{compare(own, came)}, as QEMU loads it: {len(lacking)} pages lack"
+
+
 def read_single(bench, kind, capabilities=(), **parameters):
     """QEMU writes a file, and `zimgasol` verifies and extracts it."""
     stream, wanted = write_file(bench, kind, capabilities, **parameters)
     ran(bench.programs.zimgasol, "verify", stream, "--quiet")
+    came = extracted(bench.programs.zimgasol, stream, bench.file("memory"))
+    return compare_written(bench, kind, stream, wanted, came)
+
+
+def read_between(bench, kind):
+    """`zimgasol` extracts the stream that went from one QEMU to another, by a return path."""
+    stream, size = bench.file("guest.sav"), kind.mib * MIB
+    with bench.guest(kind) as source, bench.waiting(size, words_of(kind, bench.folder)) as target:
+        for guest in (source, target):
+            guest.set(["return-path"])
+        stream.write_bytes(qemu.between(source, target))
+        wanted = source.blocks()
+        compare(wanted, target.blocks())
     return compare(wanted, extracted(bench.programs.zimgasol, stream, bench.file("memory")))
 
 
@@ -148,7 +186,7 @@ def cannot_load_sent(bench, channels):
 
 
 def chain(bench, other):
-    """A QEMU's file, extracted and saved by `zimgasol`, is loaded by a QEMU that writes it again."""
+    """`zimgasol` extracts and saves a QEMU's file. Another QEMU loads that, and writes it again."""
     zimgasol, out, last = bench.programs.zimgasol, bench.file("chain.sav"), bench.file("last.sav")
     stream, _ = write_file(bench, NONE)
     wanted, folder = memory_of(NONE), bench.file("memory")
@@ -164,7 +202,7 @@ def chain(bench, other):
 
 
 def with_devices(bench, stream):
-    """A machine's file whose RAM `zimgasol` wrote anew, and whose devices are as QEMU wrote them."""
+    """A machine's file whose RAM `zimgasol` wrote anew, and whose devices are as in QEMU's."""
     zimgasol, folder, out = bench.programs.zimgasol, bench.file("memory"), bench.file("chain.sav")
     extracted(zimgasol, stream, folder)
     found = inspected(zimgasol, stream)
@@ -185,7 +223,9 @@ def chain_devices(bench, kind):
     out = with_devices(bench, stream)
     with bench.waiting(kind.mib * MIB, words_of(kind, bench.folder)) as guest:
         status, ram = qemu.loaded_file(guest, out)
-        compared = loaded_as(status, wanted, {**guest.blocks(), "ram": ram})
+        if status != "completed":
+            raise Differs(f"QEMU's load: {status}")
+        compared = compare_written(bench, kind, stream, wanted, guest.blocks())
         if kind.writes:
             guest.qmp.call("cont")
             wait_for_change(guest, ram)

@@ -49,14 +49,19 @@ def ran(*words, status=0, folder=None):
     return said
 
 
+def pages_that_differ(wanted, came):
+    """The numbers of the pages in which memory differs from what is wanted."""
+    return [at // PAGE for at in range(0, len(wanted), PAGE)
+            if wanted[at:at + PAGE] != came[at:at + PAGE]]
+
+
 def difference(wanted, came):
-    """Says where memory first differs from what is wanted; None where it is the same."""
+    """Says where memory differs from what is wanted; None where it is the same."""
     if wanted == came:
         return None
     if len(wanted) != len(came):
         return f"{len(came)} bytes, not {len(wanted)}"
-    pages = [at // PAGE for at in range(0, len(wanted), PAGE)
-             if wanted[at:at + PAGE] != came[at:at + PAGE]]
+    pages = pages_that_differ(wanted, came)
     return f"{len(pages)} pages differ, the first is {pages[0]}"
 
 
@@ -73,7 +78,7 @@ def compare(wanted, came):
         if where:
             raise Differs(f"block {name}: {where}")
     size = sum(len(it) for it in wanted.values()) / (1 << 20)
-    return f"{len(wanted)} of {len(came)} blocks, {size:.4g} MiB"
+    return f"blocks {len(wanted)} of {len(came)}, {size:.4g} MiB"
 
 
 def extracted(zimgasol, stream, folder, *words):

@@ -100,7 +100,7 @@ def fetched(suite):
 
 
 def analyzer(suite):
-    """Returns scripts/analyze-migration.py of a suite's sources, downloaded where it isn't there."""
+    """Returns analyze-migration.py of a suite's sources, downloaded where it isn't there yet."""
     file, begun = PLACE / f"analyze-migration-{suite}.py", PLACE / f"{suite}-sources.partial"
     if file.exists():
         return str(file)
@@ -120,7 +120,7 @@ def analyzer(suite):
 
 
 def programs(suites, say):
-    """Returns the QEMUs at hand: the one of PATH, and those of suites. `say` is passed why one lacks."""
+    """Returns the QEMUs at hand: that of PATH, and those of suites. `say` takes why one lacks."""
     found = [it for it in (shutil.which(NAME),) if it]
     for suite in suites:
         try:

@@ -1,4 +1,4 @@
-"""QEMU as the other end: guests whose memory is a file are migrated into files and loaded from them.
+"""QEMU as the other end: guests whose memory is a file are migrated, into files and from them.
 
 `Guest` starts a QEMU with its RAM in a shared file, so that what the guest has can be read without
 asking QEMU. `written` has it write its state to sockets, single or by multifd, and `written_file`
@@ -188,7 +188,7 @@ def received(listener, count, found):
 def migrated(guest, uri, rounds=0):
     """Has a guest migrate to `uri`. One that runs isn't stopped before it had `rounds` rounds."""
     if rounds:
-        guest.set(max_bandwidth=64 << 20, downtime_limit=1)
+        guest.set(max_bandwidth=32 << 20, downtime_limit=0)
     guest.qmp.call("migrate", uri=uri)
     if rounds:
         guest.wait_for_rounds(rounds)
@@ -225,6 +225,49 @@ def written(guest, channels=0, rounds=0):
     # a hello: magic, version, the UUID, and the channel's id
     hellos = sorted((it for it in found if it.startswith(HELLO)), key=lambda it: it[24])
     return main, hellos
+
+
+def forward(connection, to, found):
+    """Passes on what a connection brings, and adds its bytes to `found`."""
+    bytes_ = bytearray()
+    try:
+        while piece := connection.recv(1 << 20):
+            bytes_ += piece
+            to.sendall(piece)
+        to.shutdown(socket.SHUT_WR)
+    except OSError:
+        pass
+    found.append(bytes(bytes_))
+
+
+def relayed(listener, path, found):
+    """Connects who comes with a socket, both ways. `found` gets the bytes that go there."""
+    connection, _ = listener.accept()
+    with connection, socket.socket(socket.AF_UNIX) as there:
+        there.connect(path)
+        back = threading.Thread(target=forward, args=(there, connection, []), daemon=True)
+        back.start()
+        forward(connection, there, found)
+        back.join(SECONDS)
+
+
+def between(source, target):
+    """Has a guest migrate to one that waits for it. Returns the stream that went there."""
+    away, here = f"{source.folder.name}/away", f"{target.folder.name}/here"
+    target.qmp.call("migrate-incoming", uri=f"unix:{here}")
+    found = []
+    with socket.socket(socket.AF_UNIX) as listener:
+        listener.bind(away)
+        listener.listen(1)
+        listener.settimeout(SECONDS)
+        thread = threading.Thread(target=relayed, args=(listener, here, found), daemon=True)
+        thread.start()
+        migrated(source, f"unix:{away}")
+        thread.join(SECONDS)
+    status = target.wait("completed", "failed")
+    if status != "completed" or not found:
+        raise RuntimeError(f"a QEMU's migration to another: {status}")
+    return found[0]
 
 
 def by_file(guest, path, command):
