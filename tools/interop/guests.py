@@ -4,7 +4,7 @@ A guest's memory is noise, zeros and one byte again and again, page by page. `WR
 for a guest that writes 128 of its pages over and over: every fourth time with zeros.
 """
 import random
-from dataclasses import dataclass
+from dataclasses import dataclass, replace
 
 PAGE = 4096
 MIB = 1 << 20
@@ -48,6 +48,8 @@ PC_WRITING = Kind("pc, running", ("-M", "pc"), 32, running=True, writes=True)
 Q35 = Kind("q35 with devices", ("-M", "q35", *NETWORK, "-device", "virtio-rng-pci"), 32)
 Q35_RUNNING = Kind("q35, running", ("-M", "q35", "-device", "virtio-rng-pci"), 32, running=True)
 KINDS = (NONE, NONE_RUNNING, PC, PC_WRITING, Q35, Q35_RUNNING)
+# those that go by channels: small, as a program that isn't built takes its time to load them
+SMALL = NONE, replace(PC, mib=8), replace(PC_WRITING, mib=8)
 
 
 def words_of(kind, folder):

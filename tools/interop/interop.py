@@ -24,7 +24,7 @@ import qemu
 from checks import (NO_CONFIGURATION, Bench, cannot_load_sent, chain, chain_devices, load_saved,
                     load_sent, read_between, read_single, refuse_main, refuse_single,
                     write_several)
-from guests import KINDS, NONE, PC, PC_WRITING
+from guests import KINDS, NONE, PC, PC_WRITING, SMALL
 from ours import Captures, Differs, Programs
 
 CHANNELS = (1, 2, 4)
@@ -115,13 +115,13 @@ def read_channels(table, bench, version, later):
     """QEMU's channels, which `mig_captures` loads at the end. `later` is passed each row's name."""
     has_flush = qemu.number(version) >= (8, 1)
     tries = [(kind, channels, () if has_flush else NO_FLUSH, "", {})
-             for kind in (NONE, PC, PC_WRITING) for channels in CHANNELS]
+             for kind in SMALL for channels in CHANNELS]
     if has_flush:
         tries.append((NONE, 2, (41,), ", zlib", {"multifd_compression": "zlib"}))
     if qemu.number(version) >= (9, 0):
         for way in ("none", "legacy"):
             how = f", zero-page-detection={way}"
-            tries.append((PC_WRITING, 2, (), how, {"zero_page_detection": way}))
+            tries.append((SMALL[-1], 2, (), how, {"zero_page_detection": way}))
     for number, (kind, channels, faults, how, parameters) in enumerate(tries):
         name = f"{version}-{number}"
         row = Row(version, "QEMU, mig_captures", kind.name, on_channels(channels) + how)
