@@ -7,7 +7,7 @@ from dataclasses import dataclass
 from pathlib import Path
 
 import qemu
-from guests import MIB, NONE, PAGE, memory, memory_of, scenario, words_of
+from guests import MIB, NONE, PAGE, memory, memory_of, scenario, uuid_of, words_of
 from ours import (Captures, Differs, Programs, block_words, compare, extracted, fault_of, inspected,
                   pages_that_differ, ran)
 
@@ -119,7 +119,7 @@ def write_several(bench, kind, channels, name, faults=(), **parameters):
     if faults:
         bench.captures.add_refused(name, main, streams, faults)
     else:
-        bench.captures.add(name, main, streams, wanted)
+        bench.captures.add(name, main, streams, wanted, uuid_of(kind))
 
 
 def refuse_main(bench, fault):

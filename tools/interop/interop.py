@@ -24,13 +24,14 @@ import qemu
 from checks import (NO_CONFIGURATION, Bench, cannot_load_sent, chain, chain_devices, load_saved,
                     load_sent, read_between, read_single, refuse_main, refuse_single,
                     write_several)
-from guests import KINDS, NONE, PC, PC_WRITING, SMALL
+from guests import KINDS, NONE, PC, PC_UUID, PC_WRITING, SMALL
 from ours import Captures, Differs, Programs
 
 CHANNELS = (1, 2, 4)
-UUID = "01020304-0506-0708-090a-0b0c0d0e0f10"
 # QEMU's multifd before 8.1 has no FLUSH: the faults of docs/EMBEDDING.md
 NO_FLUSH = (33, 52, 54, 55, 56, 59)
+# what a row of channels has until they are loaded, at the end
+WRITTEN = "written"
 HEADS = ("QEMU", "from, to", "guest", "how", "compared", "")
 
 
@@ -57,11 +58,11 @@ class Table:
     def __init__(self):
         self.rows = []
 
-    def try_(self, row, check):
-        """Runs a check, and adds its row."""
+    def try_(self, row, check, result="ok"):
+        """Runs a check, and adds its row, with a result where nothing differs."""
         self.rows.append(row)
         try:
-            row.compared, row.result = check() or "", "ok"
+            row.compared, row.result = check() or "", result
         except Differs as differs:
             row.result = str(differs)
         except (RuntimeError, OSError, ValueError, KeyError, StopIteration) as error:
@@ -85,8 +86,8 @@ def read_files(table, bench, version):
     for kind in KINDS:
         row = Row(version, "QEMU, extract", kind.name, "default words")
         table.try_(row, lambda: read_single(bench, kind))
-    table.try_(Row(version, "QEMU, extract", PC.name, "validate-uuid"),
-               lambda: read_single(bench, PC, ("validate-uuid",)))
+    table.try_(Row(version, "QEMU, extract", PC_UUID.name, "validate-uuid"),
+               lambda: read_single(bench, PC_UUID, ("validate-uuid",)))
     table.try_(Row(version, "QEMU, extract", PC.name, "return-path, between two QEMUs"),
                lambda: read_between(bench, PC))
     if qemu.number(version) >= (9, 0):
@@ -112,11 +113,12 @@ def refuse_files(table, bench, version):
 
 
 def read_channels(table, bench, version, later):
-    """QEMU's channels, which `mig_captures` loads at the end. `later` is passed each row's name."""
+    """QEMU's channels, which `mig_captures` loads at the end. `later` gets the rows by name."""
     has_flush = qemu.number(version) >= (8, 1)
     tries = [(kind, channels, () if has_flush else NO_FLUSH, "", {})
              for kind in SMALL for channels in CHANNELS]
     if has_flush:
+        tries.append((PC_UUID, 2, (), "", {}))
         tries.append((NONE, 2, (41,), ", zlib", {"multifd_compression": "zlib"}))
     if qemu.number(version) >= (9, 0):
         for way in ("none", "legacy"):
@@ -125,8 +127,9 @@ def read_channels(table, bench, version, later):
     for number, (kind, channels, faults, how, parameters) in enumerate(tries):
         name = f"{version}-{number}"
         row = Row(version, "QEMU, mig_captures", kind.name, on_channels(channels) + how)
-        table.try_(row, lambda: write_several(bench, kind, channels, name, faults, **parameters))
-        if row.result == "ok":
+        table.try_(row, lambda: write_several(bench, kind, channels, name, faults, **parameters),
+                   WRITTEN)
+        if row.result == WRITTEN:
             later[name] = row
 
 
@@ -167,7 +170,7 @@ def settle(table, captures, rows, programs):
             row.result = str(differs)
     for name, row in rows.items() if lines else ():
         try:
-            row.compared = captures.answer(name, lines[name])
+            row.compared, row.result = captures.answer(name, lines[name]), "ok"
         except Differs as differs:
             row.result = str(differs)
 

@@ -15,6 +15,7 @@ CRATES = TOP / "crates"
 SECONDS = 300
 # which target of make builds a program
 TARGETS = {"zimgasol_cli": "make program", "mig_tool": "make build"}
+NO_UUID = "00000000-0000-0000-0000-000000000000"
 EOS = (16).to_bytes(8, "big")
 RAM_HEAD = b"\x03ram" + bytes(4) + (4).to_bytes(4, "big")
 
@@ -38,13 +39,16 @@ class Programs:
         self.captures = str(captures) if os.access(captures, os.X_OK) else None
 
 
-def ran(*words, status=0, folder=None):
+def ran(*words, status=0, folder=None, seconds=SECONDS):
     """Runs a program, which has to end with a status. Returns all that it printed."""
-    how = {"stdin": subprocess.DEVNULL, "capture_output": True, "timeout": SECONDS}
-    done = subprocess.run([str(it) for it in words], cwd=folder, text=True, **how)
+    name, how = Path(words[0]).name, {"stdin": subprocess.DEVNULL, "capture_output": True}
+    try:
+        done = subprocess.run([str(it) for it in words], cwd=folder, text=True, timeout=seconds,
+                              **how)
+    except subprocess.TimeoutExpired:
+        raise Differs(f"{name}: no end after {seconds} seconds") from None
     said = (done.stdout + done.stderr).strip()
     if done.returncode != status:
-        name = Path(words[0]).name
         raise Differs(f"{name}: status {done.returncode}, not {status}: {said[-300:]}")
     return said
 
@@ -138,39 +142,41 @@ class Captures:
     """
 
     PIECES = (0, 1000)
+    # enough for a run from the source
+    SECONDS = 3600
 
     def __init__(self, folder):
         self.folder, self.expected = folder, {}
 
-    def add(self, name, main, channels, memory):
+    def add(self, name, main, channels, memory, uuid):
         """Adds a capture, which is to be loaded as the memory of these blocks."""
         digest = hashlib.sha256(b"".join(memory[it] for it in size_list(main))).hexdigest()
-        self.put(name, main, channels, f"ok, closed at {ram_end(main)}, memory {digest}")
+        self.put(name, main, channels, f"ok, closed at {ram_end(main)}, memory {digest}", uuid)
 
     def add_refused(self, name, main, channels, faults):
         """Adds a capture that is to be refused, with one of some faults."""
-        self.put(name, main, channels, faults)
+        self.put(name, main, channels, faults, None)
 
-    def put(self, name, main, channels, expected):
+    def put(self, name, main, channels, expected, uuid):
         (self.folder / f"{name}.main").write_bytes(main)
         for number, channel in enumerate(channels):
             (self.folder / f"{name}.{number}").write_bytes(channel)
-        self.expected[name] = expected, len(channels)
+        self.expected[name] = expected, len(channels), uuid or NO_UUID
 
     def words(self):
-        return [word for name, (_, count) in self.expected.items() for pieces in self.PIECES
-                for word in (f"pieces={pieces}", f"{name}.main",
+        return [word for name, (_, count, uuid) in self.expected.items() for pieces in self.PIECES
+                for word in (f"uuid={uuid}", f"pieces={pieces}", f"{name}.main",
                              *(f"{name}.{number}" for number in range(count)))]
 
     def lines(self, program):
         """What `mig_captures` prints of all: each capture's lines by its name."""
         if program:
-            said = ran(program, *self.words(), folder=self.folder)
+            said = ran(program, *self.words(), folder=self.folder, seconds=self.SECONDS)
         else:
             files = sorted(it for it in self.folder.iterdir() if it.is_file())
             data = [word for it in files for word in ("--data", f"{it.name}={it}")]
-            command = ("rt", "try", "--seconds", SECONDS, *data, "--", *self.words())
-            said = ran(*command, folder=CRATES / "mig_captures")
+            command = ("rt", "try", "--seconds", self.SECONDS, *data, "--", *self.words())
+            said = ran(*command, folder=CRATES / "mig_captures", seconds=2 * self.SECONDS)
         found = {name: [] for name in self.expected}
         for line in said.splitlines():
             name = line.split(".main ")[0]
