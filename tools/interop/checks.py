@@ -1,4 +1,4 @@
-"""What is tried with each QEMU: a function for each kind of row.
+"""What is tried with each QEMU over single streams: a function for each kind of row.
 
 Each takes a `Bench`, and returns what was compared, or raises `Differs`.
 """
@@ -7,7 +7,7 @@ from dataclasses import dataclass
 from pathlib import Path
 
 import qemu
-from guests import MIB, NONE, PAGE, memory, memory_of, scenario, uuid_of, words_of
+from guests import MIB, NONE, PAGE, memory, memory_of, words_of
 from ours import (Captures, Differs, Programs, block_words, compare, extracted, fault_of, inspected,
                   pages_that_differ, ran)
 
@@ -110,26 +110,6 @@ def refused(bench, stream, fault):
     return f"fault {fault}"
 
 
-def write_several(bench, kind, channels, name, faults=(), **parameters):
-    """QEMU writes on several channels. What comes is loaded later, with all other captures."""
-    with bench.guest(kind) as guest:
-        guest.set((), **parameters)
-        main, streams = qemu.written(guest, channels, rounds_of(kind))
-        wanted = guest.blocks()
-    if faults:
-        bench.captures.add_refused(name, main, streams, faults)
-    else:
-        bench.captures.add(name, main, streams, wanted, uuid_of(kind))
-
-
-def refuse_main(bench, fault):
-    """The main stream of two channels alone is no single stream."""
-    stream = bench.file("main.sav")
-    with bench.guest(NONE) as guest:
-        stream.write_bytes(qemu.written(guest, 2)[0])
-    return refused(bench, stream, fault)
-
-
 def load_file(bench, stream, wanted, words=NONE.words):
     """Has QEMU load a file, and compares RAM with what it is to be."""
     with bench.waiting(len(wanted), words) as guest:
@@ -143,46 +123,18 @@ def loaded_as(status, wanted, came):
     return compare(wanted, came)
 
 
-def load_saved(bench, words, qemu_words=()):
-    """`zimgasol save` writes a guest's memory, and QEMU loads it."""
+def saved(bench, words):
+    """Has `zimgasol save` write a guest's memory. Returns the file, and the memory."""
     wanted, out = memory(4 * MIB // PAGE, seed=9), bench.file("saved.sav")
     bench.file("ram.bin").write_bytes(wanted)
     ran(bench.programs.zimgasol, "save", "--block", f"ram={bench.file('ram.bin')}", *words,
         "--replace", out)
-    return load_file(bench, out, wanted, (*NONE.words, *qemu_words))
+    return out, wanted
 
 
-def sent(bench, channels):
-    """Has the tool send a scenario. Returns the streams' files, and the guest's memory."""
-    lines, wanted = scenario(4 * MIB // PAGE)
-    bench.file("scenario").write_text(lines)
-    out = bench.file("sent")
-    ran(bench.programs.tool, "send", bench.file("scenario"), out, "--channels", channels)
-    return [out, *(bench.file(f"sent.{number}") for number in range(channels))], wanted
-
-
-def load_sent(bench, channels):
-    """`mig_tool send` sends a guest, and QEMU loads it: from a file, or from channels."""
-    files, wanted = sent(bench, channels)
-    words = (*NONE.words, *NO_CONFIGURATION)
-    if not channels:
-        return load_file(bench, files[0], wanted, words)
-    streams = [it.read_bytes() for it in files]
-    with bench.waiting(len(wanted), words) as guest:
-        status, came = qemu.loaded(guest, streams[0], streams[1:])
-    return loaded_as(status, {"ram": wanted}, {"ram": came})
-
-
-def cannot_load_sent(bench, channels):
-    """QEMU before 8.1 knows no FLUSH, so its load of our channels fails."""
-    files, wanted = sent(bench, channels)
-    streams = [it.read_bytes() for it in files]
-    with bench.waiting(len(wanted), (*NONE.words, *NO_CONFIGURATION)) as guest:
-        status, _ = qemu.loaded(guest, streams[0], streams[1:])
-        said = guest.process.stderr.read() if status.startswith("ended") else ""
-    if "Unknown combination of migration flags: 0x200" not in said:
-        raise Differs(f"QEMU's load: {status}: {said}")
-    return "QEMU refuses FLUSH"
+def load_saved(bench, words, qemu_words=()):
+    """`zimgasol save` writes a guest's memory, and QEMU loads it."""
+    return load_file(bench, *saved(bench, words), (*NONE.words, *qemu_words))
 
 
 def chain(bench, other):

@@ -19,11 +19,11 @@ import tempfile
 from dataclasses import dataclass
 from pathlib import Path
 
+import channels
 import packages
 import qemu
-from checks import (NO_CONFIGURATION, Bench, cannot_load_sent, chain, chain_devices, load_saved,
-                    load_sent, read_between, read_single, refuse_main, refuse_single,
-                    write_several)
+from checks import (NO_CONFIGURATION, Bench, chain, chain_devices, load_saved, read_between,
+                    read_single, refuse_single)
 from guests import KINDS, NONE, PC, PC_UUID, PC_WRITING, SMALL
 from ours import Captures, Differs, Programs
 
@@ -109,14 +109,14 @@ def refuse_files(table, bench, version):
         table.try_(row, lambda: refuse_single(bench, kind, fault, (how,)))
     if qemu.number(version) >= (8, 1):
         row = Row(version, "QEMU, verify", NONE.name, "the main stream of 2 channels")
-        table.try_(row, lambda: refuse_main(bench, 32))
+        table.try_(row, lambda: channels.refuse_main(bench, 32))
 
 
 def read_channels(table, bench, version, later):
     """QEMU's channels, which `mig_captures` loads at the end. `later` gets the rows by name."""
     has_flush = qemu.number(version) >= (8, 1)
-    tries = [(kind, channels, () if has_flush else NO_FLUSH, "", {})
-             for kind in SMALL for channels in CHANNELS]
+    tries = [(kind, count, () if has_flush else NO_FLUSH, "", {})
+             for kind in SMALL for count in CHANNELS]
     if has_flush:
         tries.append((PC_UUID, 2, (), "", {}))
         tries.append((NONE, 2, (41,), ", zlib", {"multifd_compression": "zlib"}))
@@ -124,11 +124,11 @@ def read_channels(table, bench, version, later):
         for way in ("none", "legacy"):
             how = f", zero-page-detection={way}"
             tries.append((SMALL[-1], 2, (), how, {"zero_page_detection": way}))
-    for number, (kind, channels, faults, how, parameters) in enumerate(tries):
-        name = f"{version}-{number}"
-        row = Row(version, "QEMU, mig_captures", kind.name, on_channels(channels) + how)
-        table.try_(row, lambda: write_several(bench, kind, channels, name, faults, **parameters),
-                   WRITTEN)
+    way = "QEMU, extract, mig_captures" if bench.programs.has_channels else "QEMU, mig_captures"
+    for number, (kind, count, faults, how, parameters) in enumerate(tries):
+        name, row = f"{version}-{number}", Row(version, way, kind.name, on_channels(count) + how)
+        write = channels.write_several
+        table.try_(row, lambda: write(bench, kind, count, name, faults, **parameters), WRITTEN)
         if row.result == WRITTEN:
             later[name] = row
 
@@ -142,11 +142,16 @@ def load_ours(table, bench, version):
         row = Row(version, "save, QEMU", NONE.name, how)
         table.try_(row, lambda: load_saved(bench, words, qemu_words))
     table.try_(Row(version, "mig_tool send, QEMU", NONE.name, "single, 4 rounds"),
-               lambda: load_sent(bench, 0))
-    load = load_sent if qemu.number(version) >= (8, 1) else cannot_load_sent
-    for channels in CHANNELS:
-        row = Row(version, "mig_tool send, QEMU", NONE.name, on_channels(channels))
-        table.try_(row, lambda: load(bench, channels))
+               lambda: channels.load(bench, channels.send(bench, 0)))
+    has_flush = qemu.number(version) >= (8, 1)
+    load = channels.load if has_flush else channels.cannot_load
+    writers = [("mig_tool send", channels.send)]
+    if bench.programs.has_channels:
+        writers.append(("save --channels", channels.save))
+    for name, write in writers:
+        for count in CHANNELS:
+            row = Row(version, f"{name}, QEMU", NONE.name, on_channels(count))
+            table.try_(row, lambda: load(bench, write(bench, count)))
 
 
 def run_chains(table, bench, version, programs):
@@ -154,6 +159,9 @@ def run_chains(table, bench, version, programs):
     for other, program in programs.items():
         row = Row(version, f"QEMU, extract, save, QEMU {other}", NONE.name, "and extracted again")
         table.try_(row, lambda: chain(bench, program))
+    if bench.programs.has_channels and qemu.number(version) >= (8, 1):
+        row = Row(version, "QEMU, extract, save, QEMU", NONE.name, on_channels(2))
+        table.try_(row, lambda: channels.chain_several(bench, 2))
     for kind in (PC, PC_WRITING):
         how = "with its devices" + (", and runs on" if kind.writes else "")
         row = Row(version, "QEMU, extract, save, QEMU", kind.name, how)

@@ -35,6 +35,8 @@ class Programs:
         if missing:
             sys.exit("\n".join(f"there is no {places[it]}: {TARGETS[it]}" for it in missing))
         self.zimgasol, self.tool = str(places["zimgasol_cli"]), str(places["mig_tool"])
+        # whether `zimgasol` reads and writes several channels
+        self.has_channels = "--channel " in ran(self.zimgasol, "help", "extract")
         captures = places["mig_captures"]
         self.captures = str(captures) if os.access(captures, os.X_OK) else None
 

@@ -1,0 +1,121 @@
+"""What is tried with each QEMU over several channels: a function for each kind of row.
+
+Each takes a `Bench`, and returns what was compared, or raises `Differs`.
+"""
+from dataclasses import dataclass
+from pathlib import Path
+
+import qemu
+from checks import NO_CONFIGURATION, load_file, loaded_as, refused, rounds_of, saved
+from guests import MIB, NONE, PAGE, memory_of, scenario, uuid_of
+from ours import Differs, block_words, compare, extracted, fault_of, ran
+
+FLUSH_REFUSED = "Unknown combination of migration flags: 0x200"
+MACHINE = ("--frame", "machine", "--machine", "none")
+
+
+@dataclass(frozen=True)
+class Sent:
+    """The files of a main stream and its channels, the guest's RAM, and QEMU's words to load it."""
+
+    files: list
+    memory: bytes
+    words: tuple = ()
+
+
+def files_of(main, count):
+    return [main, *(Path(f"{main}.{number}") for number in range(count))]
+
+
+def put(bench, main, streams):
+    """Puts what QEMU wrote into files."""
+    files = files_of(bench.file("main.sav"), len(streams))
+    for file, bytes_ in zip(files, (main, *streams)):
+        file.write_bytes(bytes_)
+    return files
+
+
+def channel_words(files):
+    return [word for file in files[1:] for word in ("--channel", file)]
+
+
+def write_several(bench, kind, channels, name, faults=(), **parameters):
+    """QEMU writes on several channels, and `zimgasol` extracts that, where it takes channels.
+
+    `mig_captures` loads it later, with all others. It is to be refused where there are `faults`.
+    """
+    with bench.guest(kind) as guest:
+        guest.set((), **parameters)
+        main, streams = qemu.written(guest, channels, rounds_of(kind))
+        wanted = guest.blocks()
+    if faults:
+        bench.captures.add_refused(name, main, streams, faults)
+    else:
+        bench.captures.add(name, main, streams, wanted, uuid_of(kind))
+    if bench.programs.has_channels:
+        read_several(bench, put(bench, main, streams), wanted, faults)
+
+
+def read_several(bench, files, wanted, faults):
+    zimgasol, words = bench.programs.zimgasol, channel_words(files)
+    if not faults:
+        compare(wanted, extracted(zimgasol, files[0], bench.file("memory"), *words))
+        return
+    said = ran(zimgasol, "verify", files[0], *words, status=1)
+    if fault_of(said) not in faults:
+        raise Differs(f"{said}; expected fault {' or '.join(map(str, faults))}")
+
+
+def refuse_main(bench, fault):
+    """The main stream of two channels alone is no single stream."""
+    stream = bench.file("main.sav")
+    with bench.guest(NONE) as guest:
+        stream.write_bytes(qemu.written(guest, 2)[0])
+    return refused(bench, stream, fault)
+
+
+def send(bench, channels):
+    """Has the tool send a guest, as a single stream where there are no channels."""
+    lines, wanted = scenario(4 * MIB // PAGE)
+    bench.file("scenario").write_text(lines)
+    out = bench.file("sent")
+    ran(bench.programs.tool, "send", bench.file("scenario"), out, "--channels", channels)
+    return Sent(files_of(out, channels), wanted, NO_CONFIGURATION)
+
+
+def save(bench, channels):
+    """Has `zimgasol save` write a guest's memory over channels."""
+    out, wanted = saved(bench, (*MACHINE, "--channels", channels))
+    return Sent(files_of(out, channels), wanted)
+
+
+def load(bench, sent):
+    """QEMU loads what was sent: from a file, or from channels."""
+    words = (*NONE.words, *sent.words)
+    if len(sent.files) == 1:
+        return load_file(bench, sent.files[0], sent.memory, words)
+    streams = [it.read_bytes() for it in sent.files]
+    with bench.waiting(len(sent.memory), words) as guest:
+        status, came = qemu.loaded(guest, streams[0], streams[1:])
+    return loaded_as(status, {"ram": sent.memory}, {"ram": came})
+
+
+def cannot_load(bench, sent):
+    """QEMU before 8.1 knows no FLUSH, so its load of our channels fails."""
+    streams = [it.read_bytes() for it in sent.files]
+    with bench.waiting(len(sent.memory), (*NONE.words, *sent.words)) as guest:
+        status, _ = qemu.loaded(guest, streams[0], streams[1:])
+        said = guest.process.stderr.read() if status.startswith("ended") else ""
+    if FLUSH_REFUSED not in said:
+        raise Differs(f"QEMU's load: {status}: {said}")
+    return "QEMU refuses FLUSH"
+
+
+def chain_several(bench, channels):
+    """`zimgasol` extracts QEMU's channels, and saves the memory over channels, which QEMU loads."""
+    with bench.guest(NONE) as guest:
+        files = put(bench, *qemu.written(guest, channels))
+    zimgasol, out, folder = bench.programs.zimgasol, bench.file("chain.sav"), bench.file("memory")
+    extracted(zimgasol, files[0], folder, *channel_words(files))
+    ran(zimgasol, "save", *block_words(folder), *MACHINE, "--channels", channels, "--replace", out)
+    return load(bench, Sent(files_of(out, channels), memory_of(NONE)))
