@@ -12,7 +12,7 @@ from ours import (Captures, Differs, Programs, block_words, compare, extracted, 
                   pages_that_differ, ran)
 
 # The rounds after which a guest that writes is stopped.
-ROUNDS = 4
+ROUNDS = 6
 # A stream without a configuration is refused unless the receiver runs with this.
 NO_CONFIGURATION = ("-global", "migration.send-configuration=off")
 
@@ -101,6 +101,22 @@ def refuse_single(bench, kind, fault, capabilities=(), **parameters):
     """QEMU writes a file that has what can't be read, and `zimgasol` says so."""
     stream, _ = write_file(bench, kind, capabilities, **parameters)
     return refused(bench, stream, fault)
+
+
+def refuse_xbzrle(bench, kind, fault):
+    """QEMU writes a file with pages in the form of xbzrle, and `zimgasol` refuses it.
+
+    It sends pages so from the third round on, so it writes again where a guest wrote too little.
+    """
+    stream = bench.file("guest.sav")
+    for _ in range(5):
+        stream.unlink(missing_ok=True)
+        with bench.guest(kind) as guest:
+            guest.set(["xbzrle"])
+            qemu.written_file(guest, stream, rounds_of(kind))
+            if guest.qmp.call("query-migrate")["xbzrle-cache"]["pages"]:
+                return refused(bench, stream, fault)
+    raise Differs("QEMU sent no page in the form of xbzrle")
 
 
 def refused(bench, stream, fault):

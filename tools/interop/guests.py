@@ -46,12 +46,13 @@ NONE = Kind("none", ("-M", "none"), 4)
 NONE_RUNNING = Kind("none, running", ("-M", "none"), 4, running=True)
 PC = Kind("pc", ("-M", "pc"), 32)
 PC_UUID = Kind("pc with a UUID", ("-M", "pc", "-uuid", UUID), 8)
-PC_WRITING = Kind("pc, running", ("-M", "pc"), 32, running=True, writes=True)
+# (small, as it is sent slowly; see qemu.migrated)
+PC_WRITING = Kind("pc, running", ("-M", "pc"), 8, running=True, writes=True)
 Q35 = Kind("q35 with devices", ("-M", "q35", *NETWORK, "-device", "virtio-rng-pci"), 32)
 Q35_RUNNING = Kind("q35, running", ("-M", "q35", "-device", "virtio-rng-pci"), 32, running=True)
 KINDS = (NONE, NONE_RUNNING, PC, PC_WRITING, Q35, Q35_RUNNING)
 # those that go by channels: small, as a program that isn't built takes its time to load them
-SMALL = NONE, replace(PC, mib=8), replace(PC_WRITING, mib=8)
+SMALL = NONE, replace(PC, mib=8), PC_WRITING
 
 
 def uuid_of(kind):

@@ -23,7 +23,7 @@ import channels
 import packages
 import qemu
 from checks import (NO_CONFIGURATION, Bench, chain, chain_devices, load_saved, read_between,
-                    read_single, refuse_single)
+                    read_single, refuse_single, refuse_xbzrle)
 from guests import KINDS, NONE, PC, PC_UUID, PC_WRITING, SMALL
 from ours import Captures, Differs, Programs
 
@@ -98,16 +98,13 @@ def read_files(table, bench, version):
 
 def refuse_files(table, bench, version):
     """QEMU's files of other layouts, which `zimgasol` refuses with the faults of EMBEDDING."""
-    refusals = [("x-ignore-shared", 47, PC)]
+    for how in ("x-ignore-shared", *(("mapped-ram",) if qemu.number(version) >= (9, 0) else ())):
+        row = Row(version, "QEMU, verify", PC.name, how)
+        table.try_(row, lambda: refuse_single(bench, PC, 47, (how,)))
     if qemu.number(version) >= (8, 1):
         # (7.2 leaves out the pages that come in this form; see compare_written)
-        refusals.append(("xbzrle", 27, PC_WRITING))
-    if qemu.number(version) >= (9, 0):
-        refusals.append(("mapped-ram", 47, PC))
-    for how, fault, kind in refusals:
-        row = Row(version, "QEMU, verify", kind.name, how)
-        table.try_(row, lambda: refuse_single(bench, kind, fault, (how,)))
-    if qemu.number(version) >= (8, 1):
+        row = Row(version, "QEMU, verify", PC_WRITING.name, "xbzrle")
+        table.try_(row, lambda: refuse_xbzrle(bench, PC_WRITING, 27))
         row = Row(version, "QEMU, verify", NONE.name, "the main stream of 2 channels")
         table.try_(row, lambda: channels.refuse_main(bench, 32))
 

@@ -186,9 +186,12 @@ def received(listener, count, found):
 
 
 def migrated(guest, uri, rounds=0):
-    """Has a guest migrate to `uri`. One that runs isn't stopped before it had `rounds` rounds."""
+    """Has a guest migrate to `uri`. One that runs isn't stopped before it had `rounds` rounds.
+
+    It is sent slowly, so that it writes pages in each round, also where the processor is busy.
+    """
     if rounds:
-        guest.set(max_bandwidth=32 << 20, downtime_limit=0)
+        guest.set(max_bandwidth=4 << 20, downtime_limit=1)
     guest.qmp.call("migrate", uri=uri)
     if rounds:
         guest.wait_for_rounds(rounds)
