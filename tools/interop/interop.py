@@ -14,6 +14,7 @@ Each row says what wrote and what read, and `ok` or what differs. The status is 
 It is no part of the gate.
 """
 import argparse
+import signal
 import sys
 import tempfile
 from dataclasses import dataclass
@@ -201,6 +202,9 @@ def main():
     parser.add_argument("--qemu", default="")
     parser.add_argument("--programs")
     words = parser.parse_args()
+    # so that each QEMU is ended, and files are removed, also where this is told to stop
+    for number in (signal.SIGTERM, signal.SIGHUP):
+        signal.signal(number, lambda number, _: sys.exit(128 + number))
     programs = Programs(words.programs)
     found, table, later = at_hand(words), Table(), {}
     with tempfile.TemporaryDirectory(prefix="interop-") as room:
