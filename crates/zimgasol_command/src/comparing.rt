@@ -94,6 +94,7 @@ fn extracted<'a, H: AllocGlobal + Files + Clock, R: Read, E: Write>(
         stream: *words,
         folder: path,
         block: None,
+        since: None,
         replace: false,
         digest: false,
         durable: false,

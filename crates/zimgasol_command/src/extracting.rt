@@ -1,44 +1,34 @@
 //! `extract`: the memory of a stream, a file for each block.
 //!
 //! Pages are written to their places as they come. A file has its last name only when the stream is
-//! whole, the file is complete and on its disk.
+//! whole, the file is complete and on its disk. With `--since` each file begins as a copy of its
+//! block in another folder, and the stream's pages are laid over it.
 
-use crate::folder::LIST_NAME;
-use crate::input::{piece_buffer, read_piece};
+use crate::block_file::{BlockFile, block_value, complete_file, write_at, write_text};
+use crate::folder::{Folder, LIST_NAME, read_folder};
+use crate::input::piece_buffer;
+use crate::opened::{open, unfit};
 use crate::place::fault_of;
 use crate::running::read_stream;
+use crate::several::read_several;
 use crate::sink::PageSink;
 use crate::survey::Survey;
-use crate::target::{PARTIAL, create, is_free, rename, sync, unwritten};
-use crate::trouble::Trouble;
+use crate::target::{PARTIAL, create, is_free, rename, unwritten};
+use crate::trouble::{Trouble, Unfit};
 use crate::verifying::put_judgement;
-use crate::words::ExtractWords;
+use crate::words::{ChannelWords, ExtractWords};
 use mig_mem::{Dirty, Place, Table};
 use mig_zero::is_zero;
 use serde_json::{Value, json};
-use sha2::{Digest, Sha256};
 use std::alloc::{AllocGlobal, Global};
-use std::fs::{Files, OpenFile};
-use std::io::{self, ErrorKind, Read, Seek, SeekFrom, Write};
+use std::fs::Files;
+use std::io::{ErrorKind, Read, Write};
 use std::rt::Clock;
-use zimgasol_names::{file_name, id_text, path_in, shown};
+use std::str;
+use zimgasol_names::{file_name, path_in, shown};
 
 /// How many bytes of pages that follow one another are written at once.
 const RUN_LEN: usize = 262_144;
-
-// A file that a block is written into.
-#[derive(Drop)]
-struct BlockFile<F: Drop> {
-    block: usize,
-    id: Vec<u8>,
-    // its name in the folder, in the end
-    name: String,
-    partial_path: String,
-    path: String,
-    len: u64,
-    file: F,
-    digest: Option<[u8; 32]>,
-}
 
 // Bytes of one block's file that are to be written, at their place.
 #[derive(Drop)]
@@ -64,6 +54,8 @@ struct Extraction<H: Files> {
     // whether the folder was made
     made: bool,
     page_size: u64,
+    // the folder that the files begin as copies of
+    since: Option<Folder>,
     files: Vec<BlockFile<H::File>>,
     // the pages that aren't zeros in their files
     written: Option<Dirty>,
@@ -72,7 +64,11 @@ struct Extraction<H: Files> {
 }
 
 impl<H: Files> Extraction<H> {
-    fn new(alloc: Global, words: &ExtractWords<'_>) -> Result<Extraction<H>, Trouble> {
+    fn new(
+        alloc: Global,
+        words: &ExtractWords<'_>,
+        since: Option<Folder>,
+    ) -> Result<Extraction<H>, Trouble> {
         let folder = String::from_str(alloc, words.folder)?;
         let block = match words.block {
             Some(id) => Some(String::from_str(alloc, id)?),
@@ -89,6 +85,7 @@ impl<H: Files> Extraction<H> {
             durable: words.durable,
             made: false,
             page_size: words.stream.page_size.bytes(),
+            since,
             files: Vec::new(alloc),
             written: None,
             run: Run {
@@ -118,11 +115,7 @@ impl<H: Files> Extraction<H> {
     }
 
     // Opens the file of a block.
-    fn open_block(&mut self, rt: &H, table: &Table, block: usize) -> Result<(), Trouble> {
-        if block >= table.len() {
-            return Ok(());
-        }
-        let id = table.id(block);
+    fn open_block(&mut self, rt: &H, id: &[u8], block: usize, len: u64) -> Result<(), Trouble> {
         let name = file_name(self.alloc, id, block)?;
         let path = path_in(self.alloc, &self.folder, &name, "")?;
         let partial_path = path_in(self.alloc, &self.folder, &name, PARTIAL)?;
@@ -134,10 +127,22 @@ impl<H: Files> Extraction<H> {
             name,
             partial_path,
             path,
-            len: table.pages(block).saturating_mul(table.page_size()),
+            len,
             file,
             digest: None,
         })?;
+        Ok(())
+    }
+
+    // Opens the files of the blocks of a table that are extracted.
+    fn open_blocks(&mut self, rt: &H, table: &Table) -> Result<(), Trouble> {
+        for block in 0..table.len() {
+            let id = table.id(block);
+            if is_wanted(&self.block, id) {
+                let len = table.pages(block).saturating_mul(table.page_size());
+                self.open_block(rt, id, block, len)?;
+            }
+        }
         Ok(())
     }
 
@@ -237,6 +242,25 @@ impl<H: Files> Extraction<H> {
         Ok(json!(in self.alloc; {"page_size": self.page_size, "blocks": list})?)
     }
 
+    // Returns what was read; where it wasn't, no file stays.
+    fn or_removed<T: Drop>(&self, rt: &H, read: Result<T, Trouble>) -> Result<T, Trouble> {
+        if read.is_err() {
+            self.remove(rt);
+        }
+        read
+    }
+
+    // Completes all files if what was read is whole; where it isn't, or they can't be completed, no
+    // file stays.
+    fn finish(&mut self, rt: &H, is_whole: bool) -> Result<(), Trouble> {
+        if !is_whole {
+            self.remove(rt);
+            return Ok(());
+        }
+        let completed = self.complete(rt);
+        self.or_removed(rt, completed)
+    }
+
     // Removes what isn't complete.
     fn remove(&self, rt: &H) {
         for file in &self.files {
@@ -251,21 +275,6 @@ impl<H: Files> Extraction<H> {
     }
 }
 
-// Returns what the list says of a block's file.
-fn block_value<F: Drop>(alloc: Global, file: &BlockFile<F>) -> Result<Value, Trouble> {
-    let id = id_text(alloc, &file.id)?;
-    let Some(digest) = &file.digest else {
-        return Ok(json!(in alloc; {"id": &id, "file": &file.name, "bytes": file.len})?);
-    };
-    let digest = hex_digest(alloc, digest)?;
-    Ok(json!(in alloc; {
-        "id": &id,
-        "file": &file.name,
-        "bytes": file.len,
-        "sha256": &digest
-    })?)
-}
-
 // Returns whether a block is to be extracted.
 fn is_wanted(block: &Option<String>, id: &[u8]) -> bool {
     match block {
@@ -274,26 +283,63 @@ fn is_wanted(block: &Option<String>, id: &[u8]) -> bool {
     }
 }
 
-impl<H: Files> PageSink<H> for Extraction<H> {
-    fn begin(&mut self, rt: &H, table: &Table) -> Result<(), Trouble> {
-        self.make_folder(rt)?;
-        let list = path_in(self.alloc, &self.folder, LIST_NAME, "")?;
-        self.is_free(rt, &list)?;
-        for block in 0..table.len() {
-            if is_wanted(&self.block, table.id(block)) {
-                self.open_block(rt, table, block)?;
+impl<H: Files> Extraction<H> {
+    // Begins with what the blocks have in another folder; `blocks` is how many the stream has.
+    fn begin_since(&mut self, rt: &H, since: &Folder, blocks: usize) -> Result<(), Trouble> {
+        for (number, other) in since.blocks.iter().enumerate() {
+            let id = other.id.as_bytes();
+            if !self.has_block(id) && is_wanted(&self.block, id) {
+                self.open_block(rt, id, blocks.saturating_add(number), other.len)?;
             }
         }
-        if let Some(id) = &self.block
-            && self.files.is_empty()
-        {
-            return Err(Trouble::NoBlock(shown(self.alloc, id.as_bytes())?));
+        for file in 0..self.files.len() {
+            self.copy_since(rt, since, file)?;
         }
-        self.written = Some(Dirty::none(self.alloc, table)?);
         Ok(())
     }
 
-    fn put(&mut self, place: Place, content: Option<&[u8]>) -> Result<(), Trouble> {
+    fn has_block(&self, id: &[u8]) -> bool {
+        self.files.iter().any(|file| file.id.as_slice() == id)
+    }
+
+    // Copies what a block has in another folder into its file, but for pages of zeros.
+    fn copy_since(&mut self, rt: &H, since: &Folder, file: usize) -> Result<(), Trouble> {
+        let Some(there) = self.files.get(file) else {
+            return Ok(());
+        };
+        let id = str::from_utf8(&there.id).unwrap_or("");
+        let block = there.block;
+        let before = since.block_like(self.alloc, id, id, there.len)?;
+        let mut input = open(rt, self.alloc, &before.path)?;
+        let mut buffer = piece_buffer(self.alloc)?;
+        let mut at = 0u64;
+        for _ in 0..u64::MAX {
+            let len = input.read(&mut buffer)?;
+            if len == 0 {
+                break;
+            }
+            self.put_pages(block, at, &buffer[..len])?;
+            at = at.saturating_add(len as u64);
+        }
+        if at != before.len {
+            return Err(input.unfit(Unfit::Changed));
+        }
+        Ok(())
+    }
+
+    // Puts the pages of a block whose bytes begin at a place of it.
+    fn put_pages(&mut self, block: usize, at: u64, bytes: &[u8]) -> Result<(), Trouble> {
+        let size = self.page_size.max(1);
+        let mut page = at / size;
+        for content in bytes.chunks(size.min(8192) as usize) {
+            self.put_page(Place { block, page }, Some(content))?;
+            page = page.saturating_add(1);
+        }
+        Ok(())
+    }
+
+    // Puts what a page has: its bytes, or None for a page of zeros.
+    fn put_page(&mut self, place: Place, content: Option<&[u8]>) -> Result<(), Trouble> {
         let Some(file) = self.file_of(place.block) else {
             return Ok(());
         };
@@ -313,6 +359,29 @@ impl<H: Files> PageSink<H> for Extraction<H> {
     }
 }
 
+impl<H: Files> PageSink<H> for Extraction<H> {
+    fn begin(&mut self, rt: &H, table: &Table) -> Result<(), Trouble> {
+        self.make_folder(rt)?;
+        let list = path_in(self.alloc, &self.folder, LIST_NAME, "")?;
+        self.is_free(rt, &list)?;
+        self.open_blocks(rt, table)?;
+        self.written = Some(Dirty::none(self.alloc, table)?);
+        if let Some(since) = self.since.take() {
+            self.begin_since(rt, &since, table.len())?;
+        }
+        if let Some(id) = &self.block
+            && self.files.is_empty()
+        {
+            return Err(Trouble::NoBlock(shown(self.alloc, id.as_bytes())?));
+        }
+        Ok(())
+    }
+
+    fn put(&mut self, place: Place, content: Option<&[u8]>) -> Result<(), Trouble> {
+        self.put_page(place, content)
+    }
+}
+
 impl<H: Files> Extraction<H> {
     // Writes a page of zeros to its place.
     fn write_zeros(&mut self, file: usize, at: u64) -> Result<(), Trouble> {
@@ -328,62 +397,22 @@ impl<H: Files> Extraction<H> {
     }
 }
 
-fn write_at<F: Write + Seek>(file: &mut F, at: u64, bytes: &[u8]) -> io::Result<()> {
-    file.seek(SeekFrom::Start(at))?;
-    file.write_all(bytes)
-}
-
-fn write_text<F: Write + OpenFile>(file: &mut F, bytes: &[u8]) -> io::Result<()> {
-    file.write_all(bytes)?;
-    file.write_all(b"\n")?;
-    sync(file)
-}
-
-// Gives a file its length, and, if that is wanted, has it on its disk and reads it for its digest.
-fn complete_file<F: Read + Write + Seek + OpenFile + Drop>(
-    file: &mut BlockFile<F>,
-    durable: bool,
-    digest: bool,
-    buffer: &mut [u8],
-) -> Result<(), Trouble> {
-    let len = file.len;
-    if let Err(error) = with_len(&mut file.file, len, durable) {
-        return Err(Trouble::Unread(error));
+// Reads the list of the folder that the files begin as copies of, which has to have pages of the
+// same size.
+fn since_of<H: AllocGlobal + Files>(
+    rt: &H,
+    words: &ExtractWords<'_>,
+) -> Result<Option<Folder>, Trouble> {
+    let Some(path) = words.since else {
+        return Ok(None);
+    };
+    let since = read_folder(rt, path)?;
+    let page_size = words.stream.page_size.bytes();
+    if since.page_size != page_size {
+        let why = Unfit::OtherPages(since.page_size, page_size);
+        return Err(unfit(rt.alloc(), path, why));
     }
-    if digest {
-        file.digest = Some(digest_of(&mut file.file, buffer)?);
-    }
-    Ok(())
-}
-
-fn with_len<F: Write + Seek + OpenFile>(file: &mut F, len: u64, durable: bool) -> io::Result<()> {
-    file.set_len(len)?;
-    if durable {
-        sync(file)?;
-    }
-    file.seek(SeekFrom::Start(0))?;
-    Ok(())
-}
-
-// Returns the SHA-256 of what a file has from its place on.
-fn digest_of<F: Read>(file: &mut F, buffer: &mut [u8]) -> Result<[u8; 32], Trouble> {
-    let mut hasher = Sha256::new();
-    for _ in 0..u64::MAX {
-        let len = read_piece(file, buffer)?;
-        if len == 0 {
-            break;
-        }
-        hasher.update(&buffer[..len]);
-    }
-    Ok(hasher.finalize())
-}
-
-fn hex_digest(alloc: Global, digest: &[u8; 32]) -> Result<String, Trouble> {
-    let mut text = String::new(alloc);
-    for byte in digest {
-        write!(text, "{byte:02x}")?;
-    }
-    Ok(text)
+    Ok(Some(since))
 }
 
 /// Extracts the memory of a stream. Returns what was read; where it isn't whole, no file stays.
@@ -393,33 +422,50 @@ pub(crate) fn extract_survey<H: AllocGlobal + Files + Clock, R: Read, E: Write>(
     input: &mut R,
     errors: &mut E,
 ) -> Result<Survey, Trouble> {
-    let mut extraction = Extraction::<H>::new(rt.alloc(), words)?;
-    let survey = match read_stream(rt, &words.stream, input, &mut extraction, errors) {
-        Ok(survey) => survey,
-        Err(trouble) => {
-            extraction.remove(rt);
-            return Err(trouble);
-        }
-    };
-    if fault_of(&survey).is_some() {
-        extraction.remove(rt);
-    } else if let Err(trouble) = extraction.complete(rt) {
-        extraction.remove(rt);
-        return Err(trouble);
-    }
+    let since = since_of(rt, words)?;
+    let mut extraction = Extraction::<H>::new(rt.alloc(), words, since)?;
+    let read = read_stream(rt, &words.stream, input, &mut extraction, errors);
+    let mut survey = extraction.or_removed(rt, read)?;
+    survey.is_laid_over = words.since.is_some();
+    extraction.finish(rt, fault_of(&survey).is_none())?;
     Ok(survey)
+}
+
+// Extracts the memory that a main stream and its channels have, and prints the judgement. Returns
+// whether all is whole.
+fn extract_several<H: AllocGlobal + Files + Clock, R: Read, W: Write, E: Write>(
+    rt: &H,
+    words: &ExtractWords<'_>,
+    channels: &ChannelWords<'_>,
+    input: &mut R,
+    output: &mut W,
+    errors: &mut E,
+) -> Result<bool, Trouble> {
+    let alloc = rt.alloc();
+    let since = since_of(rt, words)?;
+    let mut extraction = Extraction::<H>::new(alloc, words, since)?;
+    let read = read_several(rt, &words.stream, channels, input, &mut extraction, errors);
+    let mut several = extraction.or_removed(rt, read)?;
+    several.is_laid_over = words.since.is_some();
+    extraction.finish(rt, several.fault().is_none())?;
+    let name = shown(alloc, words.stream.file.as_bytes())?;
+    several.put_judgement(alloc, output, errors, &name, words.stream.talk)
 }
 
 /// Extracts the memory of a stream, and prints its judgement. Returns whether the stream is whole.
 pub(crate) fn extract<H: AllocGlobal + Files + Clock, R: Read, W: Write, E: Write>(
     rt: &H,
     words: &ExtractWords<'_>,
+    channels: &ChannelWords<'_>,
     input: &mut R,
     output: &mut W,
     errors: &mut E,
 ) -> Result<bool, Trouble> {
-    let survey = extract_survey(rt, words, input, errors)?;
     let alloc = rt.alloc();
+    if !channels.is_single(alloc)? {
+        return extract_several(rt, words, channels, input, output, errors);
+    }
+    let survey = extract_survey(rt, words, input, errors)?;
     let name = shown(alloc, words.stream.file.as_bytes())?;
     put_judgement(alloc, output, errors, &name, &survey, words.stream.talk)
 }

@@ -37,6 +37,21 @@ impl Folder {
         self.blocks.iter().position(|block| block.id.as_str() == id)
     }
 
+    /// Returns the block with an id, which has to have as many bytes as what is called `name`.
+    pub(crate) fn block_like(
+        &self,
+        alloc: Global,
+        id: &str,
+        name: &str,
+        len: u64,
+    ) -> Result<&FolderBlock, Trouble> {
+        match self.find(id).and_then(|number| self.blocks.get(number)) {
+            Some(block) if block.len == len => Ok(block),
+            Some(block) => Err(unfit(alloc, name, Unfit::OtherLen(len, block.len))),
+            None => Err(unfit(alloc, id, Unfit::NoBlock)),
+        }
+    }
+
     /// Returns how many bytes all blocks have.
     pub(crate) fn total(&self) -> u64 {
         let mut total = 0u64;

@@ -1,6 +1,7 @@
 //! `inspect`: what a stream has, in lines or as JSON.
 
 use crate::between::{Note, Noted};
+use crate::blocks::Blocks;
 use crate::place::{block_at, fault_of, kind_name};
 use crate::survey::Survey;
 use crate::trouble::Trouble;
@@ -34,8 +35,12 @@ fn output_failed(error: io::Error) -> Trouble {
     Trouble::Output(error)
 }
 
-// Writes the line of an item between the sections.
-fn put_note<W: Write>(alloc: Global, output: &mut W, note: &Note) -> Result<(), Trouble> {
+/// Writes the line of an item between the sections.
+pub(crate) fn put_note<W: Write>(
+    alloc: Global,
+    output: &mut W,
+    note: &Note,
+) -> Result<(), Trouble> {
     let sections = note.sections;
     match &note.noted {
         Noted::Machine(name) => {
@@ -65,10 +70,12 @@ fn hex_of(alloc: Global, bytes: &[u8]) -> Result<String, AllocError> {
     Ok(text)
 }
 
-fn put_blocks<W: Write>(alloc: Global, output: &mut W, survey: &Survey) -> Result<(), Trouble> {
-    let Some(blocks) = &survey.blocks else {
-        return Ok(());
-    };
+/// Writes the line of each block.
+pub(crate) fn put_blocks<W: Write>(
+    alloc: Global,
+    output: &mut W,
+    blocks: &Blocks,
+) -> Result<(), Trouble> {
     for (block, counts) in blocks.counts.iter().enumerate() {
         if block < blocks.table.len() {
             let id = shown(alloc, blocks.table.id(block))?;
@@ -144,7 +151,9 @@ pub(crate) fn put_lines<W: Write>(
     put_head(alloc, output, name, survey)?;
     let page_size = survey.page_size;
     writeln!(output, "page size {page_size}").map_err(output_failed)?;
-    put_blocks(alloc, output, survey)?;
+    if let Some(blocks) = &survey.blocks {
+        put_blocks(alloc, output, blocks)?;
+    }
     put_end(output, survey).map_err(output_failed)
 }
 
@@ -154,7 +163,8 @@ fn array(alloc: Global) -> Vec<Value> {
     Vec::new(alloc)
 }
 
-fn note_value(alloc: Global, note: &Note) -> Result<Value, AllocError> {
+/// Returns what is said of an item between the sections.
+pub(crate) fn note_value(alloc: Global, note: &Note) -> Result<Value, AllocError> {
     let at = note.at;
     let sections = note.sections;
     match &note.noted {
@@ -186,11 +196,9 @@ fn notes_value(alloc: Global, survey: &Survey) -> Result<Value, AllocError> {
     Ok(Value::Array(notes))
 }
 
-fn blocks_value(alloc: Global, survey: &Survey) -> Result<Value, AllocError> {
+/// Returns what is said of each block.
+pub(crate) fn blocks_value(alloc: Global, blocks: &Blocks) -> Result<Value, AllocError> {
     let mut list = array(alloc);
-    let Some(blocks) = &survey.blocks else {
-        return Ok(Value::Array(list));
-    };
     for (block, counts) in blocks.counts.iter().enumerate() {
         if block < blocks.table.len() {
             let id = id_text(alloc, blocks.table.id(block))?;
@@ -246,7 +254,10 @@ fn libvirt_value(alloc: Global, survey: &Survey) -> Result<Value, AllocError> {
 fn survey_value(alloc: Global, name: &str, survey: &Survey) -> Result<Value, AllocError> {
     let end = survey.before().saturating_add(survey.valid);
     let notes = notes_value(alloc, survey)?;
-    let blocks = blocks_value(alloc, survey)?;
+    let blocks = match &survey.blocks {
+        Some(blocks) => blocks_value(alloc, blocks)?,
+        None => Value::Array(array(alloc)),
+    };
     let libvirt = libvirt_value(alloc, survey)?;
     let fault = fault_value(alloc, survey)?;
     json!(in alloc; {

@@ -73,13 +73,25 @@ pub(crate) fn put_missing<E: Write>(
     name: &str,
     survey: &Survey,
 ) -> Result<(), Trouble> {
-    if fault_of(survey).is_some() {
+    if fault_of(survey).is_some() || survey.is_laid_over {
         return Ok(());
     }
-    let Some(blocks) = &survey.blocks else {
-        return Ok(());
-    };
-    let count = put_blocks(alloc, errors, name, blocks, whereabouts(survey.frame))?;
+    match &survey.blocks {
+        Some(blocks) => put_few(alloc, errors, name, blocks, whereabouts(survey.frame)),
+        None => Ok(()),
+    }
+}
+
+/// Writes a line for each block that has fewer records than pages, and after the first four of them
+/// how many more there are; `others` says what the other pages may be.
+pub(crate) fn put_few<E: Write>(
+    alloc: Global,
+    errors: &mut E,
+    name: &str,
+    blocks: &Blocks,
+    others: &str,
+) -> Result<(), Trouble> {
+    let count = put_blocks(alloc, errors, name, blocks, others)?;
     if count <= MOST_LINES {
         return Ok(());
     }

@@ -3,6 +3,7 @@
 ghost use Rattle.std.specs.Prelude.{◌≡◌, ◌≤◌, length, IfOk};
 
 use crate::input::read_piece;
+use crate::pieces::Pieces;
 use crate::target::unwritten;
 use crate::trouble::{Trouble, Unfit};
 use std::alloc::Global;
@@ -50,6 +51,15 @@ impl<F: Read + OpenFile + Drop> Opened<F> {
     {
         match read_piece(&mut self.file, buffer) {
             Ok(len) => Ok(len),
+            Err(Trouble::Unread(error)) => Err(unwritten(self.alloc, &self.path, error)),
+            Err(trouble) => Err(trouble),
+        }
+    }
+
+    /// Reads the next piece, if no byte of the last one waits. Returns whether bytes wait.
+    pub(crate) fn refill(&mut self, pieces: &mut Pieces) -> Result<bool, Trouble> {
+        match pieces.refill(&mut self.file) {
+            Ok(is_there) => Ok(is_there),
             Err(Trouble::Unread(error)) => Err(unwritten(self.alloc, &self.path, error)),
             Err(trouble) => Err(trouble),
         }

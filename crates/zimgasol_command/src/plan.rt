@@ -42,8 +42,8 @@ impl Plan<'_> {
     }
 }
 
-// Returns the trouble of words that are wrong.
-fn wrong(alloc: Global, option: &str, word: &str, why: &'static str) -> Trouble {
+/// Returns the trouble of words that are wrong.
+pub(crate) fn wrong(alloc: Global, option: &str, word: &str, why: &'static str) -> Trouble {
     match named_word(alloc, option, word) {
         Ok(words) => Trouble::Words(words, why),
         Err(_) => Trouble::NoMemory,
@@ -73,14 +73,8 @@ fn before_in(
     word: BlockWord<'_>,
     len: u64,
 ) -> Result<String, Trouble> {
-    let Some(number) = since.find(word.id) else {
-        return Err(unfit(alloc, word.id, Unfit::NoBlock));
-    };
-    match since.blocks.get(number) {
-        Some(block) if block.len == len => Ok(block.path.clone()?),
-        Some(block) => Err(unfit(alloc, word.file, Unfit::OtherLen(len, block.len))),
-        None => Err(unfit(alloc, word.id, Unfit::NoBlock)),
-    }
+    let block = since.block_like(alloc, word.id, word.file, len)?;
+    Ok(block.path.clone()?)
 }
 
 // Returns the block that a word names.

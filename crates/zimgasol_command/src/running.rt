@@ -7,12 +7,13 @@ use crate::extracting::extract;
 use crate::input::piece_buffer;
 use crate::inspecting::{put_json, put_lines};
 use crate::saving::save;
+use crate::several::read_several;
 use crate::sink::{NoSink, PageSink};
 use crate::survey::Survey;
 use crate::trouble::{Trouble, Unfit};
 use crate::verifying::{put_judgement, put_wrongs};
 use crate::watch::Watch;
-use crate::words::{Request, StreamWords, asked};
+use crate::words::{ChannelWords, Request, StreamWords, asked};
 use clap::Error;
 use clap::error::ErrorKind;
 use std::alloc::{AllocGlobal, Global};
@@ -76,12 +77,18 @@ fn done<H: AllocGlobal + Files + Clock, R: Read, W: Write, E: Write>(
     ensures { result ≤ 3 }
 {
     let (name, status) = match request {
-        Request::Verify(words) => (words.file, verify(rt, words, input, output, errors)),
-        Request::Inspect(words, json) => (
+        Request::Verify(words, channels) => (
             words.file,
-            inspect(rt, words, *json, input, output, errors),
+            verify(rt, words, channels, input, output, errors),
         ),
-        Request::Extract(words) => (words.stream.file, extract(rt, words, input, output, errors)),
+        Request::Inspect(words, channels, json) => (
+            words.file,
+            inspect(rt, words, channels, *json, input, output, errors),
+        ),
+        Request::Extract(words, channels) => (
+            words.stream.file,
+            extract(rt, words, channels, input, output, errors),
+        ),
         Request::Save(words) => (words.file, save(rt, words, output, errors)),
         Request::Compare(words) => (words.second.file, compare(rt, words, input, output, errors)),
     };
@@ -214,26 +221,42 @@ pub(crate) fn read_stream<H: AllocGlobal + Files + Clock, R: Read, S: PageSink<H
 fn verify<H: AllocGlobal + Files + Clock, R: Read, W: Write, E: Write>(
     rt: &H,
     words: &StreamWords<'_>,
+    channels: &ChannelWords<'_>,
     input: &mut R,
     output: &mut W,
     errors: &mut E,
 ) -> Result<bool, Trouble> {
-    let survey = read_stream(rt, words, input, &mut NoSink, errors)?;
-    let name = shown(rt.alloc(), words.file.as_bytes())?;
-    put_judgement(rt.alloc(), output, errors, &name, &survey, words.talk)
+    let alloc = rt.alloc();
+    let name = shown(alloc, words.file.as_bytes())?;
+    if channels.is_single(alloc)? {
+        let survey = read_stream(rt, words, input, &mut NoSink, errors)?;
+        return put_judgement(alloc, output, errors, &name, &survey, words.talk);
+    }
+    let several = read_several(rt, words, channels, input, &mut NoSink, errors)?;
+    several.put_judgement(alloc, output, errors, &name, words.talk)
 }
 
 fn inspect<H: AllocGlobal + Files + Clock, R: Read, W: Write, E: Write>(
     rt: &H,
     words: &StreamWords<'_>,
+    channels: &ChannelWords<'_>,
     json: bool,
     input: &mut R,
     output: &mut W,
     errors: &mut E,
 ) -> Result<bool, Trouble> {
-    let survey = read_stream(rt, words, input, &mut NoSink, errors)?;
     let alloc = rt.alloc();
     let name = shown(alloc, words.file.as_bytes())?;
+    if !channels.is_single(alloc)? {
+        let several = read_several(rt, words, channels, input, &mut NoSink, errors)?;
+        if json {
+            several.put_json(alloc, output, &name)?;
+        } else {
+            several.put_lines(alloc, output, &name)?;
+        }
+        return several.put_wrongs(alloc, errors, &name);
+    }
+    let survey = read_stream(rt, words, input, &mut NoSink, errors)?;
     if json {
         put_json(alloc, output, &name, &survey)?;
     } else {

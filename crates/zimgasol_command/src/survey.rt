@@ -46,6 +46,8 @@ pub(crate) struct Survey {
     pub len: u64,
     /// How far the reading is.
     pub watch: Watch,
+    /// Whether it is laid over other memory, so that it needs no record of each page.
+    pub is_laid_over: bool,
     // where the stream is read on; None once it isn't
     pause: Option<Pause>,
     // how many bytes of the stream have come
@@ -69,6 +71,7 @@ impl Survey {
             valid: 0,
             len: 0,
             watch,
+            is_laid_over: false,
             pause: Some(Pause::new_in(alloc, words.frame, page_size, MAX_TOTAL)),
             fed: 0,
         }

@@ -49,6 +49,15 @@ pub(crate) struct StreamWords<'a> {
     pub talk: Talk,
 }
 
+/// The channels that a stream's pages went over; none of a single stream.
+#[derive(Drop)]
+pub(crate) struct ChannelWords<'a> {
+    /// The files' names.
+    pub files: Vec<&'a str>,
+    /// The UUID that each hello has to name.
+    pub uuid: Option<&'a str>,
+}
+
 /// What `extract` is to do.
 #[derive(Clone, Copy)]
 pub(crate) struct ExtractWords<'a> {
@@ -57,6 +66,8 @@ pub(crate) struct ExtractWords<'a> {
     pub folder: &'a str,
     /// The one block that is extracted; all where there is none.
     pub block: Option<&'a str>,
+    /// The folder that `extract` made, over whose memory the stream's pages are laid.
+    pub since: Option<&'a str>,
     /// Whether files that are there already are replaced.
     pub replace: bool,
     /// Whether the list has each file's SHA-256.
@@ -94,10 +105,10 @@ pub(crate) struct CompareWords<'a> {
 /// What the words ask for.
 #[derive(Drop)]
 pub(crate) enum Request<'a> {
-    Verify(StreamWords<'a>),
+    Verify(StreamWords<'a>, ChannelWords<'a>),
     /// Text, or JSON.
-    Inspect(StreamWords<'a>, bool),
-    Extract(ExtractWords<'a>),
+    Inspect(StreamWords<'a>, ChannelWords<'a>, bool),
+    Extract(ExtractWords<'a>, ChannelWords<'a>),
     Save(SaveWords<'a>),
     Compare(CompareWords<'a>),
 }
@@ -151,6 +162,21 @@ fn flag<'a>(alloc: Global, name: &'a str, help: &'a str) -> Arg<'a> {
         .help(help)
 }
 
+fn channel_option<'a>(alloc: Global) -> Arg<'a> {
+    Arg::new(alloc, "channel")
+        .long("channel")
+        .value_name("FILE")
+        .action(ArgAction::Append)
+        .help("A channel that the pages went over (multifd); once for each channel")
+}
+
+fn uuid_option<'a>(alloc: Global, help: &'a str) -> Arg<'a> {
+    Arg::new(alloc, "uuid")
+        .long("uuid")
+        .value_name("UUID")
+        .help(help)
+}
+
 // A command that reads a stream.
 fn stream_command<'a>(
     alloc: Global,
@@ -160,6 +186,11 @@ fn stream_command<'a>(
     Command::new(alloc, name)
         .about(about)
         .arg(file_arg(alloc))?
+        .arg(channel_option(alloc))?
+        .arg(uuid_option(
+            alloc,
+            "The UUID that each channel has to name [default: that of the first channel]",
+        ))?
         .arg(page_option(alloc))?
         .arg(frame_option(alloc))?
         .arg(progress_flag(alloc))
@@ -190,6 +221,14 @@ fn extract_command<'a>(alloc: Global) -> Result<Command<'a>, AllocError> {
             .long("block")
             .value_name("ID")
             .help("Extracts this block alone"),
+    )?
+    .arg(
+        Arg::new(alloc, "since")
+            .long("since")
+            .value_name("DIR")
+            .help(
+                "Lays the stream over the memory in a folder that `extract` made: what `save --since` saved",
+            ),
     )?
     .arg(replace_flag(alloc))?
     .arg(quiet_flag(alloc))?
@@ -319,11 +358,23 @@ fn stream_in<'a>(matches: &ArgMatches<'a>, argument: &str) -> StreamWords<'a> {
     }
 }
 
+// The channels that are named.
+fn channels_in<'a>(
+    alloc: Global,
+    matches: &ArgMatches<'a>,
+) -> Result<ChannelWords<'a>, AllocError> {
+    Ok(ChannelWords {
+        files: matches.get_strs("channel").unwrap_or(&[]).to_vec(alloc)?,
+        uuid: matches.get_str("uuid"),
+    })
+}
+
 fn extract_in<'a>(matches: &ArgMatches<'a>) -> ExtractWords<'a> {
     ExtractWords {
         stream: stream_in(matches, "FILE"),
         folder: matches.get_str("DIR").unwrap_or("."),
         block: matches.get_str("block"),
+        since: matches.get_str("since"),
         replace: matches.get_flag("replace"),
         digest: !matches.get_flag("no-digest"),
         durable: true,
@@ -353,14 +404,18 @@ fn request_in<'a>(
     matches: &ArgMatches<'a>,
 ) -> Result<Request<'a>, AllocError> {
     Ok(match name {
-        "extract" => Request::Extract(extract_in(matches)),
+        "extract" => Request::Extract(extract_in(matches), channels_in(alloc, matches)?),
         "save" => Request::Save(save_in(alloc, matches)?),
         "compare" => Request::Compare(CompareWords {
             first: stream_in(matches, "A"),
             second: stream_in(matches, "B"),
         }),
-        "inspect" => Request::Inspect(stream_in(matches, "FILE"), matches.get_flag("json")),
-        _ => Request::Verify(stream_in(matches, "FILE")),
+        "inspect" => Request::Inspect(
+            stream_in(matches, "FILE"),
+            channels_in(alloc, matches)?,
+            matches.get_flag("json"),
+        ),
+        _ => Request::Verify(stream_in(matches, "FILE"), channels_in(alloc, matches)?),
     })
 }
 

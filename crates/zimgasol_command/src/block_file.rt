@@ -1,0 +1,101 @@
+//! The file that a block is extracted into, until it is complete and has its name.
+
+use crate::input::read_piece;
+use crate::target::sync;
+use crate::trouble::Trouble;
+use serde_json::{Value, json};
+use sha2::{Digest, Sha256};
+use std::alloc::Global;
+use std::fs::OpenFile;
+use std::io::{self, Read, Seek, SeekFrom, Write};
+use zimgasol_names::id_text;
+
+/// A file that a block is written into.
+#[derive(Drop)]
+pub(crate) struct BlockFile<F: Drop> {
+    /// The block's number in the stream; that of no block of it where the block is copied alone.
+    pub block: usize,
+    pub id: Vec<u8>,
+    /// Its name in the folder, in the end.
+    pub name: String,
+    pub partial_path: String,
+    pub path: String,
+    pub len: u64,
+    pub file: F,
+    pub digest: Option<[u8; 32]>,
+}
+
+/// Writes bytes to a place of a file.
+pub(crate) fn write_at<F: Write + Seek>(file: &mut F, at: u64, bytes: &[u8]) -> io::Result<()> {
+    file.seek(SeekFrom::Start(at))?;
+    file.write_all(bytes)
+}
+
+/// Writes a text as a line, and has it on its disk.
+pub(crate) fn write_text<F: Write + OpenFile>(file: &mut F, bytes: &[u8]) -> io::Result<()> {
+    file.write_all(bytes)?;
+    file.write_all(b"\n")?;
+    sync(file)
+}
+
+/// Returns what the list says of a block's file.
+pub(crate) fn block_value<F: Drop>(alloc: Global, file: &BlockFile<F>) -> Result<Value, Trouble> {
+    let id = id_text(alloc, &file.id)?;
+    let Some(digest) = &file.digest else {
+        return Ok(json!(in alloc; {"id": &id, "file": &file.name, "bytes": file.len})?);
+    };
+    let digest = hex_digest(alloc, digest)?;
+    Ok(json!(in alloc; {
+        "id": &id,
+        "file": &file.name,
+        "bytes": file.len,
+        "sha256": &digest
+    })?)
+}
+
+/// Gives a file its length, and, if that is wanted, has it on its disk and reads it for its digest.
+pub(crate) fn complete_file<F: Read + Write + Seek + OpenFile + Drop>(
+    file: &mut BlockFile<F>,
+    durable: bool,
+    digest: bool,
+    buffer: &mut [u8],
+) -> Result<(), Trouble> {
+    let len = file.len;
+    if let Err(error) = with_len(&mut file.file, len, durable) {
+        return Err(Trouble::Unread(error));
+    }
+    if digest {
+        file.digest = Some(digest_of(&mut file.file, buffer)?);
+    }
+    Ok(())
+}
+
+fn with_len<F: Write + Seek + OpenFile>(file: &mut F, len: u64, durable: bool) -> io::Result<()> {
+    file.set_len(len)?;
+    if durable {
+        sync(file)?;
+    }
+    file.seek(SeekFrom::Start(0))?;
+    Ok(())
+}
+
+// Returns the SHA-256 of what a file has from its place on.
+fn digest_of<F: Read>(file: &mut F, buffer: &mut [u8]) -> Result<[u8; 32], Trouble> {
+    let mut hasher = Sha256::new();
+    for _ in 0..u64::MAX {
+        let len = read_piece(file, buffer)?;
+        if len == 0 {
+            break;
+        }
+        hasher.update(&buffer[..len]);
+    }
+    Ok(hasher.finalize())
+}
+
+fn hex_digest(alloc: Global, digest: &[u8; 32]) -> Result<String, Trouble> {
+    let mut text = String::new(alloc);
+    for byte in digest {
+        write!(text, "{byte:02x}")?;
+    }
+    Ok(text)
+}

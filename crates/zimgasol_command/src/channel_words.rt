@@ -1,0 +1,53 @@
+//! The words that say which channels there are, and under which UUID.
+
+use crate::plan::wrong;
+use crate::trouble::Trouble;
+use crate::words::ChannelWords;
+use std::alloc::Global;
+use uuid::Uuid;
+
+/// The most channels of a migration: a hello names its channel in a byte.
+pub(crate) const MOST_CHANNELS: usize = 255;
+
+/// Returns the UUID that a word says.
+pub(crate) fn uuid_word(alloc: Global, word: &str) -> Result<Uuid, Trouble> {
+    match Uuid::parse_str(word) {
+        Ok(uuid) => Ok(uuid),
+        Err(_) => Err(wrong(alloc, "--uuid", word, "isn't a UUID")),
+    }
+}
+
+/// Returns the UUID that each hello has to name, where the words say one. Refuses words that don't go
+/// together.
+pub(crate) fn wanted_uuid(
+    alloc: Global,
+    words: &ChannelWords<'_>,
+) -> Result<Option<Uuid>, Trouble> {
+    if let Some(file) = words.files.get(MOST_CHANNELS) {
+        return Err(wrong(alloc, "--channel", file, "is one more than 255 channels"));
+    }
+    match words.uuid {
+        Some(word) if words.files.is_empty() => {
+            Err(wrong(alloc, "--uuid", word, "goes with `--channel`"))
+        }
+        Some(word) => Ok(Some(uuid_word(alloc, word)?)),
+        None => Ok(None),
+    }
+}
+
+/// Returns how many channels a word says.
+pub(crate) fn count_word(alloc: Global, word: &str) -> Result<usize, Trouble> {
+    match word.parse::<usize>() {
+        Ok(count) if count != 0 && count <= MOST_CHANNELS => Ok(count),
+        _ => Err(wrong(alloc, "--channels", word, "isn't a number from 1 to 255")),
+    }
+}
+
+impl ChannelWords<'_> {
+    /// Returns whether there are none: the stream is a single one. Refuses words that don't go
+    /// together.
+    pub(crate) fn is_single(&self, alloc: Global) -> Result<bool, Trouble> {
+        let _uuid = wanted_uuid(alloc, self)?;
+        Ok(self.files.is_empty())
+    }
+}

@@ -1,0 +1,158 @@
+//! The main stream beside channels: how far it was read, and what stands before its first section.
+
+ghost use Rattle.std.specs.Prelude.{◌≡◌, ◌+◌, ◌<◌, ◌≤◌, ◌^◌, length};
+
+use crate::between::{Between, Note};
+use crate::guest::Guest;
+use crate::pieces::Pieces;
+use crate::sink::PageSink;
+use crate::trouble::Trouble;
+use crate::words::StreamWords;
+use mig_answer::{Status, stream_end};
+use mig_mem::MAX_TOTAL;
+use mig_stream::{Mode, StreamReader, StreamState};
+use std::alloc::{AllocGlobal, Global};
+use std::fs::Files;
+use std::io::Read;
+
+/// How far a main stream was read.
+#[derive(Drop)]
+pub(crate) struct MainStream {
+    reader: StreamReader<'static>,
+    pieces: Pieces,
+    // what stands before the first section
+    between: Between,
+    // whether the round in hand has come
+    is_whole: bool,
+}
+
+impl MainStream {
+    /// Creates the main stream of which nothing was read.
+    pub(crate) fn new(alloc: Global, words: &StreamWords<'_>) -> Result<MainStream, Trouble> {
+        let page_size = words.page_size.bytes();
+        Ok(MainStream {
+            reader: StreamReader::new_in(alloc, words.frame, Mode::Main, page_size, MAX_TOTAL),
+            pieces: Pieces::new(alloc)?,
+            between: Between::new(alloc),
+            is_whole: false,
+        })
+    }
+
+    /// Reads up to the end of the round in hand. Creates the guest once the table is known, and
+    /// passes the pages to `sink`.
+    pub(crate) fn read_round<H: AllocGlobal + Files, R: Read, S: PageSink<H>>(
+        &mut self,
+        rt: &H,
+        input: &mut R,
+        guest: &mut Option<Guest>,
+        sink: &mut S,
+    ) -> Result<(), Trouble> {
+        for _ in 0..u64::MAX {
+            self.begin(rt, guest, sink)?;
+            if self.take_round(guest, sink)? || !self.is_reading() {
+                return Ok(());
+            }
+            if self.pieces.refill(input)? {
+                self.feed()?;
+            } else {
+                self.reader.end();
+            }
+        }
+        Ok(())
+    }
+
+    fn is_reading(&self) -> bool {
+        matches!(self.reader.state(), StreamState::Reading)
+    }
+
+    // Feeds the piece that waits.
+    fn feed(&mut self) -> Result<(), Trouble> {
+        let piece = self.pieces.waiting();
+        let fed = self.reader.fed();
+        if self.reader.ended() || piece.len() as u64 > u64::MAX - fed {
+            return Err(Trouble::NoMemory);
+        }
+        self.between.look(piece, fed)?;
+        self.reader.feed(piece)?;
+        self.pieces.take_all();
+        Ok(())
+    }
+
+    // Creates the guest, once the table is known.
+    fn begin<H: AllocGlobal + Files, S: PageSink<H>>(
+        &self,
+        rt: &H,
+        guest: &mut Option<Guest>,
+        sink: &mut S,
+    ) -> Result<(), Trouble> {
+        if guest.is_some() {
+            return Ok(());
+        }
+        if let Some(table) = self.reader.table() {
+            sink.begin(rt, table)?;
+            *guest = Some(Guest::new(rt.alloc(), table)?);
+        }
+        Ok(())
+    }
+
+    // Takes the records of the round in hand, if they have come. Returns whether they have.
+    fn take_round<H: Files, S: PageSink<H>>(
+        &mut self,
+        guest: &mut Option<Guest>,
+        sink: &mut S,
+    ) -> Result<bool, Trouble> {
+        let Some(guest) = guest else {
+            return Ok(false);
+        };
+        match self.reader.take_round()? {
+            Some(round) => {
+                self.is_whole = true;
+                guest.records(&round, sink)?;
+                Ok(true)
+            }
+            None => Ok(false),
+        }
+    }
+
+    /// Reads the rest of the input, which is only counted.
+    pub(crate) fn read_rest<R: Read>(&mut self, input: &mut R) -> Result<(), Trouble> {
+        for _ in 0..u64::MAX {
+            self.pieces.take_all();
+            if !self.pieces.refill(input)? {
+                break;
+            }
+        }
+        Ok(())
+    }
+
+    /// Returns how the main stream stands at the round in hand.
+    pub(crate) fn status(&self) -> Status {
+        if self.is_whole {
+            return Status::Whole;
+        }
+        stream_end(self.reader.state())
+    }
+
+    /// Goes on to the next round.
+    pub(crate) fn advance(&mut self) {
+        self.is_whole = false;
+    }
+
+    /// Returns what stands before the first section, or before a fault there.
+    pub(crate) fn read_notes(&self) -> &[Note] {
+        let valid = self.valid();
+        let notes = self.between.notes.as_slice();
+        let count = notes.iter().filter(|note| note.at <= valid).count();
+        notes.get(..count).unwrap_or(&[])
+    }
+
+    /// Returns how many bytes of the stream are whole items without a fault.
+    pub(crate) fn valid(&self) -> u64 {
+        self.reader.valid_up_to()
+    }
+
+    /// Returns how many bytes were read of the input.
+    pub(crate) fn len(&self) -> u64 {
+        self.pieces.read
+    }
+}

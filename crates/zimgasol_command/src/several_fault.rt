@@ -1,0 +1,199 @@
+//! Where a main stream or its channels have a fault, which it is, and what a user may do about it.
+
+ghost use Rattle.std.specs.Prelude.{◌≤◌};
+
+use crate::advice::advice;
+use crate::several::Several;
+use crate::trouble::Trouble;
+use mig_assemble::RoundFault;
+use mig_packet::ChannelFault;
+use mig_single_load::{Fault, LoadFault, Origin};
+use mig_stream::StreamFault;
+use std::alloc::Global;
+use std::fs::OpenFile;
+use std::io::{self, Read, Write};
+use zimgasol_names::shown;
+
+/// Where a fault is.
+#[derive(Clone, Copy)]
+pub(crate) struct Spot {
+    /// The byte of its source at which the item with the fault begins; of a source that was cut, the
+    /// byte at which it ends. None where it is in no one source.
+    pub byte: Option<u64>,
+    /// How many packets of its channel are whole before it; None outside the channels.
+    pub packets: Option<u64>,
+    /// Whether it is in a hello.
+    pub in_hello: bool,
+}
+
+// Returns whether a channel has the fault in its hello.
+fn is_of_hello(fault: Fault) -> bool {
+    match fault {
+        Fault::HelloTwice => true,
+        Fault::Channel(fault) => matches!(
+            fault,
+            ChannelFault::HelloMagic
+                | ChannelFault::HelloVersion
+                | ChannelFault::HelloUuid
+                | ChannelFault::HelloId
+        ),
+        _ => false,
+    }
+}
+
+// Returns whether a source was over too early.
+fn is_cut(fault: Fault) -> bool {
+    match fault {
+        Fault::Stream(StreamFault::Truncated) => true,
+        Fault::Channel(ChannelFault::Truncated | ChannelFault::Unsynced) => true,
+        Fault::Short => true,
+        _ => false,
+    }
+}
+
+impl<F: Read + OpenFile + Drop> Several<F> {
+    /// Returns where a fault is.
+    pub(crate) fn spot(&self, fault: LoadFault) -> Spot {
+        match fault.source {
+            Origin::Main => Spot {
+                byte: Some(if is_cut(fault.fault) {
+                    self.main.len()
+                } else {
+                    self.main.valid()
+                }),
+                packets: None,
+                in_hello: false,
+            },
+            Origin::Channel(number) => self.channel_spot(number, fault.fault),
+            Origin::Round => Spot {
+                byte: None,
+                packets: None,
+                in_hello: false,
+            },
+        }
+    }
+
+    fn channel_spot(&self, number: usize, fault: Fault) -> Spot {
+        let Some(channel) = self.channels.get(number) else {
+            return Spot {
+                byte: None,
+                packets: None,
+                in_hello: false,
+            };
+        };
+        let counts = channel.lane.counts;
+        let in_hello = is_of_hello(fault) || channel.lane.hello().is_none();
+        let byte = match fault {
+            fault if is_cut(fault) => channel.inlet.read(),
+            Fault::HelloTwice => 0,
+            Fault::Extra => counts.round_start,
+            _ => counts.valid,
+        };
+        Spot {
+            byte: Some(byte),
+            packets: Some(counts.packets),
+            in_hello,
+        }
+    }
+
+    /// Returns the id of the block that a round's fault is in, as it is shown.
+    pub(crate) fn fault_block(
+        &self,
+        alloc: Global,
+        fault: LoadFault,
+    ) -> Result<Option<String>, Trouble> {
+        let Fault::Round(RoundFault::DoublePage(place)) = fault.fault else {
+            return Ok(None);
+        };
+        match &self.guest {
+            Some(guest) if place.block < guest.blocks.table.len() => {
+                Ok(Some(shown(alloc, guest.blocks.table.id(place.block))?))
+            }
+            _ => Ok(None),
+        }
+    }
+}
+
+// Returns what a user may do about a fault of a channel.
+fn channel_advice(fault: ChannelFault) -> Option<&'static str> {
+    match fault {
+        ChannelFault::HelloMagic => Some("this is no channel of multifd's"),
+        ChannelFault::HelloUuid => Some(
+            "the channel is of another migration; `--uuid` names the one that is meant",
+        ),
+        ChannelFault::HelloId => Some("each channel is named by `--channel`, and one may lack"),
+        ChannelFault::PacketFlags(_) => Some(
+            "the pages may be compressed; migrate with multifd-compression none",
+        ),
+        ChannelFault::PacketMagic | ChannelFault::PageCount | ChannelFault::PacketSize => {
+            Some("the page size may be the other one (`--page`)")
+        }
+        ChannelFault::Truncated | ChannelFault::Unsynced => Some(
+            "the file was cut, or the migration didn't come to its end",
+        ),
+        _ => None,
+    }
+}
+
+// Returns what a user may do about a fault.
+fn advice_of(fault: Fault) -> Option<&'static str> {
+    match fault {
+        Fault::Stream(StreamFault::Tail) => Some(
+            "QEMU before 8.1 marks no rounds in the main stream, and one with channels can't be read",
+        ),
+        Fault::Stream(fault) => advice(fault),
+        Fault::Channel(fault) => channel_advice(fault),
+        Fault::HelloTwice => Some("two of the files are one channel's"),
+        Fault::Round(RoundFault::Missing(_)) => Some(
+            "each channel is named by `--channel`, and one may lack or be another migration's",
+        ),
+        Fault::Extra | Fault::Short => Some("the files may be of different migrations"),
+        _ => None,
+    }
+}
+
+// Writes where a fault is, beside its byte.
+fn put_spot<W: Write>(
+    output: &mut W,
+    round: u64,
+    spot: Spot,
+    block: &Option<String>,
+) -> io::Result<()> {
+    let round = round.saturating_add(1);
+    match spot.packets {
+        Some(_) if spot.in_hello => write!(output, "hello"),
+        Some(packets) => write!(output, "round {round}, after {packets} packets"),
+        None => {
+            write!(output, "round {round}")?;
+            match block {
+                Some(id) => write!(output, ", block \"{id}\""),
+                None => Ok(()),
+            }
+        }
+    }
+}
+
+/// Writes the line of a fault: the file, where in it, which fault, and what to do.
+pub(crate) fn put_spotted<W: Write>(
+    output: &mut W,
+    name: &str,
+    spot: Spot,
+    fault: LoadFault,
+    block: &Option<String>,
+) -> io::Result<()> {
+    write!(output, "{name}: ")?;
+    match spot.byte {
+        Some(byte) => {
+            write!(output, "byte {byte} (")?;
+            put_spot(output, fault.round, spot, block)?;
+            write!(output, ")")?;
+        }
+        None => put_spot(output, fault.round, spot, block)?,
+    }
+    let found = fault.fault;
+    write!(output, ": fault {found}")?;
+    if let Some(advice) = advice_of(found) {
+        write!(output, "; {advice}")?;
+    }
+    writeln!(output)
+}

@@ -1,0 +1,171 @@
+//! What is printed of a main stream and its channels: the judgement in a line, and all that they
+//! have.
+
+ghost use Rattle.std.specs.Prelude.{◌≤◌};
+
+use crate::channel::Channel;
+use crate::inspecting::{put_blocks, put_note};
+use crate::missing::put_few;
+use crate::several::Several;
+use crate::several_fault::put_spotted;
+use crate::trouble::Trouble;
+use crate::verifying::end_name;
+use crate::words::Talk;
+use mig_single_load::{LoadFault, Origin};
+use std::alloc::Global;
+use std::fs::OpenFile;
+use std::io::{self, Read, Write};
+
+/// What the pages without records of a whole guest may be.
+const OTHERS: &str = "it may be the changes since another stream";
+
+fn output_failed(error: io::Error) -> Trouble {
+    Trouble::Output(error)
+}
+
+impl<F: Read + OpenFile + Drop> Several<F> {
+    // Returns the name of the source that a fault is in; `name` is the main stream's.
+    fn source_name<'a>(&'a self, name: &'a str, fault: LoadFault) -> &'a str {
+        match fault.source {
+            Origin::Main | Origin::Round => name,
+            Origin::Channel(number) => match self.channels.get(number) {
+                Some(channel) => channel.inlet.name.as_str(),
+                None => name,
+            },
+        }
+    }
+
+    // Writes the line of a guest that is whole.
+    fn put_whole<W: Write>(&self, output: &mut W, name: &str) -> io::Result<()> {
+        let rounds = self.rounds;
+        let channels = self.channels.len();
+        let packets = self.packets();
+        write!(
+            output,
+            "{name}: whole: rounds {rounds}, channels {channels}, packets {packets}, "
+        )?;
+        if let Some(guest) = &self.guest {
+            let count = guest.blocks.table.len();
+            let total = guest.blocks.total();
+            write!(output, "blocks {count}, memory {total} bytes, ")?;
+        }
+        let uuid = self.uuid;
+        write!(output, "UUID {uuid}, ")?;
+        self.put_end(output)
+    }
+
+    // Writes where RAM ends.
+    fn put_end<W: Write>(&self, output: &mut W) -> io::Result<()> {
+        let end = self.main.valid();
+        let after = self.main.len().saturating_sub(end);
+        let what = end_name(self.frame);
+        writeln!(output, "{what} ends at byte {end}, {after} bytes follow")
+    }
+
+    /// Writes what is wrong to `errors`: the fault, or the blocks without records of all their pages.
+    /// Returns whether all is whole.
+    pub(crate) fn put_wrongs<E: Write>(
+        &self,
+        alloc: Global,
+        errors: &mut E,
+        name: &str,
+    ) -> Result<bool, Trouble> {
+        match self.fault() {
+            Some(fault) => {
+                let block = self.fault_block(alloc, fault)?;
+                let source = self.source_name(name, fault);
+                let spot = self.spot(fault);
+                put_spotted(errors, source, spot, fault, &block).map_err(output_failed)?;
+                Ok(false)
+            }
+            None => {
+                if let Some(guest) = &self.guest
+                    && !self.is_laid_over
+                {
+                    put_few(alloc, errors, name, &guest.blocks, OTHERS)?;
+                }
+                Ok(true)
+            }
+        }
+    }
+
+    /// Writes the judgement: to `output` that all is whole, if that is wanted, and to `errors` what is
+    /// wrong. Returns whether all is whole.
+    pub(crate) fn put_judgement<W: Write, E: Write>(
+        &self,
+        alloc: Global,
+        output: &mut W,
+        errors: &mut E,
+        name: &str,
+        talk: Talk,
+    ) -> Result<bool, Trouble> {
+        if self.fault().is_none() && !talk.quiet {
+            self.put_whole(output, name).map_err(output_failed)?;
+        }
+        self.put_wrongs(alloc, errors, name)
+    }
+
+    // Writes what comes before the blocks.
+    fn put_head<W: Write>(&self, alloc: Global, output: &mut W, name: &str) -> Result<(), Trouble> {
+        let len = self.main.len();
+        writeln!(output, "file {name}, {len} bytes").map_err(output_failed)?;
+        for note in self.main.read_notes() {
+            put_note(alloc, output, note)?;
+        }
+        let page_size = self.page_size;
+        let uuid = self.uuid;
+        writeln!(output, "page size {page_size}").map_err(output_failed)?;
+        writeln!(output, "UUID {uuid}").map_err(output_failed)
+    }
+
+    /// Writes what the main stream and the channels have, a line for each thing.
+    pub(crate) fn put_lines<W: Write>(
+        &self,
+        alloc: Global,
+        output: &mut W,
+        name: &str,
+    ) -> Result<(), Trouble> {
+        self.put_head(alloc, output, name)?;
+        for channel in &self.channels {
+            put_channel(output, channel).map_err(output_failed)?;
+        }
+        if let Some(guest) = &self.guest {
+            put_blocks(alloc, output, &guest.blocks)?;
+        }
+        self.put_last(output).map_err(output_failed)
+    }
+
+    // Writes how far the rounds go.
+    fn put_last<W: Write>(&self, output: &mut W) -> io::Result<()> {
+        let rounds = self.rounds;
+        writeln!(output, "rounds {rounds}")?;
+        if self.fault().is_some() {
+            let end = self.main.valid();
+            return writeln!(output, "read up to byte {end}");
+        }
+        self.put_end(output)?;
+        writeln!(output, "whole")
+    }
+}
+
+// Writes the line of a channel.
+fn put_channel<F: Read + OpenFile + Drop, W: Write>(
+    output: &mut W,
+    channel: &Channel<F>,
+) -> io::Result<()> {
+    let name = &channel.inlet.name;
+    let len = channel.inlet.read();
+    write!(output, "channel {name}, {len} bytes")?;
+    let Some(id) = channel.lane.hello() else {
+        return writeln!(output);
+    };
+    let counts = channel.lane.counts;
+    let packets = counts.packets;
+    write!(output, ", id {id}, {packets} packets")?;
+    if let (Some(first), Some(last)) = (counts.first, counts.last) {
+        write!(output, " from {first} to {last}")?;
+    }
+    let pages = counts.pages;
+    let zeros = counts.zeros;
+    writeln!(output, ", {pages} pages, {zeros} zero pages")
+}
