@@ -242,14 +242,6 @@ impl<H: Files> Extraction<H> {
         Ok(json!(in self.alloc; {"page_size": self.page_size, "blocks": list})?)
     }
 
-    // Returns what was read; where it wasn't, no file stays.
-    fn or_removed<T: Drop>(&self, rt: &H, read: Result<T, Trouble>) -> Result<T, Trouble> {
-        if read.is_err() {
-            self.remove(rt);
-        }
-        read
-    }
-
     // Completes all files if what was read is whole; where it isn't, or they can't be completed, no
     // file stays.
     fn finish(&mut self, rt: &H, is_whole: bool) -> Result<(), Trouble> {
@@ -258,7 +250,10 @@ impl<H: Files> Extraction<H> {
             return Ok(());
         }
         let completed = self.complete(rt);
-        self.or_removed(rt, completed)
+        if completed.is_err() {
+            self.remove(rt);
+        }
+        completed
     }
 
     // Removes what isn't complete.
@@ -425,7 +420,13 @@ pub(crate) fn extract_survey<H: AllocGlobal + Files + Clock, R: Read, E: Write>(
     let since = since_of(rt, words)?;
     let mut extraction = Extraction::<H>::new(rt.alloc(), words, since)?;
     let read = read_stream(rt, &words.stream, input, &mut extraction, errors);
-    let mut survey = extraction.or_removed(rt, read)?;
+    let mut survey = match read {
+        Ok(survey) => survey,
+        Err(trouble) => {
+            extraction.remove(rt);
+            return Err(trouble);
+        }
+    };
     survey.is_laid_over = words.since.is_some();
     extraction.finish(rt, fault_of(&survey).is_none())?;
     Ok(survey)
@@ -445,7 +446,13 @@ fn extract_several<H: AllocGlobal + Files + Clock, R: Read, W: Write, E: Write>(
     let since = since_of(rt, words)?;
     let mut extraction = Extraction::<H>::new(alloc, words, since)?;
     let read = read_several(rt, &words.stream, channels, input, &mut extraction, errors);
-    let mut several = extraction.or_removed(rt, read)?;
+    let mut several = match read {
+        Ok(several) => several,
+        Err(trouble) => {
+            extraction.remove(rt);
+            return Err(trouble);
+        }
+    };
     several.is_laid_over = words.since.is_some();
     extraction.finish(rt, several.fault().is_none())?;
     let name = shown(alloc, words.stream.file.as_bytes())?;

@@ -4,8 +4,9 @@
 //! nothing keeps a guest.
 
 use crate::opened::open;
-use crate::pages::Reading;
+use crate::pages::{Pages, Reading};
 use crate::plan::{Plan, Source, plan_of};
+use crate::saving_channels::{channel_plan, save_channels};
 use crate::send::Sending;
 use crate::target::{PARTIAL, create, is_free, rename, sync, unwritten};
 use crate::trouble::{Trouble, Unfit};
@@ -17,11 +18,15 @@ use std::io::{self, Write};
 use std::rt::Clock;
 use zimgasol_names::shown;
 
-// What was saved.
+/// What was saved.
 #[derive(Clone, Copy)]
-struct Saved {
-    pages: u64,
-    bytes: u64,
+pub(crate) struct Saved {
+    /// How many pages.
+    pub pages: u64,
+    /// How many bytes the stream has; the main stream, where there are channels.
+    pub bytes: u64,
+    /// How many channels there are, and how many bytes they have together.
+    pub channels: Option<(usize, u64)>,
 }
 
 // Opens the files of a block.
@@ -49,27 +54,61 @@ struct Part<'a> {
     source: &'a Source<'a>,
 }
 
+/// Takes the pieces of the blocks that are sent.
+pub(crate) trait PieceSink: Drop {
+    /// Sends the pages of a block that differ, of which the first is the page `first`; `out` takes
+    /// the stream. Returns false where the stream has no place for one of them.
+    fn send<W: Write>(
+        &mut self,
+        out: &mut W,
+        block: usize,
+        first: u64,
+        pages: &Pages<'_>,
+    ) -> Result<bool, Trouble>;
+}
+
+// A single stream.
+#[derive(Drop)]
+struct Single {
+    // None after a piece that wasn't sent
+    sending: Option<Sending>,
+}
+
+impl PieceSink for Single {
+    fn send<W: Write>(
+        &mut self,
+        out: &mut W,
+        block: usize,
+        first: u64,
+        pages: &Pages<'_>,
+    ) -> Result<bool, Trouble> {
+        let Some(sending) = self.sending.take() else {
+            return Ok(false);
+        };
+        self.sending = sending.send(out, block, first, pages)?;
+        Ok(self.sending.is_some())
+    }
+}
+
 // Sends a block.
-fn send_block<H: AllocGlobal + Files + Clock, W: Write, E: Write>(
+fn send_block<H: AllocGlobal + Files + Clock, S: PieceSink, W: Write, E: Write>(
     rt: &H,
     part: &Part<'_>,
     page_size: u64,
-    sending: Sending,
+    sink: &mut S,
     out: &mut W,
     watch: &mut Watch,
     errors: &mut E,
-) -> Result<Sending, Trouble> {
+) -> Result<(), Trouble> {
     let mut reading = reading_of(rt, part.source, page_size)?;
-    let mut sending = sending;
     let mut first = 0u64;
     for _ in 0..u64::MAX {
         if !reading.read_on()? {
             break;
         }
         let pages = reading.pages();
-        match sending.send(out, part.block, first, &pages)? {
-            Some(sent) => sending = sent,
-            None => return Err(reading.changed()),
+        if !sink.send(out, part.block, first, &pages)? {
+            return Err(reading.changed());
         }
         first = first.saturating_add(pages.count());
         let done = part.before.saturating_add(first.saturating_mul(page_size));
@@ -78,20 +117,19 @@ fn send_block<H: AllocGlobal + Files + Clock, W: Write, E: Write>(
     if first != part.pages {
         return Err(reading.changed());
     }
-    Ok(sending)
+    Ok(())
 }
 
-// Sends all blocks.
-fn send_blocks<H: AllocGlobal + Files + Clock, W: Write, E: Write>(
+/// Sends all blocks.
+pub(crate) fn send_blocks<H: AllocGlobal + Files + Clock, S: PieceSink, W: Write, E: Write>(
     rt: &H,
     plan: &Plan<'_>,
-    sending: Sending,
+    sink: &mut S,
     out: &mut W,
     watch: &mut Watch,
     errors: &mut E,
-) -> Result<Sending, Trouble> {
+) -> Result<(), Trouble> {
     let page_size = plan.table.page_size();
-    let mut sending = sending;
     let mut before = 0u64;
     for (block, source) in plan.sources.iter().enumerate() {
         let part = Part {
@@ -100,10 +138,10 @@ fn send_blocks<H: AllocGlobal + Files + Clock, W: Write, E: Write>(
             before,
             source,
         };
-        sending = send_block(rt, &part, page_size, sending, out, watch, errors)?;
+        send_block(rt, &part, page_size, sink, out, watch, errors)?;
         before = before.saturating_add(source.len);
     }
-    Ok(sending)
+    Ok(())
 }
 
 // Writes the stream.
@@ -118,9 +156,19 @@ fn write_stream<H: AllocGlobal + Files + Clock, W: Write, E: Write>(
     let mut watch = Watch::new(rt, alloc, words.talk, words.file)?;
     watch.expect_total(plan.total());
     let sending = Sending::begin(alloc, out, &plan.table, words.machine)?;
-    let sending = send_blocks(rt, plan, sending, out, &mut watch, errors)?;
+    let mut single = Single {
+        sending: Some(sending),
+    };
+    send_blocks(rt, plan, &mut single, out, &mut watch, errors)?;
+    let Some(sending) = single.sending.take() else {
+        return Err(Trouble::NoMemory);
+    };
     let (pages, bytes) = sending.finish(out, words.frame)?;
-    Ok(Saved { pages, bytes })
+    Ok(Saved {
+        pages,
+        bytes,
+        channels: None,
+    })
 }
 
 // Writes the stream into a file, and has it on its disk.
@@ -169,6 +217,28 @@ fn save_file<H: AllocGlobal + Files + Clock, E: Write>(
     Ok(saved)
 }
 
+fn put_counts<W: Write>(
+    output: &mut W,
+    name: &str,
+    blocks: usize,
+    total: u64,
+    saved: Saved,
+) -> io::Result<()> {
+    let pages = saved.pages;
+    let bytes = saved.bytes;
+    write!(
+        output,
+        "{name}: saved: blocks {blocks}, memory {total} bytes, "
+    )?;
+    match saved.channels {
+        Some((channels, all)) => writeln!(
+            output,
+            "pages {pages}, stream {bytes} bytes, channels {channels} of {all} bytes together"
+        ),
+        None => writeln!(output, "pages {pages}, stream {bytes} bytes"),
+    }
+}
+
 // Writes the line of what was saved.
 fn put_saved<W: Write>(
     alloc: Global,
@@ -180,12 +250,7 @@ fn put_saved<W: Write>(
     let name = shown(alloc, words.file.as_bytes())?;
     let blocks = plan.sources.len();
     let total = plan.total();
-    let pages = saved.pages;
-    let bytes = saved.bytes;
-    match writeln!(
-        output,
-        "{name}: saved: blocks {blocks}, memory {total} bytes, pages {pages}, stream {bytes} bytes"
-    ) {
+    match put_counts(output, &name, blocks, total, saved) {
         Ok(()) => Ok(()),
         Err(error) => Err(Trouble::Output(error)),
     }
@@ -205,13 +270,17 @@ pub(crate) fn save<H: AllocGlobal + Files + Clock, W: Write, E: Write>(
     output: &mut W,
     errors: &mut E,
 ) -> Result<bool, Trouble> {
+    let channels = channel_plan(rt.alloc(), words)?;
     let plan = plan_of(rt, words)?;
     if words.file == "-" {
         let _saved = write_stream(rt, words, &plan, output, errors)?;
         flush(output)?;
         return Ok(true);
     }
-    let saved = save_file(rt, words, &plan, errors)?;
+    let saved = match channels {
+        Some(channels) => save_channels(rt, words, &plan, channels, errors)?,
+        None => save_file(rt, words, &plan, errors)?,
+    };
     if !words.talk.quiet {
         put_saved(rt.alloc(), output, words, &plan, saved)?;
     }

@@ -118,8 +118,8 @@ fn send_section(
     }
 }
 
-// Writes bytes of the stream.
-fn write<W: Write>(out: &mut W, bytes: &[u8]) -> Result<(), Trouble> {
+/// Writes bytes of the stream.
+pub(crate) fn write<W: Write>(out: &mut W, bytes: &[u8]) -> Result<(), Trouble> {
     match out.write_all(bytes) {
         Ok(()) => Ok(()),
         Err(error) => Err(Trouble::Output(error)),

@@ -162,7 +162,7 @@ fn put_spot<W: Write>(
     let round = round.saturating_add(1);
     match spot.packets {
         Some(_) if spot.in_hello => write!(output, "hello"),
-        Some(packets) => write!(output, "round {round}, after {packets} packets"),
+        Some(packets) => write!(output, "round {round}, whole packets {packets}"),
         None => {
             write!(output, "round {round}")?;
             match block {

@@ -161,9 +161,9 @@ fn put_channel<F: Read + OpenFile + Drop, W: Write>(
     };
     let counts = channel.lane.counts;
     let packets = counts.packets;
-    write!(output, ", id {id}, {packets} packets")?;
+    write!(output, ", id {id}, packets {packets}")?;
     if let (Some(first), Some(last)) = (counts.first, counts.last) {
-        write!(output, " from {first} to {last}")?;
+        write!(output, ", numbers {first}-{last}")?;
     }
     let pages = counts.pages;
     let zeros = counts.zeros;

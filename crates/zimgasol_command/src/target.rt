@@ -64,3 +64,38 @@ pub(crate) fn sync<F: Write + OpenFile>(file: &mut F) -> io::Result<()> {
     file.flush()?;
     file.sync_all()
 }
+
+/// A file that is being written, with its name in the end.
+#[derive(Drop)]
+pub(crate) struct Outlet<F: Drop> {
+    pub alloc: Global,
+    pub path: String,
+    pub partial: String,
+    pub file: F,
+    /// How many bytes were written.
+    pub written: u64,
+}
+
+impl<F: Write + OpenFile + Drop> Outlet<F> {
+    /// Writes bytes.
+    pub(crate) fn write(&mut self, bytes: &[u8]) -> Result<(), Trouble> {
+        self.written = self.written.saturating_add(bytes.len() as u64);
+        match self.file.write_all(bytes) {
+            Ok(()) => Ok(()),
+            Err(error) => Err(unwritten(self.alloc, &self.partial, error)),
+        }
+    }
+
+    /// Has what was written on its disk.
+    pub(crate) fn sync(&mut self) -> Result<(), Trouble> {
+        match sync(&mut self.file) {
+            Ok(()) => Ok(()),
+            Err(error) => Err(unwritten(self.alloc, &self.partial, error)),
+        }
+    }
+
+    /// Gives the file its name.
+    pub(crate) fn rename<H: Files>(&self, rt: &H) -> Result<(), Trouble> {
+        rename(rt, self.alloc, &self.partial, &self.path)
+    }
+}

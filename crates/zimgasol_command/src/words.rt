@@ -89,6 +89,10 @@ pub(crate) struct SaveWords<'a> {
     pub machine: Option<&'a str>,
     /// The folder that `extract` made, of which the pages that differ are saved.
     pub since: Option<&'a str>,
+    /// How many channels the pages go over.
+    pub channels: Option<&'a str>,
+    /// The UUID that each channel's hello names.
+    pub uuid: Option<&'a str>,
     /// Whether a file that is there already is replaced.
     pub replace: bool,
     pub talk: Talk,
@@ -256,7 +260,17 @@ fn save_sources<'a>(alloc: Global) -> Result<Command<'a>, AllocError> {
                 .long("since")
                 .value_name("DIR")
                 .help("Saves only the pages that differ from a folder that `extract` made"),
-        )
+        )?
+        .arg(
+            Arg::new(alloc, "channels")
+                .long("channels")
+                .value_name("N")
+                .help("Sends the pages over N channels (multifd), into the files OUT.0 and so on"),
+        )?
+        .arg(uuid_option(
+            alloc,
+            "The UUID that the channels name, that of the guest [default: zeros]",
+        ))
 }
 
 fn save_command<'a>(alloc: Global) -> Result<Command<'a>, AllocError> {
@@ -393,6 +407,8 @@ fn save_in<'a>(alloc: Global, matches: &ArgMatches<'a>) -> Result<SaveWords<'a>,
         frame,
         machine: matches.get_str("machine"),
         since: matches.get_str("since"),
+        channels: matches.get_str("channels"),
+        uuid: matches.get_str("uuid"),
         replace: matches.get_flag("replace"),
         talk: talk_in(matches),
     })
