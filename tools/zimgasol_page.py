@@ -4,15 +4,17 @@
     tools/zimgasol_page.py            writes both and data/main.sav, and puts into the page what its commands print
     tools/zimgasol_page.py --check    compares them, and fails where they differ
 
-What a command prints is made here of what tools/stream_facts.py reads in the files, and of streams
-that are written here: both share nothing with the library. The gate runs the commands and compares what they print with that.
+What a command prints is made here of what tools/stream_facts.py and tools/channel_facts.py read in the files, and of streams
+that are written here: all share nothing with the library. The gate runs the commands and compares what they print with that.
 """
 import json
 import re
 import struct
 import sys
+import uuid
 from pathlib import Path
 
+import channel_facts
 import stream_facts
 
 TOP = Path(__file__).resolve().parent.parent
@@ -22,6 +24,9 @@ RUNS = TOP / "crates" / "zimgasol_runs"
 COMMANDS = {11: "SWITCHOVER_START"}
 SIX = " ".join(f"--block {it}=half.bin" for it in "abcdef")
 EXISTS = "is there already; `--replace` replaces it"
+CUT = "fault 34: the text was over before its end byte; the file was cut, or the save didn't come to its end"
+UUID = "00112233-4455-6677-8899-aabbccddeeff"
+THREE = "".join(f" --channel three.sav.{i}" for i in (2, 0, 1))
 # After those of the pages: commands, and what each prints and its status. None: as it is made here.
 CASES = [
     ("zimgasol extract guest.sav bare --no-digest", None),
@@ -62,11 +67,69 @@ CASES = [
     ("zimgasol save --block ram=half.bin full.sav", (["full.sav: " + EXISTS], 3)),
     ("zimgasol save --block ram=half.bin memory", (["memory: is no plain file, and isn't replaced"], 3)),
     ("zimgasol save --block ram=half.bin --replace full.sav", None),
+    # ---- laid over a folder, and over several channels
+    ("zimgasol save --block ram=half.bin --block rom=later.bin day.sav", None),
+    ("zimgasol extract day.sav day --frame ram", None),
+    ("zimgasol save --block rom=memory/ram.bin --since day changes.sav", None),
+    ("zimgasol extract changes.sav over --frame ram --since day", None),
+    ("cat over/blocks.json", None),
+    ("zimgasol save --block rom=memory/ram.bin --block ram=half.bin --since over same.sav --replace", None),
+    ("zimgasol extract changes.sav day --frame ram --since day", ([f"day/blocks.json: {EXISTS}"], 3)),
+    ("zimgasol extract changes.sav both --frame ram --since memory", (
+        ["rom: isn't in the folder of `--since`"], 1)),
+    ("zimgasol extract day.sav both --frame ram --since memory", (
+        ["ram: has 65536 bytes, and in the folder of `--since` 131072"], 1)),
+    ("zimgasol extract changes.sav both --frame ram --since nowhere", (
+        ["nowhere/blocks.json: No such file or directory (os error 2)"], 3)),
+    ("zimgasol extract changes.sav both --frame ram --page 8192 --since day", (
+        ["day: has pages of 4096 bytes, and the other one of 8192"], 3)),
+    ("zimgasol save --block ram=half.bin --block rom=later.bin --channels 3 --uuid " + UUID + " three.sav", None),
+    ("zimgasol verify three.sav --frame ram" + THREE, None),
+    ("zimgasol inspect three.sav --frame ram --json" + THREE, None),
+    ("zimgasol verify three.sav --quiet --frame ram --uuid " + UUID + THREE, ([], 0)),
+    ("zimgasol extract three.sav both --frame ram" + THREE, None),
+    ("zimgasol compare both day", None),
+    ("zimgasol save --block rom=memory/ram.bin --since day --channels 1 one.sav", None),
+    ("zimgasol verify one.sav --frame ram --channel one.sav.0", None),
+    ("zimgasol extract one.sav both --frame ram --channel one.sav.0 --since day --replace", None),
+    ("zimgasol compare both over", None),
+    ("zimgasol verify multi.sav", (
+        ["multi.sav: byte 72 (section 2, PART): fault 32: a FLUSH stands in a single stream; "
+         "the pages of this stream went over multifd's channels; name each by `--channel`"], 1)),
+    ("zimgasol verify multi.sav --channel multi.sav.0", (
+        ["multi.sav: round 2: fault 56: packet 1 is missing; "
+         "each channel is named by `--channel`, and one may lack or be another migration's"], 1)),
+    ("zimgasol verify multi.sav --channel multi.sav.1", (
+        ["multi.sav.1: byte 0 (hello): fault 38: the hello's id isn't below the number of channels; "
+         "each channel is named by `--channel`, and one may lack"], 1)),
+    ("zimgasol verify multi.sav --channel multi.sav.0 --channel multi.sav.0", (
+        ["multi.sav.0: byte 0 (hello): fault 51: the hello names an earlier channel's id; "
+         "two of the files are one channel's"], 1)),
+    ("zimgasol verify multi.sav --channel multi.sav.0 --channel multi.sav.1 --uuid " + UUID, (
+        ["multi.sav.0: byte 0 (hello): fault 37: the hello is of another UUID; "
+         "the channel is of another migration; `--uuid` names the one that is meant"], 1)),
+    ("head -c 1408 multi.sav.1 > cut.1", None),
+    ("zimgasol verify multi.sav --channel multi.sav.0 --channel cut.1", (
+        ["cut.1: byte 1408 (round 2, whole packets 1): fault 53: the channel is over where the main stream goes on; "
+         "the files may be of different migrations"], 1)),
+    ("head -c 88 multi.sav > cut.main", None),
+    ("zimgasol extract cut.main cut --channel multi.sav.0 --channel multi.sav.1", (
+        [f"cut.main: byte 88 (round 2): {CUT}"], 1)),
+    ("zimgasol verify cut/ram.bin", (["cut/ram.bin: No such file or directory (os error 2)"], 3)),
+    ("zimgasol verify multi.sav --channel none.0", (["none.0: No such file or directory (os error 2)"], 3)),
+    ("zimgasol verify multi.sav --uuid " + UUID, ([f'zimgasol: --uuid "{UUID}": goes with `--channel`'], 2)),
+    ("zimgasol verify multi.sav --channel multi.sav.0 --uuid 12", (['zimgasol: --uuid "12": isn\'t a UUID'], 2)),
+    ("zimgasol save --block ram=half.bin --uuid " + UUID + " out.sav", (
+        [f'zimgasol: --uuid "{UUID}": goes with `--channels`'], 2)),
+    ("zimgasol save --block ram=half.bin --channels 256 out.sav", (
+        ['zimgasol: --channels "256": isn\'t a number from 1 to 255'], 2)),
+    ("zimgasol save --block ram=half.bin --channels 2 -", (['zimgasol: --channels "2": OUT has to be a file'], 2)),
+    ("zimgasol save --block ram=half.bin --channels 2 multi.sav", (["multi.sav: " + EXISTS], 3)),
+    ("zimgasol save --block ram=half.bin --channels 2 multi.sav --replace", None),
+    ("zimgasol verify multi.sav --frame ram --channel multi.sav.0 --channel multi.sav.1", None),
     ("zimgasol verify out.sav", (["out.sav: No such file or directory (os error 2)"], 3)),
     ("zimgasol verify out.sav.partial", (["out.sav.partial: No such file or directory (os error 2)"], 3)),
 ]
-CUT = "fault 34: the text was over before its end byte; the file was cut, or the save didn't come to its end"
-
 
 def block_at_cut(data):
     """The block that the last page record of a cut stream names, or goes on with; None before the first."""
@@ -124,6 +187,17 @@ def main_stream():
     return opening({"pc.ram": 32 * 4096}, "none") + part(records) + b"\x03" + be("I", 1) + END_OF_RECORDS + b"\0"
 
 
+def main_saved(blocks, machine):
+    """The main stream that `save --channels` makes: a FLUSH for each of the two rounds, in a section of its own."""
+    return opening(blocks, machine) + part(be("Q", channel_facts.FLUSH)) * 2 + b"\x03" + be("I", 1) + END_OF_RECORDS + b"\0"
+
+
+def changed(content, before):
+    """The pages of a block that differ: of each its offset, and its content, or None where it is zeros."""
+    pages = [(at, bytes(content[at:at + 4096])) for at in range(0, len(content), 4096)]
+    return [(at, page if any(page) else None) for at, page in pages if before is None or page != before[at:at + 4096]]
+
+
 def saved(memory, before, machine, frame):
     """The stream that `save` makes: 256 pages of a block a section, only those that differ from `before`.
     Returns it with the number of pages in it."""
@@ -174,8 +248,78 @@ class Shell:
             return self.files[words[1]].decode().splitlines()
         if words[1] in ("save", "compare"):
             return getattr(self, words[1])(words)
+        if "--channel" in words:
+            return getattr(self, words[1] + "_several")(words[2], words)
         given = words[-1] if "<" in words else words[2]
         return getattr(self, words[1])(words[2], self.files[given], words)
+
+    # ---- over several channels
+
+    def several(self, name, words):
+        """What a main stream and the channels have that the words name."""
+        self.status = 0
+        names = [words[i + 1] for i, word in enumerate(words) if word == "--channel"]
+        found = channel_facts.facts(self.files[name], [self.files[it] for it in names])
+        for it, channel in zip(names, found["channels"]):
+            channel.update(name=it, bytes=len(self.files[it]))
+        found["uuid"] = str(uuid.UUID(bytes=found["uuid"]))
+        found["end"] += "ram" in words
+        return found
+
+    def ends(self, name, found, words):
+        what = "the stream" if "ram" in words else "RAM"
+        return f"{what} ends at byte {found['end']}, {len(self.files[name]) - found['end']} bytes follow"
+
+    def cut_channel(self, words):
+        """The line of a channel that was cut inside a packet; None where none was."""
+        for name in [words[i + 1] for i, word in enumerate(words) if word == "--channel"]:
+            try:
+                channel_facts.channel_rounds(self.files[name])
+            except (AssertionError, struct.error):
+                self.status = 1
+                packets, syncs = channel_facts.whole_before_cut(self.files[name])
+                return (f"{name}: byte {len(self.files[name])} (round {syncs + 1}, whole packets {packets}): fault 44: "
+                        "the text ends inside the hello or a packet; the file was cut, or the migration didn't come to its end")
+        return None
+
+    def verify_several(self, name, words):
+        cut = self.cut_channel(words)
+        if cut:
+            return [cut]
+        found = self.several(name, words)
+        memory = sum(map(len, found["memory"].values()))
+        line = (f"{name}: whole: rounds {found['rounds']}, channels {len(found['channels'])}, packets {found['packets']}, "
+                f"blocks {len(found['memory'])}, memory {memory} bytes, UUID {found['uuid']}, {self.ends(name, found, words)}")
+        return [line] + ([] if "--since" in words else self.notes(name, found, True))
+
+    def inspect_several(self, name, words):
+        found = self.several(name, words)
+        if "--json" in words:
+            return self.several_json(name, found)
+        lines = [f"file {name}, {len(self.files[name])} bytes", *(f'machine "{it[1]}"' for it in found["notes"]),
+                 "page size 4096", f"UUID {found['uuid']}"]
+        for it in found["channels"]:
+            numbers = f"packets {len(it['numbers'])}, numbers {min(it['numbers'])}-{max(it['numbers'])}"
+            lines.append(f"channel {it['name']}, {it['bytes']} bytes, id {it['id']}, {numbers}, "
+                         f"{it['pages']} pages, {it['zeros']} zero pages")
+        for block, memory in found["memory"].items():
+            pages, zeros = found["counts"][block]
+            lines.append(f'block "{block}" {len(memory)} bytes, {pages} pages, {zeros} zero pages')
+        return lines + [f"rounds {found['rounds']}", self.ends(name, found, words), "whole"]
+
+    def several_json(self, name, found):
+        channels = [{"file": it["name"], "bytes": it["bytes"], "id": it["id"], "packets": len(it["numbers"]),
+                     "first_number": min(it["numbers"]), "last_number": max(it["numbers"]), "pages": it["pages"],
+                     "zero_pages": it["zeros"], "end": it["bytes"]} for it in found["channels"]]
+        said = {"file": name, "bytes": len(self.files[name]), "page_size": 4096, "uuid": found["uuid"], "channels": channels,
+                "notes": [{"machine": it[1], "at": it[2]} for it in found["notes"]], "blocks": self.block_values(found),
+                "rounds": found["rounds"], "end": found["end"], "whole": True, "fault": None}
+        return json.dumps(said, indent=2, sort_keys=True).splitlines()
+
+    def extract_several(self, name, words):
+        said = self.verify_several(name, words)
+        self.lay_out(self.several(name, words), words)
+        return said
 
     def fault(self, name, data):
         """Of the files of the page only some are cut, in their second section or before."""
@@ -207,7 +351,7 @@ class Shell:
         memory = sum(map(len, found["memory"].values()))
         what, end = ("the stream", found["end"] + 1) if "ram" in words[3:] else ("RAM", found["end"])
         return [f"{name}: whole: sections {found['sections']}, blocks {len(found['memory'])}, memory {memory} bytes, "
-                f"{what} ends at byte {end}, {len(data) - end} bytes follow", *self.notes(name, found, "ram" in words[3:])]
+                f"{what} ends at byte {end}, {len(data) - end} bytes follow", *([] if "--since" in words else self.notes(name, found, "ram" in words[3:]))]
 
     def notes(self, name, found, is_ram):
         """The lines of blocks without records of all their pages."""
@@ -231,10 +375,23 @@ class Shell:
         before = None
         if "--since" in option:
             before = {it: self.files[f"{option['--since']}/{it}.bin"] for it in blocks}
+        if "--channels" in option:
+            return self.save_channels(words[at], blocks, before, option)
         stream, pages = saved(blocks, before, option.get("--machine"), option.get("--frame", "ram"))
         name, total = words[at], sum(map(len, blocks.values()))
         self.files[name], self.status = stream, 0
         return [f"{name}: saved: blocks {len(blocks)}, memory {total} bytes, pages {pages}, stream {len(stream)} bytes"]
+
+    def save_channels(self, name, blocks, before, option):
+        pages = [(it, changed(content, before and before[it])) for it, content in blocks.items()]
+        ident = uuid.UUID(option.get("--uuid", "0" * 32)).bytes
+        channels = channel_facts.channels_of(pages, int(option["--channels"]), ident)
+        main = main_saved({it: len(content) for it, content in blocks.items()}, option.get("--machine"))
+        self.files[name], self.status = main, 0
+        self.files.update({f"{name}.{i}": it for i, it in enumerate(channels)})
+        total, count = sum(map(len, blocks.values())), sum(len(it) for _, it in pages)
+        return [f"{name}: saved: blocks {len(blocks)}, memory {total} bytes, pages {count}, stream {len(main)} bytes, "
+                f"channels {len(channels)} of {sum(map(len, channels))} bytes together"]
 
     def memory_of(self, name):
         if name in self.files:
@@ -278,10 +435,14 @@ class Shell:
         return lines + [f"sections {found['sections']}",
                         f"RAM ends at byte {found['end']}, {len(data) - found['end']} bytes follow", "whole"]
 
+    @staticmethod
+    def block_values(found):
+        return [{"id": it, "bytes": len(memory), "pages": found["counts"][it][0], "zero_pages": found["counts"][it][1],
+                 "pages_without_record": max(0, len(memory) // 4096 - sum(found["counts"][it]))}
+                for it, memory in found["memory"].items()]
+
     def inspect_json(self, name, data, found):
-        blocks = [{"id": it, "bytes": len(memory), "pages": found["counts"][it][0], "zero_pages": found["counts"][it][1],
-                   "pages_without_record": max(0, len(memory) // 4096 - sum(found["counts"][it]))}
-                  for it, memory in found["memory"].items()]
+        blocks = self.block_values(found)
         notes = []
         for note in found["notes"]:
             if note[0] == "machine":
@@ -300,17 +461,35 @@ class Shell:
             return [f"{listed}: is there already; `--replace` replaces it"]
         said = self.verify(name, data, words)
         found = self.facts(data)
-        if found is None:
-            return said
+        if found is not None:
+            found["pages"] = channel_facts.pages_of(data) if "--since" in words else {}
+            self.lay_out(found, words)
+        return said
+
+    def lay_out(self, found, words):
+        """Puts the files of a folder: of each block its memory, over that in the folder of `--since`."""
+        folder, listed = words[3], f"{words[3]}/blocks.json"
+        memories = dict(found["memory"])
+        if "--since" in words:
+            since = words[words.index("--since") + 1]
+            for block, memory in self.memory_of(since).items():
+                memories[block] = self.over(memory, block, found)
         blocks = [{"id": it, "file": f"{it}.bin", "bytes": len(memory), "sha256": stream_facts.digest(memory)}
-                  for it, memory in found["memory"].items()]
+                  for it, memory in memories.items()]
         if "--no-digest" in words:
             blocks = [{key: it[key] for key in it if key != "sha256"} for it in blocks]
         text = json.dumps({"page_size": 4096, "blocks": blocks}, indent=2, sort_keys=True) + "\n"
         self.files[listed] = text.encode()
-        for it, memory in found["memory"].items():
-            self.files[f"{words[3]}/{it}.bin"] = bytes(memory)
-        return said
+        for it, memory in memories.items():
+            self.files[f"{folder}/{it}.bin"] = bytes(memory)
+
+    @staticmethod
+    def over(memory, block, found):
+        """A block's memory with the pages that a stream has of it."""
+        laid = bytearray(memory)
+        for offset in found["pages"].get(block, []):
+            laid[offset:offset + 4096] = found["memory"][block][offset:offset + 4096]
+        return laid
 
 
 def commands(text):

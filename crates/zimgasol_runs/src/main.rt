@@ -12,7 +12,9 @@ use std::rt::{Clock, Files};
 use zimgasol_command::run;
 
 /// The folders that the examples extract into.
-const FOLDERS: [&str; 4] = ["memory", "again", "bare", "six"];
+const FOLDERS: [&str; 9] = [
+    "memory", "again", "bare", "six", "restored", "channels", "both", "day", "over",
+];
 
 // Runs `zimgasol`, on a file as its input where there is one, and prints what it prints.
 fn run_program<H: AllocGlobal + Files + Clock, W: Write>(

@@ -1,0 +1,171 @@
+"""What a main stream and its channels have, and how `zimgasol save --channels` writes them: read and made by itself, nothing of the
+library's.
+
+`facts` reads the bytes as QEMU's migration/ram.c and migration/multifd.c write them, up to the footer of RAM's END, and fails where they
+are anything else. It knows pages of 4,096 bytes.
+"""
+import struct
+
+import stream_facts
+from stream_facts import EOS, NORMAL, PAGE, SIZES, ZERO, CONTINUE
+
+FLUSH = 0x200
+MAGIC, VERSION, SYNC = 0x11223344, 1, 1
+PER_PACKET = 512 * 1024 // PAGE
+HEAD = 64 + 256 + 8 * PER_PACKET
+
+
+def page_records(reader, found, rounds):
+    """Reads the records of a section up to EOS; a FLUSH ends a round."""
+    while True:
+        head = reader.number(8)
+        flags, offset = head & (PAGE - 1), head & ~(PAGE - 1)
+        if flags == EOS:
+            return
+        if flags == FLUSH:
+            rounds.append([])
+        elif flags == SIZES:
+            while offset:
+                name = reader.text()
+                found["memory"][name] = bytearray(reader.number(8))
+                found["counts"][name] = [0, 0]
+                offset -= len(found["memory"][name])
+        else:
+            if not flags & CONTINUE:
+                found["last"] = reader.text()
+            zero = flags & ~CONTINUE == ZERO
+            assert zero or flags & ~CONTINUE == NORMAL
+            content = bytes(reader.number(1)) if zero else reader.take(PAGE)
+            rounds[-1].append((found["last"], offset, None if zero else content))
+
+
+def stream_rounds(data, found):
+    """The records of a stream up to each FLUSH, and those after the last one; and what stands before the first section."""
+    reader = stream_facts.Reader(data, 0)
+    assert reader.take(8) == b"QEVM\0\0\0\3"
+    rounds, kind, sections = [[]], 0, 0
+    while kind != 3:
+        at, kind = reader.at, reader.number(1)
+        if kind == 7:
+            found["notes"].append(("machine", reader.text(4), at))
+        elif kind == 8:
+            reader.take(2)
+            reader.take(reader.number(2))
+        else:
+            number = reader.take(4)
+            assert kind in (1, 2, 3) and number == found.setdefault("number", number)
+            if kind == 1:
+                assert reader.text() == "ram" and reader.take(8) == b"\0\0\0\0\0\0\0\4" and not sections
+            page_records(reader, found, rounds)
+            assert reader.take(5) == b"\x7e" + number
+            sections += 1
+    found["end"] = reader.at
+    return rounds
+
+
+def pages_of(data):
+    """The offsets of the pages that a single stream has of each block."""
+    found, pages = {"memory": {}, "counts": {}, "notes": []}, {}
+    for name, offset, _ in stream_rounds(data, found)[0]:
+        pages.setdefault(name, []).append(offset)
+    return pages
+
+
+def channel_rounds(data):
+    """The id that a channel's hello names, its UUID, and the packets of each of its rounds."""
+    magic, version, uuid, ident = struct.unpack_from(">II16sB", data)
+    assert (magic, version) == (MAGIC, VERSION)
+    at, rounds = 64, [[]]
+    while at < len(data):
+        magic, version, flags, _, normal, size, number, zero = struct.unpack_from(">6IQI", data, at)
+        assert (magic, version) == (MAGIC, VERSION) and flags in (0, SYNC) and normal + zero <= PER_PACKET
+        assert size == normal * PAGE or not normal
+        name = data[at + 64:at + 320].split(b"\0")[0].decode("ascii")
+        offsets = struct.unpack_from(f">{normal + zero}Q", data, at + 320)
+        at += HEAD
+        pages = [data[at + i * PAGE:at + (i + 1) * PAGE] for i in range(normal)] + [None] * zero
+        at += normal * PAGE
+        rounds[-1].append((number, name, list(zip(offsets, pages))))
+        if flags == SYNC:
+            rounds.append([])
+    assert at == len(data) and not rounds.pop()
+    return ident, uuid, rounds
+
+
+def whole_before_cut(data):
+    """How many packets of a channel that was cut are whole, and how many of these end a round."""
+    at, packets, syncs = 64, 0, 0
+    while at + HEAD <= len(data):
+        flags, _, normal = struct.unpack_from(">3I", data, at + 8)
+        at += HEAD + normal * PAGE
+        if at <= len(data):
+            packets, syncs = packets + 1, syncs + flags
+    return packets, syncs
+
+
+def lay(found, name, offset, content):
+    assert offset % PAGE == 0 and offset < len(found["memory"][name])
+    found["memory"][name][offset:offset + PAGE] = content or bytes(PAGE)
+    found["pages"].setdefault(name, []).append(offset)
+    found["counts"][name][content is None] += 1
+
+
+def facts(main, channels):
+    """Returns the memory of each block, the page records of each, the rounds, what each channel has, and where RAM ends."""
+    found = {"memory": {}, "counts": {}, "notes": [], "channels": [], "pages": {}}
+    rounds = stream_rounds(main, found)
+    assert not rounds.pop()
+    each = [channel_rounds(it) for it in channels]
+    assert len({it[0] for it in each}) == len(each) and len({it[1] for it in each}) == 1
+    found["rounds"], found["uuid"], base = len(rounds), each[0][1], 0
+    for i, records in enumerate(rounds):
+        packets = [packet for it in each for packet in it[2][i]]
+        assert sorted(it[0] for it in packets) == list(range(base, base + len(packets)))
+        base += len(packets)
+        pages = records + [(name, offset, content) for _, name, them in packets for offset, content in them]
+        assert len({it[:2] for it in pages}) == len(pages)
+        for page in pages:
+            lay(found, *page)
+    for ident, _, them in each:
+        assert len(them) == len(rounds)
+        packets = [packet for part in them for packet in part]
+        pages = [content for _, _, part in packets for _, content in part]
+        found["channels"].append({"id": ident, "numbers": [it[0] for it in packets],
+                                  "zeros": pages.count(None), "pages": len(pages) - pages.count(None)})
+    found["packets"] = base
+    return found
+
+
+# ---- the bytes that `save --channels` writes
+
+
+def hello(ident, uuid):
+    return struct.pack(">II16sB", MAGIC, VERSION, uuid, ident).ljust(64, b"\0")
+
+
+def packet(number, name, pages, sync=False):
+    """The bytes of a packet with these pages of a block: each an offset, and a content or None."""
+    normal = [it for it in pages if it[1] is not None]
+    zero = [it for it in pages if it[1] is None]
+    head = struct.pack(">6IQI", MAGIC, VERSION, SYNC if sync else 0, PER_PACKET, len(normal), len(normal) * PAGE, number, len(zero))
+    offsets = struct.pack(f">{len(pages)}Q", *(it[0] for it in normal + zero))
+    return (head.ljust(64, b"\0") + name.encode().ljust(256, b"\0") + offsets.ljust(8 * PER_PACKET, b"\0") +
+            b"".join(it[1] for it in normal))
+
+
+def cut(pages):
+    """Pages of one block as those of each packet."""
+    return [pages[i:i + PER_PACKET] for i in range(0, len(pages), PER_PACKET)]
+
+
+def channels_of(blocks, count, uuid):
+    """The channels over which pages go: of each block its name and its pages, each an offset and a content or None."""
+    texts = [hello(i, uuid) for i in range(count)]
+    parts = [(name, part) for name, pages in blocks for part in cut(pages)]
+    for i in range(count):
+        texts[i] += packet(i, "", [], sync=True)
+    for i, (name, part) in enumerate(parts):
+        texts[i % count] += packet(count + i, name, part)
+    for i in range(count):
+        texts[i] += packet(count + len(parts) + i, "", [], sync=True)
+    return texts
