@@ -2,12 +2,16 @@
 """Loads each capture of a folder with crates/mig_captures, and compares what comes with what the folder says of it.
 
     tools/captures.py FOLDER [PROGRAM]
+    tools/captures.py --zimgasol FOLDER [PROGRAM]
 
 A capture is `NAME.stream`, `NAME.main` with its channels `NAME.0`, `NAME.1` and so on, or libvirt's `NAME.save`. Beside it
 `NAME.image` is the guest's memory, in the order of the size list, and `NAME.blocks` what is known of it, as JSON. From these come
 the verdict that is expected, the SHA-256 of the memory, and where RAM's END ends. Each capture is loaded whole and in pieces of
 1000 bytes. PROGRAM is the built program, crates/mig_captures/out/mig_captures where none is given; where that isn't built, the
 program runs from its source, unproved. Prints a line for each capture, and ends with status 1 where one differs.
+
+With --zimgasol each capture is extracted by the program `zimgasol`, which crates/zimgasol_runs runs: what comes is its line, and the
+SHA-256 of each block. A save of libvirt's is read with its header.
 """
 import hashlib
 import json
@@ -17,8 +21,11 @@ import sys
 import tempfile
 from pathlib import Path
 
+import stream_facts
+
 CRATE = Path(__file__).resolve().parent.parent / "crates" / "mig_captures"
 BUILT = CRATE / "out" / "mig_captures"
+RUNS = CRATE.parent / "zimgasol_runs"
 NO_UUID = "00000000-0000-0000-0000-000000000000"
 PIECES = (0, 1000)
 SECONDS = 3000
@@ -117,7 +124,93 @@ def run(program, folder, names, words):
     return done.stdout.splitlines()
 
 
+# ---- the program zimgasol
+
+
+class Extracted(Capture):
+    """A capture that `zimgasol` extracts."""
+
+    def __init__(self, path):
+        super().__init__(path)
+        blocks = path.with_suffix(".blocks")
+        known = json.loads(blocks.read_text()) if blocks.exists() else {}
+        self.blocks = known.get("blocks")
+
+    def commands(self):
+        channels = "".join(f" --channel {it.name}" for it in self.channels)
+        ident = f" --uuid {self.uuid}" if self.channels else ""
+        if self.fault is not None:
+            return [f"zimgasol verify {self.path.name}{channels}{ident}"]
+        return [f"zimgasol extract {self.path.name} {self.path.name}.d{channels}{ident}", f"cat {self.path.name}.d/blocks.json"]
+
+    def expected(self):
+        if self.fault is not None:
+            return f"fault {self.fault}"
+        size = self.path.stat().st_size
+        end = ram_end(stream_of(self.path)) + size - len(stream_of(self.path))
+        return f"RAM ends at byte {end}, {size - end} bytes follow, memory {' '.join(self.digests())}"
+
+    def digests(self):
+        """The SHA-256 of each block."""
+        lengths = [length for _, length in self.blocks or []]
+        lengths = lengths or [len(it) for it in stream_facts.facts(self.path.read_bytes())["memory"].values()]
+        with self.path.with_suffix(".image").open("rb") as image:
+            return [hashlib.sha256(image.read(length)).hexdigest() for length in lengths]
+
+    def came(self, lines):
+        """What the lines of the commands say, as far as `expected` speaks of it."""
+        text = "\n".join(lines)
+        if self.fault is not None:
+            fault = re.search(r"fault \d+", text)
+            return fault[0] if fault else text
+        end = re.search(r"RAM ends at byte \d+, \d+ bytes follow", text)
+        digests = re.findall(r'"sha256": "(\w+)"', text)
+        return f"{end[0]}, memory {' '.join(digests)}" if end else text
+
+
+def answers(said, captures):
+    """The lines that the commands of each capture printed."""
+    parts = re.split(r"^\$ .*\n", said, flags=re.M)[1:]
+    for capture in captures:
+        count = len(capture.commands())
+        yield [line for part in parts[:count] for line in part.splitlines()]
+        parts = parts[count:]
+
+
+def zimgasol(folder, program):
+    """Extracts each capture of a folder."""
+    captures = [Extracted(it) for it in sorted(folder.iterdir()) if it.suffix in (".stream", ".main", ".save")]
+    names = {it.name: it.resolve() for capture in captures for it in [capture.path, *capture.channels]}
+    script = "".join(f"{command}\n" for capture in captures for command in capture.commands())
+    with tempfile.TemporaryDirectory(prefix="captures-") as room:
+        if program.exists():
+            for name, path in names.items():
+                (Path(room) / name).symlink_to(path)
+            command, where = [str(program)], room
+        else:
+            print("from its source, unproved", file=sys.stderr)
+            data = [part for name, path in names.items() for part in ("--data", f"{name}={path}")]
+            command, where = ["rt", "try", "--seconds", str(SECONDS), *data], RUNS
+        done = subprocess.run(command, cwd=where, input=script, capture_output=True, text=True)
+    if done.returncode:
+        sys.exit(done.stdout + done.stderr + f"the program ended with {done.returncode}")
+    return report([(it, it.expected(), {it.came(lines)}) for it, lines in zip(captures, answers(done.stdout, captures))])
+
+
+def report(results):
+    """Prints a line for each capture. Returns 1 where one differs."""
+    wrong = 0
+    for capture, wanted, came in results:
+        is_same = came == {wanted}
+        wrong += not is_same
+        print(f"{capture.path.name:32} {'same' if is_same else 'DIFFERS'}  expected {wanted}; came {' | '.join(sorted(came))}")
+    print(f"{len(results)} captures, {wrong or 'none'} other than expected")
+    return 1 if wrong else 0
+
+
 def main(words):
+    if words[:1] == ["--zimgasol"] and len(words) in (2, 3):
+        return zimgasol(Path(words[1]), Path(words[2]).resolve() if words[2:] else RUNS / "out" / "zimgasol_runs")
     if len(words) not in (1, 2):
         sys.exit(__doc__)
     folder = Path(words[0])
@@ -129,15 +222,8 @@ def main(words):
         lines = run(Path(words[1]).resolve() if words[1:] else BUILT, Path(room), *lay_out(captures, Path(room)))
     if len(lines) != len(PIECES) * len(captures):
         sys.exit("\n".join(lines) + "\nthe program printed another number of lines")
-    wrong = 0
-    for number, capture in enumerate(captures):
-        wanted = capture.expected()
-        came = {capture.came(line) for line in lines[number * len(PIECES):(number + 1) * len(PIECES)]}
-        is_same = came == {wanted}
-        wrong += not is_same
-        print(f"{capture.path.name:32} {'same' if is_same else 'DIFFERS'}  expected {wanted}; came {' | '.join(sorted(came))}")
-    print(f"{len(captures)} captures, {wrong or 'none'} other than expected")
-    return 1 if wrong else 0
+    each = [lines[i:i + len(PIECES)] for i in range(0, len(lines), len(PIECES))]
+    return report([(it, it.expected(), {it.came(line) for line in said}) for it, said in zip(captures, each)])
 
 
 sys.exit(main(sys.argv[1:]))

@@ -5,7 +5,8 @@
     tools/zimgasol_speed.py [GIB ..]     # without sizes: 1 and 4
 
 One guest has no page of zeros, the other one is sparse: one MiB of 16 has bytes. The stream, what is
-extracted and what is saved lie in /dev/shm. It takes three times the guest's size there.
+extracted and what is saved lie in /dev/shm, where three times the guest's size is taken. Over
+channels the guest goes as `save --channels 4` writes it.
 """
 import os
 import shutil
@@ -18,6 +19,7 @@ TOP = Path(__file__).resolve().parent.parent
 PROGRAM = TOP / "crates/zimgasol_cli/out/zimgasol_cli"
 STREAM, FOLDER = Path("/dev/shm/zimgasol_speed.sav"), Path("/dev/shm/zimgasol_speed")
 SAVED = Path("/dev/shm/zimgasol_speed_saved.sav")
+CHANNELS = [SAVED.with_name(f"{SAVED.name}.{i}") for i in range(4)]
 PAGE = 4096
 
 
@@ -62,10 +64,16 @@ def measure_all():
     measure("save", "save", "--block", block, "--frame", "machine", SAVED)
     measure("compare", "compare", FOLDER, FOLDER)
     measure("save --since", "save", "--block", block, "--since", FOLDER, "--replace", SAVED)
+    SAVED.unlink()
+    STREAM.unlink()
+    measure("save --channels", "save", "--block", block, "--frame", "machine", "--channels", "4", SAVED)
+    channels = [word for file in CHANNELS for word in ("--channel", file)]
+    measure("verify --channel", "verify", SAVED, *channels)
+    measure("extract --channel", "extract", SAVED, FOLDER, *channels, "--replace", "--no-digest")
 
 
 def clean():
-    for file in (STREAM, SAVED):
+    for file in (STREAM, SAVED, *CHANNELS):
         file.unlink(missing_ok=True)
     shutil.rmtree(FOLDER, ignore_errors=True)
 

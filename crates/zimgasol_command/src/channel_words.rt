@@ -1,5 +1,7 @@
 //! The words that say which channels there are, and under which UUID.
 
+ghost use Rattle.std.specs.Prelude.{◌≤◌, IfOk};
+
 use crate::plan::wrong;
 use crate::trouble::Trouble;
 use crate::words::ChannelWords;
@@ -35,8 +37,10 @@ pub(crate) fn wanted_uuid(
     }
 }
 
-/// Returns how many channels a word says.
-pub(crate) fn count_word(alloc: Global, word: &str) -> Result<usize, Trouble> {
+/// Returns how many channels a word says: 1 to 255.
+pub(crate) fn count_word(alloc: Global, word: &str) -> Result<usize, Trouble>
+    ensures { IfOk result (λ count. (1 ≤ count) × (count ≤ 255)) }
+{
     match word.parse::<usize>() {
         Ok(count) if count != 0 && count <= MOST_CHANNELS => Ok(count),
         _ => Err(wrong(alloc, "--channels", word, "isn't a number from 1 to 255")),

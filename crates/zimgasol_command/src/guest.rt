@@ -1,7 +1,7 @@
 //! What came of a guest over several channels: its blocks with how many page records each has, and
 //! the round in hand, which is judged by the numbers and places of its packets and records.
 
-ghost use Rattle.std.specs.Prelude.{◌≡◌, ◌+◌, ◌<◌, ◌≤◌, ◌^◌, length};
+ghost use Rattle.std.specs.Prelude.{◌≡◌, ◌+◌, ◌*◌, ◌<◌, ◌≤◌, ◌^◌, length, IfSome};
 ghost use Rattle.mig_packet.specs.PageSize.{IsPageSize};
 
 use crate::blocks::Blocks;
@@ -121,7 +121,9 @@ impl Guest {
     }
 
     /// Returns the place of the page at an offset of a block. None where no page begins there.
-    pub(crate) fn place(&self, block: usize, offset: u64) -> Option<Place> {
+    pub(crate) fn place(&self, block: usize, offset: u64) -> Option<Place>
+        ensures { IfSome result (λ place. (place.block ≡ block) × (place.page * self.now.blocks.table.page_size ≡ offset)) }
+    {
         let size = self.blocks.table.page_size();
         if size == 0 || offset % size != 0 {
             return None;
@@ -133,7 +135,9 @@ impl Guest {
     }
 
     /// Returns how many packets the round in hand has.
-    pub(crate) fn packets(&self) -> u64 {
+    pub(crate) fn packets(&self) -> u64
+        ensures { result ≡ length self.now.arrivals.numbers }
+    {
         self.arrivals.len() as u64
     }
 

@@ -120,7 +120,7 @@ impl Lane {
         sink: &mut S,
     ) -> Result<(usize, bool), Trouble> {
         let mut rest = piece;
-        'items: for _ in 0..u64::MAX {
+        for _ in 0..u64::MAX {
             if rest.len() as u64 > u64::MAX - self.reader.fed() {
                 return Err(Trouble::NoMemory);
             }

@@ -80,7 +80,10 @@ impl Batch {
         if normal > limit || self.zeros.len() > limit - normal || id.len() > MOST_ID_LEN {
             return false;
         }
-        self.contents.len() as u64 == normal as u64 * page_size
+        match (normal as u64).checked_mul(page_size) {
+            Some(len) => self.contents.len() as u64 == len,
+            None => false,
+        }
     }
 }
 

@@ -5,7 +5,9 @@
 //! verdict is that of `verdict_told` (`mig_answer`) on how the sources stand, and that of
 //! `Arrivals::judge` (`mig_assemble`) on each round that all of them have.
 
-ghost use Rattle.std.specs.Prelude.{◌≤◌};
+ghost use Rattle.std.specs.Prelude.{◌≡◌, ◌↔◌, ◌≤◌, Some, IsNone};
+ghost use Rattle.mig_single_load.specs.declared.fault.LoadFault.{LoadFault};
+ghost use Rattle.mig_answer.specs.declared.verdict.Verdict.TheVariants as verdict;
 
 use crate::channel::{Channel, channels_of, hello_uuid, open_inlets};
 use crate::channel_words::wanted_uuid;
@@ -75,7 +77,10 @@ fn opened<H: AllocGlobal + Files>(
 
 impl<F: Read + OpenFile + Drop> Several<F> {
     /// Returns the fault; None where all is whole.
-    pub(crate) fn fault(&self) -> Option<LoadFault> {
+    pub(crate) fn fault(&self) -> Option<LoadFault>
+        ensures whole { IsNone result ↔ (self.now.verdict ≡ verdict.Done) }
+        ensures fault { (fault : LoadFault) → self.now.verdict ≡ verdict.Failed fault → result ≡ Some fault }
+    {
         match self.verdict {
             Verdict::Done => None,
             Verdict::Failed(fault) => Some(fault),
