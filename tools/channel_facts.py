@@ -40,7 +40,7 @@ def page_records(reader, found, rounds):
 
 
 def stream_rounds(data, found):
-    """The records of a stream up to each FLUSH, and those after the last one; and what stands before the first section."""
+    """The records of a stream up to each FLUSH, and those after the last one; and what stands between the sections."""
     reader = stream_facts.Reader(data, 0)
     assert reader.take(8) == b"QEVM\0\0\0\3"
     rounds, kind, sections = [[]], 0, 0
@@ -49,7 +49,7 @@ def stream_rounds(data, found):
         if kind == 7:
             found["notes"].append(("machine", reader.text(4), at))
         elif kind == 8:
-            reader.take(2)
+            found["notes"].append(("command", reader.number(2), sections, at))
             reader.take(reader.number(2))
         else:
             number = reader.take(4)

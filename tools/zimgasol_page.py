@@ -108,13 +108,21 @@ CASES = [
     ("zimgasol verify multi.sav --channel multi.sav.0 --channel multi.sav.1 --uuid " + UUID, (
         ["multi.sav.0: byte 0 (hello): fault 37: the hello is of another UUID; "
          "the channel is of another migration; `--uuid` names the one that is meant"], 1)),
+    ("zimgasol inspect command.sav --channel multi.sav.0 --channel multi.sav.1", None),
+    ("zimgasol inspect command.sav --json --channel multi.sav.0 --channel multi.sav.1", None),
+    ("head -c 100 command.sav > cut.main", None),
+    ("zimgasol verify cut.main --channel multi.sav.0 --channel multi.sav.1", (
+        [f"cut.main: byte 100 (round 2, section 3, PART): {CUT}"], 1)),
+    ("head -c 95 command.sav > cut.main", None),
+    ("zimgasol verify cut.main --channel multi.sav.0 --channel multi.sav.1", (
+        [f"cut.main: byte 95 (round 2, after section 2): {CUT}"], 1)),
     ("head -c 1408 multi.sav.1 > cut.1", None),
     ("zimgasol verify multi.sav --channel multi.sav.0 --channel cut.1", (
         ["cut.1: byte 1408 (round 2, whole packets 1): fault 53: the channel is over where the main stream goes on; "
          "the files may be of different migrations"], 1)),
     ("head -c 88 multi.sav > cut.main", None),
     ("zimgasol extract cut.main cut --channel multi.sav.0 --channel multi.sav.1", (
-        [f"cut.main: byte 88 (round 2): {CUT}"], 1)),
+        [f"cut.main: byte 88 (round 2, section 2, PART): {CUT}"], 1)),
     ("zimgasol verify cut/ram.bin", (["cut/ram.bin: No such file or directory (os error 2)"], 3)),
     ("zimgasol verify multi.sav --channel none.0", (["none.0: No such file or directory (os error 2)"], 3)),
     ("zimgasol verify multi.sav --uuid " + UUID, ([f'zimgasol: --uuid "{UUID}": goes with `--channel`'], 2)),
@@ -187,9 +195,15 @@ def main_stream():
     return opening({"pc.ram": 32 * 4096}, "none") + part(records) + b"\x03" + be("I", 1) + END_OF_RECORDS + b"\0"
 
 
-def main_saved(blocks, machine):
-    """The main stream that `save --channels` makes: a FLUSH for each of the two rounds, in a section of its own."""
-    return opening(blocks, machine) + part(be("Q", channel_facts.FLUSH)) * 2 + b"\x03" + be("I", 1) + END_OF_RECORDS + b"\0"
+def main_saved(blocks, machine, between=b""):
+    """The main stream that `save --channels` makes: a FLUSH for each of the two rounds, in a section of its own. With what stands
+    between these two."""
+    flush = part(be("Q", channel_facts.FLUSH))
+    return opening(blocks, machine) + flush + between + flush + b"\x03" + be("I", 1) + END_OF_RECORDS + b"\0"
+
+
+# A main stream as QEMU 11.1 writes it for the channels of `multi.sav`: with the COMMAND SWITCHOVER_START.
+COMMANDED = main_saved({"ram": 32 * 4096}, "none", b"\x08" + be("HH", 11, 0))
 
 
 def changed(content, before):
@@ -232,6 +246,7 @@ class Shell:
     def __init__(self):
         self.files = {it.name: it.read_bytes() for it in (RUNS / "data").iterdir()}
         self.files["main.sav"] = main_stream()
+        self.files["command.sav"] = COMMANDED
         self.status = 0
 
     def run(self, command):
@@ -296,7 +311,7 @@ class Shell:
         found = self.several(name, words)
         if "--json" in words:
             return self.several_json(name, found)
-        lines = [f"file {name}, {len(self.files[name])} bytes", *(f'machine "{it[1]}"' for it in found["notes"]),
+        lines = [f"file {name}, {len(self.files[name])} bytes", *map(self.note_line, found["notes"]),
                  "page size 4096", f"UUID {found['uuid']}"]
         for it in found["channels"]:
             numbers = f"packets {len(it['numbers'])}, numbers {min(it['numbers'])}-{max(it['numbers'])}"
@@ -312,7 +327,7 @@ class Shell:
                      "first_number": min(it["numbers"]), "last_number": max(it["numbers"]), "pages": it["pages"],
                      "zero_pages": it["zeros"], "end": it["bytes"]} for it in found["channels"]]
         said = {"file": name, "bytes": len(self.files[name]), "page_size": 4096, "uuid": found["uuid"], "channels": channels,
-                "notes": [{"machine": it[1], "at": it[2]} for it in found["notes"]], "blocks": self.block_values(found),
+                "notes": [self.note_value(it) for it in found["notes"]], "blocks": self.block_values(found),
                 "rounds": found["rounds"], "end": found["end"], "whole": True, "fault": None}
         return json.dumps(said, indent=2, sort_keys=True).splitlines()
 
@@ -423,17 +438,24 @@ class Shell:
         lines = [f"file {name}, {len(data)} bytes"]
         if found["before"]:
             lines.append(f"libvirt header {found['before']} bytes, the guest was running")
-        for note in found["notes"]:
-            if note[0] == "machine":
-                lines.append(f'machine "{note[1]}"')
-            else:
-                lines.append(f"command {note[1]} {COMMANDS[note[1]]} after section {note[2]}")
-        lines.append("page size 4096")
+        lines += [*map(self.note_line, found["notes"]), "page size 4096"]
         for block, memory in found["memory"].items():
             pages, zeros = found["counts"][block]
             lines.append(f'block "{block}" {len(memory)} bytes, {pages} pages, {zeros} zero pages')
         return lines + [f"sections {found['sections']}",
                         f"RAM ends at byte {found['end']}, {len(data) - found['end']} bytes follow", "whole"]
+
+    @staticmethod
+    def note_line(note):
+        if note[0] == "machine":
+            return f'machine "{note[1]}"'
+        return f"command {note[1]} {COMMANDS[note[1]]} after section {note[2]}"
+
+    @staticmethod
+    def note_value(note):
+        if note[0] == "machine":
+            return {"machine": note[1], "at": note[-1]}
+        return {"command": note[1], "name": COMMANDS[note[1]], "bytes": 0, "at": note[-1], "after_sections": note[2]}
 
     @staticmethod
     def block_values(found):
@@ -443,13 +465,7 @@ class Shell:
 
     def inspect_json(self, name, data, found):
         blocks = self.block_values(found)
-        notes = []
-        for note in found["notes"]:
-            if note[0] == "machine":
-                notes.append({"machine": note[1], "at": note[-1]})
-            else:
-                notes.append({"command": note[1], "name": COMMANDS[note[1]], "bytes": 0, "at": note[-1],
-                              "after_sections": note[2]})
+        notes = [self.note_value(note) for note in found["notes"]]
         said = {"file": name, "bytes": len(data), "libvirt": None, "notes": notes, "page_size": 4096, "blocks": blocks,
                 "sections": found["sections"], "end": found["end"], "whole": True, "fault": None}
         return json.dumps(said, indent=2, sort_keys=True).splitlines()
@@ -525,7 +541,7 @@ def of_case(shell, command, wanted):
 
 
 def made():
-    shell, answers, files = Shell(), [], {RUNS / "data" / "main.sav": main_stream()}
+    shell, answers, files = Shell(), [], {RUNS / "data" / "main.sav": main_stream(), RUNS / "data" / "command.sav": COMMANDED}
     for page in filter(Path.is_file, PAGES):
         said = printed(shell, page.read_text())
         files[page] = made_page(page.read_text(), said).encode()

@@ -17,7 +17,9 @@ pub(crate) fn advice(fault: StreamFault) -> Option<&'static str> {
         StreamFault::PageBits | StreamFault::Length => Some(
             "the page size may be the other one (`--page`)",
         ),
-        StreamFault::Flush => Some("the pages of this stream went over multifd's channels; name each by `--channel`"),
+        StreamFault::Flush => Some(
+            "the pages of this stream went over multifd's channels; name each by `--channel`",
+        ),
         StreamFault::Truncated => Some("the file was cut, or the save didn't come to its end"),
         StreamFault::Capability => Some("save without x-ignore-shared and mapped-ram"),
         StreamFault::Command => Some(

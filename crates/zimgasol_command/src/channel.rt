@@ -21,6 +21,8 @@ pub(crate) struct Inlet<F: Drop> {
     /// Its name, as it is shown.
     pub name: String,
     file: Opened<F>,
+    // how many bytes the file has; 0 of a pipe
+    len: u64,
     pieces: Pieces,
 }
 
@@ -29,17 +31,24 @@ impl<F: Read + OpenFile + Drop> Inlet<F> {
     pub(crate) fn read(&self) -> u64 {
         self.pieces.read
     }
+
+    /// Returns how many bytes there are; of a pipe, how many were read.
+    pub(crate) fn len(&self) -> u64 {
+        self.len.max(self.pieces.read)
+    }
 }
 
 // Opens the file of a channel, and reads its first piece.
 fn open_inlet<H: AllocGlobal + Files>(rt: &H, path: &str) -> Result<Inlet<H::File>, Trouble> {
     let alloc = rt.alloc();
     let mut file = open(rt, alloc, path)?;
+    let len = file.len()?;
     let mut pieces = Pieces::new(alloc)?;
     file.refill(&mut pieces)?;
     Ok(Inlet {
         name: shown(alloc, path.as_bytes())?,
         file,
+        len,
         pieces,
     })
 }

@@ -35,6 +35,7 @@ mod plan;
 mod running;
 mod saving;
 mod saving_channels;
+mod sections;
 mod send;
 mod several;
 mod several_fault;

@@ -1,10 +1,11 @@
-//! The main stream beside channels: how far it was read, and what stands before its first section.
+//! The main stream beside channels: how far it was read.
 
 ghost use Rattle.std.specs.Prelude.{◌≡◌, ◌+◌, ◌<◌, ◌≤◌, ◌^◌, length};
 
-use crate::between::{Between, Note};
+use crate::between::{Note, SectionKind};
 use crate::guest::Guest;
 use crate::pieces::Pieces;
+use crate::sections::Sections;
 use crate::sink::PageSink;
 use crate::trouble::Trouble;
 use crate::words::StreamWords;
@@ -20,8 +21,7 @@ use std::io::Read;
 pub(crate) struct MainStream {
     reader: StreamReader<'static>,
     pieces: Pieces,
-    // what stands before the first section
-    between: Between,
+    sections: Sections,
     // whether the round in hand has come
     is_whole: bool,
 }
@@ -33,7 +33,7 @@ impl MainStream {
         Ok(MainStream {
             reader: StreamReader::new_in(alloc, words.frame, Mode::Main, page_size, MAX_TOTAL),
             pieces: Pieces::new(alloc)?,
-            between: Between::new(alloc),
+            sections: Sections::new(alloc, page_size),
             is_whole: false,
         })
     }
@@ -72,8 +72,12 @@ impl MainStream {
         if self.reader.ended() || piece.len() as u64 > u64::MAX - fed {
             return Err(Trouble::NoMemory);
         }
-        self.between.look(piece, fed)?;
         self.reader.feed(piece)?;
+        let limit = match self.reader.state() {
+            StreamState::Bad(_) => self.reader.valid_up_to(),
+            StreamState::Reading | StreamState::Closed => u64::MAX,
+        };
+        self.sections.look(piece, fed, limit)?;
         self.pieces.take_all();
         Ok(())
     }
@@ -138,12 +142,14 @@ impl MainStream {
         self.is_whole = false;
     }
 
-    /// Returns what stands before the first section, or before a fault there.
+    /// Returns what stands between the sections that were read.
     pub(crate) fn read_notes(&self) -> &[Note] {
-        let valid = self.valid();
-        let notes = self.between.notes.as_slice();
-        let count = notes.iter().filter(|note| note.at <= valid).count();
-        notes.get(..count).unwrap_or(&[])
+        self.sections.notes(self.valid())
+    }
+
+    /// Returns how many sections are whole, and which is open.
+    pub(crate) fn section(&self) -> (u64, Option<SectionKind>) {
+        (self.sections.count, self.sections.kind(self.valid()))
     }
 
     /// Returns how many bytes of the stream are whole items without a fault.

@@ -21,7 +21,7 @@ use mig_answer::{Verdict, repeated_id, verdict_told};
 use mig_single_load::{Fault, LoadFault, Origin};
 use mig_stream::Frame;
 use std::alloc::{AllocGlobal, Global};
-use std::fs::{File, Files, OpenFile};
+use std::fs::{File, Files, Metadata, OpenFile};
 use std::io::{Read, Write};
 use std::rt::Clock;
 use uuid::Uuid;
@@ -110,6 +110,18 @@ impl<F: Read + OpenFile + Drop> Several<F> {
         len
     }
 
+    // Notes how many bytes there are to read, where the main stream is a file.
+    fn expect(&self, main: &Metadata, watch: &mut Watch) {
+        if !main.is_file() {
+            return;
+        }
+        let mut total = main.len();
+        for channel in &self.channels {
+            total = total.saturating_add(channel.inlet.len());
+        }
+        watch.expect_total(total);
+    }
+
     // Reads all sources, round after round, up to the verdict.
     fn read<H: AllocGlobal + Files + Clock, R: Read, S: PageSink<H>, E: Write>(
         &mut self,
@@ -196,7 +208,12 @@ pub(crate) fn read_several<H: AllocGlobal + Files + Clock, R: Read, S: PageSink<
         return Ok(several);
     }
     match File::open(rt, words.file) {
-        Ok(mut file) => several.read(rt, &mut file, sink, &mut watch, errors)?,
+        Ok(mut file) => {
+            if let Ok(metadata) = file.metadata() {
+                several.expect(&metadata, &mut watch);
+            }
+            several.read(rt, &mut file, sink, &mut watch, errors)?;
+        }
         Err(error) => return Err(Trouble::Unread(error)),
     }
     Ok(several)

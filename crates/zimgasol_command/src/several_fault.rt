@@ -3,8 +3,10 @@
 ghost use Rattle.std.specs.Prelude.{◌≤◌};
 
 use crate::advice::advice;
+use crate::between::SectionKind;
 use crate::several::Several;
 use crate::trouble::Trouble;
+use crate::verifying::{put_block, put_section};
 use mig_assemble::RoundFault;
 use mig_packet::ChannelFault;
 use mig_single_load::{Fault, LoadFault, Origin};
@@ -14,16 +16,33 @@ use std::fs::OpenFile;
 use std::io::{self, Read, Write};
 use zimgasol_names::shown;
 
+/// In what a fault is, beside the round.
+#[derive(Clone, Copy)]
+pub(crate) enum Within {
+    /// The main stream, after so many whole sections, in one of this kind or between two.
+    Main(u64, Option<SectionKind>),
+    /// A channel's hello.
+    Hello,
+    /// A channel, after so many whole packets.
+    Channel(u64),
+    /// No one source.
+    Round,
+}
+
 /// Where a fault is.
 #[derive(Clone, Copy)]
 pub(crate) struct Spot {
     /// The byte of its source at which the item with the fault begins; of a source that was cut, the
     /// byte at which it ends. None where it is in no one source.
     pub byte: Option<u64>,
-    /// How many packets of its channel are whole before it; None outside the channels.
-    pub packets: Option<u64>,
-    /// Whether it is in a hello.
-    pub in_hello: bool,
+    pub within: Within,
+}
+
+impl Spot {
+    const ROUND: Spot = Spot {
+        byte: None,
+        within: Within::Round,
+    };
 }
 
 // Returns whether a channel has the fault in its hello.
@@ -55,44 +74,44 @@ impl<F: Read + OpenFile + Drop> Several<F> {
     /// Returns where a fault is.
     pub(crate) fn spot(&self, fault: LoadFault) -> Spot {
         match fault.source {
-            Origin::Main => Spot {
-                byte: Some(if is_cut(fault.fault) {
-                    self.main.len()
-                } else {
-                    self.main.valid()
-                }),
-                packets: None,
-                in_hello: false,
-            },
+            Origin::Main => self.main_spot(fault.fault),
             Origin::Channel(number) => self.channel_spot(number, fault.fault),
-            Origin::Round => Spot {
-                byte: None,
-                packets: None,
-                in_hello: false,
-            },
+            Origin::Round => Spot::ROUND,
+        }
+    }
+
+    fn main_spot(&self, fault: Fault) -> Spot {
+        let (count, kind) = self.main.section();
+        let byte = if is_cut(fault) {
+            self.main.len()
+        } else {
+            self.main.valid()
+        };
+        Spot {
+            byte: Some(byte),
+            within: Within::Main(count, kind),
         }
     }
 
     fn channel_spot(&self, number: usize, fault: Fault) -> Spot {
         let Some(channel) = self.channels.get(number) else {
-            return Spot {
-                byte: None,
-                packets: None,
-                in_hello: false,
-            };
+            return Spot::ROUND;
         };
         let counts = channel.lane.counts;
-        let in_hello = is_of_hello(fault) || channel.lane.hello().is_none();
         let byte = match fault {
             fault if is_cut(fault) => channel.inlet.read(),
             Fault::HelloTwice => 0,
             Fault::Extra => counts.round_start,
             _ => counts.valid,
         };
+        let within = if is_of_hello(fault) || channel.lane.hello().is_none() {
+            Within::Hello
+        } else {
+            Within::Channel(counts.packets)
+        };
         Spot {
             byte: Some(byte),
-            packets: Some(counts.packets),
-            in_hello,
+            within,
         }
     }
 
@@ -153,22 +172,23 @@ fn advice_of(fault: Fault) -> Option<&'static str> {
 }
 
 // Writes where a fault is, beside its byte.
-fn put_spot<W: Write>(
+fn put_within<W: Write>(
     output: &mut W,
     round: u64,
-    spot: Spot,
+    within: Within,
     block: &Option<String>,
 ) -> io::Result<()> {
     let round = round.saturating_add(1);
-    match spot.packets {
-        Some(_) if spot.in_hello => write!(output, "hello"),
-        Some(packets) => write!(output, "round {round}, whole packets {packets}"),
-        None => {
+    match within {
+        Within::Hello => write!(output, "hello"),
+        Within::Channel(packets) => write!(output, "round {round}, whole packets {packets}"),
+        Within::Main(sections, kind) => {
+            write!(output, "round {round}, ")?;
+            put_section(output, sections, kind, block)
+        }
+        Within::Round => {
             write!(output, "round {round}")?;
-            match block {
-                Some(id) => write!(output, ", block \"{id}\""),
-                None => Ok(()),
-            }
+            put_block(output, block)
         }
     }
 }
@@ -185,10 +205,10 @@ pub(crate) fn put_spotted<W: Write>(
     match spot.byte {
         Some(byte) => {
             write!(output, "byte {byte} (")?;
-            put_spot(output, fault.round, spot, block)?;
+            put_within(output, fault.round, spot.within, block)?;
             write!(output, ")")?;
         }
-        None => put_spot(output, fault.round, spot, block)?,
+        None => put_within(output, fault.round, spot.within, block)?,
     }
     let found = fault.fault;
     write!(output, ": fault {found}")?;

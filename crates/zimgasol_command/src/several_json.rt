@@ -5,6 +5,7 @@ ghost use Rattle.std.specs.Prelude.{◌≤◌};
 use crate::channel::Channel;
 use crate::inspecting::{blocks_value, note_value};
 use crate::several::Several;
+use crate::several_fault::Within;
 use crate::trouble::Trouble;
 use mig_single_load::{LoadFault, Origin};
 use serde_json::{Value, json};
@@ -30,7 +31,7 @@ fn channel_value<F: Read + OpenFile + Drop>(
     let last = number_value(alloc, counts.last)?;
     json!(in alloc; {
         "file": &channel.inlet.name,
-        "bytes": channel.inlet.read(),
+        "bytes": channel.inlet.len(),
         "id": id,
         "packets": counts.packets,
         "first_number": first,
@@ -81,7 +82,14 @@ impl<F: Read + OpenFile + Drop> Several<F> {
         let text = format!(in alloc; "{found}")?;
         let source = source_value(alloc, fault.source)?;
         let byte = number_value(alloc, spot.byte)?;
-        let packets = number_value(alloc, spot.packets)?;
+        let (sections, packets) = match spot.within {
+            Within::Main(sections, _) => (Some(sections), None),
+            Within::Hello => (None, Some(0)),
+            Within::Channel(packets) => (None, Some(packets)),
+            Within::Round => (None, None),
+        };
+        let sections = number_value(alloc, sections)?;
+        let packets = number_value(alloc, packets)?;
         json!(in alloc; {
             "number": found.number(),
             "name": &name,
@@ -89,6 +97,7 @@ impl<F: Read + OpenFile + Drop> Several<F> {
             "source": source,
             "byte": byte,
             "whole_rounds": fault.round,
+            "whole_sections": sections,
             "whole_packets": packets
         })
     }

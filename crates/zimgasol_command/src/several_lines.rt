@@ -154,7 +154,7 @@ fn put_channel<F: Read + OpenFile + Drop, W: Write>(
     channel: &Channel<F>,
 ) -> io::Result<()> {
     let name = &channel.inlet.name;
-    let len = channel.inlet.read();
+    let len = channel.inlet.len();
     write!(output, "channel {name}, {len} bytes")?;
     let Some(id) = channel.lane.hello() else {
         return writeln!(output);

@@ -1,6 +1,7 @@
 //! `verify`: whether a stream is whole, in one line.
 
 use crate::advice::advice;
+use crate::between::SectionKind;
 use crate::missing::put_missing;
 use crate::place::{FaultPlace, block_at, fault_of, kind_name};
 use crate::survey::Survey;
@@ -10,27 +11,31 @@ use mig_stream::Frame;
 use std::alloc::Global;
 use std::io::{self, Write};
 
-// Writes where a fault is, beside its byte.
-fn put_section<W: Write>(
+/// Writes the id of the block at a fault, if there is one.
+pub(crate) fn put_block<W: Write>(output: &mut W, block: &Option<String>) -> io::Result<()> {
+    match block {
+        Some(id) => write!(output, ", block \"{id}\""),
+        None => Ok(()),
+    }
+}
+
+/// Writes where a fault of a stream is, beside its byte: after so many whole sections, in one of
+/// `kind` or between two.
+pub(crate) fn put_section<W: Write>(
     output: &mut W,
-    place: &FaultPlace,
+    sections: u64,
+    kind: Option<SectionKind>,
     block: &Option<String>,
 ) -> io::Result<()> {
-    let section = place.sections.saturating_add(1);
-    match place.kind {
+    let section = sections.saturating_add(1);
+    match kind {
         Some(kind) => {
             let name = kind_name(kind);
             write!(output, "section {section}, {name}")?;
-            match block {
-                Some(id) => write!(output, ", block \"{id}\""),
-                None => Ok(()),
-            }
+            put_block(output, block)
         }
-        None if place.sections == 0 => write!(output, "before section 1"),
-        None => {
-            let sections = place.sections;
-            write!(output, "after section {sections}")
-        }
+        None if sections == 0 => write!(output, "before section 1"),
+        None => write!(output, "after section {sections}"),
     }
 }
 
@@ -44,7 +49,7 @@ pub(crate) fn put_fault<W: Write>(
     let byte = place.byte;
     let fault = place.fault;
     write!(output, "{name}: byte {byte} (")?;
-    put_section(output, place, block)?;
+    put_section(output, place.sections, place.kind, block)?;
     write!(output, "): fault {fault}")?;
     if let Some(advice) = advice(fault) {
         write!(output, "; {advice}")?;
