@@ -148,6 +148,18 @@ fn begin_main<W: Write>(
     Ok((first.len() as u64, main))
 }
 
+// Writes the hello of a channel, which has the number of a byte.
+fn put_hello<F: Write + OpenFile + Drop>(
+    channel: &mut Outlet<F>,
+    uuid: &Uuid,
+    number: usize,
+) -> Result<(), Trouble> {
+    if number > 255 {
+        return Err(Trouble::NoMemory);
+    }
+    channel.write(&hello(uuid, number as u8))
+}
+
 impl<F: Write + OpenFile + Drop> PacketSending<F> {
     /// Begins a main stream, of a machine of this name if there is one, and channels under `uuid`,
     /// each with its hello, and sends the empty round.
@@ -172,7 +184,7 @@ impl<F: Write + OpenFile + Drop> PacketSending<F> {
             written,
         };
         for (number, channel) in sending.channels.iter_mut().enumerate() {
-            channel.write(&hello(&uuid, number as u8))?;
+            put_hello(channel, &uuid, number)?;
         }
         sending.end_round()?;
         Ok(sending)
