@@ -1,5 +1,5 @@
-//! A stream read by what it wants next. Where it wants a page that page comes next, whole, so that a
-//! caller can read it straight to where it belongs. The pages are those of the whole stream.
+//! A stream read by what it wants next. Where it wants a page, that page comes next, and the caller
+//! has taken it by `take_page`. The pages are those of the whole stream.
 
 use crate::building::two_rounds_in;
 use crate::pauses::pause_of;
@@ -70,10 +70,13 @@ fn read_to_end<A: Allocator + Copy>(
     panic!(rt; "the stream never ends");
 }
 
-// How many bytes are wanted: of a page all that it has.
-fn len_wanted(rt: &impl Abort, wanted: Wanted) -> usize {
-    match wanted {
-        Wanted::Page(_) => 4096,
+// Returns how many bytes are wanted: of a page all that it has.
+fn len_wanted<A: Allocator + Copy>(rt: &impl Abort, pause: &Pause<A>) -> usize {
+    match pause.wanted() {
+        Wanted::Page(_) => {
+            assert!(rt; pause.page_size() == PAGE_SIZE_4K);
+            4096
+        }
         Wanted::Bytes(len) => {
             assert!(rt; len > 0);
             len
@@ -81,12 +84,23 @@ fn len_wanted(rt: &impl Abort, wanted: Wanted) -> usize {
     }
 }
 
-// Whether a page came last, exactly where one was wanted.
-fn is_as_wanted(pages: &Pages, before: usize, wanted: Wanted) -> bool {
-    match wanted {
-        Wanted::Page(place) => pages.places.get(before) == Some(&place),
-        Wanted::Bytes(_) => pages.places.len() == before,
-    }
+// Takes `content` as the page that is wanted, and notes it there. Returns false, and takes nothing,
+// if none is wanted.
+fn take_content<A: Allocator + Copy>(
+    rt: &impl Abort,
+    pause: &mut Pause<A>,
+    content: &[u8],
+    pages: &mut Pages,
+) -> bool {
+    let Wanted::Page(place) = pause.wanted() else {
+        return false;
+    };
+    let before = pause.valid_up_to();
+    assert!(rt; content.len() as u64 == pause.page_size());
+    pause.take_page(content);
+    assert!(rt; pause.valid_up_to() == before.saturating_add(4096));
+    pages.push(rt, place, content);
+    true
 }
 
 // Reads a stream by what it wants, and returns its pages, and how many bytes were read up to where
@@ -96,14 +110,16 @@ fn read_wanted(rt: &(impl AllocGlobal + Abort), frame: Frame, stream: &[u8]) -> 
     let mut pause = Pause::new_in(rt.alloc(), frame, PAGE_SIZE_4K, MAX_TOTAL);
     let mut rest = stream;
     for _ in 0..10_000u64 {
-        let wanted = pause.wanted();
-        let before = pages.places.len();
-        let parts = rest.split_at_checked(len_wanted(rt, wanted));
+        let parts = rest.split_at_checked(len_wanted(rt, &pause));
         let (piece, left) = parts.expect(rt, "bytes");
         rest = left;
+        if take_content(rt, &mut pause, piece, &mut pages) {
+            continue;
+        }
+        let before = pages.places.len();
         let mut reader = pause.resume(piece);
         let state = read_to_end(rt, &mut reader, &mut pages);
-        assert!(rt; is_as_wanted(&pages, before, wanted));
+        assert!(rt; pages.places.len() == before);
         if state == StreamState::Closed {
             assert!(rt; reader.behind() == Some(&[]));
             return (pages, stream.len().saturating_sub(rest.len()));
