@@ -1,0 +1,285 @@
+//! A session and a load in place that are fed the same bytes.
+
+use mig_answer::Verdict;
+use mig_fixtures::{at, is_full, table};
+use mig_in_place::InPlaceSession;
+use mig_mem::{Memory, Table, first_difference, is_page_size};
+use mig_send::Sent;
+use mig_session::{Session, Source};
+use mig_single_load::{Fault, InPlaceFault, LoadFault, Origin};
+use rand_core::Rng;
+use rand_pcg::Pcg32;
+use std::alloc::{AllocGlobal, Allocator};
+use std::process::Abort;
+use uuid::Uuid;
+
+pub(crate) const LIMIT: u64 = 1 << 40;
+
+// The longest pieces that streams are cut into.
+const MOSTS: [u64; 6] = [1, 7, 1000, 5000, 100_000, 1_000_000];
+
+/// What both came to.
+#[derive(Drop)]
+pub(crate) struct Both {
+    pub(crate) session: Session,
+    pub(crate) in_place: InPlaceSession,
+    pub(crate) memory: Memory,
+}
+
+/// A random number below `n`.
+pub(crate) fn below(random: &mut Pcg32, n: u64) -> u64 {
+    random.next_u64().checked_rem(n).unwrap_or(0)
+}
+
+/// The sources in order: the main stream is number 0, and channel 0 is number 1.
+pub(crate) fn source_at(number: usize) -> Source {
+    match number.checked_sub(1) {
+        None => Source::Main,
+        Some(j) => Source::Channel(j),
+    }
+}
+
+/// The stream of a source.
+pub(crate) fn text_of<'a>(rt: &impl Abort, texts: &'a Sent, source: Source) -> &'a [u8] {
+    match source {
+        Source::Main => &texts.main,
+        Source::Channel(j) => texts.channels.get(j).expect(rt, "a channel"),
+    }
+}
+
+/// The verdict of a load that failed.
+pub(crate) fn failed(round: u64, source: Origin, fault: Fault) -> Verdict {
+    Verdict::Failed(LoadFault {
+        round,
+        source,
+        fault,
+    })
+}
+
+// A session and a load in place of so many channels, into a memory of zeros.
+fn both_of(rt: &(impl AllocGlobal + Abort), table: &Table, channels: usize) -> Both {
+    let size = table.page_size();
+    assert!(rt; is_page_size(size) && 1 <= channels && channels <= 255);
+    let session = Session::new(rt.alloc(), size, &Uuid::nil(), channels, LIMIT);
+    let in_place = InPlaceSession::new(rt.alloc(), table, &Uuid::nil(), channels, LIMIT);
+    Both {
+        session: session.expect(rt, "a session"),
+        in_place: in_place.expect(rt, "a load"),
+        memory: Memory::zeroed(rt.alloc(), table).expect(rt, "a memory"),
+    }
+}
+
+/// Feeds a piece to a load in place.
+pub(crate) fn feed<A: Allocator + Copy, B: Allocator>(
+    rt: &impl Abort,
+    load: &mut InPlaceSession<A>,
+    memory: &mut Memory<B>,
+    source: Source,
+    piece: &[u8],
+) -> Result<usize, InPlaceFault> {
+    assert!(rt; load.has(source));
+    assert!(rt; !load.ended(source) && load.has_room(source, piece.len()));
+    load.feed(memory, source, piece)
+}
+
+/// Whether a load in place takes bytes of a source.
+pub(crate) fn takes<A: Allocator>(
+    rt: &impl Abort,
+    load: &InPlaceSession<A>,
+    source: Source,
+) -> bool {
+    assert!(rt; load.has(source));
+    load.takes(source)
+}
+
+/// How many bytes of a source a load in place took.
+pub(crate) fn fed<A: Allocator>(
+    rt: &impl Abort,
+    load: &InPlaceSession<A>,
+    source: Source,
+) -> usize {
+    assert!(rt; load.has(source));
+    load.fed(source) as usize
+}
+
+/// Ends a source of a load in place.
+pub(crate) fn end<A: Allocator>(rt: &impl Abort, load: &mut InPlaceSession<A>, source: Source) {
+    assert!(rt; load.has(source));
+    load.end(source);
+}
+
+// Feeds a piece to a session.
+fn feed_session(rt: &impl Abort, session: &mut Session, source: Source, piece: &[u8]) {
+    assert!(rt; session.has(source));
+    assert!(rt; !session.ended(source) && session.has_room(source, piece.len()));
+    assert!(rt; session.feed(source, piece) == Ok(()));
+}
+
+fn end_session(rt: &impl Abort, session: &mut Session, source: Source) {
+    assert!(rt; session.has(source));
+    session.end(source);
+}
+
+// Both tell the same, but for a stream of another table.
+fn assert_alike(rt: &impl Abort, both: &Both) {
+    if both.in_place.verdict() == failed(0, Origin::Main, Fault::OtherTable) {
+        return;
+    }
+    assert!(rt; both.in_place.rounds() == both.session.rounds());
+    assert!(rt; both.in_place.verdict() == both.session.verdict());
+    if both.in_place.verdict() == Verdict::Done {
+        let wanted = both.session.memory().expect(rt, "a memory");
+        assert!(rt; both.memory.table().same(wanted.table()));
+        assert!(rt; first_difference(&both.memory, wanted).is_none());
+    }
+}
+
+// Feeds a piece of a source, or ends it where nothing of it is left.
+fn step(rt: &impl Abort, both: &mut Both, source: Source, text: &[u8], most: u64) {
+    let from = fed(rt, &both.in_place, source);
+    if from == text.len() {
+        end(rt, &mut both.in_place, source);
+        end_session(rt, &mut both.session, source);
+        return;
+    }
+    let to = from.saturating_add(most as usize).min(text.len());
+    let piece = text.get(from..to).expect(rt, "a piece");
+    let taken = feed(rt, &mut both.in_place, &mut both.memory, source, piece);
+    let taken = taken.expect(rt, "some bytes");
+    assert!(rt; taken == piece.len() || !takes(rt, &both.in_place, source));
+    let front = piece.get(..taken).expect(rt, "a front");
+    feed_session(rt, &mut both.session, source, front);
+}
+
+// Whether a source has more to feed or to end.
+fn goes_on(rt: &impl Abort, load: &InPlaceSession, source: Source, text: &[u8]) -> bool {
+    assert!(rt; load.has(source));
+    !load.ended(source) && (load.takes(source) || load.fed(source) as usize == text.len())
+}
+
+// Feeds streams to both in pieces of at most `most` bytes and in a random order, until a verdict is
+// there: the session gets what the load in place took.
+fn feed_both(rt: &impl Abort, both: &mut Both, texts: &Sent, most: u64, random: &mut Pcg32) {
+    let sources = texts.channels.len().wrapping_add(1) as u64;
+    for _ in 0..1_000_000u64 {
+        let source = source_at(below(random, sources) as usize);
+        let text = text_of(rt, texts, source);
+        if !goes_on(rt, &both.in_place, source, text) {
+            continue;
+        }
+        let len = 1u64.wrapping_add(below(random, most));
+        step(rt, both, source, text, len);
+        assert_alike(rt, both);
+        if both.in_place.verdict() != Verdict::Running {
+            return;
+        }
+    }
+    panic!(rt; "a load without a verdict")
+}
+
+/// What both come to that are fed streams so.
+pub(crate) fn loaded(
+    rt: &(impl AllocGlobal + Abort),
+    table: &Table,
+    texts: &Sent,
+    most: u64,
+    random: &mut Pcg32,
+) -> Both {
+    let mut both = both_of(rt, table, texts.channels.len());
+    feed_both(rt, &mut both, texts, most, random);
+    both
+}
+
+// How many rounds both have that are fed streams so, and their verdict.
+fn rounds_and_verdict(
+    rt: &(impl AllocGlobal + Abort),
+    table: &Table,
+    texts: &Sent,
+    most: u64,
+) -> (u64, Verdict) {
+    let both = loaded(rt, table, texts, most, &mut Pcg32::new(3, most));
+    (both.session.rounds(), both.session.verdict())
+}
+
+/// Feeds streams of a block `a` of so many pages in all kinds of pieces, and asserts what both came
+/// to.
+pub(crate) fn assert_comes_to(
+    rt: &(impl AllocGlobal + Abort),
+    pages: u64,
+    texts: &Sent,
+    rounds: u64,
+    verdict: Verdict,
+) {
+    let table = table(rt.alloc(), &[("a", pages)]).expect(rt, "a table");
+    for most in MOSTS {
+        if pages <= 2 || most >= 1000 {
+            assert!(rt; rounds_and_verdict(rt, &table, texts, most) == (rounds, verdict));
+        }
+    }
+}
+
+// Whether pages are filled with a byte each.
+fn are_full(memory: &Memory, full: &[(u64, u8)]) -> bool {
+    for (page, byte) in full {
+        if !is_full(memory, at(0, *page), *byte) {
+            return false;
+        }
+    }
+    true
+}
+
+// Asserts that pages of the memory are filled with a byte each, once both are fed streams so.
+fn assert_full(
+    rt: &(impl AllocGlobal + Abort),
+    table: &Table,
+    texts: &Sent,
+    most: u64,
+    full: &[(u64, u8)],
+) {
+    let both = loaded(rt, table, texts, most, &mut Pcg32::new(4, most));
+    assert!(rt; are_full(&both.memory, full));
+}
+
+/// Asserts that pages of the memory, after a load in pieces of 1,000 bytes and more, are filled with
+/// a byte each.
+pub(crate) fn assert_pages(
+    rt: &(impl AllocGlobal + Abort),
+    pages: u64,
+    texts: &Sent,
+    full: &[(u64, u8)],
+) {
+    let table = table(rt.alloc(), &[("a", pages)]).expect(rt, "a table");
+    for most in [1000u64, 5000, 100_000, 1_000_000] {
+        assert_full(rt, &table, texts, most, full);
+    }
+}
+
+/// Both at their start, of so many channels, into a block `a` of so many pages.
+pub(crate) fn both_at_start(rt: &(impl AllocGlobal + Abort), pages: u64, channels: usize) -> Both {
+    let table = table(rt.alloc(), &[("a", pages)]).expect(rt, "a table");
+    both_of(rt, &table, channels)
+}
+
+/// Feeds a source's stream to the load in place alone, from the bytes that it took up to `to`.
+pub(crate) fn give_to(
+    rt: &impl Abort,
+    both: &mut Both,
+    texts: &Sent,
+    source: Source,
+    to: usize,
+) -> Result<usize, InPlaceFault> {
+    let from = fed(rt, &both.in_place, source);
+    let piece = text_of(rt, texts, source).get(from..to);
+    let piece = piece.expect(rt, "a piece");
+    feed(rt, &mut both.in_place, &mut both.memory, source, piece)
+}
+
+/// Feeds all that is left of a source's stream to the load in place alone.
+pub(crate) fn give(
+    rt: &impl Abort,
+    both: &mut Both,
+    texts: &Sent,
+    source: Source,
+) -> Result<usize, InPlaceFault> {
+    give_to(rt, both, texts, source, text_of(rt, texts, source).len())
+}

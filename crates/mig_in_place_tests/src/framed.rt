@@ -1,0 +1,84 @@
+//! A main stream of RAM's sections alone and that of a machine, loaded in place.
+
+use crate::both::{LIMIT, end, failed, feed, text_of};
+use crate::texts::page_and_zeros;
+use mig_answer::Verdict;
+use mig_fixtures::{at, has_byte, is_full, zeroed};
+use mig_in_place::InPlaceSession;
+use mig_mem::Memory;
+use mig_send::Sent;
+use mig_session::Source;
+use mig_single_load::{Fault, LoadSettings, Origin};
+use mig_stream::{Frame, StreamFault};
+use std::alloc::AllocGlobal;
+use std::process::Abort;
+use uuid::Uuid;
+
+const CHANNEL: Source = Source::Channel(0);
+
+// A main stream of RAM's sections as a machine's: with the configuration `pc` and OPEN_RETURN_PATH
+// before START, and a device's section after the 18 bytes of END, which begin at byte 82.
+fn machine_of(rt: &(impl AllocGlobal + Abort), ram: &[u8]) -> Vec<u8> {
+    let mut main = Vec::new(rt.alloc());
+    for piece in [
+        ram.get(..8).expect(rt, "a header"),
+        b"\x07\x00\x00\x00\x02pc\x08\x00\x01\x00\x00",
+        ram.get(8..82).expect(rt, "sections"),
+        b"\x08\x00\x0b\x00\x00",
+        ram.get(82..100).expect(rt, "END"),
+        b"\x04\x00\x00\x00\x02\x05timer",
+    ] {
+        assert!(rt; main.extend_from_slice(piece).is_ok());
+    }
+    main
+}
+
+// How many rounds a load in a frame has, and its verdict, once it was fed all streams.
+fn load_in(
+    rt: &(impl AllocGlobal + Abort),
+    frame: Frame,
+    texts: &Sent,
+    memory: &mut Memory,
+) -> (u64, Verdict) {
+    let settings = LoadSettings::new(4096, LIMIT).with_frame(frame);
+    let made = InPlaceSession::new_in(rt.alloc(), memory.table(), settings, &Uuid::nil(), 1);
+    let mut load = made.expect(rt, "a load");
+    let main = feed(rt, &mut load, memory, Source::Main, &texts.main);
+    assert!(rt; main == Ok(texts.main.len()));
+    let channel = text_of(rt, texts, CHANNEL);
+    assert!(rt; feed(rt, &mut load, memory, CHANNEL, channel).is_ok());
+    end(rt, &mut load, CHANNEL);
+    (load.rounds(), load.verdict())
+}
+
+// Page 0 as zeros, and page 1 with the first byte 9.
+#[test]
+fn machines_main_stream(rt: HostRuntime) {
+    let mut texts = page_and_zeros(&rt);
+    texts.main = machine_of(&rt, &texts.main);
+    let mut memory = zeroed(rt.alloc(), &[("a", 2)]).expect(&rt, "a memory");
+    let loaded = load_in(&rt, Frame::Machine, &texts, &mut memory);
+    assert!(rt; loaded == (1, Verdict::Done));
+    assert!(rt; is_full(&memory, at(0, 0), 0) && has_byte(&memory, at(0, 1), 0, 9));
+}
+
+// Read as RAM's sections it fails at its first COMMAND, before its table is known.
+#[test]
+fn machines_main_stream_in_another_frame(rt: HostRuntime) {
+    let mut texts = page_and_zeros(&rt);
+    texts.main = machine_of(&rt, &texts.main);
+    let mut memory = zeroed(rt.alloc(), &[("a", 2)]).expect(&rt, "a memory");
+    let loaded = load_in(&rt, Frame::Ram, &texts, &mut memory);
+    let fault = Fault::Stream(StreamFault::SectionType);
+    assert!(rt; loaded == (0, failed(0, Origin::Main, fault)));
+    assert!(rt; is_full(&memory, at(0, 1), 0));
+}
+
+// RAM's sections alone are a machine's stream as well.
+#[test]
+fn rams_sections_as_a_machines_stream(rt: HostRuntime) {
+    let texts = page_and_zeros(&rt);
+    let mut memory = zeroed(rt.alloc(), &[("a", 2)]).expect(&rt, "a memory");
+    let loaded = load_in(&rt, Frame::Machine, &texts, &mut memory);
+    assert!(rt; loaded == (1, Verdict::Done) && has_byte(&memory, at(0, 1), 0, 9));
+}
