@@ -180,8 +180,6 @@ typedef enum zimgasol_status {
     ZIMGASOL_MACHINE_PAGE_BITS = 48,
     /* a COMMAND that isn't one that is passed over */
     ZIMGASOL_MACHINE_COMMAND = 49,
-    /* more page records than may wait for their round's end; no load of this library sets a limit */
-    ZIMGASOL_STREAM_WAITING = 64,
 
     /* ---- channels beside one another, and a round of them */
     /* a hello names an earlier channel's id */
@@ -212,6 +210,8 @@ typedef enum zimgasol_status {
     ZIMGASOL_BATCH_LIMIT = 62,
     /* a load into blocks: the stream's table isn't that of the blocks */
     ZIMGASOL_OTHER_TABLE = 63,
+    /* more page records than may wait: no load of this library sets such a limit */
+    ZIMGASOL_STREAM_WAITING = 64,
 
     /* ---- a call, and how a load stands */
     /* the load goes on: more of a source is needed. No fault */
