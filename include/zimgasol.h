@@ -204,9 +204,9 @@ typedef enum zimgasol_status {
     /* ---- */
     /* an allocation was refused. What stands after it each call says */
     ZIMGASOL_NO_MEMORY = 60,
-    /* a sender of no channel, or of more than 255. No call of this header returns it */
+    /* a sender of no channel, or of more than 255 */
     ZIMGASOL_CHANNELS = 61,
-    /* a batch limit of 0, or above the pages of a packet. No call of this header returns it */
+    /* a batch limit of 0, or above the pages of a packet */
     ZIMGASOL_BATCH_LIMIT = 62,
     /* a load into blocks: the stream's table isn't that of the blocks */
     ZIMGASOL_OTHER_TABLE = 63,
@@ -232,8 +232,8 @@ typedef enum zimgasol_status {
     ZIMGASOL_NO_PAGE = 107,
     /* a buffer of another length than is needed */
     ZIMGASOL_BAD_LENGTH = 108,
-    /* a call out of turn: a round is open, or none is, or the stream is ended; or no page of the
-     * block is due */
+    /* a call out of turn: a round is open, or none is, or the stream is ended; no page of the block
+     * is due; or a worker isn't the next one, or hasn't ended */
     ZIMGASOL_OUT_OF_TURN = 109,
     /* more pages than a packet has: 128 of 4096 bytes, 64 of 8192 */
     ZIMGASOL_TOO_MANY_PAGES = 110,
@@ -290,12 +290,33 @@ typedef struct zimgasol_text {
     size_t bytes_len;
 } zimgasol_text;
 
+/* A page of a block, by their numbers. */
+typedef struct zimgasol_place {
+    size_t block;
+    uint64_t page;
+} zimgasol_place;
+
+/* A block's bytes, lent for reading: its pages one after another. */
+typedef struct zimgasol_lent {
+    const uint8_t *bytes;
+    size_t len;
+} zimgasol_lent;
+
+/* A block's bytes, lent for writing. */
+typedef struct zimgasol_buffer {
+    uint8_t *bytes;
+    size_t len;
+} zimgasol_buffer;
+
 /* The handles. `full` is 0 where a handle is empty. Its other values are the library's. */
 typedef struct zimgasol_table { void *at; uint64_t full; } zimgasol_table;
 typedef struct zimgasol_loader { void *at; uint64_t full; } zimgasol_loader;
 typedef struct zimgasol_in_place { void *at; uint64_t full; } zimgasol_in_place;
 typedef struct zimgasol_session { void *at; uint64_t full; } zimgasol_session;
 typedef struct zimgasol_sender { void *at; uint64_t full; } zimgasol_sender;
+typedef struct zimgasol_in_place_session { void *at; uint64_t full; } zimgasol_in_place_session;
+typedef struct zimgasol_multi { void *at; uint64_t full; } zimgasol_multi;
+typedef struct zimgasol_worker { void *at; uint64_t full; } zimgasol_worker;
 
 /* ---- versions and texts */
 
@@ -522,6 +543,74 @@ ZIMGASOL_API zimgasol_status zimgasol_session_page(zimgasol_session *session, si
 /* Frees it, with the memory that it loaded. */
 ZIMGASOL_API void zimgasol_session_free(zimgasol_session *session);
 
+/* ---- a load of several channels into the caller's own blocks, each page written as soon as it has
+ *      come
+ *
+ * The caller has a buffer for each block of a table, as for a zimgasol_in_place, and passes all of
+ * them to each call that feeds. No second guest is held, and no round is kept: a page is written
+ * when its bytes have come. So between two rounds, and at DONE, the blocks have all rounds that are
+ * counted, on top of what they held at first. Within a round they may hold anything at the places
+ * that the round names. After a fault that is so of the round that failed, so the guest may not run
+ * then. Each call gets the blocks as the call before left them; nobody reads or writes one while a
+ * call has it.
+ *
+ * A source takes bytes up to the end of the round in hand. What follows waits with the caller until
+ * all sources have the round, and it was judged: a _feed that takes fewer bytes than it is passed
+ * leaves the rest, which is fed again once _takes returns true for the source. So for each source
+ * the caller keeps what wasn't taken, and goes round:
+ *
+ *     for (size_t source = 0; source <= channels; source++)
+ *         if (zimgasol_in_place_session_takes(&load, source))
+ *             feed what waits of it, or read more
+ *
+ * Of a channel only the hello is taken before the main stream's table is known. Verdict and rounds
+ * are those of a zimgasol_session of the bytes taken, but that a stream of another table is refused
+ * (OTHER_TABLE), with nothing written. */
+
+/* Makes a load into blocks of a table, of which it keeps copies, from 1 to 255 channels under a
+ * UUID of 16 bytes. Its main stream is read in this frame. Returns DONE, BAD_CHANNELS,
+ * BAD_LENGTH (of the UUID), BAD_FRAME or NO_MEMORY. */
+ZIMGASOL_API zimgasol_status zimgasol_in_place_session_new(zimgasol_in_place_session *session,
+    zimgasol_table *table, const uint8_t *uuid, size_t uuid_len, size_t channels,
+    zimgasol_frame frame);
+
+/* Takes the first bytes of a piece of a source, ZIMGASOL_MAIN or ZIMGASOL_CHANNEL(j), and writes
+ * their pages into the blocks, of which there are `count`, in the table's order. *taken is how
+ * many bytes it took: with DONE all, or fewer, as above; else 0. The array `blocks` stays as it
+ * is. Returns DONE, also where the verdict is there and no byte is taken; BAD_SOURCE, IS_OVER,
+ * TOO_LONG, or BAD_LENGTH (the blocks aren't the table's), where nothing has changed; NO_MEMORY,
+ * where the verdict is NO_MEMORY and the load has failed for good, or else nothing has changed,
+ * and the piece can be fed again. */
+ZIMGASOL_API zimgasol_status zimgasol_in_place_session_feed(zimgasol_in_place_session *session,
+    zimgasol_buffer *blocks, size_t count, size_t source, const uint8_t *piece, size_t len,
+    size_t *taken);
+
+/* Returns whether bytes of a source are taken now: not once the verdict is there, nor of a source
+ * that there isn't, that has the round in hand, that is closed or has a fault. */
+ZIMGASOL_API bool zimgasol_in_place_session_takes(zimgasol_in_place_session *session,
+    size_t source);
+
+/* A source is over, and all of its bytes were taken. Returns DONE or BAD_SOURCE. Once more changes
+ * nothing. */
+ZIMGASOL_API zimgasol_status zimgasol_in_place_session_end(zimgasol_in_place_session *session,
+    size_t source);
+
+/* Returns how many bytes of a source were taken: 0 where there is no such source. */
+ZIMGASOL_API uint64_t zimgasol_in_place_session_fed(zimgasol_in_place_session *session,
+    size_t source);
+
+/* Reports how the load stands on the bytes taken: DONE, RUNNING, or the number of the fault of the
+ * first round that doesn't pass. *found has the same number, with where it is. A verdict other than
+ * RUNNING stays. */
+ZIMGASOL_API zimgasol_status zimgasol_in_place_session_verdict(zimgasol_in_place_session *session,
+    zimgasol_fault *found);
+
+/* Returns how many rounds were judged lawful. The blocks have all of them. */
+ZIMGASOL_API uint64_t zimgasol_in_place_session_rounds(zimgasol_in_place_session *session);
+
+/* Frees it. The blocks stay the caller's. */
+ZIMGASOL_API void zimgasol_in_place_session_free(zimgasol_in_place_session *session);
+
 /* ---- a sender of one stream, whose rounds are put page by page, as they are read of a guest that
  *      runs on
  *
@@ -573,6 +662,94 @@ ZIMGASOL_API size_t zimgasol_sender_waiting(zimgasol_sender *sender);
 
 /* Frees it, with what wasn't drained. */
 ZIMGASOL_API void zimgasol_sender_free(zimgasol_sender *sender);
+
+/* ---- a sender on several channels, whose rounds are packed by workers on threads of the
+ *      caller's
+ *
+ * A round is begun with the dirty pages, which are cut into packets of at most `limit` pages.
+ * Each channel has a worker, with a handle of its own, which any thread may step: workers of one
+ * round run at once, each on its own thread, and draw packet after packet until none is left. No
+ * handle is shared between threads, and no call waits for another thread. A handle passes to
+ * another thread as above: by a thread's start and join, or a lock. One round:
+ *
+ *     zimgasol_multi_begin_round(&multi, dirty, count);
+ *     for each channel: zimgasol_multi_worker(&multi, &workers[j]);
+ *     on a thread for each worker:
+ *         while ((status = zimgasol_worker_step(&worker, blocks, block_count)) == ZIMGASOL_RUNNING)
+ *             while ((len = zimgasol_worker_drain(&worker, out, sizeof out)) > 0) send(out, len);
+ *         and drained once more
+ *     for each channel, in order: zimgasol_multi_give_back(&multi, &workers[j]);
+ *     zimgasol_multi_end_round(&multi);
+ *     while ((len = zimgasol_multi_drain(&multi, out, sizeof out)) > 0) send on the main stream
+ *
+ * All steps of a round are passed the same blocks, of the same bytes: nobody writes to them from
+ * the first step to the last. So it is for a guest that is stopped, for a snapshot, or for pages
+ * that are write-protected meanwhile. A worker is given back to the round that handed it out,
+ * and to no other one: nothing checks that. */
+
+/* Makes a sender of a table, of which it keeps a copy, on 1 to 255 channels under a UUID of 16
+ * bytes, with at most `limit` pages to a packet (128 pages of 4096 bytes, 64 of 8192). Returns
+ * DONE, BAD_LENGTH (of the UUID), CHANNELS, BATCH_LIMIT or NO_MEMORY. */
+ZIMGASOL_API zimgasol_status zimgasol_multi_new(zimgasol_multi *multi, zimgasol_table *table,
+    const uint8_t *uuid, size_t uuid_len, size_t channels, size_t limit);
+
+/* Begins a round of `count` dirty pages, in any order, of which each counts once. Returns DONE,
+ * OUT_OF_TURN where a round is open or the streams are ended, NO_PAGE where the table lacks one of
+ * them, or NO_MEMORY. A round can't be left out again. */
+ZIMGASOL_API zimgasol_status zimgasol_multi_begin_round(zimgasol_multi *multi,
+    const zimgasol_place *dirty, size_t count);
+
+/* Hands out the worker of the next channel, from channel 0 on, into an empty handle. Its bytes
+ * begin with those of its channel that weren't drained before, at first the hello. Returns DONE,
+ * NO_MEMORY, or OUT_OF_TURN where no round is open or all workers were handed out. */
+ZIMGASOL_API zimgasol_status zimgasol_multi_worker(zimgasol_multi *multi, zimgasol_worker *worker);
+
+/* Takes back the worker of the next channel, from channel 0 on, once it has ended; its handle is
+ * empty then. What wasn't drained of it is its channel's in the next round. Returns DONE,
+ * NO_MEMORY, or OUT_OF_TURN where no round is open, where the worker isn't the next one or
+ * hasn't ended, or where a drain gave a part of its bytes: the others are drained first. After
+ * anything but DONE the handle has the worker as before. */
+ZIMGASOL_API zimgasol_status zimgasol_multi_give_back(zimgasol_multi *multi,
+    zimgasol_worker *worker);
+
+/* Ends the round with a FLUSH on the main stream. Returns DONE, NO_MEMORY (the round is open as
+ * before), or OUT_OF_TURN where no round is open or not all workers are back. */
+ZIMGASOL_API zimgasol_status zimgasol_multi_end_round(zimgasol_multi *multi);
+
+/* Ends the streams. What waits of them is still to be drained. Returns DONE, NO_MEMORY, or
+ * OUT_OF_TURN where a round is open or they are ended. */
+ZIMGASOL_API zimgasol_status zimgasol_multi_finish(zimgasol_multi *multi);
+
+/* Copies the next bytes of the main stream to `out`, at most `len`, and returns how many, as
+ * zimgasol_sender_drain does: 0 where none waits. */
+ZIMGASOL_API size_t zimgasol_multi_drain(zimgasol_multi *multi, uint8_t *out, size_t len);
+
+/* Once the streams are ended, copies the next bytes that are left of a channel to `out`, and
+ * returns how many: 0 where none is left. Only what no worker was drained of is left, as the
+ * hellos where no round was sent. Before the end it returns 0. */
+ZIMGASOL_API size_t zimgasol_multi_drain_channel(zimgasol_multi *multi, size_t channel,
+    uint8_t *out, size_t len);
+
+/* Frees it, with what wasn't drained. Workers that are out stay, and are freed on their own. */
+ZIMGASOL_API void zimgasol_multi_free(zimgasol_multi *multi);
+
+/* Writes one packet of the round into the worker's channel, from the pages of the blocks, of
+ * which there are `count`, in the table's order; or its SYNC packet, if no other is left.
+ * Returns RUNNING, where the channel goes on; DONE, where the worker has ended, and once more
+ * changes nothing; NO_MEMORY, where nothing was written and the next call writes the packet; or
+ * BAD_LENGTH, where the blocks aren't the table's. */
+ZIMGASOL_API zimgasol_status zimgasol_worker_step(zimgasol_worker *worker,
+    const zimgasol_lent *blocks, size_t count);
+
+/* Copies the next bytes of the worker's channel to `out`, at most `len`, and returns how many: 0
+ * where none waits. */
+ZIMGASOL_API size_t zimgasol_worker_drain(zimgasol_worker *worker, uint8_t *out, size_t len);
+
+/* Returns the number of the worker's channel, from 0. */
+ZIMGASOL_API size_t zimgasol_worker_channel(zimgasol_worker *worker);
+
+/* Frees a worker that isn't given back. Its round can't be ended then. */
+ZIMGASOL_API void zimgasol_worker_free(zimgasol_worker *worker);
 
 /* ---- hellos and packets of channels, written into the caller's buffers */
 

@@ -4,7 +4,7 @@
 The worked examples of crates/mig_rows/data (`load.txt`, `several.txt` and `machine.txt`) are asked of the library through C: each text that the library's own
 program reads there is made here byte by byte or by the sender behind the header, fed in pieces of several lengths, and its answer has to be the
 one that stands beside it, every prefix and every fault of them; and so has that of a load into blocks of our own. Then the example programs send
-and load files of memory, a guest is migrated while it runs, and a program has each allocation refused in turn. All but the examples as data run
+and load files of memory, a guest is migrated while it runs, on one stream and on several channels, and a program has each allocation refused in turn. All but the examples as data run
 under valgrind too, where it is there, and the live migration with AddressSanitizer. The binding from Rust is built where rustc is there. The names
 that the archive has and wants are compared with what docs/C.md says.
 """
@@ -30,6 +30,9 @@ IS_DUE = 112
 CC = os.environ.get("CC", "cc")
 VALGRIND = ["valgrind", "-q", "--error-exitcode=99", "--leak-check=full", "--errors-for-leak-kinds=all"] if shutil.which("valgrind") else None
 
+
+# has the linker pass each allocation to examples/c/tests/refusing.h
+REFUSING = "-Wl,--wrap=malloc,--wrap=realloc,--wrap=free"
 
 # what the archive may want of the C library
 WANTED = {"malloc", "realloc", "free", "memcpy", "memmove", "memset", "memcmp", "bcmp"}
@@ -581,6 +584,15 @@ def live():
     subprocess.run([OUT / "live", "-m", "64", "-t"], check=True, stdout=subprocess.DEVNULL)
 
 
+def channels():
+    """A guest is migrated on several channels while it runs, a thread for each worker."""
+    for words in ((), ("-c", 1, "-m", 3, "-b", 1), ("-c", 8, "-m", 2)):
+        run(OUT / "channels", *words, wanted="0 pages differ")
+    run(OUT / "channels_asan", "-m", 4, wanted="0 pages differ")
+    if VALGRIND:
+        run(*VALGRIND, "--fair-sched=yes", OUT / "channels", "-m", 1, wanted="0 pages differ")
+
+
 def version_and_texts(library):
     """The library has the header's version, and a text for each of its statuses and no other number up to 200."""
     header = (TOP / "include/zimgasol.h").read_text()
@@ -641,8 +653,12 @@ def main():
     build("page", "examples/c/page.c")
     build("live", "examples/c/live.c", "-pthread")
     build("live_asan", "examples/c/live.c", "-pthread", "-fsanitize=address,undefined")
+    build("channels", "examples/c/channels.c", "-pthread")
+    build("channels_asan", "examples/c/channels.c", "-pthread", "-fsanitize=address,undefined")
+    build("channel_calls", "examples/c/tests/channels.c")
     build("send_failing", "examples/c/send.c", TOP / "examples/c/tests/failing_read.c", "-Wl,--wrap=fread")
-    build("refused", "examples/c/tests/refused.c", "-Wl,--wrap=malloc,--wrap=realloc,--wrap=free")
+    build("refused", "examples/c/tests/refused.c", REFUSING)
+    build("channels_refused", "examples/c/tests/channels_refused.c", REFUSING)
     print(symbols())
     library = Library()
     print(version_and_texts(library))
@@ -656,9 +672,13 @@ def main():
         print(f"the stored scenario's stream, and three hostile ones: as the tool{under}")
         print(f"files of memory sent and loaded: {send_and_load(before)} as they were{under}")
         print(run(*before, OUT / "refused").decode().strip() + under)
+        print(run(*before, OUT / "channels_refused").decode().strip() + under)
+        print(run(*before, OUT / "channel_calls").decode().strip() + under)
     failing_read()
     live()
     print("a guest migrated while it ran: no page differs")
+    channels()
+    print("a guest migrated while it ran, on several channels: no page differs")
     print(from_rust())
     sys.exit(1 if rows.wrong else 0)
 

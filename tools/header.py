@@ -18,9 +18,18 @@ STRUCTS = {
     "InPlaceHandle": "zimgasol_in_place",
     "SessionHandle": "zimgasol_session",
     "SenderHandle": "zimgasol_sender",
+    "InPlaceSessionHandle": "zimgasol_in_place_session",
+    "MultiHandle": "zimgasol_multi",
+    "WorkerHandle": "zimgasol_worker",
+    "NamedPlace": "zimgasol_place",
     "NamedBlock": "zimgasol_block",
     "FoundFault": "zimgasol_fault",
     "StatusText": "zimgasol_text",
+}
+# slices of bytes, in a slice: each is a pointer and a length to C
+SLICES = {
+    "&[&[u8]]": ("zimgasol_lent", ["const uint8_t *bytes", "size_t len"]),
+    "&mut [&mut [u8]]": ("zimgasol_buffer", ["uint8_t *bytes", "size_t len"]),
 }
 EXPORT = re.compile(r'pub (?:unsafe )?extern "C" fn (\w+)\s*\((.*?)\)\s*(?:->\s*([\w ]+?))?\s*(?=\n?\s*(?:requires|ensures|\{))', re.S)
 DECLARED = re.compile(r"^ZIMGASOL_API (void|zimgasol_status|uint32_t|uint64_t|size_t|bool) (zimgasol_\w+)\((.*?)\);", re.S | re.M)
@@ -35,6 +44,9 @@ def c_arguments(kind):
     """The types that one argument is to C."""
     if kind == "Global":
         return []
+    if kind in SLICES:
+        struct = SLICES[kind][0]
+        return [("" if kind.startswith("&mut") else "const ") + struct + " *", "size_t"]
     slice_of = re.fullmatch(r"&(mut )?\[(\w+)\]", kind)
     if slice_of:
         return [("" if slice_of[1] else "const ") + c_type(slice_of[2]) + " *", "size_t"]
@@ -95,7 +107,7 @@ def c_fields(label, kind):
 
 def struct_fields():
     """The fields of the structs that C sees, as both sides have them."""
-    sources = "".join(path.read_text() for path in (TOP / "crates/mig_c/src").glob("*.rt"))
+    sources = "".join(path.read_text() for crate in ("mig_c", "mig_c_calls") for path in (TOP / "crates" / crate / "src").glob("*.rt"))
     header = (TOP / "include/zimgasol.h").read_text()
     for rust, name in STRUCTS.items():
         if rust.endswith("Handle"):
@@ -106,11 +118,16 @@ def struct_fields():
         yield name, ours, theirs
 
 
+    for name, ours in SLICES.values():
+        theirs = [line.strip() for line in re.search(r"typedef struct %s \{(.*?)\}" % name, header, re.S)[1].split(";") if line.strip()]
+        yield name, ours, theirs
+
+
 def statuses():
     """The statuses that both sides name, with their numbers."""
-    ours = dict(re.findall(r"const (\w+): u32 = (\d+);", (TOP / "crates/mig_c/src/status.rt").read_text()))
+    ours = dict(re.findall(r"const (\w+): u32 = (\d+);", (TOP / "crates/mig_c_calls/src/status.rt").read_text()))
     theirs = dict(re.findall(r"ZIMGASOL_(\w+) = (\d+)", (TOP / "include/zimgasol.h").read_text()))
-    specs = dict(re.findall(r"^(\w+) = (\d+)$", (TOP / "crates/mig_c/specs/Status.antt").read_text(), re.M))
+    specs = dict(re.findall(r"^(\w+) = (\d+)$", (TOP / "crates/mig_c_calls/specs/Status.antt").read_text(), re.M))
     for name in ours:
         yield name, ours[name], theirs.get(name), specs.get(name.lower())
     for name, number in re.findall(r"const (\w+): u32 = (\d+);", (TOP / "crates/mig_c/src/frame.rt").read_text()):

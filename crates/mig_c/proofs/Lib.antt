@@ -3,3 +3,5 @@ pub mod Handles
 pub mod Sends
 pub mod HeldBlocks
 pub mod Crosses
+pub mod Moved
+pub mod LentBlocks

@@ -14,7 +14,7 @@ use Rattle.mig_single_load.specs.declared.fault.Origin.TheVariants as origin
 use Rattle.mig_answer.specs.declared.verdict.Verdict.{Verdict}
 use Rattle.mig_answer.specs.declared.verdict.Verdict.TheVariants as verdict
 use Rattle.mig_c.specs.declared.fault.FoundFault.{FoundFault}
-use Rattle.mig_c.specs.Status.{done, running, stream_truncated, is_due}
+use Rattle.mig_c_calls.specs.Status.{done, running, stream_truncated, is_due}
 
 -- where it was found: 0 is the main stream, 1 + j channel j, and the largest number the round, which is in no one text
 abbrev pub source_number : Origin → ℕ

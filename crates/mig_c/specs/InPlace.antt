@@ -17,7 +17,7 @@ use Rattle.mig_single_load.specs.declared.fault.LoadFault.{LoadFault}
 use Rattle.mig_single_load.specs.InPlace.{settings_of, IsOfOwnTable, HasVerdictOnto}
 use Rattle.mig_single_load.specs.InPlaceState.{InPlaceState, first_sections, FedWith, LoadsWith, WhereFed}
 use Rattle.mig_c.specs.declared.fault.FoundFault.{FoundFault}
-use Rattle.mig_c.specs.Status.{IsOneOf, done, running, no_memory, is_over, too_long, bad_length, no_page, out_of_turn, is_due, bad_frame}
+use Rattle.mig_c_calls.specs.Status.{IsOneOf, done, running, no_memory, is_over, too_long, bad_length, no_page, out_of_turn, is_due, bad_frame}
 use Rattle.mig_c.specs.Frames.{frame_of, load_settings}
 use Rattle.mig_c.specs.Found.{seen_so_far, has_due}
 

@@ -3,12 +3,15 @@ use Rattle.std.specs.Prelude.{Option, None, Some, ⊤}
 use Rattle.mig_mem.specs.RamTable.{RamTable}
 use Rattle.mig_single_load.specs.Loader.{Loader}
 use Rattle.mig_session.specs.Session.{LoadSession}
+use Rattle.mig_in_place.specs.Session.{InPlaceLoad}
 use Rattle.mig_c.specs.InPlace.{HeldLoad}
 use Rattle.mig_c.specs.declared.sender.Sender.{Sender}
+use Rattle.mig_c_calls.specs.declared.sending.Multi.{Multi}
+use Rattle.mig_c_calls.specs.declared.sending.HeldWorker.{HeldWorker}
 use Rattle.mig_c.specs.declared.object.Object.{Object}
 use Rattle.mig_c.specs.declared.object.Object.TheVariants as object
 
--- the table, the loader, the load in place, the session and the sender that an object is
+-- the table, the loader and so on that an object is
 abbrev pub table_in : Option Object → Option RamTable
 table_in None = None
 table_in (Some (object.Table x)) = Some x
@@ -16,6 +19,10 @@ table_in (Some (object.Loader x)) = None
 table_in (Some (object.InPlace x)) = None
 table_in (Some (object.Session x)) = None
 table_in (Some (object.Sender x)) = None
+table_in (Some (object.InPlaceSession x)) = None
+table_in (Some (object.Multi x)) = None
+table_in (Some (object.Worker x)) = None
+table_in (Some object.Empty) = None
 
 abbrev pub loader_in : Option Object → Option Loader
 loader_in None = None
@@ -24,6 +31,10 @@ loader_in (Some (object.Loader x)) = Some x
 loader_in (Some (object.InPlace x)) = None
 loader_in (Some (object.Session x)) = None
 loader_in (Some (object.Sender x)) = None
+loader_in (Some (object.InPlaceSession x)) = None
+loader_in (Some (object.Multi x)) = None
+loader_in (Some (object.Worker x)) = None
+loader_in (Some object.Empty) = None
 
 abbrev pub in_place_in : Option Object → Option HeldLoad
 in_place_in None = None
@@ -32,6 +43,10 @@ in_place_in (Some (object.Loader x)) = None
 in_place_in (Some (object.InPlace x)) = Some x
 in_place_in (Some (object.Session x)) = None
 in_place_in (Some (object.Sender x)) = None
+in_place_in (Some (object.InPlaceSession x)) = None
+in_place_in (Some (object.Multi x)) = None
+in_place_in (Some (object.Worker x)) = None
+in_place_in (Some object.Empty) = None
 
 abbrev pub session_in : Option Object → Option LoadSession
 session_in None = None
@@ -40,6 +55,10 @@ session_in (Some (object.Loader x)) = None
 session_in (Some (object.InPlace x)) = None
 session_in (Some (object.Session x)) = Some x
 session_in (Some (object.Sender x)) = None
+session_in (Some (object.InPlaceSession x)) = None
+session_in (Some (object.Multi x)) = None
+session_in (Some (object.Worker x)) = None
+session_in (Some object.Empty) = None
 
 abbrev pub sender_in : Option Object → Option Sender
 sender_in None = None
@@ -48,6 +67,46 @@ sender_in (Some (object.Loader x)) = None
 sender_in (Some (object.InPlace x)) = None
 sender_in (Some (object.Session x)) = None
 sender_in (Some (object.Sender x)) = Some x
+sender_in (Some (object.InPlaceSession x)) = None
+sender_in (Some (object.Multi x)) = None
+sender_in (Some (object.Worker x)) = None
+sender_in (Some object.Empty) = None
+
+abbrev pub in_place_session_in : Option Object → Option InPlaceLoad
+in_place_session_in None = None
+in_place_session_in (Some (object.Table x)) = None
+in_place_session_in (Some (object.Loader x)) = None
+in_place_session_in (Some (object.InPlace x)) = None
+in_place_session_in (Some (object.Session x)) = None
+in_place_session_in (Some (object.Sender x)) = None
+in_place_session_in (Some (object.InPlaceSession x)) = Some x
+in_place_session_in (Some (object.Multi x)) = None
+in_place_session_in (Some (object.Worker x)) = None
+in_place_session_in (Some object.Empty) = None
+
+abbrev pub multi_in : Option Object → Option Multi
+multi_in None = None
+multi_in (Some (object.Table x)) = None
+multi_in (Some (object.Loader x)) = None
+multi_in (Some (object.InPlace x)) = None
+multi_in (Some (object.Session x)) = None
+multi_in (Some (object.Sender x)) = None
+multi_in (Some (object.InPlaceSession x)) = None
+multi_in (Some (object.Multi x)) = Some x
+multi_in (Some (object.Worker x)) = None
+multi_in (Some object.Empty) = None
+
+abbrev pub worker_in : Option Object → Option HeldWorker
+worker_in None = None
+worker_in (Some (object.Table x)) = None
+worker_in (Some (object.Loader x)) = None
+worker_in (Some (object.InPlace x)) = None
+worker_in (Some (object.Session x)) = None
+worker_in (Some (object.Sender x)) = None
+worker_in (Some (object.InPlaceSession x)) = None
+worker_in (Some (object.Multi x)) = None
+worker_in (Some (object.Worker x)) = Some x
+worker_in (Some object.Empty) = None
 
 -- The call is handed an object of its kind and leaves one, and this holds between the two.
 abbrev pub Turns : {A : Type 0} → (A → A → Type 0) → Option A → Option A → Type 0

@@ -1,5 +1,6 @@
--- To read first: the statuses; what stands behind a handle, and what a call makes of it; then table, loader, load in place, session and sender
-pub mod Status
+-- To read first: what stands behind a handle, and what a call makes of it; then table, loader, load
+-- in place, session and sender, and the load in place of several channels. The statuses, and the
+-- sender on several channels, are those of `mig_c_calls`.
 pub mod Kinds
 pub mod Blocks
 pub mod Tables
@@ -12,5 +13,6 @@ pub mod InPlace
 pub mod Sessions
 pub mod Sending
 pub mod Packets
+pub mod InPlaceSessions
 -- the inside: what a handle owns
 pub mod Owned

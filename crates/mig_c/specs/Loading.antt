@@ -7,7 +7,7 @@ use Rattle.mig_single_load.specs.Loader.{Loader, Loads, HasAllSections, Waits, J
 use Rattle.mig_mem.specs.PageSize.{IsPageSize}
 use Rattle.mig_stream.specs.Reader.{IsSettled, HasClosedAt}
 use Rattle.mig_c.specs.declared.fault.FoundFault.{FoundFault}
-use Rattle.mig_c.specs.Status.{IsOneOf, done, running, waits, no_memory, is_over, too_long, bad_page_size, bad_limit, bad_frame}
+use Rattle.mig_c_calls.specs.Status.{IsOneOf, done, running, waits, no_memory, is_over, too_long, bad_page_size, bad_limit, bad_frame}
 use Rattle.mig_c.specs.Frames.{frame_of, asked_settings}
 use Rattle.mig_c.specs.Found.{seen_so_far}
 

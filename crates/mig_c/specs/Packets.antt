@@ -3,7 +3,7 @@ use Rattle.std.specs.Prelude.{◌≡◌, ◌≢◌, ◌≤◌, ◌<◌, ◌+◌,
 use Rattle.mig_packet.specs.PageSize.{IsPageSize, page_limit}
 use Rattle.mig_packet.specs.Hello.{written_hello}
 use Rattle.mig_packet.specs.Written.{written_packet}
-use Rattle.mig_c.specs.Status.{IsOneOf, done, no_memory, bad_page_size, bad_length, too_many_pages}
+use Rattle.mig_c_calls.specs.Status.{IsOneOf, done, no_memory, bad_page_size, bad_length, too_many_pages}
 
 -- A hello, in a buffer of its 64 bytes.
 pub record Greets (uuid : List ℕ) (id : ℕ) (status : ℕ) (old new : List ℕ) : Type 0 where

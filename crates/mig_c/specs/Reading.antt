@@ -7,7 +7,7 @@ use Rattle.mig_mem.specs.RamTable.{block}
 use Rattle.mig_c.specs.Blocks.{named}
 use Rattle.mig_mem.specs.Image.{Image, content}
 use Rattle.mig_c.specs.declared.block.NamedBlock.{NamedBlock}
-use Rattle.mig_c.specs.Status.{IsOneOf, done, no_page, bad_length}
+use Rattle.mig_c_calls.specs.Status.{IsOneOf, done, no_page, bad_length}
 
 abbrev pub place_at : ℕ → ℕ → Place
 place_at block page = record { block = block; page = page }

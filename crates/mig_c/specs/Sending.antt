@@ -10,7 +10,7 @@ use Rattle.mig_send.specs.Sending.{HasSentDrained}
 use Rattle.mig_c.specs.declared.sender.Sender.{Sender}
 use Rattle.mig_c.specs.declared.sender.Sending.{Sending}
 use Rattle.mig_c.specs.declared.sender.Sending.TheVariants.{Idle, Round, Over}
-use Rattle.mig_c.specs.Status.{IsOneOf, done, no_memory, no_page, bad_length, out_of_turn}
+use Rattle.mig_c_calls.specs.Status.{IsOneOf, done, no_memory, no_page, bad_length, out_of_turn}
 
 -- the bytes that were drained of the stream's writer and wait to be handed out
 abbrev pub waiting : Sender → List ℕ

@@ -8,7 +8,7 @@ use Rattle.mig_answer.specs.Texts.{no_texts}
 use Rattle.mig_session.specs.Session.{LoadSession, StandsFor, HasSource, count_of, feed_step, end_step, answer_in, StepsOn, RunsOut, StillLacks}
 use Rattle.mig_session.specs.Advancing.{failed_without_memory}
 use Rattle.mig_mem.specs.PageSize.{IsPageSize}
-use Rattle.mig_c.specs.Status.{IsOneOf, done, no_memory, bad_page_size, bad_limit, bad_channels, bad_source, is_over, too_long, bad_length, bad_frame}
+use Rattle.mig_c_calls.specs.Status.{IsOneOf, done, no_memory, bad_page_size, bad_limit, bad_channels, bad_source, is_over, too_long, bad_length, bad_frame}
 use Rattle.mig_c.specs.Frames.{frame_of, asked_settings}
 
 -- a session that was fed nothing

@@ -7,7 +7,7 @@ use Rattle.mig_mem.specs.declared.fault.TableFault.{TableFault}
 use Rattle.mig_mem.specs.declared.fault.TableFault.TheVariants as fault
 use Rattle.mig_c.specs.declared.block.NamedBlock.{NamedBlock}
 use Rattle.mig_c.specs.Blocks.{table_of}
-use Rattle.mig_c.specs.Status.{done, no_memory, bad_page_size}
+use Rattle.mig_c_calls.specs.Status.{done, no_memory, bad_page_size}
 
 -- The fault is that of the block of this number, where it is one block's, and else the number is 0.
 abbrev pub IsAt : TableFault → ℕ → Type 0

@@ -3,8 +3,8 @@
 ghost use Rattle.std.specs.Prelude.{◌≡◌};
 ghost use Rattle.mig_c.specs.Found.{source_number, carried_of_stream, carried_of_round, carried, found_of, no_fault, so_far, seen_so_far, goes_on, has_due};
 
-use crate::status::{IS_DUE, RUNNING, STREAM_TRUNCATED};
 use mig_assemble::RoundFault;
+use mig_c_calls::status::{IS_DUE, RUNNING, STREAM_TRUNCATED};
 use mig_packet::ChannelFault;
 use mig_single_load::{Fault, LoadFault, Origin};
 use mig_stream::StreamFault;

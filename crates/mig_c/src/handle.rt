@@ -146,6 +146,39 @@ pub struct SenderHandle {
     ghost says: { full ≡ 0 ↔ handle.value ≡ None },
 }
 
+/// A load of several channels into blocks of C, or none.
+#[repr(C)]
+#[derive(Drop)]
+pub struct InPlaceSessionHandle {
+    /// What is behind it.
+    pub handle: Handle,
+    /// 0 where nothing is behind it, else 1.
+    pub full: u64,
+    ghost says: { full ≡ 0 ↔ handle.value ≡ None },
+}
+
+/// A sender on several channels, or none.
+#[repr(C)]
+#[derive(Drop)]
+pub struct MultiHandle {
+    /// What is behind it.
+    pub handle: Handle,
+    /// 0 where nothing is behind it, else 1.
+    pub full: u64,
+    ghost says: { full ≡ 0 ↔ handle.value ≡ None },
+}
+
+/// A worker of a round on several channels, or none.
+#[repr(C)]
+#[derive(Drop)]
+pub struct WorkerHandle {
+    /// What is behind it.
+    pub handle: Handle,
+    /// 0 where nothing is behind it, else 1.
+    pub full: u64,
+    ghost says: { full ≡ 0 ↔ handle.value ≡ None },
+}
+
 // Asks the prover, wherever it is called, for the proof that values of the type may go to another
 // thread. The line `unsafe impl Send` asks for none.
 fn crosses<T: Send>(_: &T) {}
@@ -159,10 +192,16 @@ pub(crate) fn all_cross(
     in_place: &InPlaceHandle,
     session: &SessionHandle,
     sender: &SenderHandle,
+    in_place_session: &InPlaceSessionHandle,
+    multi: &MultiHandle,
+    worker: &WorkerHandle,
 ) {
     crosses(table);
     crosses(loader);
     crosses(in_place);
     crosses(session);
     crosses(sender);
+    crosses(in_place_session);
+    crosses(multi);
+    crosses(worker);
 }

@@ -12,7 +12,7 @@ ghost use Rattle.mig_c.specs.InPlace.{held_load, whole_rounds, due_block, due_pa
 
 use crate::fault::{FoundFault, due, of_verdict};
 use crate::putting::DueSection;
-use crate::status::{
+use mig_c_calls::status::{
     BAD_LENGTH, DONE, IS_DUE, IS_OVER, MAX_LIMIT, NO_MEMORY, NO_PAGE, OUT_OF_TURN, ROOM, RUNNING,
     TOO_LONG,
 };

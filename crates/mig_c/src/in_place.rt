@@ -1,7 +1,7 @@
 //! A load of one stream into blocks of C: it is fed in pieces, and what came is put block by block, into bytes that each call is handed.
 
 ghost use Rattle.std.specs.Prelude.{◌≡◌, ◌≢◌, ◌≤◌, ◌^◌, IsSome, IfOk, None, Some};
-ghost use Rattle.mig_c.specs.Status.{done};
+ghost use Rattle.mig_c_calls.specs.Status.{done};
 ghost use Rattle.mig_c.specs.Kinds.{table_in, in_place_in, Turns, Tells};
 ghost use Rattle.mig_c.specs.InPlace.{whole_rounds, Opens, OpensInPlace, FeedsInPlace, TellsNext, PutsBlock, EndsInPlace, TellsVerdict, TellsClosedAt};
 
@@ -10,7 +10,7 @@ use crate::frame::frame_of;
 use crate::handle::{Handle, InPlaceHandle, TableHandle};
 use crate::held::HeldLoad;
 use crate::object::Object;
-use crate::status::{BAD_FRAME, DONE, NO_MEMORY};
+use mig_c_calls::status::{BAD_FRAME, DONE, NO_MEMORY};
 use mig_mem::{NoMemory, Table};
 use mig_stream::Frame;
 use std::alloc::Global;

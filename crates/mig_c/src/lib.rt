@@ -1,5 +1,4 @@
-//! The library for callers in C: senders and loaders of one stream, also into blocks of C, sessions of several channels that are fed in pieces,
-//! hellos and packets.
+//! The library for callers in C: senders and loaders of one stream and of several channels, also into blocks of C; hellos and packets.
 //! Its header is `include/zimgasol.h`, which tells the calls one by one.
 //!
 //! C holds what it works on by a handle (`handle`), which owns an object in a box (`object`), and hands it to each call. A call asks of
@@ -13,9 +12,13 @@ mod fault;
 mod frame;
 mod handle;
 mod held;
+mod held_session;
 mod in_place;
+mod in_place_session;
+mod lent;
 mod loader;
 mod loose;
+mod multi;
 mod object;
 mod packet;
 mod putting;
@@ -23,6 +26,6 @@ mod reading;
 mod sender;
 mod session;
 mod sources;
-mod status;
 mod table;
 mod text;
+mod worker;

@@ -3,7 +3,7 @@
 ghost use Rattle.std.specs.Prelude.{◌≡◌, ◌≢◌, ◌≤◌, ◌^◌, IsSome, IfOk, None, Some, IsTrue, length};
 ghost use Rattle.mig_mem.specs.PageSize.{IsPageSize};
 ghost use Rattle.mig_single_load.specs.Loader.{memory_of, sections_loaded};
-ghost use Rattle.mig_c.specs.Status.{done};
+ghost use Rattle.mig_c_calls.specs.Status.{done};
 ghost use Rattle.mig_c.specs.Kinds.{loader_in, Turns, Tells};
 ghost use Rattle.mig_c.specs.Reading.{GivesPage, GivesBlock, place_at, block_count};
 ghost use Rattle.mig_c.specs.Loading.{IsFresh, Opens, Feeds, Settles, Ends, TellsVerdict, TellsClosedAt, OpensLoader};
@@ -14,7 +14,7 @@ use crate::frame::frame_of;
 use crate::handle::{Handle, LoaderHandle};
 use crate::object::Object;
 use crate::reading;
-use crate::status::{
+use mig_c_calls::status::{
     BAD_FRAME, BAD_LIMIT, BAD_PAGE_SIZE, DONE, IS_OVER, MAX_LIMIT, NO_MEMORY, ROOM, RUNNING,
     TOO_LONG, WAITS,
 };

@@ -1,7 +1,9 @@
 //! What stands behind a handle.
 
 use crate::held::HeldLoad;
+use crate::held_session::HeldSession;
 use crate::sender::Sender;
+use mig_c_calls::{HeldWorker, Multi};
 use mig_mem::Table;
 use mig_session::Session;
 use mig_single_load::SingleLoader;
@@ -20,4 +22,12 @@ pub enum Object {
     Session(Session<Global>),
     /// A sender of one stream.
     Sender(Sender),
+    /// A load of several channels into blocks of C.
+    InPlaceSession(HeldSession),
+    /// A sender on several channels.
+    Multi(Multi),
+    /// A worker of a round on several channels.
+    Worker(HeldWorker),
+    /// Nothing: room for a worker.
+    Empty,
 }

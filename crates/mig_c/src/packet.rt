@@ -5,7 +5,7 @@ ghost use Rattle.mig_packet.specs.PageSize.{IsPageSize, page_limit};
 ghost use Rattle.mig_packet.specs.Written.{written_packet};
 ghost use Rattle.mig_c.specs.Packets.{Greets, CopiesOut, PutsPacket};
 
-use crate::status::{BAD_LENGTH, BAD_PAGE_SIZE, DONE, NO_MEMORY, TOO_MANY_PAGES};
+use mig_c_calls::status::{BAD_LENGTH, BAD_PAGE_SIZE, DONE, NO_MEMORY, TOO_MANY_PAGES};
 use mig_mem::is_page_size;
 use mig_packet::{NoMemory, hello, page_limit, put_packet};
 use std::alloc::Global;

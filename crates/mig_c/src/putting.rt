@@ -40,7 +40,8 @@ fn page_of(bytes: &[u8], size: u64, page: u64) -> &[u8]
     &bytes[start..start + size as usize]
 }
 
-fn write_page(bytes: &mut [u8], size: u64, page: u64, content: &[u8])
+/// Writes a page's content.
+pub(crate) fn write_page(bytes: &mut [u8], size: u64, page: u64, content: &[u8])
     requires room { page * size + size ≤ length bytes.old }
     requires len { length content.now ≡ size }
     ensures { bytes.new ≡ with_content size bytes.old page content.now }
@@ -49,8 +50,8 @@ fn write_page(bytes: &mut [u8], size: u64, page: u64, content: &[u8])
     bytes[start..start + size as usize].copy_from_slice(content);
 }
 
-// Makes a page zeros. A page that is zeros isn't written, so that the system need not back it.
-fn clear_page(bytes: &mut [u8], size: u64, page: u64)
+/// Makes a page zeros. A page that is zeros isn't written, so that the system need not back it.
+pub(crate) fn clear_page(bytes: &mut [u8], size: u64, page: u64)
     requires size { IsPageSize size }
     requires room { page * size + size ≤ length bytes.old }
     ensures { bytes.new ≡ with_content size bytes.old page (zero_page size) }

@@ -6,7 +6,7 @@ ghost use Rattle.mig_c.specs.Blocks.{named_id};
 ghost use Rattle.mig_c.specs.Reading.{GivesPage, GivesBlock, place_at, block_count};
 
 use crate::block::NamedBlock;
-use crate::status::{BAD_LENGTH, DONE, NO_PAGE};
+use mig_c_calls::status::{BAD_LENGTH, DONE, NO_PAGE};
 use mig_mem::{Memory, Place};
 use std::alloc::Global;
 

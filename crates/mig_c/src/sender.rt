@@ -1,14 +1,15 @@
 //! A sender of one stream, whose rounds are put page by page, and whose text is drained into buffers of C.
 
-ghost use Rattle.std.specs.Prelude.{◌∷◌, [], ◌≡◌, ◌≢◌, ◌<◌, ◌≤◌, IsSome, IfOk, None, Some, drop, take, length};
-ghost use Rattle.mig_c.specs.Status.{IsOneOf, done, no_memory};
+ghost use Rattle.std.specs.Prelude.{◌∷◌, [], ◌≡◌, ◌≢◌, ◌<◌, ◌≤◌, IsSome, IfOk, None, Some};
+ghost use Rattle.mig_c_calls.specs.Status.{IsOneOf, done, no_memory};
 ghost use Rattle.mig_c.specs.Kinds.{table_in, sender_in, Turns};
 ghost use Rattle.mig_c.specs.Reading.{place_at};
 ghost use Rattle.mig_c.specs.Sending.{Starts, Begins, Puts, EndsRound, Cancels, Finishes, Changes, Adds, Drains, Refills, Hands, Peeks, Counts, Skips};
 
 use crate::handle::{Handle, SenderHandle, TableHandle};
 use crate::object::Object;
-use crate::status::{BAD_LENGTH, DONE, NO_MEMORY, NO_PAGE, OUT_OF_TURN};
+use mig_c_calls::status::{BAD_LENGTH, DONE, NO_MEMORY, NO_PAGE, OUT_OF_TURN};
+use mig_c_calls::{behind, copy_front};
 use mig_mem::{NoMemory, Place, Table};
 use mig_send::{OpenRound, SingleSender};
 use std::alloc::Global;
@@ -321,28 +322,6 @@ fn refill(sender: &mut Sender)
             sender.given = 0;
         }
     }
-}
-
-// The bytes behind those that were handed out.
-fn behind(drained: &[u8], given: usize) -> &[u8]
-    ensures { result.now ≡ drop given drained.now }
-{
-    match drained.get(given..) {
-        Some(rest) => rest,
-        None => &[],
-    }
-}
-
-// Copies as many bytes to the front of a buffer as it has room for.
-fn copy_front(bytes: &[u8], out: &mut [u8]) -> usize
-    ensures fits { result ≤ length out.new }
-    ensures within { result ≤ length bytes.now }
-    ensures front { take result out.new ≡ take result bytes.now }
-    ensures none { result ≡ 0 → 0 < length out.new → length bytes.now ≡ 0 }
-{
-    let count = bytes.len().min(out.len());
-    out[..count].copy_from_slice(&bytes[..count]);
-    count
 }
 
 // Hands out the first bytes that wait.

@@ -3,7 +3,7 @@
 ghost use Rattle.std.specs.Prelude.{◌≡◌, ◌≢◌, ◌≤◌, ◌^◌, IsSome, IfOk, None, Some, length};
 ghost use Rattle.mig_mem.specs.PageSize.{IsPageSize};
 ghost use Rattle.mig_session.specs.Session.{answer_in};
-ghost use Rattle.mig_c.specs.Status.{done};
+ghost use Rattle.mig_c_calls.specs.Status.{done};
 ghost use Rattle.mig_c.specs.Kinds.{session_in, Turns, Tells};
 ghost use Rattle.mig_c.specs.Found.{seen_of_verdict};
 ghost use Rattle.mig_c.specs.Reading.{GivesPage, GivesBlock, place_at, block_count};
@@ -16,10 +16,10 @@ use crate::handle::{Handle, SessionHandle};
 use crate::object::Object;
 use crate::reading;
 use crate::sources::{end_source, fed_of, feed_source, source_of};
-use crate::status::{
+use mig_answer::Verdict;
+use mig_c_calls::status::{
     BAD_CHANNELS, BAD_FRAME, BAD_LENGTH, BAD_LIMIT, BAD_PAGE_SIZE, DONE, MAX_LIMIT, NO_MEMORY,
 };
-use mig_answer::Verdict;
 use mig_mem::{NoMemory, is_page_size};
 use mig_session::{Session, Source};
 use mig_single_load::LoadSettings;

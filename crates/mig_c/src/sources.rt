@@ -4,7 +4,7 @@ ghost use Rattle.std.specs.Prelude.{◌≡◌, ◌↔◌, IsTrue};
 ghost use Rattle.mig_session.specs.Session.{HasSource};
 ghost use Rattle.mig_c.specs.Sessions.{FeedsSource, EndsSource, TellsFed, source_of};
 
-use crate::status::{BAD_SOURCE, DONE, IS_OVER, NO_MEMORY, TOO_LONG};
+use mig_c_calls::status::{BAD_SOURCE, DONE, IS_OVER, NO_MEMORY, TOO_LONG};
 use mig_mem::NoMemory;
 use mig_session::{Session, Source};
 use std::alloc::Global;

@@ -11,7 +11,7 @@ ghost use Rattle.mig_c.specs.Tables.{IsAt, Makes};
 use crate::block::{NamedBlock, entries};
 use crate::handle::{Handle, TableHandle};
 use crate::object::Object;
-use crate::status::{BAD_PAGE_SIZE, DONE, NO_MEMORY};
+use mig_c_calls::status::{BAD_PAGE_SIZE, DONE, NO_MEMORY};
 use mig_mem::{Table, TableFault, is_page_size};
 use std::alloc::Global;
 

@@ -1,51 +1,13 @@
 /* Each allocation refused in turn. A guest of two blocks is sent, loaded by a loader, into blocks and by a session, and read out, with the nth call of malloc
- * or realloc refused: the call that wanted it says so, and is made again. What comes of it is the same as with no refusal, and no block is left.
- * It is linked with -Wl,--wrap=malloc,--wrap=realloc,--wrap=free. */
+ * or realloc refused: the call that wanted it says so, and is made again. What comes of it is the same as with no refusal, and no block is left. */
 #include "zimgasol.h"
-#include <stdio.h>
-#include <stdlib.h>
+#include "refusing.h"
 #include <string.h>
-
-void *__real_malloc(size_t len);
-void *__real_realloc(void *at, size_t len);
-void __real_free(void *at);
-
-static long counted, refused, held, refusals;
-
-static int is_refused(void) {
-    int is = ++counted == refused;
-    refusals += is;
-    return is;
-}
-
-void *__wrap_malloc(size_t len) {
-    if (is_refused()) return NULL;
-    void *at = __real_malloc(len);
-    held += at != NULL;
-    return at;
-}
-
-void *__wrap_realloc(void *at, size_t len) {
-    if (is_refused()) return NULL;
-    void *now = __real_realloc(at, len);
-    held += at == NULL && now != NULL;
-    return now;
-}
-
-void __wrap_free(void *at) {
-    held -= at != NULL;
-    __real_free(at);
-}
 
 enum { PAGE = 4096, MOST = 1 << 17 };
 
 static uint8_t page[PAGE], text[MOST], main_text[MOST], channel_text[MOST];
 static size_t text_len, main_len, channel_len;
-
-#define WANT(test) do { if (!(test)) { printf("refusal %ld: line %d: %s\n", refused, __LINE__, #test); exit(1); } } while (0)
-
-/* Makes a call, and makes it again where it was refused. */
-#define AGAIN(call) do { uint32_t status = (call); if (status == ZIMGASOL_NO_MEMORY) { WANT(refusals == 1); status = (call); } WANT(status == ZIMGASOL_DONE); } while (0)
 
 static void fill(uint8_t first, uint8_t other) {
     memset(page, other, PAGE);

@@ -10,6 +10,14 @@ done = 0
 abbrev pub no_memory : ℕ
 no_memory = 60
 
+-- the numbers of a sender's faults: no channel or more than 255, and a batch limit of 0 or above the
+-- pages of a packet
+abbrev pub channels : ℕ
+channels = 61
+
+abbrev pub batch_limit : ℕ
+batch_limit = 62
+
 -- the load goes on: more of a text is needed
 abbrev pub running : ℕ
 running = 100

@@ -1,0 +1,279 @@
+//! The calls of a load of several channels into blocks of C, which is fed in pieces by source. Each
+//! page is written as soon as its bytes have come.
+
+ghost use Rattle.std.specs.Prelude.{◌≡◌, ◌≢◌, ◌≤◌, IsSome, IfOk, None, Some};
+ghost use Rattle.mig_mem.specs.Lent.{mut_lent_bytes};
+ghost use Rattle.mig_c_calls.specs.Status.{done};
+ghost use Rattle.mig_c.specs.Kinds.{table_in, in_place_session_in, Turns, Tells};
+ghost use Rattle.mig_c.specs.Found.{seen_of_verdict};
+ghost use Rattle.mig_c.specs.Sessions.{source_of};
+ghost use Rattle.mig_c.specs.InPlaceSessions.{Opens, OpensInto, FeedsBlocks, EndsSource, TellsTaken, TellsTakes};
+
+use crate::fault::FoundFault;
+use crate::frame::frame_of;
+use crate::handle::{Handle, InPlaceSessionHandle, TableHandle};
+use crate::held_session::HeldSession;
+use crate::object::Object;
+use crate::sources::source_of;
+use mig_c_calls::status::{BAD_CHANNELS, BAD_FRAME, BAD_LENGTH, DONE, NO_MEMORY};
+use mig_mem::{NoMemory, Table};
+use mig_session::Source;
+use mig_stream::Frame;
+use std::alloc::Global;
+use uuid::Uuid;
+
+// A load in a box.
+fn made(
+    alloc: Global,
+    table: &Table<Global>,
+    uuid: &Uuid,
+    channels: usize,
+    frame: Frame,
+) -> Result<Box<Object>, NoMemory>
+    requires channels { (1 ≤ channels) × (channels ≤ 255) }
+    ensures { IfOk result (λ object. Opens (Some table.now) uuid.now channels (Some frame) (in_place_session_in (Some object.value))) }
+{
+    let load = HeldSession::new(alloc, table, uuid, channels, frame)?;
+    Ok(Box::new(alloc, Object::InPlaceSession(load))?)
+}
+
+fn made_of(
+    alloc: Global,
+    table: &Object,
+    uuid: &Uuid,
+    channels: usize,
+    frame: Frame,
+) -> Result<Box<Object>, NoMemory>
+    requires table { IsSome (table_in (Some table.now)) }
+    requires channels { (1 ≤ channels) × (channels ≤ 255) }
+    ensures { IfOk result (λ object. Opens (table_in (Some table.now)) uuid.now channels (Some frame) (in_place_session_in (Some object.value))) }
+{
+    match table {
+        Object::Table(table) => made(alloc, table, uuid, channels, frame),
+        _ => unreachable!(),
+    }
+}
+
+/// Makes a load that took nothing, into blocks of a table, of which it keeps copies, from so many
+/// channels under a UUID of 16 bytes. Its main stream is read in a frame.
+#[unsafe(no_mangle)]
+pub extern "C" fn zimgasol_in_place_session_new(
+    alloc: Global,
+    session: &mut InPlaceSessionHandle,
+    table: &mut TableHandle,
+    uuid: &[u8],
+    channels: usize,
+    frame: u32,
+) -> u32
+    requires none { session.old.handle.value ≡ None }
+    requires table { IsSome (table_in table.old.handle.value) }
+    ensures opens { OpensInto (table_in table.old.handle.value) uuid.now channels frame result (in_place_session_in session.new.handle.value) }
+    ensures none { result ≢ done → session.new.handle.value ≡ None }
+    ensures table { table.new.handle.value ≡ table.old.handle.value }
+{
+    if channels == 0 || channels > 255 {
+        return BAD_CHANNELS;
+    }
+    let Ok(uuid) = Uuid::from_slice(uuid) else {
+        return BAD_LENGTH;
+    };
+    let Some(frame) = frame_of(frame) else {
+        return BAD_FRAME;
+    };
+    let object = table.handle.take().into_box(alloc);
+    let made = made_of(alloc, &object, &uuid, channels, frame);
+    table.handle = Handle::of(object);
+    match made {
+        Ok(object) => {
+            session.handle = Handle::of(object);
+            session.full = 1;
+            DONE
+        }
+        Err(NoMemory) => NO_MEMORY,
+    }
+}
+
+fn feed(
+    alloc: Global,
+    object: &mut Object,
+    blocks: &mut [&mut [u8]],
+    source: Source,
+    piece: &[u8],
+    taken: &mut usize,
+) -> u32
+    requires { IsSome (in_place_session_in (Some object.old)) }
+    ensures { Turns (FeedsBlocks source piece.now (mut_lent_bytes blocks.old) (mut_lent_bytes blocks.new) taken.new result)
+        (in_place_session_in (Some object.old)) (in_place_session_in (Some object.new)) }
+{
+    match object {
+        Object::InPlaceSession(load) => load.feed(alloc, blocks, source, piece, taken),
+        _ => unreachable!(),
+    }
+}
+
+/// Takes the first bytes of a piece of a source, as far as they belong to the round in hand, and
+/// writes their pages into the blocks. Reports how many bytes it took.
+#[unsafe(no_mangle)]
+pub extern "C" fn zimgasol_in_place_session_feed(
+    alloc: Global,
+    session: &mut InPlaceSessionHandle,
+    blocks: &mut [&mut [u8]],
+    source: usize,
+    piece: &[u8],
+    taken: &mut usize,
+) -> u32
+    requires session { IsSome (in_place_session_in session.old.handle.value) }
+    ensures feeds { Turns (FeedsBlocks (source_of source) piece.now (mut_lent_bytes blocks.old) (mut_lent_bytes blocks.new) taken.new result)
+        (in_place_session_in session.old.handle.value) (in_place_session_in session.new.handle.value) }
+{
+    let mut object = session.handle.take().into_box(alloc);
+    let status = feed(alloc, &mut object, blocks, source_of(source), piece, taken);
+    session.handle = Handle::of(object);
+    status
+}
+
+fn takes(object: &Object, source: Source) -> bool
+    requires { IsSome (in_place_session_in (Some object.now)) }
+    ensures { Tells (TellsTakes source result) (in_place_session_in (Some object.now)) }
+{
+    match object {
+        Object::InPlaceSession(load) => load.takes(source),
+        _ => unreachable!(),
+    }
+}
+
+/// Returns whether bytes of a source are taken now.
+#[unsafe(no_mangle)]
+pub extern "C" fn zimgasol_in_place_session_takes(
+    alloc: Global,
+    session: &mut InPlaceSessionHandle,
+    source: usize,
+) -> bool
+    requires session { IsSome (in_place_session_in session.old.handle.value) }
+    ensures same { session.new.handle.value ≡ session.old.handle.value }
+    ensures tells { Tells (TellsTakes (source_of source) result) (in_place_session_in session.old.handle.value) }
+{
+    let object = session.handle.take().into_box(alloc);
+    let result = takes(&object, source_of(source));
+    session.handle = Handle::of(object);
+    result
+}
+
+fn end(object: &mut Object, source: Source) -> u32
+    requires { IsSome (in_place_session_in (Some object.old)) }
+    ensures { Turns (EndsSource source result) (in_place_session_in (Some object.old)) (in_place_session_in (Some object.new)) }
+{
+    match object {
+        Object::InPlaceSession(load) => load.end(source),
+        _ => unreachable!(),
+    }
+}
+
+/// Ends a source, all of whose bytes were taken.
+#[unsafe(no_mangle)]
+pub extern "C" fn zimgasol_in_place_session_end(
+    alloc: Global,
+    session: &mut InPlaceSessionHandle,
+    source: usize,
+) -> u32
+    requires session { IsSome (in_place_session_in session.old.handle.value) }
+    ensures ends { Turns (EndsSource (source_of source) result) (in_place_session_in session.old.handle.value) (in_place_session_in session.new.handle.value) }
+{
+    let mut object = session.handle.take().into_box(alloc);
+    let status = end(&mut object, source_of(source));
+    session.handle = Handle::of(object);
+    status
+}
+
+fn fed(object: &Object, source: Source) -> u64
+    requires { IsSome (in_place_session_in (Some object.now)) }
+    ensures { Tells (TellsTaken source result) (in_place_session_in (Some object.now)) }
+{
+    match object {
+        Object::InPlaceSession(load) => load.fed(source),
+        _ => unreachable!(),
+    }
+}
+
+/// Returns how many bytes of a source were taken: 0 where there is no such source.
+#[unsafe(no_mangle)]
+pub extern "C" fn zimgasol_in_place_session_fed(
+    alloc: Global,
+    session: &mut InPlaceSessionHandle,
+    source: usize,
+) -> u64
+    requires session { IsSome (in_place_session_in session.old.handle.value) }
+    ensures same { session.new.handle.value ≡ session.old.handle.value }
+    ensures tells { Tells (TellsTaken (source_of source) result) (in_place_session_in session.old.handle.value) }
+{
+    let object = session.handle.take().into_box(alloc);
+    let number = fed(&object, source_of(source));
+    session.handle = Handle::of(object);
+    number
+}
+
+fn verdict(object: &Object) -> FoundFault
+    requires { IsSome (in_place_session_in (Some object.now)) }
+    ensures { Tells (λ s. result ≡ seen_of_verdict s.rounds s.verdict) (in_place_session_in (Some object.now)) }
+{
+    match object {
+        Object::InPlaceSession(load) => load.verdict(),
+        _ => unreachable!(),
+    }
+}
+
+/// Reports the verdict on the bytes taken.
+#[unsafe(no_mangle)]
+pub extern "C" fn zimgasol_in_place_session_verdict(
+    alloc: Global,
+    session: &mut InPlaceSessionHandle,
+    found: &mut FoundFault,
+) -> u32
+    requires session { IsSome (in_place_session_in session.old.handle.value) }
+    ensures same { session.new.handle.value ≡ session.old.handle.value }
+    ensures number { found.new.number ≡ result }
+    ensures tells { Tells (λ s. found.new ≡ seen_of_verdict s.rounds s.verdict) (in_place_session_in session.old.handle.value) }
+{
+    let object = session.handle.take().into_box(alloc);
+    let fault = verdict(&object);
+    session.handle = Handle::of(object);
+    *found = fault;
+    fault.number
+}
+
+fn rounds(object: &Object) -> u64
+    requires { IsSome (in_place_session_in (Some object.now)) }
+    ensures { Tells (λ s. result ≡ s.rounds) (in_place_session_in (Some object.now)) }
+{
+    match object {
+        Object::InPlaceSession(load) => load.rounds(),
+        _ => unreachable!(),
+    }
+}
+
+/// Returns how many rounds were judged lawful. The blocks have all of them.
+#[unsafe(no_mangle)]
+pub extern "C" fn zimgasol_in_place_session_rounds(
+    alloc: Global,
+    session: &mut InPlaceSessionHandle,
+) -> u64
+    requires session { IsSome (in_place_session_in session.old.handle.value) }
+    ensures same { session.new.handle.value ≡ session.old.handle.value }
+    ensures rounds { Tells (λ s. result ≡ s.rounds) (in_place_session_in session.old.handle.value) }
+{
+    let object = session.handle.take().into_box(alloc);
+    let number = rounds(&object);
+    session.handle = Handle::of(object);
+    number
+}
+
+/// Frees a load. The blocks stay the caller's. A handle without one stays as it is.
+#[unsafe(no_mangle)]
+pub extern "C" fn zimgasol_in_place_session_free(alloc: Global, session: &mut InPlaceSessionHandle)
+    ensures none { session.new.handle.value ≡ None }
+{
+    if session.full != 0 {
+        let _object = session.handle.take().into_box(alloc);
+        session.full = 0;
+    }
+}

@@ -1,0 +1,353 @@
+//! The calls of a sender on several channels. A round is packed by workers on threads of the
+//! caller's: each has a handle of its own (`worker`), and shares with the others what the round's
+//! deal is. No handle is shared.
+
+ghost use Rattle.std.specs.Prelude.{◌≡◌, ◌≢◌, ◌≤◌, ◌<◌, ◌∷◌, [], IsSome, IfOk, IfErr, IfSome, OnOk, None, Some, map, IsTrue, ◌↔◌};
+ghost use Rattle.mig_packet.specs.PageSize.{page_limit as most_pages};
+ghost use Rattle.mig_c_calls.specs.Status.{done};
+ghost use Rattle.mig_c.specs.Kinds.{table_in, multi_in, worker_in, Turns, Tells};
+ghost use Rattle.mig_c_calls.specs.Multi.{StartsOf, OpensMulti, OfTable, Refuses, place_of, ChangesMulti, BeginsRound, HandsOutWorker, TakesBackWorker, AreOfRound, TurnsBoth, EndsRound, Finishes, DrainsMain, DrainsChannel};
+
+use crate::handle::{Handle, MultiHandle, TableHandle, WorkerHandle};
+use crate::object::Object;
+use mig_c_calls::status::{BAD_LENGTH, BATCH_LIMIT, CHANNELS, DONE, NO_MEMORY};
+use mig_c_calls::{Multi, NamedPlace};
+use mig_mem::{NoMemory, Table};
+use mig_packet::page_limit;
+use std::alloc::Global;
+use uuid::Uuid;
+
+// A sender in a box.
+fn made(
+    alloc: Global,
+    table: &Table<Global>,
+    uuid: Uuid,
+    channels: usize,
+    limit: usize,
+) -> Result<Box<Object>, NoMemory>
+    ensures { IfOk result (λ object. StartsOf (Some table.now) uuid channels limit (multi_in (Some object.value))) }
+{
+    let multi = Multi::new(alloc, table, uuid, channels, limit)?;
+    Ok(Box::new(alloc, Object::Multi(multi))?)
+}
+
+// Whether a batch may have so many pages.
+fn is_batch_limit(table: &Table<Global>, limit: usize) -> bool
+    ensures { IsTrue result ↔ ((0 < limit) × (limit ≤ most_pages table.now.page_size)) }
+{
+    table.keeps_limits();
+    limit > 0 && limit <= page_limit(table.page_size())
+}
+
+// Makes a sender of a table, or says why there is none.
+fn made_of(
+    alloc: Global,
+    table: &Object,
+    uuid: Uuid,
+    channels: usize,
+    limit: usize,
+) -> Result<Box<Object>, u32>
+    requires { IsSome (table_in (Some table.now)) }
+    ensures ok { IfOk result (λ object. StartsOf (table_in (Some table.now)) uuid channels limit (multi_in (Some object.value))) }
+    ensures fits { OnOk result (OfTable (λ t. (0 < limit) × (limit ≤ most_pages t.page_size)) (table_in (Some table.now))) }
+    ensures err { IfErr result (λ status. Refuses (table_in (Some table.now)) limit status) }
+{
+    match table {
+        Object::Table(table) => {
+            if !is_batch_limit(table, limit) {
+                return Err(BATCH_LIMIT);
+            }
+            match made(alloc, table, uuid, channels, limit) {
+                Ok(object) => Ok(object),
+                Err(NoMemory) => Err(NO_MEMORY),
+            }
+        }
+        _ => unreachable!(),
+    }
+}
+
+/// Makes a sender on so many channels that has sent nothing, with at most `limit` pages to a packet.
+/// It keeps a copy of the table.
+#[unsafe(no_mangle)]
+pub extern "C" fn zimgasol_multi_new(
+    alloc: Global,
+    multi: &mut MultiHandle,
+    table: &mut TableHandle,
+    uuid: &[u8],
+    channels: usize,
+    limit: usize,
+) -> u32
+    requires none { multi.old.handle.value ≡ None }
+    requires table { IsSome (table_in table.old.handle.value) }
+    ensures opens { OpensMulti (table_in table.old.handle.value) uuid.now channels limit result (multi_in multi.new.handle.value) }
+    ensures none { result ≢ done → multi.new.handle.value ≡ None }
+    ensures table { table.new.handle.value ≡ table.old.handle.value }
+{
+    let Ok(uuid) = Uuid::from_slice(uuid) else {
+        return BAD_LENGTH;
+    };
+    if channels == 0 || channels > 255 {
+        return CHANNELS;
+    }
+    let object = table.handle.take().into_box(alloc);
+    let made = made_of(alloc, &object, uuid, channels, limit);
+    table.handle = Handle::of(object);
+    match made {
+        Ok(object) => {
+            multi.handle = Handle::of(object);
+            multi.full = 1;
+            DONE
+        }
+        Err(status) => status,
+    }
+}
+
+fn begin_round(alloc: Global, object: &mut Object, places: &[NamedPlace]) -> u32
+    requires { IsSome (multi_in (Some object.old)) }
+    ensures { Turns (ChangesMulti (BeginsRound (map place_of places.now) result)) (multi_in (Some object.old)) (multi_in (Some object.new)) }
+{
+    match object {
+        Object::Multi(multi) => multi.begin_round(alloc, places),
+        _ => unreachable!(),
+    }
+}
+
+/// Begins a round of these dirty pages: cuts them into batches, which its workers are to pack.
+#[unsafe(no_mangle)]
+pub extern "C" fn zimgasol_multi_begin_round(
+    alloc: Global,
+    multi: &mut MultiHandle,
+    dirty: &[NamedPlace],
+) -> u32
+    requires multi { IsSome (multi_in multi.old.handle.value) }
+    ensures begins { Turns (ChangesMulti (BeginsRound (map place_of dirty.now) result)) (multi_in multi.old.handle.value) (multi_in multi.new.handle.value) }
+{
+    let mut object = multi.handle.take().into_box(alloc);
+    let status = begin_round(alloc, &mut object, dirty);
+    multi.handle = Handle::of(object);
+    status
+}
+
+fn hand_out(alloc: Global, object: &mut Object, empty: &mut Object) -> u32
+    requires multi { IsSome (multi_in (Some object.old)) }
+    requires none { worker_in (Some empty.old) ≡ None }
+    ensures { Turns (λ old new. ChangesMulti (λ was is. HandsOutWorker result was is (worker_in (Some empty.new))) old new) (multi_in (Some object.old)) (multi_in (Some object.new)) }
+{
+    match object {
+        Object::Multi(multi) => {
+            let (status, made) = multi.worker(alloc);
+            if let Some(worker) = made {
+                *empty = Object::Worker(worker);
+            }
+            status
+        }
+        _ => unreachable!(),
+    }
+}
+
+// Makes room for a worker, in a box.
+fn room(alloc: Global) -> Option<Box<Object>>
+    ensures { IfSome result (λ object. worker_in (Some object.value) ≡ None) }
+{
+    match Box::new(alloc, Object::Empty) {
+        Ok(empty) => Some(empty),
+        Err(_) => None,
+    }
+}
+
+// Returns why no worker is handed out where its handle gets no memory.
+fn refused(object: &Object) -> u32
+    requires { IsSome (multi_in (Some object.now)) }
+    ensures { Turns (λ old new. ChangesMulti (λ was is. HandsOutWorker result was is None) old new) (multi_in (Some object.now)) (multi_in (Some object.now)) }
+{
+    match object {
+        Object::Multi(multi) => multi.refused_worker(),
+        _ => unreachable!(),
+    }
+}
+
+/// Hands out the worker of the next channel, beginning with channel 0, into a handle of its own.
+#[unsafe(no_mangle)]
+pub extern "C" fn zimgasol_multi_worker(
+    alloc: Global,
+    multi: &mut MultiHandle,
+    worker: &mut WorkerHandle,
+) -> u32
+    requires multi { IsSome (multi_in multi.old.handle.value) }
+    requires none { worker.old.handle.value ≡ None }
+    ensures hands { Turns (λ old new. ChangesMulti (λ was is. HandsOutWorker result was is (worker_in worker.new.handle.value)) old new)
+        (multi_in multi.old.handle.value) (multi_in multi.new.handle.value) }
+    ensures none { result ≢ done → worker.new.handle.value ≡ None }
+{
+    let mut object = multi.handle.take().into_box(alloc);
+    let Some(mut empty) = room(alloc) else {
+        let status = refused(&object);
+        multi.handle = Handle::of(object);
+        return status;
+    };
+    let status = hand_out(alloc, &mut object, &mut empty);
+    multi.handle = Handle::of(object);
+    if status == DONE {
+        worker.handle = Handle::of(empty);
+        worker.full = 1;
+    }
+    status
+}
+
+// Takes a worker out of its object, gives it back, and puts it into its object again where it isn't
+// taken.
+fn give(object: &mut Object, worker: &mut Object) -> u32
+    requires multi { IsSome (multi_in (Some object.old)) }
+    requires worker { IsSome (worker_in (Some worker.old)) }
+    requires own { AreOfRound (worker_in (Some worker.old)) (multi_in (Some object.old)) }
+    ensures { TurnsBoth result (worker_in (Some worker.old)) (worker_in (Some worker.new)) (multi_in (Some object.old)) (multi_in (Some object.new)) }
+{
+    match object {
+        Object::Multi(multi) => match std::mem::replace(worker, Object::Empty) {
+            Object::Worker(held) => {
+                let (status, left) = multi.give_back(held);
+                if let Some(held) = left {
+                    *worker = Object::Worker(held);
+                }
+                status
+            }
+            _ => unreachable!(),
+        },
+        _ => unreachable!(),
+    }
+}
+
+/// Takes back a worker of the round that has ended: workers come back in the order of their
+/// channels. Its handle is empty then.
+#[unsafe(no_mangle)]
+pub extern "C" fn zimgasol_multi_give_back(
+    alloc: Global,
+    multi: &mut MultiHandle,
+    worker: &mut WorkerHandle,
+) -> u32
+    requires multi { IsSome (multi_in multi.old.handle.value) }
+    requires worker { IsSome (worker_in worker.old.handle.value) }
+    requires own { AreOfRound (worker_in worker.old.handle.value) (multi_in multi.old.handle.value) }
+    ensures gives { TurnsBoth result (worker_in worker.old.handle.value) (worker_in worker.new.handle.value) (multi_in multi.old.handle.value) (multi_in multi.new.handle.value) }
+    ensures none { result ≡ done → worker.new.handle.value ≡ None }
+{
+    let mut object = multi.handle.take().into_box(alloc);
+    let mut given = worker.handle.take().into_box(alloc);
+    let status = give(&mut object, &mut given);
+    multi.handle = Handle::of(object);
+    if status == DONE {
+        worker.full = 0;
+    } else {
+        worker.handle = Handle::of(given);
+    }
+    status
+}
+
+fn end_round(alloc: Global, object: &mut Object) -> u32
+    requires { IsSome (multi_in (Some object.old)) }
+    ensures { Turns (ChangesMulti (EndsRound result)) (multi_in (Some object.old)) (multi_in (Some object.new)) }
+{
+    match object {
+        Object::Multi(multi) => multi.end_round(alloc),
+        _ => unreachable!(),
+    }
+}
+
+/// Ends the round that is open, all of whose workers are back, with a FLUSH on the main stream.
+#[unsafe(no_mangle)]
+pub extern "C" fn zimgasol_multi_end_round(alloc: Global, multi: &mut MultiHandle) -> u32
+    requires multi { IsSome (multi_in multi.old.handle.value) }
+    ensures ends { Turns (ChangesMulti (EndsRound result)) (multi_in multi.old.handle.value) (multi_in multi.new.handle.value) }
+{
+    let mut object = multi.handle.take().into_box(alloc);
+    let status = end_round(alloc, &mut object);
+    multi.handle = Handle::of(object);
+    status
+}
+
+fn finish(alloc: Global, object: &mut Object) -> u32
+    requires { IsSome (multi_in (Some object.old)) }
+    ensures { Turns (ChangesMulti (Finishes result)) (multi_in (Some object.old)) (multi_in (Some object.new)) }
+{
+    match object {
+        Object::Multi(multi) => multi.finish(alloc),
+        _ => unreachable!(),
+    }
+}
+
+/// Ends the streams: what of them waits is still to be drained.
+#[unsafe(no_mangle)]
+pub extern "C" fn zimgasol_multi_finish(alloc: Global, multi: &mut MultiHandle) -> u32
+    requires multi { IsSome (multi_in multi.old.handle.value) }
+    ensures finishes { Turns (ChangesMulti (Finishes result)) (multi_in multi.old.handle.value) (multi_in multi.new.handle.value) }
+{
+    let mut object = multi.handle.take().into_box(alloc);
+    let status = finish(alloc, &mut object);
+    multi.handle = Handle::of(object);
+    status
+}
+
+fn drain(object: &mut Object, out: &mut [u8]) -> usize
+    requires { IsSome (multi_in (Some object.old)) }
+    ensures { Turns (DrainsMain result out.new) (multi_in (Some object.old)) (multi_in (Some object.new)) }
+{
+    match object {
+        Object::Multi(multi) => multi.drain(out),
+        _ => unreachable!(),
+    }
+}
+
+/// Hands out the next bytes of the main stream, and returns how many: 0 where none waits.
+#[unsafe(no_mangle)]
+pub extern "C" fn zimgasol_multi_drain(
+    alloc: Global,
+    multi: &mut MultiHandle,
+    out: &mut [u8],
+) -> usize
+    requires multi { IsSome (multi_in multi.old.handle.value) }
+    ensures drains { Turns (DrainsMain result out.new) (multi_in multi.old.handle.value) (multi_in multi.new.handle.value) }
+{
+    let mut object = multi.handle.take().into_box(alloc);
+    let count = drain(&mut object, out);
+    multi.handle = Handle::of(object);
+    count
+}
+
+fn drain_left(object: &mut Object, channel: usize, out: &mut [u8]) -> usize
+    requires { IsSome (multi_in (Some object.old)) }
+    ensures { Turns (ChangesMulti (DrainsChannel channel result out.new)) (multi_in (Some object.old)) (multi_in (Some object.new)) }
+{
+    match object {
+        Object::Multi(multi) => multi.drain_channel(channel, out),
+        _ => unreachable!(),
+    }
+}
+
+/// Hands out the next bytes of a channel that were left when the streams were ended, and returns how
+/// many: 0 where none is left, and before the end.
+#[unsafe(no_mangle)]
+pub extern "C" fn zimgasol_multi_drain_channel(
+    alloc: Global,
+    multi: &mut MultiHandle,
+    channel: usize,
+    out: &mut [u8],
+) -> usize
+    requires multi { IsSome (multi_in multi.old.handle.value) }
+    ensures drains { Turns (ChangesMulti (DrainsChannel channel result out.new)) (multi_in multi.old.handle.value) (multi_in multi.new.handle.value) }
+{
+    let mut object = multi.handle.take().into_box(alloc);
+    let count = drain_left(&mut object, channel, out);
+    multi.handle = Handle::of(object);
+    count
+}
+
+/// Frees a sender, with what wasn't drained. A handle without one stays as it is.
+#[unsafe(no_mangle)]
+pub extern "C" fn zimgasol_multi_free(alloc: Global, multi: &mut MultiHandle)
+    ensures none { multi.new.handle.value ≡ None }
+{
+    if multi.full != 0 {
+        let _object = multi.handle.take().into_box(alloc);
+        multi.full = 0;
+    }
+}

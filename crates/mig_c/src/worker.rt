@@ -1,0 +1,98 @@
+//! The calls of a worker of a round on several channels. Workers of one round run at once, each on a
+//! thread of its own, and read the same blocks.
+
+ghost use Rattle.std.specs.Prelude.{◌≡◌, ◌≢◌, IsSome, None, Some};
+ghost use Rattle.mig_mem.specs.Lent.{lent_bytes};
+ghost use Rattle.mig_c.specs.Kinds.{worker_in, Turns, Tells};
+ghost use Rattle.mig_c_calls.specs.Multi.{Steps, DrainsWorker};
+
+use crate::handle::{Handle, WorkerHandle};
+use crate::object::Object;
+use std::alloc::Global;
+
+fn step(object: &mut Object, blocks: &[&[u8]]) -> u32
+    requires { IsSome (worker_in (Some object.old)) }
+    ensures { Turns (Steps (lent_bytes blocks.now) result) (worker_in (Some object.old)) (worker_in (Some object.new)) }
+{
+    match object {
+        Object::Worker(worker) => worker.step(blocks),
+        _ => unreachable!(),
+    }
+}
+
+/// Writes one packet of the round into the worker's channel, from the pages of the blocks.
+#[unsafe(no_mangle)]
+pub extern "C" fn zimgasol_worker_step(
+    alloc: Global,
+    worker: &mut WorkerHandle,
+    blocks: &[&[u8]],
+) -> u32
+    requires worker { IsSome (worker_in worker.old.handle.value) }
+    ensures steps { Turns (Steps (lent_bytes blocks.now) result) (worker_in worker.old.handle.value) (worker_in worker.new.handle.value) }
+{
+    let mut object = worker.handle.take().into_box(alloc);
+    let status = step(&mut object, blocks);
+    worker.handle = Handle::of(object);
+    status
+}
+
+fn drain(object: &mut Object, out: &mut [u8]) -> usize
+    requires { IsSome (worker_in (Some object.old)) }
+    ensures { Turns (DrainsWorker result out.new) (worker_in (Some object.old)) (worker_in (Some object.new)) }
+{
+    match object {
+        Object::Worker(worker) => worker.drain(out),
+        _ => unreachable!(),
+    }
+}
+
+/// Hands out the next bytes of the worker's channel, and returns how many: 0 where none waits.
+#[unsafe(no_mangle)]
+pub extern "C" fn zimgasol_worker_drain(
+    alloc: Global,
+    worker: &mut WorkerHandle,
+    out: &mut [u8],
+) -> usize
+    requires worker { IsSome (worker_in worker.old.handle.value) }
+    ensures drains { Turns (DrainsWorker result out.new) (worker_in worker.old.handle.value) (worker_in worker.new.handle.value) }
+{
+    let mut object = worker.handle.take().into_box(alloc);
+    let count = drain(&mut object, out);
+    worker.handle = Handle::of(object);
+    count
+}
+
+fn channel(object: &Object) -> usize
+    requires { IsSome (worker_in (Some object.now)) }
+    ensures { Tells (λ w. result ≡ w.worker.channel) (worker_in (Some object.now)) }
+{
+    match object {
+        Object::Worker(worker) => worker.channel(),
+        _ => unreachable!(),
+    }
+}
+
+/// Returns the number of the worker's channel.
+#[unsafe(no_mangle)]
+pub extern "C" fn zimgasol_worker_channel(alloc: Global, worker: &mut WorkerHandle) -> usize
+    requires worker { IsSome (worker_in worker.old.handle.value) }
+    ensures same { worker.new.handle.value ≡ worker.old.handle.value }
+    ensures channel { Tells (λ w. result ≡ w.worker.channel) (worker_in worker.old.handle.value) }
+{
+    let object = worker.handle.take().into_box(alloc);
+    let number = channel(&object);
+    worker.handle = Handle::of(object);
+    number
+}
+
+/// Frees a worker that isn't given back: its round can't be ended then. A handle without one stays
+/// as it is.
+#[unsafe(no_mangle)]
+pub extern "C" fn zimgasol_worker_free(alloc: Global, worker: &mut WorkerHandle)
+    ensures none { worker.new.handle.value ≡ None }
+{
+    if worker.full != 0 {
+        let _object = worker.handle.take().into_box(alloc);
+        worker.full = 0;
+    }
+}

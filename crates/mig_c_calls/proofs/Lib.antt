@@ -1,0 +1,5 @@
+pub mod Sends
+pub mod Drains
+pub mod Calls
+pub mod Ends
+pub mod Places

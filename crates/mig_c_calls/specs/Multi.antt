@@ -1,0 +1,374 @@
+-- A sender of C on several channels: what it has sent, what was handed out of its streams, and the
+-- workers of its rounds, each with a handle of its own.
+use Rattle.std.specs.Prelude.{◌≡◌, ◌≢◌, ◌⊎◌, ◌+◌, ◌≤◌, ◌<◌, ◌++◌, ℕ, List, [], ◌∷◌, drop, take, map, length, replicate, get_or, All, Option, None, Some, Result, IsOk, ◌↔◌, ⊤}
+use Rattle.std.specs.List.{fold, range_with_len}
+use Rattle.mig_mem.specs.RamTable.{RamTable}
+use Rattle.mig_mem.specs.declared.place.Place.{Place}
+use Rattle.mig_mem.specs.declared.fault.NoMemory.{NoMemory}
+use Rattle.mig_mem.specs.Place.{IsPlace, place_at}
+use Rattle.mig_mem.specs.PlaceSet.{PlaceSet, with_place}
+use Rattle.mig_mem.specs.Image.{Image, IsImage}
+use Rattle.mig_mem.specs.Lent.{FitTable, lent_image}
+use Rattle.mig_stream.specs.Written.{FlushPart, written_so_far, main}
+use Rattle.mig_packet.specs.PageSize.{page_limit}
+use Rattle.mig_send.specs.DealtRounds.{DealtRound, IsSending, channel_text}
+use Rattle.mig_send.specs.MultiSending.{MultiSending, Drained, HasSentRounds, nothing_drained, texts_of, with_main, with_channel}
+use Rattle.mig_send.specs.ChannelWork.{ChannelWork, HasPacked, HasStepped, HasEnded}
+use Rattle.mig_send.specs.MultiRound.{OpenMulti, IsRoundSoFar, HandsOut, dirty_of, handed_out}
+use Rattle.mig_c_calls.specs.declared.waiting.Waiting.{Waiting}
+use Rattle.mig_c_calls.specs.declared.sending.NamedPlace.{NamedPlace}
+use Rattle.mig_c_calls.specs.declared.sending.EndedStreams.{EndedStreams}
+use Rattle.mig_c_calls.specs.declared.sending.MultiState.{MultiState}
+use Rattle.mig_c_calls.specs.declared.sending.MultiState.TheVariants.{Idle, Round, Over}
+use Rattle.mig_c_calls.specs.declared.sending.Multi.{Multi}
+use Rattle.mig_c_calls.specs.declared.sending.HeldWorker.{HeldWorker}
+use Rattle.mig_c_calls.specs.Status.{IsOneOf, channels as no_channels, batch_limit as bad_batch_limit, done, no_memory, running, bad_length, no_page, out_of_turn}
+
+-- ---- bytes that wait
+
+-- the bytes that were taken out of a stream and wait to be handed out
+abbrev pub waiting_in : Waiting → List ℕ
+waiting_in w = drop w.given w.bytes.items
+
+-- The first of them are handed out, as many as there is room for.
+pub record HandsOutOf (count : ℕ) (out : List ℕ) (old new : Waiting) : Type 0 where
+  pub fits : count ≤ length out
+  pub has_front : take count out ++ waiting_in new ≡ waiting_in old
+  pub none : count ≡ 0 → 0 < length out → waiting_in old ≡ []
+
+-- ---- the sender
+
+-- what a sender was made with
+pub record MultiSetting : Type 0 where
+  pub table : RamTable
+  pub uuid : List ℕ
+  pub limit : ℕ
+  pub channels : ℕ
+
+pub record IsSenderOf (setting : MultiSetting) (s : MultiSending) : Type 0 where
+  pub same_table : s.main.table ≡ setting.table
+  pub same_uuid : s.uuid ≡ setting.uuid
+  pub same_limit : s.limit ≡ setting.limit
+  pub as_many : length s.channels ≡ setting.channels
+
+-- what is left to hand out of a channel once the streams are ended
+abbrev pub left_of : EndedStreams → ℕ → List ℕ
+left_of e channel = drop (get_or e.given.items channel 0) (get_or (texts_of e.sent.channels.items) channel [])
+
+-- the whole of each channel: what was handed out of it, and what is left
+abbrev pub all_channels : ℕ → Drained → EndedStreams → List (List ℕ)
+all_channels channels drained e = map (λ channel. drained.channel channel ++ left_of e channel) (range_with_len 0 channels)
+
+-- No round is open, the sender has sent these rounds, and these bytes were drained of it. Where it
+-- is ended, the rest of its streams is there.
+abbrev pub SendsTo : MultiSetting → Drained → List DealtRound → MultiState → Type 0
+SendsTo setting drained rounds (Idle s) = IsSenderOf setting s × HasSentRounds drained s rounds
+SendsTo setting drained rounds (Round r) = ⊥
+SendsTo setting drained rounds (Over e) = (length e.given.items ≡ setting.channels)
+    × IsSending setting.table setting.uuid setting.limit setting.channels rounds
+    (drained.main ++ e.sent.main.items) (all_channels setting.channels drained e)
+
+-- A round of these dirty pages is open, after these rounds. The workers that were given back packed
+-- what they drew of it from the pages of this image. Of a channel whose worker is out, `drained` has
+-- what was handed out of it before the worker was.
+pub record IsInRound (setting : MultiSetting) (image : Image) (dirty : List Place) (drained : Drained) (rounds : List DealtRound) (r : OpenMulti) : Type 0 where
+  pub old : MultiSending
+  pub before : Drained
+  pub in_round : ℕ → List ℕ
+  pub is_of : IsSenderOf setting old
+  pub has_sent : HasSentRounds before old rounds
+  pub is_dirty : dirty_of r.terms ≡ dirty
+  pub has_come : IsRoundSoFar image in_round old r
+  pub same_main : drained.main ≡ before.main
+  pub back : (channel : ℕ) → channel < length r.spents → drained.channel channel ≡ before.channel channel ++ in_round channel
+  pub others : (channel : ℕ) → length r.spents ≤ channel → channel < setting.channels → drained.channel channel ≡ before.channel channel
+
+abbrev pub InRoundTo : MultiSetting → Image → List Place → Drained → List DealtRound → MultiState → Type 0
+InRoundTo setting image dirty drained rounds (Idle s) = ⊥
+InRoundTo setting image dirty drained rounds (Round r) = IsInRound setting image dirty drained rounds r.round
+InRoundTo setting image dirty drained rounds (Over e) = ⊥
+
+-- These bytes were handed out, and those that wait of the main stream were taken out of it, too.
+abbrev pub and_waiting : Drained → Multi → Drained
+and_waiting given m = with_main given (waiting_in m.main)
+
+-- It has sent these rounds, and these bytes of its streams were handed out.
+abbrev pub Sends : MultiSetting → Drained → List DealtRound → Multi → Type 0
+Sends setting given rounds m = SendsTo setting (and_waiting given m) rounds m.state
+
+-- A round is open, and these bytes of its streams were handed out.
+abbrev pub InRound : MultiSetting → Image → List Place → Drained → List DealtRound → Multi → Type 0
+InRound setting image dirty given rounds m = InRoundTo setting image dirty (and_waiting given m) rounds m.state
+
+abbrev pub IsIdle : MultiState → Type 0
+IsIdle (Idle s) = ⊤
+IsIdle (Round r) = ⊥
+IsIdle (Over e) = ⊥
+
+abbrev pub IsOpen : MultiState → Type 0
+IsOpen (Idle s) = ⊥
+IsOpen (Round r) = ⊤
+IsOpen (Over e) = ⊥
+
+abbrev pub IsOver : MultiState → Type 0
+IsOver (Idle s) = ⊥
+IsOver (Round r) = ⊥
+IsOver (Over e) = ⊤
+
+-- a round is open, and this is so of it
+abbrev pub OfRound : (OpenMulti → Type 0) → MultiState → Type 0
+OfRound IsSo (Idle s) = ⊥
+OfRound IsSo (Round r) = IsSo r.round
+OfRound IsSo (Over e) = ⊥
+
+-- a call changes how far the sender is, and nothing of the bytes that wait
+abbrev pub ChangesMulti : (MultiState → MultiState → Type 0) → Multi → Multi → Type 0
+ChangesMulti step old new = step old.state new.state × (new.main ≡ old.main)
+
+-- The sender is as it was.
+abbrev pub IsSame : MultiState → MultiState → Type 0
+IsSame (Idle s) (Idle t) = s ≡ t
+IsSame (Idle s) (Round t) = ⊥
+IsSame (Idle s) (Over t) = ⊥
+IsSame (Round s) (Idle t) = ⊥
+IsSame (Round s) (Round t) = s.round ≡ t.round
+IsSame (Round s) (Over t) = ⊥
+IsSame (Over s) (Idle t) = ⊥
+IsSame (Over s) (Round t) = ⊥
+IsSame (Over s) (Over t) = s ≡ t
+
+-- ---- its worker
+
+-- The stream of a worker's channel was `sent` after the rounds before, of which `given` was handed
+-- out before the worker was. The worker has packed what it drew from the pages of this image, and
+-- `more` was handed out of it.
+pub record Packs (image : Image) (sent given more : List ℕ) (w : HeldWorker) : Type 0 where
+  pub own : List ℕ
+  pub has_sent : sent ≡ given ++ own
+  pub has_packed : HasPacked image own ((more ++ waiting_in w.drained) ++ w.worker.text) w.worker
+
+-- ---- the calls
+
+-- a sender that has sent nothing
+abbrev pub Starts : MultiSetting → Multi → Type 0
+Starts setting m = Sends setting nothing_drained [] m × IsIdle m.state
+
+abbrev pub StartsOf : Option RamTable → List ℕ → ℕ → ℕ → Option Multi → Type 0
+StartsOf None uuid channels limit made = ⊤
+StartsOf (Some table) uuid channels limit None = ⊥
+StartsOf (Some table) uuid channels limit (Some m) = Starts (record { table = table; uuid = uuid; limit = limit; channels = channels }) m
+
+-- this holds of the table
+abbrev pub OfTable : (RamTable → Type 0) → Option RamTable → Type 0
+OfTable IsSo None = ⊤
+OfTable IsSo (Some table) = IsSo table
+
+-- What `new` does, with a table: the first thing that is wrong with what it is given is returned.
+pub record OpensMulti (table : Option RamTable) (uuid : List ℕ) (channels limit : ℕ) (status : ℕ) (made : Option Multi) : Type 0 where
+  pub is_named : IsOneOf (done ∷ no_memory ∷ bad_length ∷ no_channels ∷ bad_batch_limit ∷ []) status
+  pub starts : status ≡ done → StartsOf table uuid channels limit made
+  pub short : status ≡ bad_length → length uuid ≢ 16
+  pub is_uuid : status ≢ bad_length → length uuid ≡ 16
+  pub none : status ≡ no_channels → (channels ≡ 0) ⊎ (255 < channels)
+  pub has_channels : status ≢ bad_length → status ≢ no_channels → (0 < channels) × (channels ≤ 255)
+  pub bad_limit : status ≡ bad_batch_limit → OfTable (λ t. (0 < limit) × (limit ≤ page_limit t.page_size) → ⊥) table
+  pub has_limit : status ≢ bad_length → status ≢ no_channels → status ≢ bad_batch_limit
+      → OfTable (λ t. (0 < limit) × (limit ≤ page_limit t.page_size)) table
+
+-- why a sender isn't made of a table with this limit
+pub record Refuses (table : Option RamTable) (limit status : ℕ) : Type 0 where
+  pub is_named : IsOneOf (no_memory ∷ bad_batch_limit ∷ []) status
+  pub bad_limit : status ≡ bad_batch_limit → OfTable (λ t. (0 < limit) × (limit ≤ page_limit t.page_size) → ⊥) table
+  pub has_limit : status ≢ bad_batch_limit → OfTable (λ t. (0 < limit) × (limit ≤ page_limit t.page_size)) table
+
+-- the place that C names, and the set of some places
+abbrev pub place_of : NamedPlace → Place
+place_of named = place_at named.block named.page
+
+abbrev pub set_of : RamTable → List Place → PlaceSet
+set_of table places = fold with_place (record { table = table; marked = [] }) places
+
+-- a sender of this table is idle
+abbrev pub IdleOf : (RamTable → Type 0) → MultiState → Type 0
+IdleOf IsSo (Idle s) = IsSo s.main.table
+IdleOf IsSo (Round r) = ⊥
+IdleOf IsSo (Over e) = ⊥
+
+-- What `begin_round` does with the dirty places that it is passed. Each counts once.
+pub record BeginsRound (places : List Place) (status : ℕ) (old new : MultiState) : Type 0 where
+  pub is_named : IsOneOf (done ∷ no_memory ∷ no_page ∷ out_of_turn ∷ []) status
+  pub begins : status ≡ done → (setting : MultiSetting) (image : Image) (drained : Drained) (rounds : List DealtRound) → SendsTo setting drained rounds old
+      → InRoundTo setting image (set_of setting.table places).marked drained rounds new
+  pub all_left : status ≡ done → OfRound (λ r. (length r.seats ≡ length r.sender.channels) × (r.spents ≡ [])) new
+  pub same : status ≢ done → IsSame new old
+  pub wrong : status ≡ out_of_turn → IsIdle old → ⊥
+  pub in_turn : status ≢ out_of_turn → IsIdle old
+  pub foreign : status ≡ no_page → IdleOf (λ table. All (IsPlace table) places → ⊥) old
+  pub has_places : status ≢ out_of_turn → status ≢ no_page → IdleOf (λ table. All (IsPlace table) places) old
+
+-- what it does to a sender that is idle
+abbrev pub Deals : List Place → ℕ → MultiSending → MultiState → Type 0
+Deals places status s new = BeginsRound places status (Idle s) new × (status ≢ out_of_turn)
+
+-- the worker of the next channel is out: of no round that the sender isn't in
+pub record IsNext (old : OpenMulti) (w : HeldWorker) : Type 0 where
+  pub has_terms : w.worker.terms ≡ old.terms
+  pub is_next : w.worker.channel ≡ handed_out old
+  pub is_channel : w.worker.channel < length old.sender.channels
+
+abbrev pub HasMade : (HeldWorker → Type 0) → Option HeldWorker → Type 0
+HasMade IsSo None = ⊥
+HasMade IsSo (Some w) = IsSo w
+
+-- It is handed out of a round, and its channel's bytes are its own.
+pub record GivesNext (old new : OpenMulti) (w : HeldWorker) : Type 0 where
+  pub hands : HandsOut old new w.worker
+  pub none_wait : waiting_in w.drained ≡ []
+  pub few : length old.spents + length old.seats ≤ length old.sender.channels
+
+-- What `held_worker` does: the worker of the next channel is handed out, of whose bytes none were.
+pub record HandsOutWorker (status : ℕ) (old new : MultiState) (made : Option HeldWorker) : Type 0 where
+  pub is_named : IsOneOf (done ∷ no_memory ∷ out_of_turn ∷ []) status
+  pub next : status ≡ done → OfRound (λ r. HasMade (IsNext r) made) old
+  pub hands : status ≡ done → (setting : MultiSetting) (image : Image) (dirty : List Place) (drained : Drained) (rounds : List DealtRound)
+      → InRoundTo setting image dirty drained rounds old
+      → InRoundTo setting image dirty drained rounds new
+      × HasMade (λ w. Packs image (channel_text setting.uuid rounds w.worker.channel) (drained.channel w.worker.channel) [] w) made
+  pub same : status ≢ done → IsSame new old × (made ≡ None)
+  pub one_fewer : status ≡ done → OfRound (λ r. OfRound (λ r'. (length r.seats ≡ length r'.seats + 1) × (r'.terms ≡ r.terms)) new) old
+  pub wrong : status ≡ out_of_turn → OfRound (λ r. 0 < length r.seats) old → ⊥
+  pub in_turn : status ≢ out_of_turn → OfRound (λ r. 0 < length r.seats) old
+
+-- One step of a worker, from the pages of an image.
+pub record StepsOn (image : Image) (status : ℕ) (old new : ChannelWork) : Type 0 where
+  pub is_named : IsOneOf (done ∷ running ∷ no_memory ∷ []) status
+  pub made : Result (Unit {0}) NoMemory
+  pub stepped : HasStepped image made old new
+  pub is_made : IsOk made ↔ (status ≢ no_memory)
+  pub ended : status ≡ done → HasEnded new.hand
+  pub goes_on : status ≡ running → HasEnded new.hand → ⊥
+  pub packed : (before drained : List ℕ) → HasPacked image before (drained ++ old.text) old → HasPacked image before (drained ++ new.text) new
+
+-- What `step` does with blocks that hold these bytes.
+pub record Steps (blocks : List (List ℕ)) (status : ℕ) (old new : HeldWorker) : Type 0 where
+  pub is_named : IsOneOf (done ∷ running ∷ no_memory ∷ bad_length ∷ []) status
+  pub fits : status ≢ bad_length → FitTable old.worker.terms.table blocks
+  pub unfit : status ≡ bad_length → FitTable old.worker.terms.table blocks → ⊥
+  pub steps : status ≢ bad_length → StepsOn (lent_image old.worker.terms.table blocks) status old.worker new.worker
+  pub same : status ≡ bad_length → new ≡ old
+  pub packs : FitTable old.worker.terms.table blocks → (sent given more : List ℕ)
+      → Packs (lent_image old.worker.terms.table blocks) sent given more old → Packs (lent_image old.worker.terms.table blocks) sent given more new
+  pub same_waiting : new.drained ≡ old.drained
+
+-- What `drain` does to a worker: it hands out the next bytes of its channel, and 0 where none is left.
+pub record DrainsWorker (count : ℕ) (out : List ℕ) (old new : HeldWorker) : Type 0 where
+  pub fits : count ≤ length out
+  pub hands : (image : Image) (sent given more : List ℕ) → Packs image sent given more old → Packs image sent given (more ++ take count out) new
+  pub none : count ≡ 0 → 0 < length out → (waiting_in new.drained ≡ []) × (new.worker.text ≡ [])
+  pub same_work : (new.worker.terms ≡ old.worker.terms) × (new.worker.channel ≡ old.worker.channel) × (new.worker.hand ≡ old.worker.hand)
+
+-- its first step: where no byte waits, those that were written since are taken out
+pub record RefillsWorker (old new : HeldWorker) : Type 0 where
+  pub keeps : (image : Image) (sent given more : List ℕ) → Packs image sent given more old → Packs image sent given more new
+  pub none : waiting_in new.drained ≡ [] → new.worker.text ≡ []
+  pub same_work : (new.worker.terms ≡ old.worker.terms) × (new.worker.channel ≡ old.worker.channel) × (new.worker.hand ≡ old.worker.hand)
+
+-- The worker is one of the round that is open, if one is.
+abbrev pub IsOfRound : ChannelWork → MultiState → Type 0
+IsOfRound worker (Idle s) = ⊤
+IsOfRound worker (Round r) = worker.terms ≡ r.round.terms
+IsOfRound worker (Over e) = ⊤
+
+-- The worker can be given back: it is that of the next channel, has ended, and none of its bytes wait
+-- that were taken out.
+pub record CanComeBack (w : HeldWorker) (r : OpenMulti) : Type 0 where
+  pub is_out : length r.spents < handed_out r
+  pub is_next : w.worker.channel ≡ length r.spents
+  pub has_ended : HasEnded w.worker.hand
+  pub none_wait : waiting_in w.drained ≡ []
+
+-- What `give_back` does. With DONE the worker is gone.
+pub record TakesBackWorker (status : ℕ) (w : HeldWorker) (old new : MultiState) (left : Option HeldWorker) : Type 0 where
+  pub is_named : IsOneOf (done ∷ no_memory ∷ out_of_turn ∷ []) status
+  pub takes : status ≡ done → (setting : MultiSetting) (image : Image) (dirty : List Place) (drained : Drained) (rounds : List DealtRound) (more : List ℕ)
+      → InRoundTo setting image dirty drained rounds old
+      → Packs image (channel_text setting.uuid rounds w.worker.channel) (drained.channel w.worker.channel) more w
+      → InRoundTo setting image dirty (with_channel drained w.worker.channel more) rounds new
+  pub one_more : status ≡ done → OfRound (λ r. OfRound (λ r'. (length r'.spents ≡ length r.spents + 1) × (r'.terms ≡ r.terms)) new) old
+  pub gone : status ≡ done → left ≡ None
+  pub same : status ≢ done → IsSame new old × (left ≡ Some w)
+  pub wrong : status ≡ out_of_turn → OfRound (CanComeBack w) old → ⊥
+  pub in_turn : status ≢ out_of_turn → OfRound (CanComeBack w) old
+
+-- the worker and the sender, where both are there
+abbrev pub AreOfRound : Option HeldWorker → Option Multi → Type 0
+AreOfRound None multi = ⊤
+AreOfRound (Some w) None = ⊤
+AreOfRound (Some w) (Some m) = IsOfRound w.worker m.state
+
+-- The call is handed a sender and a worker, leaves the sender and perhaps the worker, and does that.
+abbrev pub TurnsBoth : ℕ → Option HeldWorker → Option HeldWorker → Option Multi → Option Multi → Type 0
+TurnsBoth status None left old new = ⊤
+TurnsBoth status (Some w) left None new = ⊤
+TurnsBoth status (Some w) left (Some old) None = ⊥
+TurnsBoth status (Some w) left (Some old) (Some new) = ChangesMulti (λ was is. TakesBackWorker status w was is left) old new
+
+-- What `end_round` does, once all workers are back: a round of the dirty pages of the image was sent.
+pub record EndsRound (status : ℕ) (old new : MultiState) : Type 0 where
+  pub is_named : IsOneOf (done ∷ no_memory ∷ out_of_turn ∷ []) status
+  pub ends : status ≡ done → (setting : MultiSetting) (image : Image) (dirty : List Place) (drained : Drained) (rounds : List DealtRound)
+      → IsImage image → image.table ≡ setting.table → InRoundTo setting image dirty drained rounds old
+      → (round : DealtRound) × (round.snapshot ≡ record { image = image; dirty = dirty }) × SendsTo setting drained (rounds ++ round ∷ []) new
+  pub idle : status ≡ done → IsIdle new
+  pub same : status ≢ done → IsSame new old
+  pub wrong : status ≡ out_of_turn → OfRound (λ r. length r.spents ≡ length r.sender.channels) old → ⊥
+  pub in_turn : status ≢ out_of_turn → OfRound (λ r. length r.spents ≡ length r.sender.channels) old
+
+-- What `finish` does.
+pub record Finishes (status : ℕ) (old new : MultiState) : Type 0 where
+  pub is_named : IsOneOf (done ∷ no_memory ∷ out_of_turn ∷ []) status
+  pub ends : status ≡ done → IsOver new
+  pub keeps : (setting : MultiSetting) (drained : Drained) (rounds : List DealtRound) → SendsTo setting drained rounds old → SendsTo setting drained rounds new
+  pub same : status ≢ done → IsSame new old
+  pub wrong : status ≡ out_of_turn → IsIdle old → ⊥
+  pub in_turn : status ≢ out_of_turn → IsIdle old
+
+-- What `drain` does: it hands out the next bytes of the main stream. Where it has none between two
+-- rounds, all that was written so far was handed out; of streams that are ended, all of it. A round
+-- that is open stays as it is.
+pub record DrainsMain (count : ℕ) (out : List ℕ) (old new : Multi) : Type 0 where
+  pub fits : count ≤ length out
+  pub hands : (setting : MultiSetting) (given : Drained) (rounds : List DealtRound) → Sends setting given rounds old
+      → Sends setting (with_main given (take count out)) rounds new
+  pub hands_in_round : (setting : MultiSetting) (image : Image) (dirty : List Place) (given : Drained) (rounds : List DealtRound)
+      → InRound setting image dirty given rounds old → InRound setting image dirty (with_main given (take count out)) rounds new
+  pub in_round : IsOpen old.state → new.state ≡ old.state
+  pub idle : IsIdle old.state → IsIdle new.state
+  pub ended : IsOver old.state → IsOver new.state
+  pub written : IsIdle old.state → count ≡ 0 → 0 < length out → (setting : MultiSetting) (given : Drained) (rounds : List DealtRound)
+      → Sends setting given rounds old → given.main ≡ written_so_far setting.table (replicate (length rounds) FlushPart)
+  pub all : IsOver old.state → count ≡ 0 → 0 < length out → (setting : MultiSetting) (given : Drained) (rounds : List DealtRound)
+      → Sends setting given rounds old → given.main ≡ main setting.table (length rounds)
+
+-- its first step: where no byte waits, those that were written since are taken out
+pub record RefillsMain (old new : Multi) : Type 0 where
+  pub keeps : (setting : MultiSetting) (given : Drained) (rounds : List DealtRound) → Sends setting given rounds old → Sends setting given rounds new
+  pub keeps_round : (setting : MultiSetting) (image : Image) (dirty : List Place) (given : Drained) (rounds : List DealtRound)
+      → InRound setting image dirty given rounds old → InRound setting image dirty given rounds new
+  pub in_round : IsOpen old.state → (new.state ≡ old.state) × (new.main ≡ old.main)
+  pub idle : IsIdle old.state → IsIdle new.state
+  pub ended : IsOver old.state → IsOver new.state
+  pub written : IsIdle old.state → waiting_in new.main ≡ [] → (setting : MultiSetting) (given : Drained) (rounds : List DealtRound)
+      → Sends setting given rounds old → given.main ≡ written_so_far setting.table (replicate (length rounds) FlushPart)
+  pub all : IsOver old.state → waiting_in new.main ≡ [] → (setting : MultiSetting) (given : Drained) (rounds : List DealtRound)
+      → Sends setting given rounds old → given.main ≡ main setting.table (length rounds)
+
+-- What `drain_channel` does: of streams that are ended it hands out what is left of a channel.
+pub record DrainsChannel (channel count : ℕ) (out : List ℕ) (old new : MultiState) : Type 0 where
+  pub fits : count ≤ length out
+  pub hands : IsOver old → (setting : MultiSetting) (drained : Drained) (rounds : List DealtRound) → SendsTo setting drained rounds old
+      → SendsTo setting (with_channel drained channel (take count out)) rounds new
+  pub ended : IsOver old → IsOver new
+  pub all : IsOver old → count ≡ 0 → 0 < length out → (setting : MultiSetting) (drained : Drained) (rounds : List DealtRound) → SendsTo setting drained rounds old
+      → channel < setting.channels → drained.channel channel ≡ channel_text setting.uuid rounds channel
+  pub same : (IsOver old → ⊥) → (count ≡ 0) × (new ≡ old)

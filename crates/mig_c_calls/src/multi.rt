@@ -1,0 +1,390 @@
+//! The calls of a sender on several channels, and of the round that is open. Its workers' calls are
+//! in `worker`.
+
+ghost use Rattle.std.specs.Prelude.{◌≡◌, ◌≢◌, ◌+◌, ◌≤◌, ◌<◌, [], IsSome, IsTrue, ◌↔◌, IfOk, IfErr, OnOk, OnErr, None, Some, length, All, map, replicate};
+ghost use Rattle.mig_mem.specs.Place.{IsPlace};
+ghost use Rattle.mig_mem.specs.PlaceSet.{PlaceSet};
+ghost use Rattle.mig_packet.specs.PageSize.{page_limit as most_pages};
+ghost use Rattle.mig_send.specs.MultiRound.{TakesBack};
+ghost use Rattle.mig_c_calls.specs.declared.sending.MultiState.TheVariants.{Idle, Round, Over};
+ghost use Rattle.mig_c_calls.specs.Multi.{MultiSetting, Starts, place_of, set_of, ChangesMulti, BeginsRound, Deals, GivesNext, HandsOutWorker, CanComeBack, TakesBackWorker, IsOfRound, EndsRound, Finishes, DrainsMain, RefillsMain, DrainsChannel};
+
+use crate::sending::{DealtRound, EndedStreams, HeldWorker, Multi, MultiState, NamedPlace};
+use crate::status::{DONE, NO_MEMORY, NO_PAGE, OUT_OF_TURN};
+use crate::waiting::{Waiting, behind, copy_front};
+use mig_mem::{Dirty, NoMemory, Place, Table};
+use mig_send::{MultiRound, MultiSender, Sent};
+use std::alloc::Global;
+use std::mem;
+use uuid::Uuid;
+
+fn place_of(named: &NamedPlace) -> Place
+    ensures { result ≡ place_of named.now }
+{
+    Place {
+        block: named.block,
+        page: named.page,
+    }
+}
+
+// Whether a table has all of these places.
+fn has_all(table: &Table<Global>, places: &[NamedPlace]) -> bool
+    ensures { IsTrue result ↔ All (IsPlace table.now) (map place_of places.now) }
+{
+    for named in places {
+        if !table.holds(place_of(named)) {
+            return false;
+        }
+    }
+    true
+}
+
+// The set of these places.
+fn marked(
+    alloc: Global,
+    table: &Table<Global>,
+    places: &[NamedPlace],
+) -> Result<Dirty<Global>, NoMemory>
+    requires { All (IsPlace table.now) (map place_of places.now) }
+    ensures { IfOk result (λ dirty. dirty ≡ set_of table.now (map place_of places.now)) }
+{
+    let mut dirty = Dirty::none(alloc, table)?;
+    for named in places {
+        dirty.mark(place_of(named))?;
+    }
+    Ok(dirty)
+}
+
+// Begins a round of these places.
+fn dealt(alloc: Global, sender: MultiSender<Global>, places: &[NamedPlace]) -> (MultiState, u32)
+    ensures { Deals (map place_of places.now) result.1 sender result.0 }
+{
+    if !has_all(sender.table(), places) {
+        return (MultiState::Idle(sender), NO_PAGE);
+    }
+    let Ok(dirty) = marked(alloc, sender.table(), places) else {
+        return (MultiState::Idle(sender), NO_MEMORY);
+    };
+    match sender.begin_round(&dirty) {
+        Ok(round) => (MultiState::Round(DealtRound { round }), DONE),
+        Err((sender, _)) => (MultiState::Idle(sender), NO_MEMORY),
+    }
+}
+
+// Begins a round of these places, where none is open.
+fn begun(alloc: Global, state: MultiState, places: &[NamedPlace]) -> (MultiState, u32)
+    ensures { BeginsRound (map place_of places.now) result.1 state result.0 }
+{
+    match state {
+        MultiState::Idle(sender) => dealt(alloc, sender, places),
+        MultiState::Round(round) => (MultiState::Round(round), OUT_OF_TURN),
+        MultiState::Over(streams) => (MultiState::Over(streams), OUT_OF_TURN),
+    }
+}
+
+// The worker of the next channel, where one is left.
+fn next_worker(alloc: Global, dealt: &mut DealtRound) -> Result<HeldWorker, NoMemory>
+    requires { 0 < length dealt.old.round.seats }
+    ensures ok { IfOk result (λ w. GivesNext dealt.old.round dealt.new.round w) }
+    ensures err { OnErr result (dealt.new.round ≡ dealt.old.round) }
+{
+    let table = dealt.round.table().copy_in(alloc)?;
+    let worker = dealt.round.worker()?;
+    Ok(HeldWorker {
+        worker,
+        table,
+        drained: Waiting::none(alloc),
+    })
+}
+
+// Hands out the worker of the next channel.
+fn hand_out_worker(alloc: Global, state: &mut MultiState) -> (u32, Option<HeldWorker>)
+    ensures { HandsOutWorker result.0 state.old state.new result.1 }
+{
+    let MultiState::Round(dealt) = state else {
+        return (OUT_OF_TURN, None);
+    };
+    if dealt.round.workers_left() == 0 {
+        return (OUT_OF_TURN, None);
+    }
+    match next_worker(alloc, dealt) {
+        Ok(worker) => (DONE, Some(worker)),
+        Err(NoMemory) => (NO_MEMORY, None),
+    }
+}
+
+// Whether a worker can be given back to a round.
+fn can_come_back(round: &MultiRound<Global>, worker: &HeldWorker) -> bool
+    ensures { IsTrue result ↔ CanComeBack worker.now round.now }
+{
+    let handed = round.channels().saturating_sub(round.workers_left());
+    round.given_back() < handed
+        && worker.worker.channel() == round.given_back()
+        && worker.worker.has_ended()
+        && worker.drained.is_empty()
+}
+
+// Takes a worker back that can be given back, or returns it.
+fn given_back(dealt: &mut DealtRound, worker: HeldWorker) -> Result<(), HeldWorker>
+    requires own { worker.worker.terms ≡ dealt.old.round.terms }
+    requires can { CanComeBack worker dealt.old.round }
+    ensures ok { OnOk result (TakesBack worker.worker dealt.old.round dealt.new.round) }
+    ensures err { IfErr result (λ w. w ≡ worker) }
+    ensures same { OnErr result (dealt.new.round ≡ dealt.old.round) }
+{
+    let HeldWorker {
+        worker,
+        table,
+        drained,
+    } = worker;
+    match dealt.round.give_back(worker) {
+        Ok(()) => Ok(()),
+        Err(worker) => Err(HeldWorker {
+            worker,
+            table,
+            drained,
+        }),
+    }
+}
+
+// Takes a worker back, and returns it where it isn't taken.
+fn give_back(state: &mut MultiState, worker: HeldWorker) -> (u32, Option<HeldWorker>)
+    requires { IsOfRound worker.worker state.old }
+    ensures { TakesBackWorker result.0 worker state.old state.new result.1 }
+{
+    let MultiState::Round(dealt) = state else {
+        return (OUT_OF_TURN, Some(worker));
+    };
+    if !can_come_back(&dealt.round, &worker) {
+        return (OUT_OF_TURN, Some(worker));
+    }
+    match given_back(dealt, worker) {
+        Ok(()) => (DONE, None),
+        Err(worker) => (NO_MEMORY, Some(worker)),
+    }
+}
+
+// Ends a round.
+fn ended_round(dealt: DealtRound) -> (MultiState, u32)
+    ensures { EndsRound result.1 (Round dealt) result.0 }
+{
+    let DealtRound { round } = dealt;
+    if round.given_back() != round.channels() {
+        return (MultiState::Round(DealtRound { round }), OUT_OF_TURN);
+    }
+    match round.end_round() {
+        Ok(sender) => (MultiState::Idle(sender), DONE),
+        Err(round) => (MultiState::Round(DealtRound { round }), NO_MEMORY),
+    }
+}
+
+// Ends the round that is open.
+fn ended(state: MultiState) -> (MultiState, u32)
+    ensures { EndsRound result.1 state result.0 }
+{
+    match state {
+        MultiState::Round(dealt) => ended_round(dealt),
+        MultiState::Idle(sender) => (MultiState::Idle(sender), OUT_OF_TURN),
+        MultiState::Over(streams) => (MultiState::Over(streams), OUT_OF_TURN),
+    }
+}
+
+// So many zeros.
+fn zeros(alloc: Global, count: usize) -> Result<Vec<usize>, NoMemory>
+    ensures { IfOk result (λ v. v.items ≡ replicate count 0) }
+{
+    Ok(vec![in alloc; 0usize; count]?)
+}
+
+// Ends the streams of a sender.
+fn finished_sender(alloc: Global, sender: MultiSender<Global>) -> (MultiState, u32)
+    ensures { Finishes result.1 (Idle sender) result.0 }
+{
+    let Ok(given) = zeros(alloc, sender.channels()) else {
+        return (MultiState::Idle(sender), NO_MEMORY);
+    };
+    match sender.finish() {
+        Ok(sent) => (MultiState::Over(EndedStreams { sent, given }), DONE),
+        Err(sender) => (MultiState::Idle(sender), NO_MEMORY),
+    }
+}
+
+// Ends the streams, where no round is open.
+fn finished(alloc: Global, state: MultiState) -> (MultiState, u32)
+    ensures { Finishes result.1 state result.0 }
+{
+    match state {
+        MultiState::Idle(sender) => finished_sender(alloc, sender),
+        MultiState::Round(dealt) => (MultiState::Round(dealt), OUT_OF_TURN),
+        MultiState::Over(streams) => (MultiState::Over(streams), OUT_OF_TURN),
+    }
+}
+
+// Takes the state out of a sender, which is to get one again.
+fn take_state(alloc: Global, multi: &mut Multi) -> MultiState
+    ensures state { result ≡ multi.old.state }
+    ensures main { multi.new.main ≡ multi.old.main }
+{
+    let nothing = MultiState::Over(EndedStreams {
+        sent: Sent {
+            main: Vec::new(alloc),
+            channels: Vec::new(alloc),
+        },
+        given: Vec::new(alloc),
+    });
+    mem::replace(&mut multi.state, nothing)
+}
+
+// Takes the bytes out of the main stream that were written, where none waits.
+fn refill_main(multi: &mut Multi)
+    ensures { RefillsMain multi.old multi.new }
+{
+    if !multi.main.is_empty() {
+        return;
+    }
+    match &mut multi.state {
+        MultiState::Idle(sender) => {
+            sender.drain_main(&mut multi.main.bytes);
+            multi.main.given = 0;
+        }
+        MultiState::Round(_) => {}
+        MultiState::Over(streams) => {
+            multi.main.bytes.clear();
+            mem::swap(&mut multi.main.bytes, &mut streams.sent.main);
+            multi.main.given = 0;
+        }
+    }
+}
+
+// Hands out the next bytes of the main stream.
+fn drain_main(multi: &mut Multi, out: &mut [u8]) -> usize
+    ensures { DrainsMain result out.new multi.old multi.new }
+{
+    refill_main(multi);
+    multi.main.hand_out(out)
+}
+
+// Hands out what is left of a channel of ended streams.
+fn drain_ended(streams: &mut EndedStreams, channel: usize, out: &mut [u8]) -> usize
+    ensures { DrainsChannel channel result out.new (Over streams.old) (Over streams.new) }
+{
+    if channel >= streams.sent.channels.len() || channel >= streams.given.len() {
+        return 0;
+    }
+    let given = streams.given[channel];
+    let count = copy_front(behind(&streams.sent.channels[channel], given), out);
+    streams.given[channel] = given + count;
+    count
+}
+
+// Hands out what is left of a channel, where the streams are ended.
+fn drain_channel(state: &mut MultiState, channel: usize, out: &mut [u8]) -> usize
+    ensures { DrainsChannel channel result out.new state.old state.new }
+{
+    match state {
+        MultiState::Over(streams) => drain_ended(streams, channel, out),
+        _ => 0,
+    }
+}
+
+impl Multi {
+    /// Creates a sender that has sent nothing, on `channels` channels, with at most `limit` pages to
+    /// a packet. It keeps a copy of the table.
+    ///
+    /// # Errors
+    ///
+    /// `NoMemory`: an allocation was refused, or `channels` or `limit` isn't one.
+    pub fn new(
+        alloc: Global,
+        table: &Table<Global>,
+        uuid: Uuid,
+        channels: usize,
+        limit: usize,
+    ) -> Result<Multi, NoMemory>
+        ensures { IfOk result (λ m. Starts (record { table = table.now; uuid = uuid; limit = limit; channels = channels }) m) }
+    {
+        let Ok(sender) = MultiSender::new(alloc, table, uuid, channels, limit) else {
+            return Err(NoMemory);
+        };
+        Ok(Multi {
+            state: MultiState::Idle(sender),
+            main: Waiting::none(alloc),
+        })
+    }
+
+    /// Begins a round of these dirty places, in any order, of which each counts once. Returns the
+    /// status: `DONE`, `NO_MEMORY`, `NO_PAGE` or `OUT_OF_TURN`.
+    pub fn begin_round(&mut self, alloc: Global, places: &[NamedPlace]) -> u32
+        ensures { ChangesMulti (BeginsRound (map place_of places.now) result) self.old self.new }
+    {
+        let (state, status) = begun(alloc, take_state(alloc, self), places);
+        self.state = state;
+        status
+    }
+
+    /// Hands out the worker of the next channel. Returns the status, `DONE`, `NO_MEMORY` or
+    /// `OUT_OF_TURN`, and the worker with `DONE`.
+    pub fn worker(&mut self, alloc: Global) -> (u32, Option<HeldWorker>)
+        ensures { ChangesMulti (λ was is. HandsOutWorker result.0 was is result.1) self.old self.new }
+    {
+        hand_out_worker(alloc, &mut self.state)
+    }
+
+    /// Returns why no worker is handed out where its handle gets no memory: `OUT_OF_TURN`, or else
+    /// `NO_MEMORY`.
+    pub fn refused_worker(&self) -> u32
+        ensures { HandsOutWorker result self.now.state self.now.state None }
+    {
+        let MultiState::Round(dealt) = &self.state else {
+            return OUT_OF_TURN;
+        };
+        if dealt.round.workers_left() == 0 {
+            return OUT_OF_TURN;
+        }
+        NO_MEMORY
+    }
+
+    /// Takes back a worker of the round that is open. Returns the status, `DONE`, `NO_MEMORY` or
+    /// `OUT_OF_TURN`, and the worker where it isn't taken.
+    pub fn give_back(&mut self, worker: HeldWorker) -> (u32, Option<HeldWorker>)
+        requires { IsOfRound worker.worker self.old.state }
+        ensures { ChangesMulti (λ was is. TakesBackWorker result.0 worker was is result.1) self.old self.new }
+    {
+        give_back(&mut self.state, worker)
+    }
+
+    /// Ends the round that is open, all of whose workers are back. Returns the status: `DONE`,
+    /// `NO_MEMORY` or `OUT_OF_TURN`.
+    pub fn end_round(&mut self, alloc: Global) -> u32
+        ensures { ChangesMulti (EndsRound result) self.old self.new }
+    {
+        let (state, status) = ended(take_state(alloc, self));
+        self.state = state;
+        status
+    }
+
+    /// Ends the streams, where no round is open. Returns the status: `DONE`, `NO_MEMORY` or
+    /// `OUT_OF_TURN`.
+    pub fn finish(&mut self, alloc: Global) -> u32
+        ensures { ChangesMulti (Finishes result) self.old self.new }
+    {
+        let (state, status) = finished(alloc, take_state(alloc, self));
+        self.state = state;
+        status
+    }
+
+    /// Copies the next bytes of the main stream to the front of `out`. Returns how many.
+    pub fn drain(&mut self, out: &mut [u8]) -> usize
+        ensures { DrainsMain result out.new self.old self.new }
+    {
+        drain_main(self, out)
+    }
+
+    /// Copies the next bytes that are left of a channel of ended streams to the front of `out`.
+    /// Returns how many: 0 before the end.
+    pub fn drain_channel(&mut self, channel: usize, out: &mut [u8]) -> usize
+        ensures { ChangesMulti (DrainsChannel channel result out.new) self.old self.new }
+    {
+        drain_channel(&mut self.state, channel, out)
+    }
+}

@@ -1,0 +1,65 @@
+//! Bytes that were taken out of a stream, of which some were handed out.
+
+ghost use Rattle.std.specs.Prelude.{◌≡◌, ◌↔◌, ◌<◌, ◌≤◌, [], IsTrue, drop, take, length};
+ghost use Rattle.mig_c_calls.specs.Multi.{HandsOutOf, waiting_in};
+
+use std::alloc::Global;
+
+/// The bytes behind those that were handed out.
+pub fn behind(drained: &[u8], given: usize) -> &[u8]
+    ensures { result.now ≡ drop given drained.now }
+{
+    match drained.get(given..) {
+        Some(rest) => rest,
+        None => &[],
+    }
+}
+
+/// Copies as many bytes to the front of a buffer as it has room for.
+pub fn copy_front(bytes: &[u8], out: &mut [u8]) -> usize
+    ensures fits { result ≤ length out.new }
+    ensures within { result ≤ length bytes.now }
+    ensures front { take result out.new ≡ take result bytes.now }
+    ensures none { result ≡ 0 → 0 < length out.new → length bytes.now ≡ 0 }
+{
+    let count = bytes.len().min(out.len());
+    out[..count].copy_from_slice(&bytes[..count]);
+    count
+}
+
+/// Bytes that were taken out of a stream: the first ones were handed out, and the others wait.
+#[derive(Drop)]
+pub struct Waiting {
+    /// All of them.
+    pub(crate) bytes: Vec<u8>,
+    /// How many were handed out.
+    pub(crate) given: usize,
+}
+
+impl Waiting {
+    /// None.
+    pub(crate) fn none(alloc: Global) -> Waiting
+        ensures { waiting_in result ≡ [] }
+    {
+        Waiting {
+            bytes: Vec::new(alloc),
+            given: 0,
+        }
+    }
+
+    /// Whether all were handed out.
+    pub(crate) fn is_empty(&self) -> bool
+        ensures { IsTrue result ↔ (waiting_in self.now ≡ []) }
+    {
+        self.given >= self.bytes.len()
+    }
+
+    /// Copies the first bytes that wait to the front of a buffer, as many as it has room for.
+    pub(crate) fn hand_out(&mut self, out: &mut [u8]) -> usize
+        ensures { HandsOutOf result out.new self.old self.new }
+    {
+        let count = copy_front(behind(&self.bytes, self.given), out);
+        self.given += count;
+        count
+    }
+}

@@ -1,0 +1,232 @@
+/* A live migration within one process, on several channels over socket pairs: a thread goes on
+ * writing to a guest's memory while its pages are sent, by a thread for each channel, and another
+ * thread loads them into blocks of its own.
+ *
+ *   channels [-m MIB] [-c CHANNELS] [-b PAGES]
+ *
+ * The guest has two blocks, `pc.ram` of MIB (16) and `vga.vram` of 1 MiB, and CHANNELS (4) channels
+ * carry packets of at most PAGES (128) pages. Each round sends a copy that was taken of the pages
+ * written since the round before, and the last one is taken with the writer stopped. At the end both
+ * memories are compared: it prints `0 pages differ`, with status 0; 1 where pages differ, and 3 where
+ * it can't go on.
+ */
+#define _GNU_SOURCE
+#include "zimgasol.h"
+#include <poll.h>
+#include <pthread.h>
+#include <stdatomic.h>
+#include <stdio.h>
+#include <stdlib.h>
+#include <string.h>
+#include <sys/socket.h>
+#include <unistd.h>
+
+enum { PAGE = 4096, BLOCKS = 2, WORDS = PAGE / 8, PIECE = 1 << 16, MOST = 16, ROUNDS = 4 };
+
+/* A block: the guest's words, a copy of them for the round that is sent, the blocks that are loaded,
+ * and a mark for each page that was written since it was copied. */
+static struct ram {
+    _Atomic uint64_t *guest;
+    uint8_t *copy, *loaded;
+    _Atomic uint8_t *dirty;
+    uint64_t pages;
+} rams[BLOCKS];
+
+static zimgasol_block blocks[BLOCKS] = {{.id = "pc.ram"}, {.id = "vga.vram", .pages = 256}};
+static const uint8_t uuid[16] = {7, 1};
+static size_t channels = 4, limit = 128;
+static int sockets[1 + MOST][2]; /* the sender's end, and the loader's */
+static _Atomic bool is_running = true;
+
+static void check(zimgasol_status status, const char *call) {
+    if (status == ZIMGASOL_DONE) return;
+    fprintf(stderr, "%s: %s\n", call, zimgasol_status_text(status));
+    exit(3);
+}
+
+static void *taken(void *at, const char *what) {
+    if (at != NULL) return at;
+    perror(what);
+    exit(3);
+}
+
+static void send_all(int to, const uint8_t *bytes, size_t len) {
+    while (len > 0) {
+        ssize_t sent = write(to, bytes, len);
+        if (sent < 0) { perror("write"); exit(3); }
+        bytes += sent;
+        len -= (size_t)sent;
+    }
+}
+
+/* The guest: marks a page, and writes a word of it. */
+static void *write_guest(void *arg) {
+    uint64_t seed = 1;
+    while (atomic_load(&is_running)) {
+        seed = seed * 6364136223846793005u + 1442695040888963407u;
+        struct ram *r = &rams[seed >> 63];
+        uint64_t page = (seed >> 20) % r->pages;
+        atomic_store_explicit(&r->guest[page * WORDS + seed % WORDS], seed, memory_order_relaxed);
+        atomic_store(&r->dirty[page], 1);
+    }
+    return arg;
+}
+
+/* Copies the pages that were written since the last call, and lists them. A page that is written
+ * while it is copied is marked after the write, so it comes again. */
+static size_t copy_dirty(zimgasol_place *dirty) {
+    size_t count = 0;
+    for (size_t b = 0; b < BLOCKS; b++)
+        for (uint64_t p = 0; p < rams[b].pages; p++) {
+            if (!atomic_exchange(&rams[b].dirty[p], 0)) continue;
+            uint64_t *to = (uint64_t *)(void *)(rams[b].copy + p * PAGE);
+            for (size_t w = 0; w < WORDS; w++)
+                to[w] = atomic_load_explicit(&rams[b].guest[p * WORDS + w], memory_order_relaxed);
+            dirty[count++] = (zimgasol_place){b, p};
+        }
+    return count;
+}
+
+/* One channel's part of a round, on a thread of its own. */
+static void *work(void *arg) {
+    zimgasol_worker *worker = arg;
+    zimgasol_lent lent[BLOCKS];
+    uint8_t *out = taken(malloc(PIECE), "malloc");
+    int to = sockets[1 + zimgasol_worker_channel(worker)][0];
+    zimgasol_status status;
+    size_t len;
+    for (size_t b = 0; b < BLOCKS; b++)
+        lent[b] = (zimgasol_lent){rams[b].copy, rams[b].pages * PAGE};
+    do {
+        status = zimgasol_worker_step(worker, lent, BLOCKS);
+        if (status != ZIMGASOL_RUNNING) check(status, "worker_step");
+        while ((len = zimgasol_worker_drain(worker, out, PIECE)) > 0) send_all(to, out, len);
+    } while (status == ZIMGASOL_RUNNING);
+    free(out);
+    return NULL;
+}
+
+static void drain_main(zimgasol_multi *multi) {
+    uint8_t out[4096];
+    size_t len;
+    while ((len = zimgasol_multi_drain(multi, out, sizeof out)) > 0)
+        send_all(sockets[0][0], out, len);
+}
+
+static void send_round(zimgasol_multi *multi, const zimgasol_place *dirty, size_t count) {
+    zimgasol_worker workers[MOST] = {{0}};
+    pthread_t threads[MOST];
+    check(zimgasol_multi_begin_round(multi, dirty, count), "begin_round");
+    for (size_t j = 0; j < channels; j++) {
+        check(zimgasol_multi_worker(multi, &workers[j]), "worker");
+        if (pthread_create(&threads[j], NULL, work, &workers[j]) != 0) taken(NULL, "thread");
+    }
+    for (size_t j = 0; j < channels; j++) {
+        pthread_join(threads[j], NULL);
+        check(zimgasol_multi_give_back(multi, &workers[j]), "give_back");
+    }
+    check(zimgasol_multi_end_round(multi), "end_round");
+    drain_main(multi);
+}
+
+/* The loader: reads whatever source has bytes that are taken now, and keeps what wasn't taken. */
+static void *load(void *table) {
+    static uint8_t kept[1 + MOST][PIECE];
+    size_t from[1 + MOST] = {0}, to[1 + MOST] = {0}, open = 1 + channels;
+    struct pollfd polled[1 + MOST] = {{0}};
+    zimgasol_in_place_session session = {0};
+    zimgasol_buffer into[BLOCKS];
+    zimgasol_fault fault;
+    for (size_t b = 0; b < BLOCKS; b++)
+        into[b] = (zimgasol_buffer){rams[b].loaded, rams[b].pages * PAGE};
+    check(zimgasol_in_place_session_new(&session, table, uuid, 16, channels, ZIMGASOL_FRAME_RAM),
+        "in_place_session_new");
+    while (open > 0) {
+        bool moved = false;
+        for (size_t s = 0; s <= channels; s++) {
+            size_t count = 0;
+            if (from[s] == to[s] || !zimgasol_in_place_session_takes(&session, s)) continue;
+            check(zimgasol_in_place_session_feed(&session, into, BLOCKS, s, kept[s] + from[s],
+                to[s] - from[s], &count), "feed");
+            from[s] += count;
+            moved = moved || count > 0;
+        }
+        if (moved) continue;
+        for (size_t s = 0; s <= channels; s++)
+            polled[s] = (struct pollfd){from[s] == to[s] ? sockets[s][1] : -1, POLLIN, 0};
+        if (poll(polled, 1 + channels, -1) < 0) { perror("poll"); exit(3); }
+        for (size_t s = 0; s <= channels; s++) {
+            if (polled[s].revents == 0) continue;
+            ssize_t len = read(sockets[s][1], kept[s], PIECE);
+            if (len < 0) { perror("read"); exit(3); }
+            from[s] = 0;
+            to[s] = (size_t)len;
+            if (len > 0) continue;
+            check(zimgasol_in_place_session_end(&session, s), "end");
+            close(sockets[s][1]);
+            sockets[s][1] = -1;
+            open--;
+        }
+    }
+    check(zimgasol_in_place_session_verdict(&session, &fault), "verdict");
+    zimgasol_in_place_session_free(&session);
+    return NULL;
+}
+
+int main(int count, char **words) {
+    zimgasol_table table = {0}, other = {0};
+    zimgasol_multi multi = {0};
+    pthread_t writer, loader;
+    uint64_t mib = 16;
+    size_t entry, all = 0, differ = 0;
+    int option;
+    while ((option = getopt(count, words, "m:c:b:")) != -1) {
+        unsigned long number = optarg != NULL ? strtoul(optarg, NULL, 10) : 0;
+        if (option == 'm') mib = number;
+        else if (option == 'c' && number <= MOST) channels = number;
+        else if (option == 'b') limit = number;
+        else return 3;
+    }
+    blocks[0].pages = mib * 256;
+    for (size_t b = 0; b < BLOCKS; b++) {
+        struct ram *r = &rams[b];
+        r->pages = blocks[b].pages;
+        r->guest = taken(calloc(r->pages, PAGE), "calloc");
+        r->copy = taken(calloc(r->pages, PAGE), "calloc");
+        r->loaded = taken(calloc(r->pages, PAGE), "calloc");
+        r->dirty = taken(calloc(r->pages, 1), "calloc");
+        for (uint64_t p = 0; p < r->pages; p++) atomic_store(&r->dirty[p], 1);
+        all += r->pages;
+    }
+    zimgasol_place *dirty = taken(malloc((all + 1) * sizeof *dirty), "malloc");
+    for (size_t s = 0; s <= channels; s++)
+        if (socketpair(AF_UNIX, SOCK_STREAM, 0, sockets[s]) != 0) taken(NULL, "socketpair");
+    check(zimgasol_table_new(&table, PAGE, blocks, BLOCKS, &entry), "table_new");
+    check(zimgasol_table_new(&other, PAGE, blocks, BLOCKS, &entry), "table_new");
+    check(zimgasol_multi_new(&multi, &table, uuid, 16, channels, limit), "multi_new");
+    if (pthread_create(&loader, NULL, load, &other) != 0) taken(NULL, "thread");
+    if (pthread_create(&writer, NULL, write_guest, NULL) != 0) taken(NULL, "thread");
+    drain_main(&multi);
+    for (int round = 0; round < ROUNDS; round++) send_round(&multi, dirty, copy_dirty(dirty));
+    atomic_store(&is_running, false);
+    pthread_join(writer, NULL);
+    send_round(&multi, dirty, copy_dirty(dirty));
+    check(zimgasol_multi_finish(&multi), "finish");
+    drain_main(&multi);
+    for (size_t s = 0; s <= channels; s++) close(sockets[s][0]);
+    pthread_join(loader, NULL);
+    for (size_t b = 0; b < BLOCKS; b++) {
+        for (uint64_t p = 0; p < rams[b].pages; p++)
+            differ += memcmp((uint8_t *)rams[b].guest + p * PAGE, rams[b].loaded + p * PAGE, PAGE) != 0;
+        free((void *)rams[b].guest);
+        free(rams[b].copy);
+        free(rams[b].loaded);
+        free((void *)rams[b].dirty);
+    }
+    free(dirty);
+    zimgasol_multi_free(&multi);
+    zimgasol_table_free(&table);
+    zimgasol_table_free(&other);
+    printf("%zu pages differ\n", differ);
+    return differ != 0;
+}

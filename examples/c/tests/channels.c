@@ -1,0 +1,211 @@
+/* The calls for several channels, in both directions: a guest of two blocks is sent in rounds, by workers that are stepped by turns, and loaded in
+ * place, with the bytes that a source doesn't take kept until it does. Each status that a call has is asked for once, and what stands after it. */
+#include "zimgasol.h"
+#include <stdio.h>
+#include <stdlib.h>
+#include <string.h>
+
+enum { PAGE = 4096, CHANNELS = 3, PAGES = 300, OTHER = 2, MOST = 1 << 22 };
+
+#define WANT(test) do { if (!(test)) { printf("line %d: %s\n", __LINE__, #test); return 1; } } while (0)
+
+static uint8_t guest[2][PAGES * PAGE], loaded[2][PAGES * PAGE];
+static uint8_t stream[1 + CHANNELS][MOST];
+static size_t length[1 + CHANNELS], given[1 + CHANNELS];
+static const uint8_t uuid[16] = {1, 2, 3};
+
+static zimgasol_lent lent[2] = {{guest[0], PAGES * PAGE}, {guest[1], OTHER * PAGE}};
+static zimgasol_buffer into[2] = {{loaded[0], PAGES * PAGE}, {loaded[1], OTHER * PAGE}};
+
+static void write_guest(unsigned seed) {
+    for (size_t p = 0; p < PAGES; p++)
+        if ((p + seed) % 3) memset(guest[0] + p * PAGE, (int)(p * 7 + seed), PAGE);
+        else memset(guest[0] + p * PAGE, 0, PAGE);
+    memset(guest[1], (int)seed, OTHER * PAGE);
+}
+
+static int drain_main(zimgasol_multi *multi) {
+    size_t len;
+    while ((len = zimgasol_multi_drain(multi, stream[0] + length[0], 1000)) > 0) length[0] += len;
+    return 0;
+}
+
+static int drain_worker(zimgasol_worker *worker, size_t most) {
+    size_t channel = zimgasol_worker_channel(worker), len;
+    while ((len = zimgasol_worker_drain(worker, stream[1 + channel] + length[1 + channel], most)) > 0) {
+        length[1 + channel] += len;
+        WANT(length[1 + channel] + most < MOST);
+    }
+    return 0;
+}
+
+/* A round of these pages, and the statuses of its calls on the way. */
+static int send_round(zimgasol_multi *multi, const zimgasol_place *dirty, size_t count) {
+    zimgasol_worker workers[CHANNELS] = {{0}}, none = {0};
+    zimgasol_place outside = {1, OTHER};
+    zimgasol_lent short_one[2] = {lent[0], {guest[1], OTHER * PAGE - 1}};
+    uint8_t out[100];
+    WANT(zimgasol_multi_end_round(multi) == ZIMGASOL_OUT_OF_TURN);
+    WANT(zimgasol_multi_worker(multi, &none) == ZIMGASOL_OUT_OF_TURN && none.full == 0);
+    WANT(zimgasol_multi_begin_round(multi, &outside, 1) == ZIMGASOL_NO_PAGE);
+    WANT(zimgasol_multi_begin_round(multi, dirty, count) == ZIMGASOL_DONE);
+    WANT(zimgasol_multi_begin_round(multi, dirty, count) == ZIMGASOL_OUT_OF_TURN);
+    WANT(zimgasol_multi_finish(multi) == ZIMGASOL_OUT_OF_TURN);
+    for (size_t j = 0; j < CHANNELS; j++) {
+        WANT(zimgasol_multi_worker(multi, &workers[j]) == ZIMGASOL_DONE);
+        WANT(zimgasol_worker_channel(&workers[j]) == j);
+    }
+    WANT(zimgasol_multi_worker(multi, &none) == ZIMGASOL_OUT_OF_TURN && none.full == 0);
+    WANT(zimgasol_worker_step(&workers[0], lent, 1) == ZIMGASOL_BAD_LENGTH);
+    WANT(zimgasol_worker_step(&workers[0], short_one, 2) == ZIMGASOL_BAD_LENGTH);
+    WANT(zimgasol_multi_give_back(multi, &workers[0]) == ZIMGASOL_OUT_OF_TURN && workers[0].full != 0);
+    int running = CHANNELS;
+    for (int turn = 0; running > 0; turn++) {
+        zimgasol_worker *worker = &workers[turn % CHANNELS];
+        uint32_t status = zimgasol_worker_step(worker, lent, 2);
+        WANT(status == ZIMGASOL_DONE || status == ZIMGASOL_RUNNING);
+        if (turn % 2 == 0 && drain_worker(worker, 10000)) return 1;
+        running = status == ZIMGASOL_DONE ? running - 1 : CHANNELS;
+    }
+    WANT(zimgasol_worker_step(&workers[0], lent, 2) == ZIMGASOL_DONE);
+    WANT(zimgasol_multi_give_back(multi, &workers[1]) == ZIMGASOL_OUT_OF_TURN && workers[1].full != 0);
+    WANT(zimgasol_multi_end_round(multi) == ZIMGASOL_OUT_OF_TURN);
+    for (size_t j = 0; j < CHANNELS; j++) {
+        if (drain_worker(&workers[j], 77777)) return 1;
+        WANT(zimgasol_worker_drain(&workers[j], out, sizeof out) == 0);
+        WANT(zimgasol_multi_give_back(multi, &workers[j]) == ZIMGASOL_DONE && workers[j].full == 0);
+        zimgasol_worker_free(&workers[j]);
+    }
+    WANT(zimgasol_multi_end_round(multi) == ZIMGASOL_DONE);
+    WANT(zimgasol_multi_drain_channel(multi, 0, out, sizeof out) == 0);
+    return drain_main(multi);
+}
+
+/* Two rounds: all pages, and then some, one of them named twice. */
+static int send_all(zimgasol_table *table) {
+    static zimgasol_place all[PAGES + OTHER];
+    zimgasol_place some[4] = {{1, 1}, {0, 5}, {0, 4}, {0, 5}};
+    zimgasol_multi multi = {0};
+    uint8_t out[1000];
+    for (size_t p = 0; p < PAGES + OTHER; p++)
+        all[p] = p < PAGES ? (zimgasol_place){0, p} : (zimgasol_place){1, p - PAGES};
+    WANT(zimgasol_multi_new(&multi, table, uuid, 15, CHANNELS, 128) == ZIMGASOL_BAD_LENGTH);
+    WANT(zimgasol_multi_new(&multi, table, uuid, 16, 0, 128) == ZIMGASOL_CHANNELS);
+    WANT(zimgasol_multi_new(&multi, table, uuid, 16, 256, 128) == ZIMGASOL_CHANNELS);
+    WANT(zimgasol_multi_new(&multi, table, uuid, 16, CHANNELS, 0) == ZIMGASOL_BATCH_LIMIT);
+    WANT(zimgasol_multi_new(&multi, table, uuid, 16, CHANNELS, 129) == ZIMGASOL_BATCH_LIMIT && multi.full == 0);
+    WANT(zimgasol_multi_new(&multi, table, uuid, 16, CHANNELS, 16) == ZIMGASOL_DONE);
+    write_guest(1);
+    if (send_round(&multi, all, PAGES + OTHER)) return 1;
+    write_guest(1);
+    memset(guest[0] + 5 * PAGE, 55, PAGE);
+    memset(guest[0] + 4 * PAGE, 0, PAGE);
+    guest[1][2 * PAGE - 1] = 9;
+    if (send_round(&multi, some, 4)) return 1;
+    WANT(zimgasol_multi_finish(&multi) == ZIMGASOL_DONE);
+    WANT(zimgasol_multi_finish(&multi) == ZIMGASOL_OUT_OF_TURN);
+    WANT(zimgasol_multi_begin_round(&multi, some, 4) == ZIMGASOL_OUT_OF_TURN);
+    WANT(zimgasol_multi_drain_channel(&multi, 0, out, sizeof out) == 0);
+    WANT(zimgasol_multi_drain_channel(&multi, CHANNELS, out, sizeof out) == 0);
+    if (drain_main(&multi)) return 1;
+    zimgasol_multi_free(&multi);
+    WANT(multi.full == 0);
+    return 0;
+}
+
+/* Where no round was sent, the hellos are left of the channels, and each is that of zimgasol_hello. */
+static int send_none(zimgasol_table *table) {
+    zimgasol_multi multi = {0};
+    uint8_t out[100], hello[64];
+    WANT(zimgasol_multi_new(&multi, table, uuid, 16, 2, 16) == ZIMGASOL_DONE);
+    WANT(zimgasol_multi_finish(&multi) == ZIMGASOL_DONE);
+    for (uint8_t j = 0; j < 2; j++) {
+        WANT(zimgasol_multi_drain_channel(&multi, j, out, 60) == 60);
+        WANT(zimgasol_multi_drain_channel(&multi, j, out + 60, 40) == 4);
+        WANT(zimgasol_multi_drain_channel(&multi, j, out, sizeof out) == 0);
+        WANT(zimgasol_hello(uuid, 16, j, hello, 64) == ZIMGASOL_DONE && memcmp(out, hello, 60) == 0);
+    }
+    zimgasol_multi_free(&multi);
+    return 0;
+}
+
+/* Feeds all streams in pieces of `cut` bytes, each source by turns as long as it takes some. */
+static int load_all(zimgasol_table *table, size_t cut) {
+    zimgasol_in_place_session load = {0};
+    zimgasol_fault fault;
+    size_t taken = 7;
+    uint64_t pages = 0;
+    memset(given, 0, sizeof given);
+    memset(loaded, 0xEE, sizeof loaded);
+    WANT(zimgasol_in_place_session_new(&load, table, uuid, 16, 0, ZIMGASOL_FRAME_RAM) == ZIMGASOL_BAD_CHANNELS);
+    WANT(zimgasol_in_place_session_new(&load, table, uuid, 17, 256, ZIMGASOL_FRAME_RAM) == ZIMGASOL_BAD_CHANNELS);
+    WANT(zimgasol_in_place_session_new(&load, table, uuid, 17, CHANNELS, ZIMGASOL_FRAME_RAM) == ZIMGASOL_BAD_LENGTH);
+    WANT(zimgasol_in_place_session_new(&load, table, uuid, 16, CHANNELS, (zimgasol_frame)2) == ZIMGASOL_BAD_FRAME && load.full == 0);
+    WANT(zimgasol_in_place_session_new(&load, table, uuid, 16, CHANNELS, ZIMGASOL_FRAME_RAM) == ZIMGASOL_DONE);
+    WANT(zimgasol_in_place_session_verdict(&load, &fault) == ZIMGASOL_RUNNING);
+    WANT(!zimgasol_in_place_session_takes(&load, 1 + CHANNELS));
+    WANT(zimgasol_in_place_session_feed(&load, into, 2, 1 + CHANNELS, stream[0], 1, &taken) == ZIMGASOL_BAD_SOURCE && taken == 0);
+    WANT(zimgasol_in_place_session_feed(&load, into, 1, 0, stream[0], 1, &taken) == ZIMGASOL_BAD_LENGTH && taken == 0);
+    WANT(zimgasol_in_place_session_end(&load, 1 + CHANNELS) == ZIMGASOL_BAD_SOURCE);
+    for (int moved = 1; moved;) {
+        moved = 0;
+        for (size_t source = 0; source <= CHANNELS; source++) {
+            size_t left = length[source] - given[source], len = left < cut ? left : cut;
+            if (len == 0 || !zimgasol_in_place_session_takes(&load, source)) continue;
+            WANT(zimgasol_in_place_session_feed(&load, into, 2, source, stream[source] + given[source], len, &taken) == ZIMGASOL_DONE);
+            WANT(taken <= len);
+            given[source] += taken;
+            WANT(zimgasol_in_place_session_fed(&load, source) == given[source]);
+            moved = moved || taken > 0;
+        }
+        /* the array of the blocks stays as it is */
+        WANT(into[0].bytes == loaded[0] && into[0].len == PAGES * PAGE && into[1].bytes == loaded[1] && into[1].len == OTHER * PAGE);
+    }
+    for (size_t source = 0; source <= CHANNELS; source++) {
+        WANT(given[source] == length[source]);
+        WANT(zimgasol_in_place_session_end(&load, source) == ZIMGASOL_DONE);
+        WANT(zimgasol_in_place_session_feed(&load, into, 2, source, stream[0], 1, &taken) == ZIMGASOL_IS_OVER && taken == 0);
+    }
+    WANT(zimgasol_in_place_session_verdict(&load, &fault) == ZIMGASOL_DONE && fault.number == 0);
+    WANT(zimgasol_in_place_session_rounds(&load) == 2);
+    for (size_t p = 0; p < PAGES; p++) pages += memcmp(loaded[0] + p * PAGE, guest[0] + p * PAGE, PAGE) != 0;
+    WANT(pages == 0);
+    WANT(memcmp(loaded[1], guest[1], OTHER * PAGE) == 0);
+    zimgasol_in_place_session_free(&load);
+    WANT(load.full == 0);
+    return 0;
+}
+
+/* A packet that comes twice is found at the round's end, and nothing more is taken. */
+static int load_wrong(zimgasol_table *table) {
+    zimgasol_in_place_session load = {0};
+    zimgasol_fault fault;
+    size_t taken;
+    WANT(zimgasol_in_place_session_new(&load, table, uuid, 16, CHANNELS, ZIMGASOL_FRAME_RAM) == ZIMGASOL_DONE);
+    stream[2][64] ^= 1; /* the first byte of a packet's magic */
+    for (size_t source = 0; source <= CHANNELS; source++)
+        WANT(zimgasol_in_place_session_feed(&load, into, 2, source, stream[source], length[source], &taken) == ZIMGASOL_DONE);
+    stream[2][64] ^= 1;
+    WANT(zimgasol_in_place_session_verdict(&load, &fault) == ZIMGASOL_CHANNEL_PACKET_MAGIC);
+    WANT(fault.source == ZIMGASOL_CHANNEL(1) && fault.round == 0 && fault.number == ZIMGASOL_CHANNEL_PACKET_MAGIC);
+    WANT(!zimgasol_in_place_session_takes(&load, 0));
+    WANT(zimgasol_in_place_session_feed(&load, into, 2, 0, stream[0], 1, &taken) == ZIMGASOL_DONE && taken == 0);
+    WANT(zimgasol_in_place_session_rounds(&load) == 0);
+    zimgasol_in_place_session_free(&load);
+    return 0;
+}
+
+int main(void) {
+    zimgasol_block blocks[2] = {{.id = "pc.ram", .pages = PAGES}, {.id = "pc.bios", .pages = OTHER}};
+    zimgasol_table table = {0};
+    size_t entry;
+    WANT(zimgasol_table_new(&table, PAGE, blocks, 2, &entry) == ZIMGASOL_DONE);
+    if (send_all(&table) || send_none(&table)) return 1;
+    size_t cuts[] = {MOST, 100000, 4096, 777};
+    for (size_t i = 0; i < sizeof cuts / sizeof cuts[0]; i++)
+        if (load_all(&table, cuts[i])) return 1;
+    if (load_wrong(&table)) return 1;
+    zimgasol_table_free(&table);
+    printf("%zu bytes on the main stream, %zu, %zu and %zu on the channels; 0 pages differ\n", length[0], length[1], length[2], length[3]);
+    return 0;
+}

@@ -1,0 +1,150 @@
+/* Each allocation of the calls for several channels refused in turn. A guest is sent in two rounds by
+ * workers that are stepped by turns, and loaded into blocks, with the nth call of malloc or realloc
+ * refused. The call that wanted it says so, and is made again; a load that failed for good is made
+ * anew. The streams are those of a run without a refusal, the blocks have the guest, and nothing is
+ * left. */
+#include "zimgasol.h"
+#include "refusing.h"
+#include <string.h>
+
+enum { PAGE = 4096, CHANNELS = 2, PAGES = 7, SOURCES = 1 + CHANNELS, MOST = 1 << 17 };
+
+static uint8_t guest[PAGES * PAGE], loaded[PAGES * PAGE];
+static uint8_t stream[SOURCES][MOST], first[SOURCES][MOST];
+static size_t length[SOURCES], first_length[SOURCES];
+static const uint8_t uuid[16] = {4, 5};
+static zimgasol_lent lent[1] = {{guest, sizeof guest}};
+static zimgasol_buffer into[1] = {{loaded, sizeof loaded}};
+
+static void drain_main(zimgasol_multi *multi) {
+    size_t len;
+    while ((len = zimgasol_multi_drain(multi, stream[0] + length[0], 100)) > 0) length[0] += len;
+}
+
+static void drain_worker(zimgasol_worker *worker) {
+    size_t source = 1 + zimgasol_worker_channel(worker), len;
+    while ((len = zimgasol_worker_drain(worker, stream[source] + length[source], 3000)) > 0) {
+        length[source] += len;
+        WANT(length[source] + 3000 < MOST);
+    }
+}
+
+/* Steps a worker once, again where it was refused. Returns whether its channel goes on. */
+static int steps(zimgasol_worker *worker) {
+    uint32_t status = zimgasol_worker_step(worker, lent, 1);
+    if (status == ZIMGASOL_NO_MEMORY) {
+        WANT(refusals == 1);
+        status = zimgasol_worker_step(worker, lent, 1);
+    }
+    WANT(status == ZIMGASOL_DONE || status == ZIMGASOL_RUNNING);
+    return status == ZIMGASOL_RUNNING;
+}
+
+static void send_round(zimgasol_multi *multi, const zimgasol_place *dirty, size_t count) {
+    zimgasol_worker workers[CHANNELS] = {{0}};
+    AGAIN(zimgasol_multi_begin_round(multi, dirty, count));
+    for (size_t j = 0; j < CHANNELS; j++) AGAIN(zimgasol_multi_worker(multi, &workers[j]));
+    for (int running = 1; running;) {
+        running = 0;
+        for (size_t j = 0; j < CHANNELS; j++) {
+            running += steps(&workers[j]);
+            if (j == 0) drain_worker(&workers[j]);
+        }
+    }
+    for (size_t j = 0; j < CHANNELS; j++) {
+        drain_worker(&workers[j]);
+        AGAIN(zimgasol_multi_give_back(multi, &workers[j]));
+        WANT(workers[j].full == 0);
+    }
+    AGAIN(zimgasol_multi_end_round(multi));
+    drain_main(multi);
+}
+
+static void send(zimgasol_table *table) {
+    zimgasol_multi multi = {0};
+    zimgasol_place all[PAGES], some[2] = {{0, 6}, {0, 1}};
+    memset(length, 0, sizeof length);
+    for (size_t p = 0; p < PAGES; p++) {
+        all[p] = (zimgasol_place){0, p};
+        memset(guest + p * PAGE, (int)(p % 3), PAGE);
+    }
+    AGAIN(zimgasol_multi_new(&multi, table, uuid, 16, CHANNELS, 2));
+    send_round(&multi, all, PAGES);
+    memset(guest + 6 * PAGE, 77, PAGE);
+    memset(guest + PAGE, 0, PAGE);
+    send_round(&multi, some, 2);
+    AGAIN(zimgasol_multi_finish(&multi));
+    drain_main(&multi);
+    zimgasol_multi_free(&multi);
+}
+
+/* Feeds all sources by turns, and ends them. Returns whether the load goes on or is done: no where
+ * it has failed for good. */
+static int feeds(zimgasol_in_place_session *load, size_t cut) {
+    size_t given[SOURCES] = {0}, taken;
+    zimgasol_fault fault;
+    for (int moved = 1; moved;) {
+        moved = 0;
+        for (size_t source = 0; source < SOURCES; source++) {
+            size_t left = length[source] - given[source], len = left < cut ? left : cut;
+            if (len == 0 || !zimgasol_in_place_session_takes(load, source)) continue;
+            uint32_t status = zimgasol_in_place_session_feed(load, into, 1, source, stream[source] + given[source], len, &taken);
+            WANT(into[0].bytes == loaded && into[0].len == sizeof loaded);
+            if (status == ZIMGASOL_NO_MEMORY) {
+                WANT(refusals == 1 && taken == 0);
+                if (zimgasol_in_place_session_verdict(load, &fault) == ZIMGASOL_NO_MEMORY) return 0;
+                WANT(zimgasol_in_place_session_fed(load, source) == given[source]);
+            } else {
+                WANT(status == ZIMGASOL_DONE);
+            }
+            given[source] += taken;
+            moved = moved || taken > 0 || status == ZIMGASOL_NO_MEMORY;
+        }
+    }
+    for (size_t source = 0; source < SOURCES; source++) {
+        WANT(given[source] == length[source]);
+        WANT(zimgasol_in_place_session_end(load, source) == ZIMGASOL_DONE);
+    }
+    return 1;
+}
+
+static void load(zimgasol_table *table, size_t cut) {
+    zimgasol_in_place_session load = {0};
+    zimgasol_fault fault;
+    memset(loaded, 0xEE, sizeof loaded);
+    AGAIN(zimgasol_in_place_session_new(&load, table, uuid, 16, CHANNELS, ZIMGASOL_FRAME_RAM));
+    if (!feeds(&load, cut)) {
+        WANT(zimgasol_in_place_session_rounds(&load) <= 2);
+        zimgasol_in_place_session_free(&load);
+        AGAIN(zimgasol_in_place_session_new(&load, table, uuid, 16, CHANNELS, ZIMGASOL_FRAME_RAM));
+        WANT(feeds(&load, cut));
+    }
+    WANT(zimgasol_in_place_session_verdict(&load, &fault) == ZIMGASOL_DONE && fault.number == 0);
+    WANT(zimgasol_in_place_session_rounds(&load) == 2 && memcmp(loaded, guest, sizeof guest) == 0);
+    zimgasol_in_place_session_free(&load);
+}
+
+int main(void) {
+    zimgasol_block block = {.id = "pc.ram", .pages = PAGES};
+    zimgasol_table table = {0};
+    size_t entry;
+    long runs = 0, most = 0;
+    for (refused = 0;; refused++) {
+        counted = refusals = 0;
+        AGAIN(zimgasol_table_new(&table, PAGE, &block, 1, &entry));
+        send(&table);
+        for (size_t s = 0; s < SOURCES; s++) {
+            if (refused == 0) memcpy(first[s], stream[s], first_length[s] = length[s]);
+            WANT(length[s] == first_length[s] && memcmp(first[s], stream[s], length[s]) == 0);
+        }
+        load(&table, MOST);
+        load(&table, 1000);
+        zimgasol_table_free(&table);
+        WANT(held == 0);
+        runs++;
+        most = counted > most ? counted : most;
+        if (refused > 0 && refusals == 0) break;
+    }
+    printf("%ld runs of up to %ld allocations on channels, with none refused, then the first, then the second: all streams and blocks right, no block left\n", runs, most);
+    return 0;
+}
