@@ -232,16 +232,14 @@ typedef enum zimgasol_status {
     ZIMGASOL_NO_PAGE = 107,
     /* a buffer of another length than is needed */
     ZIMGASOL_BAD_LENGTH = 108,
-    /* a call out of turn: a round is open, or none is, or the stream is ended; no page of the block
-     * is due; or a worker isn't the next one, or hasn't ended */
+    /* a call out of turn: a round is open, or none is, or the stream is ended; or a worker isn't
+     * the next one, or hasn't ended */
     ZIMGASOL_OUT_OF_TURN = 109,
     /* more pages than a packet has: 128 of 4096 bytes, 64 of 8192 */
     ZIMGASOL_TOO_MANY_PAGES = 110,
     /* the piece was taken, and no memory was found for the guest: zimgasol_loader_settle tries
      * again, and so does the next piece */
     ZIMGASOL_WAITS = 111,
-    /* pages that came are due: they are to be put into a block (zimgasol_in_place_put). No fault */
-    ZIMGASOL_IS_DUE = 112,
     /* a frame that isn't one */
     ZIMGASOL_BAD_FRAME = 113
 } zimgasol_status;
@@ -435,73 +433,67 @@ ZIMGASOL_API zimgasol_status zimgasol_loader_page(zimgasol_loader *loader, size_
 ZIMGASOL_API void zimgasol_loader_free(zimgasol_loader *loader);
 
 /* ---- a load of one stream into the caller's own blocks, as the memory of a machine that is to run
- *      the guest
+ *      the guest: each page written as soon as it has come
  *
- * The caller has a buffer for each block of a table, with the block's pages one after another. The
- * load is fed in pieces, and keeps the pages of the sections that are whole: those of the first one
- * are due until they are put, and then those of the next. So each piece is followed by
+ * The caller has a buffer for each block of a table, with the block's pages one after another, and
+ * passes all of them to each call that feeds. No second guest is held, and no section is kept: a
+ * page is written when its bytes have come. Between two calls the load has the beginning of one
+ * item of the stream at most.
  *
- *     while (zimgasol_in_place_next(&load, &block) == ZIMGASOL_IS_DUE)
- *         if (zimgasol_in_place_put(&load, block, buffers[block], lengths[block]) != ZIMGASOL_DONE)
- *             return 1;
+ * At any time the blocks have all page records of the stream so far, on top of what they held at
+ * first: those of the complete sections, and those of the section that isn't complete yet. So they
+ * stay after a fault, and where the stream is cut: the guest may run after DONE alone. Where no
+ * record writes a page, the block holds what it held at first.
  *
- * and where no page is due the blocks have all whole sections, on top of what they held at first,
- * and nothing else of the stream. That holds where each block's bytes are passed as the call before
- * left them; into other bytes the same pages are written. Blocks share no byte with each other, and
- * nobody reads or writes one while a call has it: the guest doesn't run yet. A page is copied
- * twice, as it comes and into its block. One that the stream declares as zeros is compared, and
- * isn't written where the block has zeros already, so that fresh pages of private anonymous memory
- * take none of the system's.
+ * That holds where each call gets the blocks as the call before left them. Blocks share no byte
+ * with each other, and nobody reads or writes one while a call has it: the guest doesn't run yet. A
+ * page that the stream declares as zeros is compared, and isn't written where the block has zeros
+ * already, so that fresh pages of private anonymous memory take none of the system's.
  *
- * The stream is to have the table's blocks, the same in the same order: of another one no page is
- * due, and the verdict is OTHER_TABLE. */
+ * The stream is to have the table's blocks, the same in the same order: of another one nothing is
+ * written, and the verdict is OTHER_TABLE. */
 
-/* Makes a load into blocks of a table, of which it keeps a copy. Its stream is read in this frame.
+/* Makes a load into blocks of a table, of which it keeps copies. Its stream is read in this frame.
  * Returns DONE, BAD_FRAME or NO_MEMORY. */
 ZIMGASOL_API zimgasol_status zimgasol_in_place_new(zimgasol_in_place *in_place,
     zimgasol_table *table, zimgasol_frame frame);
 
-/* Takes the next piece of the stream, of any length, also where pages are due: the sections that it
- * makes whole wait behind theirs. Each piece that is fed meanwhile takes memory until they are put.
- * The piece may go afterwards. Returns DONE, also after the end byte or a fault of the stream's own
- * (11 to 33), where bytes are only counted; NO_MEMORY, where nothing has changed and the piece can
- * be fed again; IS_OVER after zimgasol_in_place_end; TOO_LONG. A stream of another table is read on
- * and kept in part, so there is no use in feeding it any more. */
+/* Takes the next piece of the stream, of any length, and writes its pages into the blocks, of which
+ * there are `count`, in the table's order. The array `blocks` stays as it is. The piece may go
+ * afterwards. Returns DONE, also once the verdict is there, where bytes are only counted. Or the
+ * first of these that applies, and nothing has changed: IS_OVER after zimgasol_in_place_end;
+ * TOO_LONG; BAD_LENGTH (the blocks aren't the table's). Or NO_MEMORY: where the verdict is
+ * NO_MEMORY then, the load has failed for good, and the blocks have the first of the stream's page
+ * records, in their order; else nothing has changed, and the piece can be fed again. */
 ZIMGASOL_API zimgasol_status zimgasol_in_place_feed(zimgasol_in_place *in_place,
-    const uint8_t *piece, size_t len);
+    zimgasol_buffer *blocks, size_t count, const uint8_t *piece, size_t len);
 
-/* Returns IS_DUE where pages are due, and then *block is the number of the block that the first
- * ones are of; DONE where none is, and *block stays. */
-ZIMGASOL_API zimgasol_status zimgasol_in_place_next(zimgasol_in_place *in_place, size_t *block);
-
-/* Writes the pages of one section that are due first, as long as they are of this block, into its
- * bytes, whose length `len` is its pages' together; the other bytes stay. Then they aren't due any
- * more. More may be due then, of this block too, so it is called until zimgasol_in_place_next
- * reports that none is. Returns DONE; NO_PAGE, where there is no such block; OUT_OF_TURN, where no
- * page is due or the first one is of another block; or BAD_LENGTH. It takes no memory. */
-ZIMGASOL_API zimgasol_status zimgasol_in_place_put(zimgasol_in_place *in_place, size_t block,
-    uint8_t *bytes, size_t len);
-
-/* The stream is over: no piece is fed from now on. Pages that are due can still be put. Once more
- * changes nothing. */
+/* The stream is over: no piece is fed from now on. Once more changes nothing. */
 ZIMGASOL_API void zimgasol_in_place_end(zimgasol_in_place *in_place);
 
-/* Reports the verdict on the stream so far: DONE where its end byte was read; RUNNING where it is
- * whole so far, and STREAM_TRUNCATED (34) in its place after zimgasol_in_place_end; else the number
- * of its first fault; IS_DUE while pages are due. *found has the same number, with where it is: all
- * zeros with DONE, and with RUNNING and IS_DUE the round that zimgasol_in_place_rounds returns. */
+/* Reports the verdict on the stream so far: DONE where its end byte was read; RUNNING where it has
+ * no fault so far, and STREAM_TRUNCATED (34) in its place after zimgasol_in_place_end; else the
+ * number of its first fault; NO_MEMORY for good where a piece failed with it. *found has the same
+ * number, with where it is: all zeros with DONE, and with RUNNING the round that
+ * zimgasol_in_place_rounds returns. */
 ZIMGASOL_API zimgasol_status zimgasol_in_place_verdict(zimgasol_in_place *in_place,
     zimgasol_fault *found);
 
-/* Returns how many sections are whole in the blocks. START and END count, too. */
+/* Returns how many sections are complete in the blocks, which may have records of the next one,
+ * too. START and END count. */
 ZIMGASOL_API uint64_t zimgasol_in_place_rounds(zimgasol_in_place *in_place);
 
-/* As those of a loader. */
+/* Returns how many bytes were fed. */
 ZIMGASOL_API uint64_t zimgasol_in_place_fed(zimgasol_in_place *in_place);
+
+/* Reports in *at how many of the bytes fed the stream has: those up to its end byte, or in the
+ * frame MACHINE up to the footer of RAM's END. The bytes fed after them are the caller's. Returns
+ * DONE; or RUNNING, and *at stays, where the stream isn't closed: so always with OTHER_TABLE and
+ * NO_MEMORY. */
 ZIMGASOL_API zimgasol_status zimgasol_in_place_closed_at(zimgasol_in_place *in_place,
     uint64_t *at);
 
-/* Frees it, with the pages that are due. The blocks stay the caller's. */
+/* Frees it. The blocks stay the caller's. */
 ZIMGASOL_API void zimgasol_in_place_free(zimgasol_in_place *in_place);
 
 /* ---- a load of several channels: a main stream and its channels, which are fed in pieces and in

@@ -4,7 +4,7 @@
  *
  * Each ID=PAGES is a block of the machine, in the order of the stream's. Pages have 4096 bytes where -p says nothing else, and the stream is fed in
  * pieces of 65536: -c sets another length. -o writes the blocks to a file, one after another. It prints `single BYTES sections S`, with status 0;
- * `fault N round R` with status 1, and then too the blocks have the whole sections before it; or why it can't go on, with status 3.
+ * `fault N round R` with status 1, and then the blocks have the page records before it; or why it can't go on, with status 3.
  */
 #define _DEFAULT_SOURCE
 #include "zimgasol.h"
@@ -18,8 +18,7 @@ enum { MOST = 256 };
 /* The machine's blocks, each mapped by itself. */
 typedef struct machine {
     zimgasol_block blocks[MOST];
-    uint8_t *bytes[MOST];
-    size_t lengths[MOST];
+    zimgasol_buffer buffers[MOST];
     size_t count;
 } machine;
 
@@ -37,22 +36,12 @@ static int add_block(machine *m, const char *word, uint64_t page_size) {
         perror(word);
         return -1;
     }
-    m->bytes[m->count] = bytes;
-    m->lengths[m->count++] = len;
+    m->buffers[m->count++] = (zimgasol_buffer){.bytes = bytes, .len = len};
     return 1;
 }
 
 static void unmap(machine *m) {
-    for (size_t i = 0; i < m->count; i++) munmap(m->bytes[i], m->lengths[i]);
-}
-
-/* Puts all pages that are due into their blocks. */
-static uint32_t put_due(zimgasol_in_place *load, machine *m) {
-    size_t block;
-    uint32_t status = ZIMGASOL_DONE;
-    while (status == ZIMGASOL_DONE && zimgasol_in_place_next(load, &block) == ZIMGASOL_IS_DUE)
-        status = zimgasol_in_place_put(load, block, m->bytes[block], m->lengths[block]);
-    return status;
+    for (size_t i = 0; i < m->count; i++) munmap(m->buffers[i].bytes, m->buffers[i].len);
 }
 
 /* Feeds all of standard input. Answers how many bytes that were; or -1, and tells why it can't go on. */
@@ -62,8 +51,7 @@ static long long feed_input(zimgasol_in_place *load, machine *m, size_t cut) {
     size_t len;
     uint32_t status = piece == NULL ? ZIMGASOL_NO_MEMORY : ZIMGASOL_DONE;
     while (status == ZIMGASOL_DONE && (len = fread(piece, 1, cut, stdin)) > 0) {
-        status = zimgasol_in_place_feed(load, piece, len);
-        if (status == ZIMGASOL_DONE) status = put_due(load, m);
+        status = zimgasol_in_place_feed(load, m->buffers, m->count, piece, len);
         total += (long long)len;
     }
     free(piece);
@@ -77,7 +65,7 @@ static long long feed_input(zimgasol_in_place *load, machine *m, size_t cut) {
 static int write_blocks(const machine *m, const char *name) {
     FILE *file = fopen(name, "wb");
     int done = file != NULL;
-    for (size_t i = 0; done && i < m->count; i++) done = fwrite(m->bytes[i], 1, m->lengths[i], file) == m->lengths[i];
+    for (size_t i = 0; done && i < m->count; i++) done = fwrite(m->buffers[i].bytes, 1, m->buffers[i].len, file) == m->buffers[i].len;
     if (file != NULL && fclose(file) != 0) done = 0;
     if (!done) perror(name);
     return done;

@@ -207,26 +207,19 @@ typedef struct receiver {
     uint64_t sections;
 } receiver;
 
-static zimgasol_status put_due(zimgasol_in_place *load, machine *m) {
-    zimgasol_status status = ZIMGASOL_DONE;
-    size_t b;
-    while (status == ZIMGASOL_DONE && zimgasol_in_place_next(load, &b) == ZIMGASOL_IS_DUE)
-        status = zimgasol_in_place_put(load, b, bytes_of(&m->rams[b]), m->rams[b].pages * PAGE);
-    return status;
-}
-
 static void *receive(void *given) {
     receiver *r = given;
     zimgasol_in_place load = {0};
+    zimgasol_buffer blocks[BLOCKS];
     zimgasol_fault fault;
     uint8_t piece[PIECE];
     ssize_t len = 0;
+    for (size_t b = 0; b < BLOCKS; b++)
+        blocks[b] = (zimgasol_buffer){bytes_of(&r->m.rams[b]), r->m.rams[b].pages * PAGE};
     r->status = zimgasol_in_place_new(&load, r->table, ZIMGASOL_FRAME_RAM);
     if (r->status != ZIMGASOL_DONE) return NULL;
-    while (r->status == ZIMGASOL_DONE && (len = read(r->socket, piece, sizeof piece)) > 0) {
-        r->status = zimgasol_in_place_feed(&load, piece, (size_t)len);
-        if (r->status == ZIMGASOL_DONE) r->status = put_due(&load, &r->m);
-    }
+    while (r->status == ZIMGASOL_DONE && (len = read(r->socket, piece, sizeof piece)) > 0)
+        r->status = zimgasol_in_place_feed(&load, blocks, BLOCKS, piece, (size_t)len);
     zimgasol_in_place_end(&load);
     if (r->status == ZIMGASOL_DONE) r->status = zimgasol_in_place_verdict(&load, &fault);
     r->sections = zimgasol_in_place_rounds(&load);

@@ -14,7 +14,7 @@ use Rattle.mig_single_load.specs.declared.fault.Origin.TheVariants as origin
 use Rattle.mig_answer.specs.declared.verdict.Verdict.{Verdict}
 use Rattle.mig_answer.specs.declared.verdict.Verdict.TheVariants as verdict
 use Rattle.mig_c.specs.declared.fault.FoundFault.{FoundFault}
-use Rattle.mig_c_calls.specs.Status.{done, running, stream_truncated, is_due}
+use Rattle.mig_c_calls.specs.Status.{done, running, stream_truncated}
 
 -- where it was found: 0 is the main stream, 1 + j channel j, and the largest number the round, which is in no one text
 abbrev pub source_number : Origin → ℕ
@@ -62,13 +62,9 @@ found_of f = record {
 abbrev pub no_fault : FoundFault
 no_fault = record { round = 0; source = 0; number = done; first = 0; second = 0; reserved = no_words }
 
--- this where the load goes on, behind so many rounds,
+-- and this where the load goes on, after so many rounds.
 abbrev pub goes_on : ℕ → FoundFault
 goes_on rounds = record { round = rounds; source = 0; number = running; first = 0; second = 0; reserved = no_words }
-
--- and this where pages of the next round are due.
-abbrev pub has_due : ℕ → FoundFault
-has_due rounds = record { round = rounds; source = 0; number = is_due; first = 0; second = 0; reserved = no_words }
 
 -- What C sees of the verdict on one stream, which may be over: where it isn't and is whole so far, more of it is needed.
 abbrev pub so_far : Bool → FoundFault → FoundFault

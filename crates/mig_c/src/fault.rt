@@ -1,10 +1,10 @@
 //! A load's fault as C sees it.
 
 ghost use Rattle.std.specs.Prelude.{◌≡◌};
-ghost use Rattle.mig_c.specs.Found.{source_number, carried_of_stream, carried_of_round, carried, found_of, no_fault, so_far, seen_so_far, goes_on, has_due};
+ghost use Rattle.mig_c.specs.Found.{source_number, carried_of_stream, carried_of_round, carried, found_of, no_fault, so_far, seen_so_far, goes_on};
 
 use mig_assemble::RoundFault;
-use mig_c_calls::status::{IS_DUE, RUNNING, STREAM_TRUNCATED};
+use mig_c_calls::status::{RUNNING, STREAM_TRUNCATED};
 use mig_packet::ChannelFault;
 use mig_single_load::{Fault, LoadFault, Origin};
 use mig_stream::StreamFault;
@@ -134,17 +134,6 @@ pub(crate) fn running(rounds: u64) -> FoundFault
     FoundFault {
         round: rounds,
         number: RUNNING,
-        ..NONE
-    }
-}
-
-/// No fault: pages are due of the round behind so many.
-pub(crate) fn due(rounds: u64) -> FoundFault
-    ensures { result ≡ has_due rounds }
-{
-    FoundFault {
-        round: rounds,
-        number: IS_DUE,
         ..NONE
     }
 }

@@ -1,14 +1,16 @@
-//! A load of one stream into blocks of C: it is fed in pieces, and what came is put block by block, into bytes that each call is handed.
+//! The calls of a load of one stream into blocks of C, which are passed to the call that feeds it.
+//! Each page is written as soon as its bytes have come.
 
-ghost use Rattle.std.specs.Prelude.{◌≡◌, ◌≢◌, ◌≤◌, ◌^◌, IsSome, IfOk, None, Some};
+ghost use Rattle.std.specs.Prelude.{◌≡◌, ◌≢◌, IsSome, IfOk, None, Some};
+ghost use Rattle.mig_mem.specs.Lent.{mut_lent_bytes};
 ghost use Rattle.mig_c_calls.specs.Status.{done};
 ghost use Rattle.mig_c.specs.Kinds.{table_in, in_place_in, Turns, Tells};
-ghost use Rattle.mig_c.specs.InPlace.{whole_rounds, Opens, OpensInPlace, FeedsInPlace, TellsNext, PutsBlock, EndsInPlace, TellsVerdict, TellsClosedAt};
+ghost use Rattle.mig_c.specs.InPlace.{Opens, OpensInPlace, FeedsInPlace, EndsInPlace, TellsVerdict, TellsClosedAt};
 
 use crate::fault::FoundFault;
 use crate::frame::frame_of;
 use crate::handle::{Handle, InPlaceHandle, TableHandle};
-use crate::held::HeldLoad;
+use crate::held_load::HeldLoad;
 use crate::object::Object;
 use mig_c_calls::status::{BAD_FRAME, DONE, NO_MEMORY};
 use mig_mem::{NoMemory, Table};
@@ -33,7 +35,7 @@ fn made_of(alloc: Global, table: &Object, frame: Frame) -> Result<Box<Object>, N
     }
 }
 
-/// Makes a load that was fed nothing, into blocks of a table, of which it keeps a copy. Its stream
+/// Makes a load that was fed nothing, into blocks of a table, of which it keeps copies. Its stream
 /// is read in a frame.
 #[unsafe(no_mangle)]
 pub extern "C" fn zimgasol_in_place_new(
@@ -64,82 +66,30 @@ pub extern "C" fn zimgasol_in_place_new(
     }
 }
 
-fn feed(object: &mut Object, piece: &[u8]) -> u32
+fn feed(alloc: Global, object: &mut Object, blocks: &mut [&mut [u8]], piece: &[u8]) -> u32
     requires { IsSome (in_place_in (Some object.old)) }
-    ensures { Turns (FeedsInPlace piece.now result) (in_place_in (Some object.old)) (in_place_in (Some object.new)) }
+    ensures { Turns (FeedsInPlace piece.now (mut_lent_bytes blocks.old) (mut_lent_bytes blocks.new) result) (in_place_in (Some object.old)) (in_place_in (Some object.new)) }
 {
     match object {
-        Object::InPlace(load) => load.feed(piece),
+        Object::InPlace(load) => load.feed(alloc, blocks, piece),
         _ => unreachable!(),
     }
 }
 
-/// Takes the next piece of the text: the pages of the sections that it makes whole are to be put.
+/// Takes the next piece of the stream, and writes its pages into the blocks.
 #[unsafe(no_mangle)]
 pub extern "C" fn zimgasol_in_place_feed(
     alloc: Global,
     in_place: &mut InPlaceHandle,
+    blocks: &mut [&mut [u8]],
     piece: &[u8],
 ) -> u32
     requires in_place { IsSome (in_place_in in_place.old.handle.value) }
-    ensures feeds { Turns (FeedsInPlace piece.now result) (in_place_in in_place.old.handle.value) (in_place_in in_place.new.handle.value) }
+    ensures feeds { Turns (FeedsInPlace piece.now (mut_lent_bytes blocks.old) (mut_lent_bytes blocks.new) result)
+        (in_place_in in_place.old.handle.value) (in_place_in in_place.new.handle.value) }
 {
     let mut object = in_place.handle.take().into_box(alloc);
-    let status = feed(&mut object, piece);
-    in_place.handle = Handle::of(object);
-    status
-}
-
-fn next_block(object: &Object, block: &mut usize) -> u32
-    requires { IsSome (in_place_in (Some object.now)) }
-    ensures { Tells (TellsNext result block.old block.new) (in_place_in (Some object.now)) }
-{
-    match object {
-        Object::InPlace(load) => load.next_block(block),
-        _ => unreachable!(),
-    }
-}
-
-/// Tells whether pages are to be put, and into which block the first ones.
-#[unsafe(no_mangle)]
-pub extern "C" fn zimgasol_in_place_next(
-    alloc: Global,
-    in_place: &mut InPlaceHandle,
-    block: &mut usize,
-) -> u32
-    requires in_place { IsSome (in_place_in in_place.old.handle.value) }
-    ensures same { in_place.new.handle.value ≡ in_place.old.handle.value }
-    ensures tells { Tells (TellsNext result block.old block.new) (in_place_in in_place.old.handle.value) }
-{
-    let object = in_place.handle.take().into_box(alloc);
-    let status = next_block(&object, block);
-    in_place.handle = Handle::of(object);
-    status
-}
-
-fn put(object: &mut Object, block: usize, bytes: &mut [u8]) -> u32
-    requires { IsSome (in_place_in (Some object.old)) }
-    ensures { Turns (PutsBlock block bytes.old bytes.new result) (in_place_in (Some object.old)) (in_place_in (Some object.new)) }
-{
-    match object {
-        Object::InPlace(load) => load.put(block, bytes),
-        _ => unreachable!(),
-    }
-}
-
-/// Puts the pages that came first, as long as they are of this block, into its bytes.
-#[unsafe(no_mangle)]
-pub extern "C" fn zimgasol_in_place_put(
-    alloc: Global,
-    in_place: &mut InPlaceHandle,
-    block: usize,
-    bytes: &mut [u8],
-) -> u32
-    requires in_place { IsSome (in_place_in in_place.old.handle.value) }
-    ensures puts { Turns (PutsBlock block bytes.old bytes.new result) (in_place_in in_place.old.handle.value) (in_place_in in_place.new.handle.value) }
-{
-    let mut object = in_place.handle.take().into_box(alloc);
-    let status = put(&mut object, block, bytes);
+    let status = feed(alloc, &mut object, blocks, piece);
     in_place.handle = Handle::of(object);
     status
 }
@@ -154,7 +104,7 @@ fn end(object: &mut Object)
     }
 }
 
-/// The text is over: no piece is fed from now on.
+/// Marks the end of the stream: no piece is fed after it.
 #[unsafe(no_mangle)]
 pub extern "C" fn zimgasol_in_place_end(alloc: Global, in_place: &mut InPlaceHandle)
     requires in_place { IsSome (in_place_in in_place.old.handle.value) }
@@ -175,7 +125,7 @@ fn fault(object: &Object) -> FoundFault
     }
 }
 
-/// The verdict on the text so far, or that more is needed, or that pages are to be put.
+/// Reports the verdict on the stream so far, or that more of it is needed.
 #[unsafe(no_mangle)]
 pub extern "C" fn zimgasol_in_place_verdict(
     alloc: Global,
@@ -196,7 +146,7 @@ pub extern "C" fn zimgasol_in_place_verdict(
 
 fn rounds(object: &Object) -> u64
     requires { IsSome (in_place_in (Some object.now)) }
-    ensures { Tells (λ l. result ≡ whole_rounds l.state.rounds l.due) (in_place_in (Some object.now)) }
+    ensures { Tells (λ s. result ≡ s.rounds) (in_place_in (Some object.now)) }
 {
     match object {
         Object::InPlace(load) => load.rounds(),
@@ -204,12 +154,12 @@ fn rounds(object: &Object) -> u64
     }
 }
 
-/// How many sections are whole in the blocks. START and END count, too.
+/// Returns how many sections are complete in the blocks. START and END count, too.
 #[unsafe(no_mangle)]
 pub extern "C" fn zimgasol_in_place_rounds(alloc: Global, in_place: &mut InPlaceHandle) -> u64
     requires in_place { IsSome (in_place_in in_place.old.handle.value) }
     ensures same { in_place.new.handle.value ≡ in_place.old.handle.value }
-    ensures rounds { Tells (λ l. result ≡ whole_rounds l.state.rounds l.due) (in_place_in in_place.old.handle.value) }
+    ensures rounds { Tells (λ s. result ≡ s.rounds) (in_place_in in_place.old.handle.value) }
 {
     let object = in_place.handle.take().into_box(alloc);
     let number = rounds(&object);
@@ -219,7 +169,7 @@ pub extern "C" fn zimgasol_in_place_rounds(alloc: Global, in_place: &mut InPlace
 
 fn fed(object: &Object) -> u64
     requires { IsSome (in_place_in (Some object.now)) }
-    ensures { Tells (λ l. result ≡ l.state.reader.fed) (in_place_in (Some object.now)) }
+    ensures { Tells (λ s. result ≡ s.fed) (in_place_in (Some object.now)) }
 {
     match object {
         Object::InPlace(load) => load.fed(),
@@ -232,7 +182,7 @@ fn fed(object: &Object) -> u64
 pub extern "C" fn zimgasol_in_place_fed(alloc: Global, in_place: &mut InPlaceHandle) -> u64
     requires in_place { IsSome (in_place_in in_place.old.handle.value) }
     ensures same { in_place.new.handle.value ≡ in_place.old.handle.value }
-    ensures fed { Tells (λ l. result ≡ l.state.reader.fed) (in_place_in in_place.old.handle.value) }
+    ensures fed { Tells (λ s. result ≡ s.fed) (in_place_in in_place.old.handle.value) }
 {
     let object = in_place.handle.take().into_box(alloc);
     let number = fed(&object);
@@ -267,7 +217,7 @@ pub extern "C" fn zimgasol_in_place_closed_at(
     status
 }
 
-/// Frees a load. Pages that are to be put are lost. A handle without one stays as it is.
+/// Frees a load. The blocks stay the caller's. A handle without one stays as it is.
 #[unsafe(no_mangle)]
 pub extern "C" fn zimgasol_in_place_free(alloc: Global, in_place: &mut InPlaceHandle)
     ensures none { in_place.new.handle.value ≡ None }

@@ -11,7 +11,7 @@ mod block;
 mod fault;
 mod frame;
 mod handle;
-mod held;
+mod held_load;
 mod held_session;
 mod in_place;
 mod in_place_session;

@@ -1,6 +1,6 @@
 //! What stands behind a handle.
 
-use crate::held::HeldLoad;
+use crate::held_load::HeldLoad;
 use crate::held_session::HeldSession;
 use crate::sender::Sender;
 use mig_c_calls::{HeldWorker, Multi};

@@ -134,7 +134,6 @@ fn of_call(status: u32) -> &'static [u8]
         109 => b"call out of turn\0",
         110 => b"too many pages for a packet\0",
         111 => b"taken, waits for guest memory\0",
-        112 => b"pages are due\0",
         113 => b"no such frame\0",
         _ => b"unknown status\0",
     }

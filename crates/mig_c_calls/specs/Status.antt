@@ -60,7 +60,7 @@ no_page = 107
 abbrev pub bad_length : ℕ
 bad_length = 108
 
--- a call out of turn: a round is open, or none is, or the stream is ended; or no page of the block is due
+-- a call out of turn: a round is open, or none is, or the stream is ended
 abbrev pub out_of_turn : ℕ
 out_of_turn = 109
 
@@ -71,10 +71,6 @@ too_many_pages = 110
 -- the piece was taken, and no memory was found for the guest
 abbrev pub waits : ℕ
 waits = 111
-
--- pages that came are to be put: no fault
-abbrev pub is_due : ℕ
-is_due = 112
 
 -- a frame that isn't one
 abbrev pub bad_frame : ℕ

@@ -42,7 +42,7 @@ pub const NO_PAGE: u32 = 107;
 /// A buffer of another length than is needed.
 pub const BAD_LENGTH: u32 = 108;
 
-/// A call out of turn: a round is open, or none is, or the stream is ended; or no page of the block is due.
+/// A call out of turn: a round is open, or none is, or the stream is ended.
 pub const OUT_OF_TURN: u32 = 109;
 
 /// More pages than a packet has.
@@ -50,9 +50,6 @@ pub const TOO_MANY_PAGES: u32 = 110;
 
 /// The piece was taken, and no memory was found for the guest.
 pub const WAITS: u32 = 111;
-
-/// Pages that came are to be put.
-pub const IS_DUE: u32 = 112;
 
 /// A frame that isn't one.
 pub const BAD_FRAME: u32 = 113;

@@ -119,45 +119,71 @@ static void make_in_place(zimgasol_in_place *load) {
     memset(second_block, 0xEE, sizeof second_block);
 }
 
-/* Puts the pages that are due, and tries first what isn't to be done. */
-static void put_due(zimgasol_in_place *load) {
+/* Feeds the stream, and tries first what isn't to be done. A piece is fed again where nothing had changed. Returns NO_MEMORY where the load has failed. */
+static uint32_t feed_in_place(zimgasol_in_place *load, size_t cut) {
+    zimgasol_buffer blocks[2] = {{first_block, sizeof first_block}, {second_block, sizeof second_block}};
     zimgasol_fault fault;
-    size_t block;
-    uint32_t status;
-    while ((status = zimgasol_in_place_next(load, &block)) == ZIMGASOL_IS_DUE) {
-        uint8_t *bytes = block == 0 ? first_block : second_block;
-        size_t len = block == 0 ? sizeof first_block : sizeof second_block;
-        WANT(block < 2 && zimgasol_in_place_verdict(load, &fault) == ZIMGASOL_IS_DUE && fault.round == zimgasol_in_place_rounds(load));
-        WANT(zimgasol_in_place_put(load, 2, bytes, len) == ZIMGASOL_NO_PAGE && zimgasol_in_place_put(load, 1 - block, bytes, len) == ZIMGASOL_OUT_OF_TURN);
-        WANT(zimgasol_in_place_put(load, block, bytes, len - 1) == ZIMGASOL_BAD_LENGTH && zimgasol_in_place_put(load, block, bytes, 0) == ZIMGASOL_BAD_LENGTH);
-        WANT(zimgasol_in_place_put(load, block, bytes, len) == ZIMGASOL_DONE);
-        WANT(zimgasol_in_place_put(load, block, bytes, len) == ZIMGASOL_OUT_OF_TURN);
-    }
-    WANT(status == ZIMGASOL_DONE);
-}
-
-static void feed_in_place(zimgasol_in_place *load, size_t cut, int at_once) {
     for (size_t at = 0; at < text_len; at += cut) {
         size_t len = text_len - at < cut ? text_len - at : cut;
-        AGAIN(zimgasol_in_place_feed(load, text + at, len));
-        if (at_once) put_due(load);
+        WANT(zimgasol_in_place_feed(load, blocks, 1, text + at, len) == ZIMGASOL_BAD_LENGTH);
+        blocks[1].len--;
+        WANT(zimgasol_in_place_feed(load, blocks, 2, text + at, len) == ZIMGASOL_BAD_LENGTH);
+        blocks[1].len++;
+        WANT(zimgasol_in_place_fed(load) == at);
+        uint32_t status = zimgasol_in_place_feed(load, blocks, 2, text + at, len);
+        if (status == ZIMGASOL_NO_MEMORY) {
+            WANT(refusals == 1);
+            if (zimgasol_in_place_verdict(load, &fault) == ZIMGASOL_NO_MEMORY) {
+                WANT(fault.source == ZIMGASOL_ROUND && fault.round == zimgasol_in_place_rounds(load));
+                /* it has failed for good, and only counts */
+                WANT(zimgasol_in_place_feed(load, blocks, 2, text, 1) == ZIMGASOL_DONE && zimgasol_in_place_fed(load) == at + len + 1);
+                WANT(zimgasol_in_place_verdict(load, &fault) == ZIMGASOL_NO_MEMORY);
+                return status;
+            }
+            WANT(fault.number == ZIMGASOL_RUNNING && zimgasol_in_place_fed(load) == at);
+            status = zimgasol_in_place_feed(load, blocks, 2, text + at, len);
+        }
+        WANT(status == ZIMGASOL_DONE && zimgasol_in_place_fed(load) == at + len);
+        WANT(blocks[0].bytes == first_block && blocks[1].bytes == second_block && blocks[0].len == sizeof first_block && blocks[1].len == sizeof second_block);
     }
-    if (!at_once) put_due(load);
+    zimgasol_in_place_end(load);
+    WANT(zimgasol_in_place_feed(load, blocks, 0, text, 1) == ZIMGASOL_IS_OVER);
+    return ZIMGASOL_DONE;
 }
 
-/* Loads into blocks, whose pages are put after each piece, or only once all were fed. */
-static void load_in_place(size_t cut, int at_once) {
+/* Loads into blocks. A load that has failed is made again, with blocks as they were at first. */
+static void load_in_place(size_t cut) {
     zimgasol_in_place load = {0};
     zimgasol_fault fault;
+    uint64_t at = 7;
     make_in_place(&load);
-    feed_in_place(&load, cut, at_once);
-    zimgasol_in_place_end(&load);
-    WANT(zimgasol_in_place_feed(&load, text, 1) == ZIMGASOL_IS_OVER);
+    if (feed_in_place(&load, cut) == ZIMGASOL_NO_MEMORY) {
+        WANT(zimgasol_in_place_closed_at(&load, &at) == ZIMGASOL_RUNNING && at == 7);
+        zimgasol_in_place_free(&load);
+        make_in_place(&load);
+        WANT(feed_in_place(&load, cut) == ZIMGASOL_DONE);
+    }
+    WANT(zimgasol_in_place_closed_at(&load, &at) == ZIMGASOL_DONE && at == text_len);
     WANT(zimgasol_in_place_verdict(&load, &fault) == ZIMGASOL_DONE && fault.number == 0 && zimgasol_in_place_rounds(&load) == 4);
     zimgasol_in_place_free(&load);
     WANT(load.at == NULL);
     WANT(is_filled(first_block, 2 * PAGE, 0xEE) && first_block[2 * PAGE] == 3 && is_filled(first_block + 2 * PAGE + 1, PAGE - 1, 7));
     WANT(is_filled(second_block, PAGE, 0) && is_filled(second_block + PAGE, PAGE, 0xEE));
+}
+
+/* A stream that is cut amid its first round: its page is there, and no section after START is complete. */
+static void cut_in_place(void) {
+    zimgasol_in_place load = {0};
+    zimgasol_buffer blocks[2] = {{first_block, sizeof first_block}, {second_block, sizeof second_block}};
+    zimgasol_fault fault;
+    size_t page_end = 0;
+    make_in_place(&load);
+    while (first_block[2 * PAGE] != 1) AGAIN(zimgasol_in_place_feed(&load, blocks, 2, text + page_end++, 1));
+    WANT(is_filled(first_block, 2 * PAGE, 0xEE) && is_filled(first_block + 2 * PAGE + 1, PAGE - 1, 7) && is_filled(second_block, 2 * PAGE, 0xEE));
+    WANT(zimgasol_in_place_verdict(&load, &fault) == ZIMGASOL_RUNNING && fault.round == 1 && zimgasol_in_place_rounds(&load) == 1);
+    zimgasol_in_place_end(&load);
+    WANT(zimgasol_in_place_verdict(&load, &fault) == ZIMGASOL_STREAM_TRUNCATED && fault.round == 1 && first_block[2 * PAGE] == 1);
+    zimgasol_in_place_free(&load);
 }
 
 /* The main stream of a round of a block of two pages, and its channel. */
@@ -270,12 +296,14 @@ int main(int count, char **words) {
     long first = count > 1 ? strtol(words[1], NULL, 10) : 0, last = count > 2 ? strtol(words[2], NULL, 10) : 100000, runs = 0, most = 0;
     misuse();
     put_main();
+    send();
+    cut_in_place();
     for (refused = first; refused <= last; refused++) {
         counted = refusals = 0;
         send();
         load(1000);
-        load_in_place(900, 1);
-        load_in_place(5000, 0);
+        load_in_place(900);
+        load_in_place(5000);
         put_channel();
         load_several(700);
         WANT(held == 0);
