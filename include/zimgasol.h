@@ -612,6 +612,12 @@ ZIMGASOL_API void zimgasol_in_place_session_free(zimgasol_in_place_session *sess
 /* Makes a sender of a table, of which it keeps a copy. Returns DONE or NO_MEMORY. */
 ZIMGASOL_API zimgasol_status zimgasol_sender_new(zimgasol_sender *sender, zimgasol_table *table);
 
+/* Makes a sender of a machine's stream: a configuration with the machine's name, of at most 1,024
+ * bytes, follows the file header. QEMU refuses a stream with another name than its own machine's.
+ * Returns DONE, BAD_LENGTH (of the name) or NO_MEMORY. */
+ZIMGASOL_API zimgasol_status zimgasol_sender_new_named(zimgasol_sender *sender,
+    zimgasol_table *table, const uint8_t *name, size_t name_len);
+
 /* Begins a round. Returns DONE, NO_MEMORY, or OUT_OF_TURN where one is open or the stream is
  * ended. */
 ZIMGASOL_API zimgasol_status zimgasol_sender_begin_round(zimgasol_sender *sender);
@@ -633,11 +639,17 @@ ZIMGASOL_API zimgasol_status zimgasol_sender_cancel_round(zimgasol_sender *sende
  * where a round is open or it is ended. */
 ZIMGASOL_API zimgasol_status zimgasol_sender_finish(zimgasol_sender *sender);
 
+/* Ends the stream with the footer of RAM's END, and leaves out the end byte: the caller goes on
+ * with the sections of devices and the end byte, once all was drained. Returns as
+ * zimgasol_sender_finish. */
+ZIMGASOL_API zimgasol_status zimgasol_sender_finish_open(zimgasol_sender *sender);
+
 /* Copies the next bytes of the stream to `out`, at most `len`, and returns how many: 0 where none
  * waits. What it gives, piece after piece, is the stream. Where it returns 0 to a buffer with room,
  * all was given: between two rounds the opening section and all rounds that were ended, and after
- * zimgasol_sender_finish the whole stream. While a round is open it may return 0 though bytes of
- * the rounds before wait, which come once that one is ended or cancelled. */
+ * zimgasol_sender_finish or _finish_open the whole stream, with its end byte or without. While a
+ * round is open it may return 0 though bytes of the rounds before wait, which come once that one is
+ * ended or cancelled. */
 ZIMGASOL_API size_t zimgasol_sender_drain(zimgasol_sender *sender, uint8_t *out, size_t len);
 
 /* The two halves of zimgasol_sender_drain, for an output that may take fewer bytes than it is

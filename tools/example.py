@@ -616,6 +616,7 @@ def send_and_load(before):
                 sys.exit("the blocks aren't the memory that was sent")
             cases += 1
     shown = page_of_block(before)
+    machine_stream(before)
     return cases + shown
 
 
@@ -629,6 +630,21 @@ def page_of_block(before):
             if run(*before, OUT / "page", stdin=file, status=status) != wanted:
                 sys.exit("page.c doesn't write the page that was sent")
     return 1
+
+
+def machine_stream(before):
+    """RAM of a machine's stream: a configuration after the file header, no end byte, and it is loaded with what follows it."""
+    content = memory_file("memory", 4096, 20)
+    plain = run(*before, OUT / "send", "-n", 7, OUT / "memory")
+    stream = run(*before, OUT / "send", "-n", 7, "-m", "pc-q35-10.0", OUT / "memory")
+    if stream != plain[:8] + b"\7" + be(11, 4) + b"pc-q35-10.0" + plain[8:-1]:
+        sys.exit("a machine's stream isn't that of RAM with a configuration and no end byte")
+    (OUT / "stream").write_bytes(stream + b"\4 and so on")
+    with (OUT / "stream").open("rb") as file:
+        run(*before, OUT / "load", "-f", "machine", "-o", OUT / "loaded", stdin=file, wanted=f"single {len(stream) + 11} sections 5")
+    if (OUT / "loaded").read_bytes() != content + bytes(100):
+        sys.exit("the memory of a machine's stream isn't the one that was sent")
+    run(*before, OUT / "send", "-m", "m" * 1025, OUT / "memory", status=3)
 
 
 def failing_read():

@@ -1,11 +1,12 @@
 /* Sends a file of memory, page by page, as one stream to standard output.
  *
- *   send [-p PAGE_SIZE] [-b ID] [-n PAGES] FILE
+ *   send [-p PAGE_SIZE] [-b ID] [-n PAGES] [-m NAME] FILE
  *
  * The guest has one block, `pc.ram` where -b says nothing else, of as many pages as the file has;
  * the last one is filled up with zeros. A round has at most 256 pages, or as many as -n says: each
- * is a section of the stream, and is drained before the next begins. Status 3 where the file can't
- * be read, also in its midst, the output fails or there is no memory.
+ * is a section of the stream, and is drained before the next begins. With -m it is RAM of the stream
+ * of a machine of this name: a configuration stands before it, and no end byte after it. Status 3
+ * where the file can't be read, also in its midst, the output fails or there is no memory.
  */
 #include "zimgasol.h"
 #include <stdio.h>
@@ -21,12 +22,14 @@ static int drain(zimgasol_sender *sender) {
     return 1;
 }
 
-/* What is sent: a file of `len` bytes, in pages of this size, through a buffer for one page. */
+/* What is sent: a file of `len` bytes, in pages of this size, through a buffer for one page. It is
+ * of a machine of this name, or the name is null. */
 typedef struct source {
     FILE *file;
     uint64_t len;
     size_t page_size;
     uint8_t *page;
+    const char *machine;
 } source;
 
 /* Reads page `number`; what the last one lacks is zeros. A file that gives less than its length, or
@@ -62,10 +65,14 @@ static int send_all(zimgasol_sender *sender, source *from, uint64_t pages, uint6
         done = send_round(sender, from, first, end);
     }
     free(from->page);
-    return done && zimgasol_sender_finish(sender) == ZIMGASOL_DONE && drain(sender);
+    if (!done) return 0;
+    zimgasol_status status = from->machine == NULL ? zimgasol_sender_finish(sender)
+                                                   : zimgasol_sender_finish_open(sender);
+    return status == ZIMGASOL_DONE && drain(sender);
 }
 
-static int send_file(FILE *file, size_t page_size, const char *id, uint64_t most) {
+static int send_file(FILE *file, size_t page_size, const char *id, uint64_t most,
+    const char *machine) {
     if (fseek(file, 0, SEEK_END) != 0) return 3;
     long len = ftell(file);
     if (len <= 0) return 3;
@@ -82,10 +89,14 @@ static int send_file(FILE *file, size_t page_size, const char *id, uint64_t most
         fprintf(stderr, "no table: %d\n", (int)status);
         return 3;
     }
-    status = zimgasol_sender_new(&sender, &table);
+    if (machine == NULL) status = zimgasol_sender_new(&sender, &table);
+    else
+        status = zimgasol_sender_new_named(&sender, &table, (const uint8_t *)machine,
+            strlen(machine));
     zimgasol_table_free(&table);
     if (status != ZIMGASOL_DONE) return 3;
-    source from = {.file = file, .len = (uint64_t)len, .page_size = page_size};
+    source from = {
+        .file = file, .len = (uint64_t)len, .page_size = page_size, .machine = machine};
     int done = send_all(&sender, &from, block.pages, most);
     zimgasol_sender_free(&sender);
     return done && fflush(stdout) == 0 ? 0 : 3;
@@ -94,19 +105,20 @@ static int send_file(FILE *file, size_t page_size, const char *id, uint64_t most
 int main(int count, char **words) {
     size_t page_size = 4096;
     uint64_t most = 256;
-    const char *id = "pc.ram";
+    const char *id = "pc.ram", *machine = NULL;
     int i = 1;
     for (; i + 1 < count && words[i][0] == '-'; i += 2) {
         if (strcmp(words[i], "-p") == 0) page_size = strtoull(words[i + 1], NULL, 10);
         else if (strcmp(words[i], "-b") == 0) id = words[i + 1];
         else if (strcmp(words[i], "-n") == 0) most = strtoull(words[i + 1], NULL, 10);
+        else if (strcmp(words[i], "-m") == 0) machine = words[i + 1];
     }
     FILE *file = i < count && page_size > 0 && most > 0 ? fopen(words[i], "rb") : NULL;
     if (file == NULL) {
-        fprintf(stderr, "send [-p PAGE_SIZE] [-b ID] [-n PAGES] FILE\n");
+        fprintf(stderr, "send [-p PAGE_SIZE] [-b ID] [-n PAGES] [-m NAME] FILE\n");
         return 3;
     }
-    int status = send_file(file, page_size, id, most);
+    int status = send_file(file, page_size, id, most, machine);
     fclose(file);
     return status;
 }

@@ -4,58 +4,82 @@ use Rattle.mig_mem.specs.RamTable.{RamTable}
 use Rattle.mig_mem.specs.declared.place.Place.{Place}
 use Rattle.mig_mem.specs.Place.{IsPlace}
 use Rattle.mig_mem.specs.Image.{Page}
+use Rattle.mig_stream.specs.Format.{most_name_bytes}
+use Rattle.mig_stream.specs.Text.{file_header, configuration}
 use Rattle.mig_stream.specs.Written.{RoundPart, single, written_so_far}
+use Rattle.mig_stream.specs.MachineWritten.{machine_written, machine_closed}
 use Rattle.mig_stream.specs.Writer.{PartSoFar, HasPut}
 use Rattle.mig_send.specs.Sending.{HasSentDrained}
 use Rattle.mig_c.specs.declared.sender.Sender.{Sender}
 use Rattle.mig_c.specs.declared.sender.Sending.{Sending}
-use Rattle.mig_c.specs.declared.sender.Sending.TheVariants.{Idle, Round, Over}
+use Rattle.mig_c.specs.declared.sender.Sending.TheVariants.{Idle, Round, Over, LeftOpen}
 use Rattle.mig_c_calls.specs.Status.{IsOneOf, done, no_memory, no_page, bad_length, out_of_turn}
 
 -- the bytes that were drained of the stream's writer and wait to be handed out
 abbrev pub waiting : Sender → List ℕ
 waiting s = drop s.given s.drained.items
 
--- The writer has sent these rounds of a table, and these bytes of their stream were drained of it. In a round it has sent those before. Where
--- the stream is ended the rest of it is there.
+-- The writer has sent these rounds of a table, and these bytes of their stream were drained of it.
+-- In a round it has sent those before. Where the stream is ended, with its end byte or without, the
+-- rest of it is there.
 abbrev pub HasSentRounds : RamTable → List ℕ → List (List Page) → Sending → Type 0
 HasSentRounds table drained rounds (Idle w) = (w.table ≡ table) × HasSentDrained drained w rounds
 HasSentRounds table drained rounds (Round part) = (part.before.table ≡ table) × HasSentDrained drained part.before rounds
 HasSentRounds table drained rounds (Over text) = drained ++ text.items ≡ single table rounds
+HasSentRounds table drained rounds (LeftOpen text) = drained ++ text.items ≡ machine_written None table (map RoundPart rounds)
 
--- The sender has sent these rounds of a table, and these bytes of their stream were handed out.
-abbrev pub Sends : RamTable → List ℕ → List (List Page) → Sender → Type 0
-Sends table given rounds s = HasSentRounds table (given ++ waiting s) rounds s.state
+-- The first bytes of a stream with a machine's name, in a configuration after the file header; and
+-- what they are without it. With no name they are one.
+abbrev pub IsNamed : Option (List ℕ) → List ℕ → List ℕ → Type 0
+IsNamed None bytes plain = bytes ≡ plain
+IsNamed (Some name) bytes plain = (rest : List ℕ) × (bytes ≡ file_header ++ configuration (Some name) ++ rest) × (plain ≡ file_header ++ rest)
+
+-- The sender has sent these rounds of a table, and these bytes of their stream were handed out. The
+-- stream has the name of a machine, or none.
+abbrev pub Sends : RamTable → Option (List ℕ) → List ℕ → List (List Page) → Sender → Type 0
+Sends table name given rounds s = (plain : List ℕ) × IsNamed name (given ++ waiting s) plain × HasSentRounds table plain rounds s.state
 
 -- A round is open, into which these pages were put.
 abbrev pub HasPutPages : List Page → Sending → Type 0
 HasPutPages pages (Idle w) = ⊥
 HasPutPages pages (Round part) = HasPut part pages
 HasPutPages pages (Over text) = ⊥
+HasPutPages pages (LeftOpen text) = ⊥
 
--- the stream is ended
+-- the stream is ended, with its end byte
 abbrev pub IsEnded : Sending → Type 0
 IsEnded (Idle w) = ⊥
 IsEnded (Round part) = ⊥
 IsEnded (Over text) = ⊤
+IsEnded (LeftOpen text) = ⊥
+
+-- the stream is ended without it: others write on after RAM's END
+abbrev pub IsLeftOpen : Sending → Type 0
+IsLeftOpen (Idle w) = ⊥
+IsLeftOpen (Round part) = ⊥
+IsLeftOpen (Over text) = ⊥
+IsLeftOpen (LeftOpen text) = ⊤
 
 -- a round is open
 abbrev pub IsOpen : Sending → Type 0
 IsOpen (Idle w) = ⊥
 IsOpen (Round part) = ⊤
 IsOpen (Over text) = ⊥
+IsOpen (LeftOpen text) = ⊥
 
 -- a round is open, and this is so of its table
 abbrev pub InRoundOf : (RamTable → Type 0) → Sending → Type 0
 InRoundOf IsSo (Idle w) = ⊥
 InRoundOf IsSo (Round part) = IsSo part.before.table
 InRoundOf IsSo (Over text) = ⊥
+InRoundOf IsSo (LeftOpen text) = ⊥
 
 -- no round is open, and the stream goes on
 abbrev pub IsIdle : Sending → Type 0
 IsIdle (Idle w) = ⊤
 IsIdle (Round part) = ⊥
 IsIdle (Over text) = ⊥
+IsIdle (LeftOpen text) = ⊥
 
 -- whatever it had sent and handed out, it still has
 abbrev pub KeepsSent : Sending → Sending → Type 0
@@ -65,11 +89,18 @@ KeepsSent old new = (table : RamTable) (drained : List ℕ) (rounds : List (List
 abbrev pub Changes : (Sending → Sending → Type 0) → Sender → Sender → Type 0
 Changes step old new = step old.state new.state × (waiting new ≡ waiting old)
 
--- a sender of a table that has sent nothing
-abbrev pub Starts : Option RamTable → Option Sender → Type 0
-Starts table None = ⊥
-Starts None (Some s) = ⊥
-Starts (Some table) (Some s) = Sends table [] [] s × IsIdle s.state
+-- A sender of a table that has sent nothing. Its stream has the name of a machine, or none.
+abbrev pub Starts : Option (List ℕ) → Option RamTable → Option Sender → Type 0
+Starts name table None = ⊥
+Starts name None (Some s) = ⊥
+Starts name (Some table) (Some s) = Sends table name [] [] s × IsIdle s.state
+
+-- What `new_named` does with a name.
+pub record StartsNamed (name : List ℕ) (table : Option RamTable) (status : ℕ) (made : Option Sender) : Type 0 where
+  pub is_named : IsOneOf (done ∷ no_memory ∷ bad_length ∷ []) status
+  pub starts : status ≡ done → Starts (Some name) table made
+  pub long : status ≡ bad_length → most_name_bytes < length name
+  pub short : status ≢ bad_length → length name ≤ most_name_bytes
 
 -- What `begin_round` does.
 pub record Begins (status : ℕ) (old new : Sending) : Type 0 where
@@ -132,6 +163,24 @@ pub record Finishes (status : ℕ) (old new : Sending) : Type 0 where
   pub wrong : status ≡ out_of_turn → IsIdle old → ⊥
   pub in_turn : status ≢ out_of_turn → IsIdle old
 
+-- What `finish_open` does.
+pub record FinishesOpen (status : ℕ) (old new : Sending) : Type 0 where
+  pub is_named : IsOneOf (done ∷ no_memory ∷ out_of_turn ∷ []) status
+  pub ends : status ≡ done → IsLeftOpen new
+  pub keeps : KeepsSent old new
+  pub same : status ≢ done → new ≡ old
+  pub wrong : status ≡ out_of_turn → IsIdle old → ⊥
+  pub in_turn : status ≢ out_of_turn → IsIdle old
+
+-- the stream of these rounds, with its end byte
+abbrev pub whole_stream : Option (List ℕ) → RamTable → List (List Page) → List ℕ
+whole_stream None table rounds = single table rounds
+whole_stream (Some name) table rounds = machine_closed (Some name) table (map RoundPart rounds)
+
+-- the stream of these rounds up to the footer of RAM's END
+abbrev pub open_stream : Option (List ℕ) → RamTable → List (List Page) → List ℕ
+open_stream name table rounds = machine_written name table (map RoundPart rounds)
+
 -- all that is written of these rounds, behind the opening section
 abbrev pub text_so_far : RamTable → List (List Page) → List ℕ
 text_so_far table rounds = written_so_far table (map RoundPart rounds)
@@ -140,27 +189,35 @@ text_so_far table rounds = written_so_far table (map RoundPart rounds)
 -- was written so far was handed out; of a stream that is ended, all of it. A round that is open stays open, with its pages.
 pub record Drains (count : ℕ) (out : List ℕ) (old new : Sender) : Type 0 where
   pub fits : count ≤ length out
-  pub hands : (table : RamTable) (given : List ℕ) (rounds : List (List Page)) → Sends table given rounds old → Sends table (given ++ take count out) rounds new
+  pub hands : (table : RamTable) (name : Option (List ℕ)) (given : List ℕ) (rounds : List (List Page)) → Sends table name given rounds old
+      → Sends table name (given ++ take count out) rounds new
   pub keeps_open : (pages : List Page) → HasPutPages pages old.state → HasPutPages pages new.state
   pub idle : IsIdle old.state → IsIdle new.state
   pub ended : IsEnded old.state → IsEnded new.state
-  pub written : IsIdle old.state → count ≡ 0 → 0 < length out → (table : RamTable) (given : List ℕ) (rounds : List (List Page)) → Sends table given rounds old
-      → given ≡ text_so_far table rounds
-  pub all : IsEnded old.state → count ≡ 0 → 0 < length out → (table : RamTable) (given : List ℕ) (rounds : List (List Page)) → Sends table given rounds old
-      → given ≡ single table rounds
+  pub left_open : IsLeftOpen old.state → IsLeftOpen new.state
+  pub written : IsIdle old.state → count ≡ 0 → 0 < length out → (table : RamTable) (name : Option (List ℕ)) (given : List ℕ) (rounds : List (List Page))
+      → Sends table name given rounds old → IsNamed name given (text_so_far table rounds)
+  pub all : IsEnded old.state → count ≡ 0 → 0 < length out → (table : RamTable) (name : Option (List ℕ)) (given : List ℕ) (rounds : List (List Page))
+      → Sends table name given rounds old → given ≡ whole_stream name table rounds
+  pub all_open : IsLeftOpen old.state → count ≡ 0 → 0 < length out → (table : RamTable) (name : Option (List ℕ)) (given : List ℕ) (rounds : List (List Page))
+      → Sends table name given rounds old → given ≡ open_stream name table rounds
 
 -- ---- the two steps of it
 
 -- Where no byte waits, those that were written since are drained.
 pub record Refills (old new : Sender) : Type 0 where
-  pub keeps : (table : RamTable) (given : List ℕ) (rounds : List (List Page)) → Sends table given rounds old → Sends table given rounds new
+  pub keeps : (table : RamTable) (name : Option (List ℕ)) (given : List ℕ) (rounds : List (List Page)) → Sends table name given rounds old
+      → Sends table name given rounds new
   pub keeps_open : (pages : List Page) → HasPutPages pages old.state → HasPutPages pages new.state
   pub idle : IsIdle old.state → IsIdle new.state
   pub ended : IsEnded old.state → IsEnded new.state
-  pub written : IsIdle old.state → waiting new ≡ [] → (table : RamTable) (given : List ℕ) (rounds : List (List Page)) → Sends table given rounds old
-      → given ≡ text_so_far table rounds
-  pub all : IsEnded old.state → waiting new ≡ [] → (table : RamTable) (given : List ℕ) (rounds : List (List Page)) → Sends table given rounds old
-      → given ≡ single table rounds
+  pub left_open : IsLeftOpen old.state → IsLeftOpen new.state
+  pub written : IsIdle old.state → waiting new ≡ [] → (table : RamTable) (name : Option (List ℕ)) (given : List ℕ) (rounds : List (List Page))
+      → Sends table name given rounds old → IsNamed name given (text_so_far table rounds)
+  pub all : IsEnded old.state → waiting new ≡ [] → (table : RamTable) (name : Option (List ℕ)) (given : List ℕ) (rounds : List (List Page))
+      → Sends table name given rounds old → given ≡ whole_stream name table rounds
+  pub all_open : IsLeftOpen old.state → waiting new ≡ [] → (table : RamTable) (name : Option (List ℕ)) (given : List ℕ) (rounds : List (List Page))
+      → Sends table name given rounds old → given ≡ open_stream name table rounds
 
 -- The first bytes that wait are handed out, as many as there is room for.
 pub record Hands (count : ℕ) (out : List ℕ) (old new : Sender) : Type 0 where
@@ -190,5 +247,5 @@ pub record Skips (len count : ℕ) (old new : Sender) : Type 0 where
   pub counts : count ≡ min len (length (waiting old))
   pub still : waiting new ≡ drop count (waiting old)
   pub same_state : new.state ≡ old.state
-  pub hands : (table : RamTable) (given : List ℕ) (rounds : List (List Page)) → Sends table given rounds old
-      → Sends table (given ++ take count (waiting old)) rounds new
+  pub hands : (table : RamTable) (name : Option (List ℕ)) (given : List ℕ) (rounds : List (List Page)) → Sends table name given rounds old
+      → Sends table name (given ++ take count (waiting old)) rounds new

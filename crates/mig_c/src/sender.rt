@@ -1,10 +1,11 @@
 //! A sender of one stream, whose rounds are put page by page, and whose text is drained into buffers of C.
 
-ghost use Rattle.std.specs.Prelude.{◌∷◌, [], ◌≡◌, ◌≢◌, ◌<◌, ◌≤◌, IsSome, IfOk, None, Some};
+ghost use Rattle.std.specs.Prelude.{◌∷◌, [], ◌≡◌, ◌≢◌, ◌<◌, ◌≤◌, IsSome, IfOk, None, Some, length};
+ghost use Rattle.mig_stream.specs.Format.{most_name_bytes};
 ghost use Rattle.mig_c_calls.specs.Status.{IsOneOf, done, no_memory};
 ghost use Rattle.mig_c.specs.Kinds.{table_in, sender_in, Turns};
 ghost use Rattle.mig_c.specs.Reading.{place_at};
-ghost use Rattle.mig_c.specs.Sending.{Starts, Begins, Puts, EndsRound, Cancels, Finishes, Changes, Adds, Drains, Refills, Hands, Peeks, Counts, Skips};
+ghost use Rattle.mig_c.specs.Sending.{Starts, StartsNamed, Begins, Puts, EndsRound, Cancels, Finishes, FinishesOpen, Changes, Adds, Drains, Refills, Hands, Peeks, Counts, Skips};
 
 use crate::handle::{Handle, SenderHandle, TableHandle};
 use crate::object::Object;
@@ -23,6 +24,8 @@ pub enum Sending {
     Round(OpenRound<Global>),
     /// Behind the end, with what of the stream wasn't drained.
     Over(Vec<u8>),
+    /// After RAM's END, without the end byte, with what of the stream wasn't drained.
+    LeftOpen(Vec<u8>),
 }
 
 /// A sender, and the bytes that were drained of its stream last.
@@ -36,22 +39,45 @@ pub struct Sender {
     pub(crate) given: usize,
 }
 
-// A sender in a box.
-fn made(alloc: Global, table: &Table<Global>) -> Result<Box<Object>, NoMemory>
-    ensures { IfOk result (λ object. Starts (Some table.now) (sender_in (Some object.value))) }
+// The most bytes that a machine's name has.
+const MOST_NAME_BYTES: usize = 1024;
+
+// A sender of a stream without a name.
+fn plain(alloc: Global, table: &Table<Global>) -> Result<Sender, NoMemory>
+    ensures { IfOk result (λ s. Starts None (Some table.now) (Some s)) }
 {
     let writer = SingleSender::new(alloc, table)?;
-    let sender = Sender {
+    Ok(Sender {
         state: Sending::Idle(writer),
         drained: Vec::new(alloc),
         given: 0,
-    };
+    })
+}
+
+// A sender of a stream with a machine's name. The stream's first bytes wait.
+fn named(alloc: Global, table: &Table<Global>, name: &[u8]) -> Result<Sender, NoMemory>
+    requires name { length name.now ≤ most_name_bytes }
+    ensures { IfOk result (λ s. Starts (Some name.now) (Some table.now) (Some s)) }
+{
+    let (first, writer) = SingleSender::with_configuration(alloc, table, name)?;
+    Ok(Sender {
+        state: Sending::Idle(writer),
+        drained: first,
+        given: 0,
+    })
+}
+
+// A sender in a box.
+fn made(alloc: Global, table: &Table<Global>) -> Result<Box<Object>, NoMemory>
+    ensures { IfOk result (λ object. Starts None (Some table.now) (sender_in (Some object.value))) }
+{
+    let sender = plain(alloc, table)?;
     Ok(Box::new(alloc, Object::Sender(sender))?)
 }
 
 fn made_of(alloc: Global, table: &Object) -> Result<Box<Object>, NoMemory>
     requires { IsSome (table_in (Some table.now)) }
-    ensures { IfOk result (λ object. Starts (table_in (Some table.now)) (sender_in (Some object.value))) }
+    ensures { IfOk result (λ object. Starts None (table_in (Some table.now)) (sender_in (Some object.value))) }
 {
     match table {
         Object::Table(table) => made(alloc, table),
@@ -68,13 +94,63 @@ pub extern "C" fn zimgasol_sender_new(
 ) -> u32
     requires none { sender.old.handle.value ≡ None }
     requires table { IsSome (table_in table.old.handle.value) }
-    ensures starts { result ≡ done → Starts (table_in table.old.handle.value) (sender_in sender.new.handle.value) }
+    ensures starts { result ≡ done → Starts None (table_in table.old.handle.value) (sender_in sender.new.handle.value) }
     ensures named { IsOneOf (done ∷ no_memory ∷ []) result }
     ensures none { result ≢ done → sender.new.handle.value ≡ None }
     ensures table { table.new.handle.value ≡ table.old.handle.value }
 {
     let object = table.handle.take().into_box(alloc);
     let made = made_of(alloc, &object);
+    table.handle = Handle::of(object);
+    match made {
+        Ok(object) => {
+            sender.handle = Handle::of(object);
+            sender.full = 1;
+            DONE
+        }
+        Err(NoMemory) => NO_MEMORY,
+    }
+}
+
+fn made_named(alloc: Global, table: &Table<Global>, name: &[u8]) -> Result<Box<Object>, NoMemory>
+    requires name { length name.now ≤ most_name_bytes }
+    ensures { IfOk result (λ object. Starts (Some name.now) (Some table.now) (sender_in (Some object.value))) }
+{
+    let sender = named(alloc, table, name)?;
+    Ok(Box::new(alloc, Object::Sender(sender))?)
+}
+
+fn made_named_of(alloc: Global, table: &Object, name: &[u8]) -> Result<Box<Object>, NoMemory>
+    requires table { IsSome (table_in (Some table.now)) }
+    requires name { length name.now ≤ most_name_bytes }
+    ensures { IfOk result (λ object. Starts (Some name.now) (table_in (Some table.now)) (sender_in (Some object.value))) }
+{
+    match table {
+        Object::Table(table) => made_named(alloc, table, name),
+        _ => unreachable!(),
+    }
+}
+
+/// Makes a sender of a table that has sent nothing. Its stream has a machine's name in a
+/// configuration after the file header. It keeps a copy of the table.
+#[unsafe(no_mangle)]
+pub extern "C" fn zimgasol_sender_new_named(
+    alloc: Global,
+    sender: &mut SenderHandle,
+    table: &mut TableHandle,
+    name: &[u8],
+) -> u32
+    requires none { sender.old.handle.value ≡ None }
+    requires table { IsSome (table_in table.old.handle.value) }
+    ensures starts { StartsNamed name.now (table_in table.old.handle.value) result (sender_in sender.new.handle.value) }
+    ensures none { result ≢ done → sender.new.handle.value ≡ None }
+    ensures table { table.new.handle.value ≡ table.old.handle.value }
+{
+    if name.len() > MOST_NAME_BYTES {
+        return BAD_LENGTH;
+    }
+    let object = table.handle.take().into_box(alloc);
+    let made = made_named_of(alloc, &object, name);
     table.handle = Handle::of(object);
     match made {
         Ok(object) => {
@@ -97,6 +173,7 @@ fn begun(state: Sending) -> (Sending, u32)
         },
         Sending::Round(round) => (Sending::Round(round), OUT_OF_TURN),
         Sending::Over(text) => (Sending::Over(text), OUT_OF_TURN),
+        Sending::LeftOpen(text) => (Sending::LeftOpen(text), OUT_OF_TURN),
     }
 }
 
@@ -111,6 +188,7 @@ fn ended(state: Sending) -> (Sending, u32)
         },
         Sending::Idle(sender) => (Sending::Idle(sender), OUT_OF_TURN),
         Sending::Over(text) => (Sending::Over(text), OUT_OF_TURN),
+        Sending::LeftOpen(text) => (Sending::LeftOpen(text), OUT_OF_TURN),
     }
 }
 
@@ -122,6 +200,7 @@ fn cancelled(state: Sending) -> (Sending, u32)
         Sending::Round(round) => (Sending::Idle(round.cancel()), DONE),
         Sending::Idle(sender) => (Sending::Idle(sender), OUT_OF_TURN),
         Sending::Over(text) => (Sending::Over(text), OUT_OF_TURN),
+        Sending::LeftOpen(text) => (Sending::LeftOpen(text), OUT_OF_TURN),
     }
 }
 
@@ -136,6 +215,22 @@ fn finished(state: Sending) -> (Sending, u32)
         },
         Sending::Round(round) => (Sending::Round(round), OUT_OF_TURN),
         Sending::Over(text) => (Sending::Over(text), OUT_OF_TURN),
+        Sending::LeftOpen(text) => (Sending::LeftOpen(text), OUT_OF_TURN),
+    }
+}
+
+// Ends RAM's sections, and leaves the stream open.
+fn finished_open(state: Sending) -> (Sending, u32)
+    ensures { FinishesOpen result.1 state result.0 }
+{
+    match state {
+        Sending::Idle(sender) => match sender.finish_open() {
+            Ok(text) => (Sending::LeftOpen(text), DONE),
+            Err(sender) => (Sending::Idle(sender), NO_MEMORY),
+        },
+        Sending::Round(round) => (Sending::Round(round), OUT_OF_TURN),
+        Sending::Over(text) => (Sending::Over(text), OUT_OF_TURN),
+        Sending::LeftOpen(text) => (Sending::LeftOpen(text), OUT_OF_TURN),
     }
 }
 
@@ -303,6 +398,42 @@ pub extern "C" fn zimgasol_sender_finish(alloc: Global, sender: &mut SenderHandl
     status
 }
 
+fn finish_open(alloc: Global, object: &mut Object) -> u32
+    requires { IsSome (sender_in (Some object.old)) }
+    ensures { Turns (Changes (FinishesOpen result)) (sender_in (Some object.old)) (sender_in (Some object.new)) }
+{
+    match object {
+        Object::Sender(sender) => {
+            let (state, status) = finished_open(take_state(alloc, sender));
+            sender.state = state;
+            status
+        }
+        _ => unreachable!(),
+    }
+}
+
+/// Ends RAM's sections without the stream's end byte: what of it waits is still to be drained. The
+/// caller writes the sections of devices and the end byte.
+#[unsafe(no_mangle)]
+pub extern "C" fn zimgasol_sender_finish_open(alloc: Global, sender: &mut SenderHandle) -> u32
+    requires sender { IsSome (sender_in sender.old.handle.value) }
+    ensures finishes { Turns (Changes (FinishesOpen result)) (sender_in sender.old.handle.value) (sender_in sender.new.handle.value) }
+{
+    let mut object = sender.handle.take().into_box(alloc);
+    let status = finish_open(alloc, &mut object);
+    sender.handle = Handle::of(object);
+    status
+}
+
+// Takes all bytes of a text in place of those that were drained before.
+fn take_text(drained: &mut Vec<u8>, text: &mut Vec<u8>)
+    ensures taken { drained.new.items ≡ text.old.items }
+    ensures none { text.new.items ≡ [] }
+{
+    drained.clear();
+    std::mem::swap(drained, text);
+}
+
 // Drains what was written, where no drained byte waits.
 fn refill(sender: &mut Sender)
     ensures { Refills sender.old sender.new }
@@ -317,8 +448,11 @@ fn refill(sender: &mut Sender)
         }
         Sending::Round(_) => {}
         Sending::Over(text) => {
-            sender.drained.clear();
-            std::mem::swap(&mut sender.drained, text);
+            take_text(&mut sender.drained, text);
+            sender.given = 0;
+        }
+        Sending::LeftOpen(text) => {
+            take_text(&mut sender.drained, text);
             sender.given = 0;
         }
     }

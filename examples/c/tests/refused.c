@@ -35,13 +35,15 @@ static void drain(zimgasol_sender *sender) {
     }
 }
 
-static void send(void) {
+/* Sends three rounds, of which one is left out. A machine's stream where there is a name: without the end byte. */
+static void send_rounds(const char *name) {
     zimgasol_block blocks[2] = {{.id = "a", .pages = 3}, {.id = "pc.ram", .pages = 2}};
     zimgasol_table table = {0};
     zimgasol_sender sender = {0};
     size_t entry;
     AGAIN(zimgasol_table_new(&table, PAGE, blocks, 2, &entry));
-    AGAIN(zimgasol_sender_new(&sender, &table));
+    if (name == NULL) AGAIN(zimgasol_sender_new(&sender, &table));
+    else AGAIN(zimgasol_sender_new_named(&sender, &table, (const uint8_t *)name, strlen(name)));
     text_len = 0;
     for (int round = 0; round < 3; round++) {
         AGAIN(zimgasol_sender_begin_round(&sender));
@@ -55,10 +57,26 @@ static void send(void) {
         if (round == 0) drain(&sender);
         if (round == 0) WANT(text_len > PAGE);
     }
-    AGAIN(zimgasol_sender_finish(&sender));
+    if (name == NULL) AGAIN(zimgasol_sender_finish(&sender));
+    else AGAIN(zimgasol_sender_finish_open(&sender));
+    WANT(zimgasol_sender_finish(&sender) == ZIMGASOL_OUT_OF_TURN && zimgasol_sender_finish_open(&sender) == ZIMGASOL_OUT_OF_TURN);
+    WANT(zimgasol_sender_begin_round(&sender) == ZIMGASOL_OUT_OF_TURN && zimgasol_sender_end_round(&sender) == ZIMGASOL_OUT_OF_TURN);
     drain(&sender);
     zimgasol_table_free(&table);
     zimgasol_sender_free(&sender);
+}
+
+/* A machine's stream is that of RAM's sections, with a configuration after the file header and without the end byte. */
+static void send(void) {
+    static const uint8_t configuration[] = {7, 0, 0, 0, 4, 'v', 'i', 'r', 't'};
+    static uint8_t named[MOST];
+    send_rounds("virt");
+    size_t named_len = text_len;
+    memcpy(named, text, text_len);
+    send_rounds(NULL);
+    WANT(named_len == text_len + sizeof configuration - 1 && memcmp(named, text, 8) == 0);
+    WANT(memcmp(named + 8, configuration, sizeof configuration) == 0);
+    WANT(memcmp(named + 8 + sizeof configuration, text + 8, text_len - 9) == 0 && text[text_len - 1] == 0);
 }
 
 static void load(size_t cut) {
@@ -284,6 +302,12 @@ static void misuse(void) {
     WANT(zimgasol_sender_cancel_round(&sender) == ZIMGASOL_OUT_OF_TURN && zimgasol_sender_begin_round(&sender) == ZIMGASOL_DONE);
     WANT(zimgasol_sender_begin_round(&sender) == ZIMGASOL_OUT_OF_TURN && zimgasol_sender_finish(&sender) == ZIMGASOL_OUT_OF_TURN);
     WANT(zimgasol_sender_put_page(&sender, 0, 1, page, PAGE) == ZIMGASOL_NO_PAGE && zimgasol_sender_put_page(&sender, 0, 0, page, 1) == ZIMGASOL_BAD_LENGTH);
+    zimgasol_sender_free(&sender);
+    static const uint8_t long_name[1025] = {'m'};
+    WANT(zimgasol_sender_new_named(&sender, &table, long_name, 1025) == ZIMGASOL_BAD_LENGTH && sender.at == NULL);
+    WANT(zimgasol_sender_new_named(&sender, &table, long_name, 1024) == ZIMGASOL_DONE && zimgasol_sender_waiting(&sender) == 8 + 5 + 1024);
+    zimgasol_sender_free(&sender);
+    WANT(zimgasol_sender_new_named(&sender, &table, long_name, 0) == ZIMGASOL_DONE && zimgasol_sender_waiting(&sender) == 8 + 5);
     zimgasol_sender_free(&sender);
     zimgasol_table_free(&table);
     /* once more does nothing */
