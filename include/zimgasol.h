@@ -429,6 +429,18 @@ ZIMGASOL_API zimgasol_status zimgasol_loader_block(zimgasol_loader *loader, size
 ZIMGASOL_API zimgasol_status zimgasol_loader_page(zimgasol_loader *loader, size_t block,
     uint64_t number, uint8_t *out, size_t len);
 
+/* Copies the pages of a block from `number` on to `out`, one after another, as many as its length
+ * `len` is multiples of the page size. Returns DONE; NO_PAGE where the block doesn't have as many
+ * bytes from there on, or there is no such block or no memory yet; or BAD_LENGTH. */
+ZIMGASOL_API zimgasol_status zimgasol_loader_read(zimgasol_loader *loader, size_t block,
+    uint64_t number, uint8_t *out, size_t len);
+
+/* Reports in *found the first page of a block, from `number` on, that isn't zeros. So a memory of
+ * which little was written is read without its pages of zeros. Returns DONE; or NO_PAGE, and *found
+ * stays, where there is none, no such block or no memory yet. */
+ZIMGASOL_API zimgasol_status zimgasol_loader_next_nonzero(zimgasol_loader *loader, size_t block,
+    uint64_t number, uint64_t *found);
+
 /* Frees it, with the memory that it loaded. */
 ZIMGASOL_API void zimgasol_loader_free(zimgasol_loader *loader);
 
@@ -531,6 +543,10 @@ ZIMGASOL_API zimgasol_status zimgasol_session_block(zimgasol_session *session, s
     zimgasol_block *out);
 ZIMGASOL_API zimgasol_status zimgasol_session_page(zimgasol_session *session, size_t block,
     uint64_t number, uint8_t *out, size_t len);
+ZIMGASOL_API zimgasol_status zimgasol_session_read(zimgasol_session *session, size_t block,
+    uint64_t number, uint8_t *out, size_t len);
+ZIMGASOL_API zimgasol_status zimgasol_session_next_nonzero(zimgasol_session *session,
+    size_t block, uint64_t number, uint64_t *found);
 
 /* Frees it, with the memory that it loaded. */
 ZIMGASOL_API void zimgasol_session_free(zimgasol_session *session);

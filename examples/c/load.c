@@ -3,16 +3,22 @@
  *   load [-p PAGE_SIZE] [-l LIMIT] [-c BYTES] [-o FILE] [-f machine]
  *
  * Pages have 4096 bytes where -p says nothing else, the guest may have 2^30 bytes, and the stream is
- * fed in pieces of 65536: -c sets another length. -o writes the memory to a file, block after block.
+ * fed in pieces of 65536: -c sets another length. -o writes the memory to a file, block after block,
+ * with holes for pages of zeros.
  * With `-f machine` it reads a whole machine's stream, as QEMU writes it, up to the end of RAM.
  * It prints `single BYTES sections S`, with status 0, or `fault N round R` with status 1, and then
  * what the fault is to standard error; or why it can't begin or go on, with status 3, which is also
  * that of an output or a file that can't be written.
  */
+#define _GNU_SOURCE
 #include "zimgasol.h"
+#include <fcntl.h>
 #include <stdio.h>
 #include <stdlib.h>
 #include <string.h>
+#include <unistd.h>
+
+enum { FEW = 64 };
 
 /* Feeds all of standard input. Returns how many bytes that were, or -1 where it can't be read or
  * there is no memory. */
@@ -40,37 +46,35 @@ static long long feed_input(zimgasol_loader *loader, size_t cut) {
     return -1;
 }
 
-/* Copies the guest's memory into a buffer of its own, block after block. */
-static uint8_t *copied_memory(zimgasol_loader *loader, size_t page_size, size_t *len) {
-    size_t blocks = zimgasol_loader_blocks(loader);
-    uint64_t pages = 0;
-    zimgasol_block block;
-    for (size_t i = 0; i < blocks; i++) {
-        if (zimgasol_loader_block(loader, i, &block) != ZIMGASOL_DONE) return NULL;
-        pages += block.pages;
+/* Writes the pages of a block that aren't zeros to their places in a file, some at a time. */
+static int write_block(zimgasol_loader *loader, size_t i, uint64_t pages, size_t page_size,
+    uint8_t *bytes, int file, uint64_t start) {
+    uint64_t page = 0;
+    while (zimgasol_loader_next_nonzero(loader, i, page, &page) == ZIMGASOL_DONE) {
+        uint64_t few = pages - page < FEW ? pages - page : FEW;
+        size_t len = few * page_size;
+        if (zimgasol_loader_read(loader, i, page, bytes, len) != ZIMGASOL_DONE) return 0;
+        if (pwrite(file, bytes, len, (off_t)(start + page * page_size)) != (ssize_t)len) return 0;
+        page += few;
     }
-    uint8_t *memory = malloc(pages * page_size + 1), *at = memory;
-    if (memory == NULL) return NULL;
-    for (size_t i = 0; i < blocks; i++) {
-        zimgasol_loader_block(loader, i, &block);
-        for (uint64_t page = 0; page < block.pages; page++, at += page_size) {
-            if (zimgasol_loader_page(loader, i, page, at, page_size) != ZIMGASOL_DONE) {
-                free(memory);
-                return NULL;
-            }
-        }
-    }
-    *len = (size_t)(at - memory);
-    return memory;
+    return 1;
 }
 
+/* Writes the memory to a file, block after block. Pages of zeros are left as holes. */
 static int write_memory(zimgasol_loader *loader, size_t page_size, const char *name) {
-    size_t len = 0;
-    uint8_t *memory = copied_memory(loader, page_size, &len);
-    FILE *file = memory == NULL ? NULL : fopen(name, "wb");
-    int done = file != NULL && fwrite(memory, 1, len, file) == len;
-    if (file != NULL && fclose(file) != 0) done = 0;
-    free(memory);
+    uint8_t *bytes = malloc(FEW * page_size);
+    int file = open(name, O_WRONLY | O_CREAT | O_TRUNC, 0644), done = bytes != NULL && file >= 0;
+    uint64_t start = 0;
+    for (size_t i = 0; done && i < zimgasol_loader_blocks(loader); i++) {
+        zimgasol_block block;
+        done = zimgasol_loader_block(loader, i, &block) == ZIMGASOL_DONE
+            && write_block(loader, i, block.pages, page_size, bytes, file, start);
+        start += block.pages * page_size;
+    }
+    /* as long as the guest is, also where its last pages are zeros */
+    done = done && ftruncate(file, (off_t)start) == 0;
+    if (file >= 0 && close(file) != 0) done = 0;
+    free(bytes);
     return done;
 }
 

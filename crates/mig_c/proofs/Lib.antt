@@ -5,3 +5,4 @@ pub mod HeldBlocks
 pub mod Crosses
 pub mod Moved
 pub mod LentBlocks
+pub mod PageReads

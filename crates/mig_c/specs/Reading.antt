@@ -1,11 +1,13 @@
 -- What is read of a memory that was loaded, by status.
-use Rattle.std.specs.Prelude.{◌≡◌, ◌≢◌, ◌≤◌, ◌<◌, ℕ, List, ◌∷◌, [], length, Option, Some, IfSome, IsSome}
+use Rattle.std.specs.Prelude.{◌≡◌, ◌≢◌, ◌≤◌, ◌<◌, ◌+◌, ◌*◌, ◌%◌, ℕ, List, ◌∷◌, [], length, Option, Some, IfSome, IsSome}
 use Rattle.std.specs.Option.{option_map_or}
 use Rattle.mig_mem.specs.declared.place.Place.{Place}
 use Rattle.mig_mem.specs.Place.{IsPlace}
-use Rattle.mig_mem.specs.RamTable.{block}
+use Rattle.mig_mem.specs.RamTable.{RamTable, block}
+use Rattle.mig_mem.specs.Image.{Image, content, content_at}
+use Rattle.mig_mem.specs.Parts.{part_at}
+use Rattle.mig_zero.specs.Zero.{IsZero}
 use Rattle.mig_c.specs.Blocks.{named}
-use Rattle.mig_mem.specs.Image.{Image, content}
 use Rattle.mig_c.specs.declared.block.NamedBlock.{NamedBlock}
 use Rattle.mig_c_calls.specs.Status.{IsOneOf, done, no_page, bad_length}
 
@@ -33,3 +35,46 @@ pub record GivesBlock (i status : ℕ) (old new : NamedBlock) (memory : Option I
   pub there : status ≡ done → i < block_count memory
   pub missing : status ≡ no_page → block_count memory ≤ i
   pub same : status ≢ done → new ≡ old
+
+-- A table has the pages of a block from a page on that so many bytes are.
+pub record HasPages (table : RamTable) (b page len : ℕ) : Type 0 where
+  pub has_block : b < length table.blocks
+  pub has_room : page * table.page_size + len ≤ (block table.blocks b).pages * table.page_size
+
+-- Bytes are the contents of the pages of a block from a page on, one after another.
+abbrev pub ArePages : Image → ℕ → ℕ → List ℕ → Type 0
+ArePages m b page bytes = (k : ℕ) → k * m.table.page_size + m.table.page_size ≤ length bytes
+    → content m (place_at b (page + k)) ≡ Some (part_at m.table.page_size bytes k)
+
+-- What is read of several pages: their contents, in a buffer that is as long as some pages are. That
+-- the pages aren't all there is told first.
+pub record GivesPages (b page status : ℕ) (old new : List ℕ) (memory : Option Image) : Type 0 where
+  pub is_named : IsOneOf (done ∷ no_page ∷ bad_length ∷ []) status
+  pub gives : status ≡ done → IfSome memory (λ m. ArePages m b page new)
+  pub same_length : length new ≡ length old
+  pub there : status ≢ no_page → IsSome memory
+  pub has_pages : status ≢ no_page → IfSome memory (λ m. HasPages m.table b page (length old))
+  pub missing : status ≡ no_page → IfSome memory (λ m. HasPages m.table b page (length old) → ⊥)
+  pub has_other_length : status ≡ bad_length → IfSome memory (λ m. length old % m.table.page_size ≢ 0)
+  pub has_length : status ≡ done → IfSome memory (λ m. length old % m.table.page_size ≡ 0)
+  pub same : status ≢ done → new ≡ old
+
+-- The first page of a block, from a page on, that isn't zeros.
+pub record IsFirstFilled (m : Image) (b page at : ℕ) : Type 0 where
+  pub has_place : IsPlace m.table (place_at b at)
+  pub is_behind : page ≤ at
+  pub is_filled : IsZero (content_at m (place_at b at)) → ⊥
+  pub before : (q : ℕ) → page ≤ q → q < at → IsZero (content_at m (place_at b q))
+
+-- Each page of a block from a page on is zeros.
+abbrev pub AreZeros : Image → ℕ → ℕ → Type 0
+AreZeros m b page = (q : ℕ) → page ≤ q → IsPlace m.table (place_at b q) → IsZero (content_at m (place_at b q))
+
+-- What is told of the next page that isn't zeros: its number, or that there is none, as where there
+-- is no memory or no such block.
+pub record FindsFilled (b page status before after : ℕ) (memory : Option Image) : Type 0 where
+  pub is_named : IsOneOf (done ∷ no_page ∷ []) status
+  pub there : status ≡ done → IsSome memory
+  pub found : status ≡ done → IfSome memory (λ m. IsFirstFilled m b page after)
+  pub none : status ≡ no_page → IfSome memory (λ m. AreZeros m b page)
+  pub same : status ≢ done → after ≡ before

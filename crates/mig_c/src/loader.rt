@@ -5,7 +5,7 @@ ghost use Rattle.mig_mem.specs.PageSize.{IsPageSize};
 ghost use Rattle.mig_single_load.specs.Loader.{memory_of, sections_loaded};
 ghost use Rattle.mig_c_calls.specs.Status.{done};
 ghost use Rattle.mig_c.specs.Kinds.{loader_in, Turns, Tells};
-ghost use Rattle.mig_c.specs.Reading.{GivesPage, GivesBlock, place_at, block_count};
+ghost use Rattle.mig_c.specs.Reading.{GivesPage, GivesPages, GivesBlock, FindsFilled, place_at, block_count};
 ghost use Rattle.mig_c.specs.Loading.{IsFresh, Opens, Feeds, Settles, Ends, TellsVerdict, TellsClosedAt, OpensLoader};
 
 use crate::block::NamedBlock;
@@ -309,6 +309,64 @@ pub extern "C" fn zimgasol_loader_page(
 {
     let object = loader.handle.take().into_box(alloc);
     let status = page(&object, block, number, out);
+    loader.handle = Handle::of(object);
+    status
+}
+
+fn read(object: &Object, block: usize, page: u64, out: &mut [u8]) -> u32
+    requires { IsSome (loader_in (Some object.now)) }
+    ensures { Tells (λ l. GivesPages block page result out.old out.new (memory_of l)) (loader_in (Some object.now)) }
+{
+    match object {
+        Object::Loader(loader) => reading::pages(loader.memory(), block, page, out),
+        _ => unreachable!(),
+    }
+}
+
+/// Copies several pages of a block out, into a buffer as long as they are.
+#[unsafe(no_mangle)]
+pub extern "C" fn zimgasol_loader_read(
+    alloc: Global,
+    loader: &mut LoaderHandle,
+    block: usize,
+    number: u64,
+    out: &mut [u8],
+) -> u32
+    requires loader { IsSome (loader_in loader.old.handle.value) }
+    ensures same { loader.new.handle.value ≡ loader.old.handle.value }
+    ensures gives { Tells (λ l. GivesPages block number result out.old out.new (memory_of l)) (loader_in loader.old.handle.value) }
+{
+    let object = loader.handle.take().into_box(alloc);
+    let status = read(&object, block, number, out);
+    loader.handle = Handle::of(object);
+    status
+}
+
+fn next_nonzero(object: &Object, block: usize, page: u64, found: &mut u64) -> u32
+    requires { IsSome (loader_in (Some object.now)) }
+    ensures { Tells (λ l. FindsFilled block page result found.old found.new (memory_of l)) (loader_in (Some object.now)) }
+{
+    match object {
+        Object::Loader(loader) => reading::next_nonzero(loader.memory(), block, page, found),
+        _ => unreachable!(),
+    }
+}
+
+/// Reports the next page of a block, from a page on, that isn't zeros.
+#[unsafe(no_mangle)]
+pub extern "C" fn zimgasol_loader_next_nonzero(
+    alloc: Global,
+    loader: &mut LoaderHandle,
+    block: usize,
+    number: u64,
+    found: &mut u64,
+) -> u32
+    requires loader { IsSome (loader_in loader.old.handle.value) }
+    ensures same { loader.new.handle.value ≡ loader.old.handle.value }
+    ensures finds { Tells (λ l. FindsFilled block number result found.old found.new (memory_of l)) (loader_in loader.old.handle.value) }
+{
+    let object = loader.handle.take().into_box(alloc);
+    let status = next_nonzero(&object, block, number, found);
     loader.handle = Handle::of(object);
     status
 }

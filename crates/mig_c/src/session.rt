@@ -6,7 +6,7 @@ ghost use Rattle.mig_session.specs.Session.{answer_in};
 ghost use Rattle.mig_c_calls.specs.Status.{done};
 ghost use Rattle.mig_c.specs.Kinds.{session_in, Turns, Tells};
 ghost use Rattle.mig_c.specs.Found.{seen_of_verdict};
-ghost use Rattle.mig_c.specs.Reading.{GivesPage, GivesBlock, place_at, block_count};
+ghost use Rattle.mig_c.specs.Reading.{GivesPage, GivesPages, GivesBlock, FindsFilled, place_at, block_count};
 ghost use Rattle.mig_c.specs.Sessions.{Opens, OpensSession, FeedsSource, EndsSource, source_of, TellsFed};
 
 use crate::block::NamedBlock;
@@ -256,6 +256,64 @@ pub extern "C" fn zimgasol_session_page(
 {
     let object = session.handle.take().into_box(alloc);
     let status = page(&object, block, number, out);
+    session.handle = Handle::of(object);
+    status
+}
+
+fn read(object: &Object, block: usize, page: u64, out: &mut [u8]) -> u32
+    requires { IsSome (session_in (Some object.now)) }
+    ensures { Tells (λ s. GivesPages block page result out.old out.new ((answer_in s).memory)) (session_in (Some object.now)) }
+{
+    match object {
+        Object::Session(session) => reading::pages(session.memory(), block, page, out),
+        _ => unreachable!(),
+    }
+}
+
+/// Copies several pages of a block out, into a buffer as long as they are.
+#[unsafe(no_mangle)]
+pub extern "C" fn zimgasol_session_read(
+    alloc: Global,
+    session: &mut SessionHandle,
+    block: usize,
+    number: u64,
+    out: &mut [u8],
+) -> u32
+    requires session { IsSome (session_in session.old.handle.value) }
+    ensures same { session.new.handle.value ≡ session.old.handle.value }
+    ensures gives { Tells (λ s. GivesPages block number result out.old out.new ((answer_in s).memory)) (session_in session.old.handle.value) }
+{
+    let object = session.handle.take().into_box(alloc);
+    let status = read(&object, block, number, out);
+    session.handle = Handle::of(object);
+    status
+}
+
+fn next_nonzero(object: &Object, block: usize, page: u64, found: &mut u64) -> u32
+    requires { IsSome (session_in (Some object.now)) }
+    ensures { Tells (λ s. FindsFilled block page result found.old found.new ((answer_in s).memory)) (session_in (Some object.now)) }
+{
+    match object {
+        Object::Session(session) => reading::next_nonzero(session.memory(), block, page, found),
+        _ => unreachable!(),
+    }
+}
+
+/// Reports the next page of a block, from a page on, that isn't zeros.
+#[unsafe(no_mangle)]
+pub extern "C" fn zimgasol_session_next_nonzero(
+    alloc: Global,
+    session: &mut SessionHandle,
+    block: usize,
+    number: u64,
+    found: &mut u64,
+) -> u32
+    requires session { IsSome (session_in session.old.handle.value) }
+    ensures same { session.new.handle.value ≡ session.old.handle.value }
+    ensures finds { Tells (λ s. FindsFilled block number result found.old found.new ((answer_in s).memory)) (session_in session.old.handle.value) }
+{
+    let object = session.handle.take().into_box(alloc);
+    let status = next_nonzero(&object, block, number, found);
     session.handle = Handle::of(object);
     status
 }

@@ -79,6 +79,26 @@ static void send(void) {
     WANT(memcmp(named + 8 + sizeof configuration, text + 8, text_len - 9) == 0 && text[text_len - 1] == 0);
 }
 
+/* Several pages at once, and the next one that isn't zeros: of block 0 only page 2 is none. */
+static void read_loaded(zimgasol_loader *loader) {
+    static uint8_t pages[3 * PAGE];
+    uint64_t at = 77;
+    memset(pages, 0xEE, sizeof pages);
+    WANT(zimgasol_loader_read(loader, 0, 0, pages, sizeof pages) == ZIMGASOL_DONE);
+    WANT(pages[0] == 0 && memcmp(pages, pages + 1, 2 * PAGE - 1) == 0 && pages[2 * PAGE] == 3 && pages[2 * PAGE + 1] == 7 && pages[3 * PAGE - 1] == 7);
+    memset(pages, 0xEE, sizeof pages);
+    WANT(zimgasol_loader_read(loader, 0, 1, pages, 2 * PAGE) == ZIMGASOL_DONE && pages[PAGE - 1] == 0 && pages[PAGE] == 3 && pages[2 * PAGE] == 0xEE);
+    WANT(zimgasol_loader_read(loader, 0, 1, pages, 3 * PAGE) == ZIMGASOL_NO_PAGE && zimgasol_loader_read(loader, 0, 4, pages, 0) == ZIMGASOL_NO_PAGE);
+    WANT(zimgasol_loader_read(loader, 0, UINT64_MAX, pages, PAGE) == ZIMGASOL_NO_PAGE && zimgasol_loader_read(loader, 2, 0, pages, PAGE) == ZIMGASOL_NO_PAGE);
+    WANT(zimgasol_loader_read(loader, 0, 1, pages, PAGE + 1) == ZIMGASOL_BAD_LENGTH && zimgasol_loader_read(loader, 0, 3, pages, 0) == ZIMGASOL_DONE);
+    WANT(pages[PAGE - 1] == 0 && pages[PAGE] == 3 && pages[2 * PAGE] == 0xEE);
+    WANT(zimgasol_loader_next_nonzero(loader, 0, 0, &at) == ZIMGASOL_DONE && at == 2);
+    WANT(zimgasol_loader_next_nonzero(loader, 0, 2, &at) == ZIMGASOL_DONE && at == 2);
+    at = 77;
+    WANT(zimgasol_loader_next_nonzero(loader, 0, 3, &at) == ZIMGASOL_NO_PAGE && zimgasol_loader_next_nonzero(loader, 0, UINT64_MAX, &at) == ZIMGASOL_NO_PAGE);
+    WANT(zimgasol_loader_next_nonzero(loader, 1, 0, &at) == ZIMGASOL_NO_PAGE && zimgasol_loader_next_nonzero(loader, 2, 0, &at) == ZIMGASOL_NO_PAGE && at == 77);
+}
+
 static void load(size_t cut) {
     zimgasol_loader loader = {0};
     zimgasol_fault fault;
@@ -96,6 +116,8 @@ static void load(size_t cut) {
         if (at == 0 && len < text_len)
         {
             uint64_t none = 7;
+            if (zimgasol_loader_blocks(&loader) == 0)
+                WANT(zimgasol_loader_next_nonzero(&loader, 0, 0, &none) == ZIMGASOL_NO_PAGE && zimgasol_loader_read(&loader, 0, 0, page, 0) == ZIMGASOL_NO_PAGE);
             WANT(zimgasol_loader_verdict(&loader, &fault) == ZIMGASOL_RUNNING && fault.number == ZIMGASOL_RUNNING);
             WANT(zimgasol_loader_closed_at(&loader, &none) == ZIMGASOL_RUNNING && none == 7);
         }
@@ -115,6 +137,7 @@ static void load(size_t cut) {
     WANT(zimgasol_loader_page(&loader, 1, 1, page, PAGE) == ZIMGASOL_DONE && page[0] == 0);
     WANT(zimgasol_loader_page(&loader, 1, 2, page, PAGE) == ZIMGASOL_NO_PAGE);
     WANT(zimgasol_loader_page(&loader, 1, 1, page, PAGE - 1) == ZIMGASOL_BAD_LENGTH);
+    read_loaded(&loader);
     zimgasol_loader_free(&loader);
 }
 
@@ -273,6 +296,12 @@ static void load_several(size_t cut) {
     zimgasol_block block;
     WANT(zimgasol_session_block(&session, 0, &block) == ZIMGASOL_DONE && block.pages == 2 && block.id[0] == 'a' && block.id[1] == 0);
     WANT(zimgasol_session_page(&session, 0, 1, page, PAGE) == ZIMGASOL_DONE && page[0] == 9 && page[1] == 0);
+    uint64_t at = 7;
+    memset(page, 0xEE, PAGE);
+    WANT(zimgasol_session_next_nonzero(&session, 0, 0, &at) == ZIMGASOL_DONE && at == 1);
+    WANT(zimgasol_session_read(&session, 0, 1, page, PAGE) == ZIMGASOL_DONE && page[0] == 9 && page[1] == 0 && page[PAGE - 1] == 0);
+    WANT(zimgasol_session_next_nonzero(&session, 0, 2, &at) == ZIMGASOL_NO_PAGE && zimgasol_session_read(&session, 0, 2, page, PAGE) == ZIMGASOL_NO_PAGE);
+    WANT(zimgasol_session_read(&session, 0, 0, page, 7) == ZIMGASOL_BAD_LENGTH);
     zimgasol_session_free(&session);
 }
 
