@@ -1,35 +1,44 @@
-//! Sends and loads guest memory in the layouts of QEMU's live migration, without losing a page or
-//! mixing one up. This crate gives callers the library under one name. Nothing else stands here.
+//! Sends and loads guest memory in the layouts of QEMU's live migration. This crate gives callers
+//! the library under one name, and has no code of its own.
 //!
 //! | You have | Take |
 //! |---|---|
 //! | a guest's RAM as blocks of pages | `Table`, and `Memory`, or `LentMemory` over mapped blocks |
 //! | a dirty bitmap | `Dirty` |
 //! | one connection or file to write | `SingleSender` |
-//! | a main stream and several channels to write (multifd) | `MultiSender`; with threads of your own `MultiSender::begin_round`, `ChannelWorker` |
+//! | a main stream and several channels to write (multifd) | `MultiSender` |
+//! | the same, and threads of your own | `MultiSender::begin_round`, `ChannelWorker` |
 //! | one stream, whole | `load_single` |
 //! | one stream, in pieces, and no memory yet | `SingleLoader` |
-//! | one stream, in pieces, and the blocks where the guest is to run | `InPlaceLoader`, `InPlaceState`, or `EagerState`, which keeps no page; `LentMemoryMut` over the blocks |
+//! | one stream, in pieces, and the blocks of the guest | `InPlaceLoader`, `InPlaceState` |
+//! | the same, and blocks that no guest uses after a fault | `EagerState`, which keeps no section |
 //! | a main stream and channels, whole | `load_multi` |
 //! | a main stream and channels, in pieces or from readers | `Session`, `pump` |
-//! | a main stream and channels, in pieces, and the blocks where the guest is to run | `InPlaceSession` |
-//! | a whole machine's stream, as QEMU writes it | the same by `.._in`, with `LoadSettings` of `Frame::Machine`; `closed_at` and `single_closed_at` report where RAM ends |
+//! | a main stream and channels, and the blocks of the guest | `InPlaceSession` |
+//! | a whole machine's stream, as QEMU writes it | the calls `.._in`, with `LoadSettings` |
 //! | a fault of a load of whole streams | `single_valid_up_to`, `multi_valid_up_to`: its byte |
 //! | two memories to compare | `first_difference`, `differences` |
 //!
 //! A load returns the memory of the complete rounds, their number, and a verdict: `Ok`, or a
-//! `LoadFault` that says in which round and source the first fault stands, and which it is
-//! (`Fault::number`). At which byte it stands `valid_up_to` of the loaders says. No stream makes a
-//! call panic, and none makes a guest larger than the limit that the caller passes.
+//! `LoadFault`, which has the first fault (`Fault::number`), its round and its source.
+//! `valid_up_to` of the loaders, but of `InPlaceSession`, reports at which byte it stands. No
+//! stream makes a call panic, and none makes a guest larger than the limit that the caller passes.
 //!
 //! What allocates takes an allocator first, and reports a refused allocation (`NoMemory`, number
 //! 60). Preconditions are checked at compile time: `requires` in a contract is what a caller has to
 //! know, by a test or by what it was promised before.
 //!
-//! # Example
+//! # Examples
 //!
-//! All pages of a guest are sent as one round of a stream, and the stream is loaded:
+//! Each is quoted from a use in `mig_uses` or from a test, which the gate proves and runs. That it
+//! still stands there, `tools/quotes.py` compares. In tests `rt` is the runtime that a test is
+//! passed, and `assert!(rt; ..)` and `expect(rt, ..)` end it where something isn't so.
 //!
+//! # All of a guest, sent and loaded
+//!
+//! Every page is sent as one round of a stream, and the stream is loaded into a new memory:
+//!
+//! <!-- quoted from crates/mig_uses/src/first.rt -->
 //! ```rust
 //! use zimgasol::{MAX_TOTAL, SingleSender, load_single};
 //!
@@ -43,9 +52,257 @@
 //! loaded.memory
 //! ```
 //!
-//! `mig_uses` has this one (`first`) and others, each with a contract and a test. The definitions
-//! that contracts cite stand in the crates below (`docs/ARCHITECTURE.md`). A crate whose own contracts
-//! cite them names these crates beside this one.
+//! # Table, Memory
+//!
+//! A `Table` says which blocks a guest has: an id and a number of pages each. Memories, dirty sets
+//! and senders are made of one. A `Memory` keeps the contents of the pages. Take it where the guest
+//! has no mapped blocks.
+//!
+//! <!-- quoted from crates/mig_uses/src/first.rt -->
+//! ```rust
+//! let id = Vec::from_slice(alloc, b"pc.ram").ok()?;
+//! let mut blocks = Vec::new(alloc);
+//! blocks.push((id, 2)).ok()?;
+//! let table = Table::new(alloc, PAGE_SIZE_4K, blocks).ok()?;
+//! let mut memory = Memory::zeroed(alloc, &table).ok()?;
+//! // `set` asks for a byte that there is
+//! let table = memory.table();
+//! if table.len() == 0 || 4101 >= table.pages(0) * table.page_size() {
+//!     return None;
+//! }
+//! memory.set(0, 4101, 7);
+//! ```
+//!
+//! # LentMemory, LentMemoryMut
+//!
+//! Take a `LentMemory` to send a guest from blocks that are mapped: one slice for each block, in
+//! the table's order. Nobody may write these bytes while they are lent. Here `all` marks each page:
+//!
+//! <!-- quoted from crates/mig_tests/src/lent.rt -->
+//! ```rust
+//! let table = table(alloc)?;
+//! let lent = LentMemory::new(&table, blocks)?;
+//! let mut sender = SingleSender::new(alloc, &table).ok()?;
+//! sender.round(&lent, &all(alloc, &table)?).ok()?;
+//! ```
+//!
+//! A `LentMemoryMut` is for a load into such blocks. `both` makes an array of two slices:
+//!
+//! <!-- quoted from crates/mig_uses/src/in_place.rt -->
+//! ```rust
+//! let mut blocks = both(first, second);
+//! let memory = LentMemoryMut::new(table, &mut blocks)
+//!     .ok()
+//!     .expect(rt, "a memory");
+//! ```
+//!
+//! # Dirty
+//!
+//! A `Dirty` says which pages a round sends. Take one from your dirty bitmap, or mark all pages, as
+//! for the first round:
+//!
+//! <!-- quoted from crates/mig_uses/src/backup.rt -->
+//! ```rust
+//! let mut dirty = Dirty::none(alloc, table)?;
+//! for block in 0..table.len() {
+//!     for page in 0..table.pages(block) {
+//!         dirty.mark(Place { block, page })?;
+//!     }
+//! }
+//! Ok(dirty)
+//! ```
+//!
+//! # SingleSender
+//!
+//! Take it for one connection or one file. `round` writes a round, `drain` returns the bytes that
+//! were written since the last time, and `finish` ends the stream. A guest that runs on sends the
+//! pages that it wrote since the last round, and keeps its marks where the round was refused:
+//!
+//! <!-- quoted from crates/mig_uses/src/live_guest.rt -->
+//! ```rust
+//! self.sender.round(&self.memory, &self.dirty)?;
+//! self.dirty.clear();
+//! Ok(())
+//! ```
+//!
+//! # MultiSender
+//!
+//! Take it for multifd: a main stream and 1 to 255 channels. `round` has a worker for each channel,
+//! on a thread of its own where one can be made.
+//!
+//! <!-- quoted from crates/mig_uses/src/migration.rt -->
+//! ```rust
+//! sender.round(rt, memory, dirty, &OpenGate)?;
+//! deliver(alloc, sender, arrived)?;
+//! ```
+//!
+//! Then each source has its bytes, which may be carried in any order. `deliver` does it so:
+//!
+//! <!-- quoted from crates/mig_uses/src/migration.rt -->
+//! ```rust
+//! let mut bytes = Vec::new(alloc);
+//! sender.drain_main(&mut bytes);
+//! arrived.main.extend_from_slice(&bytes)?;
+//! for channel in 0..arrived.channels.len() {
+//!     sender.drain_channel(channel, &mut bytes);
+//!     arrived.channels[channel].extend_from_slice(&bytes)?;
+//! }
+//! ```
+//!
+//! # MultiRound, ChannelWorker
+//!
+//! Take these where the threads are yours. `begin_round` of a `MultiSender` starts none, and each
+//! step of a worker writes one packet. Here `begin`, `worker_of`, `give_back` and `end` make the
+//! calls `begin_round`, `worker`, `give_back` and `end_round`, each after the tests that it asks
+//! for. `run_both` steps two workers, each on a thread, until they have ended:
+//!
+//! <!-- quoted from crates/mig_deal_tests/src/stepped.rt -->
+//! ```rust
+//! assert!(rt; given.memory.table().same(sender.table()));
+//! let mut round = begin(rt, sender, &given.dirty);
+//! let mut a = worker_of(rt, &mut round);
+//! let mut b = worker_of(rt, &mut round);
+//! run_both(rt, &mut a, &mut b, &given.memory);
+//! give_back(rt, &mut round, a);
+//! give_back(rt, &mut round, b);
+//! end(rt, round)
+//! ```
+//!
+//! # load_single
+//!
+//! Take it for a stream that has come whole. It returns a `Loaded`: the memory, which is there if
+//! the verdict is `Ok`, the number of rounds, and the verdict.
+//!
+//! <!-- quoted from crates/mig_uses/src/backup.rt -->
+//! ```rust
+//! let loaded = load_single(alloc, page_size, text, limit);
+//! loaded.verdict?;
+//! ```
+//!
+//! # SingleLoader
+//!
+//! Take it for a stream that comes in pieces, into memory that the loader makes. After each piece
+//! the verdict is that on the bytes so far, so a bad stream is refused as soon as its fault has
+//! come:
+//!
+//! <!-- quoted from crates/mig_uses/src/incoming.rt -->
+//! ```rust
+//! loader.feed(piece)?;
+//! match loader.verdict() {
+//!     Ok(()) => Ok(Incoming::Whole),
+//!     Err(fault) if is_unfinished(fault.fault) => Ok(Incoming::Coming),
+//!     Err(fault) => Ok(Incoming::Refused(fault)),
+//! }
+//! ```
+//!
+//! # InPlaceLoader, InPlaceState, EagerState
+//!
+//! Take an `InPlaceLoader` for a stream into memory that is there: a `LentMemoryMut` or a `Memory`.
+//! It applies complete sections alone, on top of what the memory held.
+//!
+//! <!-- quoted from crates/mig_uses/src/in_place.rt -->
+//! ```rust
+//! let Ok(mut loader) = InPlaceLoader::new(alloc, memory, limit) else {
+//!     return Err(without_memory());
+//! };
+//! let Ok(()) = loader.feed(text) else {
+//!     return Err(without_memory());
+//! };
+//! loader.end();
+//! loader.verdict()?;
+//! Ok(loader.into_memory())
+//! ```
+//!
+//! An `InPlaceState` does so to memory that is passed to each call. An `EagerState` writes each
+//! page when its bytes have come, and keeps no section. After a fault its memory also has the pages
+//! of a section that isn't complete. Both are fed alike:
+//!
+//! <!-- quoted from crates/mig_load_tests/src/eager.rt -->
+//! ```rust
+//! assert!(rt; !state.ended() && state.fed() <= LIMIT && piece.len() as u64 <= LIMIT);
+//! state.feed(memory, piece)
+//! ```
+//!
+//! # load_multi
+//!
+//! Take it for a main stream and channels that have come whole, the channels in any order. A worker
+//! for each channel reads its packets on a thread. It returns a `Loaded`, too.
+//!
+//! <!-- quoted from crates/mig_uses/src/migration.rt -->
+//! ```rust
+//! let loaded = load_multi(
+//!     rt,
+//!     alloc,
+//!     PAGE_SIZE_4K,
+//!     uuid,
+//!     &arrived.main,
+//!     &arrived.channels,
+//!     limit,
+//!     &OpenGate,
+//! );
+//! ```
+//!
+//! # Session
+//!
+//! Take it for a main stream and channels that come in pieces, in any order. `feed` takes a piece
+//! of one source, and `end` ends one. `pump` does it with a reader:
+//!
+//! <!-- quoted from crates/mig_uses/src/two_readers.rt -->
+//! ```rust
+//! let mut session = Session::new(alloc, page_size, uuid, 1, limit)?;
+//! pump(
+//!     alloc,
+//!     &mut Counted::new(main),
+//!     &mut session,
+//!     Source::Main,
+//!     TURNS,
+//! )?;
+//! ```
+//!
+//! # InPlaceSession
+//!
+//! Take it for a main stream and channels in pieces, into memory that is there, such as the blocks
+//! where a guest is to run. `feed` returns how many bytes of the piece it took. The others wait
+//! with you until `takes` returns true for that source.
+//!
+//! <!-- quoted from crates/mig_in_place_tests/src/both.rt -->
+//! ```rust
+//! assert!(rt; load.has(source));
+//! assert!(rt; !load.ended(source) && load.has_room(source, piece.len()));
+//! load.feed(memory, source, piece)
+//! ```
+//!
+//! # LoadSettings
+//!
+//! Take it for a machine's stream, as QEMU writes it, or to bound the page records that wait
+//! (`with_waiting`). Each load has a sibling `.._in` that takes it:
+//!
+//! <!-- quoted from crates/mig_in_place_tests/src/framed.rt -->
+//! ```rust
+//! let settings = LoadSettings::new(4096, LIMIT).with_frame(frame);
+//! let made = InPlaceSession::new_in(rt.alloc(), memory.table(), settings, &Uuid::nil(), 1);
+//! ```
+//!
+//! # first_difference
+//!
+//! Take it to see whether two memories of one table are the same, and else where they differ first:
+//!
+//! <!-- quoted from crates/mig_uses/src/comparison.rt -->
+//! ```rust
+//! if !here.table().same(there.table()) {
+//!     return Comparison::OtherTable;
+//! }
+//! match first_difference(here, there) {
+//!     Some(place) => Comparison::Differ(place),
+//!     None => Comparison::Same,
+//! }
+//! ```
+//!
+//! # The crates below
+//!
+//! The definitions that contracts cite stand in the crates below (`docs/ARCHITECTURE.md`). A crate
+//! whose own contracts cite them names these crates beside this one. Readers and writers of a
+//! stream's records, `StreamReader`, `RecordReader` and `StreamWriter`, are those of `mig_stream`.
 #![tactic(auto)]
 
 pub use mig_in_place::InPlaceSession;
