@@ -6,7 +6,9 @@
 
 A page has the public types and functions of one crate of the product: of each function its
 signature, its sentence and its clauses as they stand, and below all the definitions that these
-cite. The sentence is the function's comment, and what tools/promises.md says of it beside that.
+cite. The sentence is the function's comment, and what tools/promises.md says of it beside that,
+which stands before the errors. The page of a crate that only gives on names has its comment, and
+where each name stands.
 
 It fails where a public function with a contract has no sentence, where tools/promises.md names a
 function or a definition that is gone, and where it read other numbers of public functions and
@@ -25,7 +27,7 @@ from rattle_source import WORD
 # The crates of crates.txt that are no part of the product.
 BESIDE = """mig_fixtures zimgasol_runs mig_tool_words mig_cases mig_rows mig_tool_cases mig_captures
     mig_uses mig_bench mig_low_tests mig_deal_tests mig_tests mig_load_tests mig_session_tests
-    mig_tool_tests""".split()
+    mig_in_place_tests mig_tool_tests""".split()
 PAGES = TOP / "docs" / "contracts"
 INDEX = TOP / "docs" / "CONTRACTS.md"
 SENTENCES = TOP / "tools" / "promises.md"
@@ -42,7 +44,7 @@ class Crate:
     doc: list
     types: list  # those that callers see
     functions: list  # those that callers can call
-    gives: list  # the crates of which it gives on names
+    gives: list  # the names that it gives on of other crates: pairs of a crate and a name
     hidden: list  # public functions that can't be named outside the crate
 
 
@@ -55,7 +57,7 @@ def crate_of(name):
         return Crate(name, [], [], [], [], [])
     given = {it for path, it in top.exports if (source / f"{path}.rt").is_file()}
     crate = Crate(name, top.doc, [], [], [], [])
-    crate.gives = list(dict.fromkeys(path for path, it in top.exports if it not in given))
+    crate.gives = [pair for pair in top.exports if pair[1] not in given]
     for file, it in files.items():
         crosses = lambda item: 'extern "C"' in getattr(item, "signature", "")
         crate.types += [kind for kind in it.types if kind.is_public
@@ -106,14 +108,16 @@ def fill(text, indent=""):
     return textwrap.fill(text, 100, subsequent_indent=indent, **whole)
 
 
-def filled(lines):
-    """A comment's lines, filled again at 100 columns; code, tables and lists stay as they stand."""
+def filled(lines, has_headings=False):
+    """A comment's lines, filled again at 100 columns; code, tables and lists stay as they stand.
+    Its headings are words in bold type, or headings below the page's own."""
     parts, is_code = [], False
     for line in lines:
         is_fence = line.startswith("```")
         if is_fence or is_code or not line.strip() or re.match(r"[-|#>]|\d+\. | {2}", line):
             title = None if is_code else re.match(r"#+ (.*)", line)
-            parts.append([f"**{title[1]}.**\n" if title else line])
+            bold = f"**{title[1]}.**\n" if title and not has_headings else None
+            parts.append([bold or "#" * bool(title) + line])
         elif parts and not re.match(r"\s*$|```|[|>]|\*\*.*\*\*\n", parts[-1][0]):
             parts[-1].append(line)
         else:
@@ -170,7 +174,9 @@ def type_part(it):
 def function_part(it, said):
     """A function: its signature, its sentence and its clauses; of a law also what these cite."""
     parts = [f"### {called(it)}\n", code(it.signature)]
-    parts += [text + "\n" for text in (filled(it.doc), said) if text]
+    errors = it.doc.index("# Errors") if "# Errors" in it.doc else len(it.doc)
+    texts = (filled(it.doc[:errors]).strip(), said, filled(it.doc[errors:]).strip())
+    parts += [text + "\n" for text in texts if text]
     parts.append(code("\n".join(it.clauses)) if it.clauses else "No clause.\n")
     if it.is_law():
         pairs = dict.fromkeys(pair for clause in it.clauses for pair in cited(clause, it.names))
@@ -224,15 +230,39 @@ def page(crate, says):
     return "\n".join(parts + definitions_part(crate)).rstrip() + "\n"
 
 
+def place_of(name, crates):
+    """Where a name stands: its crate or "", and how the list of those that are given on has it."""
+    for crate in crates:
+        functions = [it.name for it in crate.functions if not it.owner]
+        if name in functions + [it.name for it in crate.types]:
+            return crate.name, f"[`{name}`]({crate.name}.md#{name.lower()})"
+    return "", f"`{name}`"
+
+
+def facade_page(crate, crates):
+    """The page of a crate that only gives on names."""
+    quoted = re.compile(r"<!-- quoted from crates/(\S+) -->")
+    doc = [quoted.sub(r"([`\1`](../../crates/\1))\n", line) for line in crate.doc]
+    parts = [MADE, f"# The crate {crate.name}\n", filled(doc, has_headings=True) + "\n"]
+    parts.append("## What it gives on\n")
+    groups = {}
+    for name in sorted((name for _, name in crate.gives), key=str.lower):
+        group, line = place_of(name, crates)
+        groups.setdefault(group, []).append(line)
+    rows = [fill(f"- {it and f'Of {it}' or 'Beside them'}: {', '.join(groups[it])}.", "  ")
+            for it in [*(it.name for it in crates), ""] if it in groups]
+    return "\n".join(parts + rows) + "\n"
+
+
 def index(crates, says):
     rows = ["| Crate | Functions | Laws | `requires` | `ensures` |", "|---|---|---|---|---|"]
     row = lambda first, counts: f"| {first} | {' | '.join(map(str, counts))} |"
     rows += [row(f"[{it.name}](contracts/{it.name}.md)", numbers(it))
              for it in crates if it.functions]
     rows.append(row("all", map(sum, zip(*map(numbers, crates)))))
-    gives = [fill(f"`{it.name}` has none of its own. It gives on names of "
-                  f"{', '.join(f'`{name}`' for name in it.gives)}.")
-             for it in crates if it.gives and not it.functions]
+    paths = lambda it: ", ".join(dict.fromkeys(f"`{path}`" for path, _ in it.gives))
+    gives = [fill(f"[{it.name}](contracts/{it.name}.md) has none of its own. It gives on names of "
+                  f"{paths(it)}.") for it in crates if it.gives and not it.functions]
     parts = [MADE.strip(), "# Contracts", says["Contracts"], "\n".join(rows), *gives]
     return "\n\n".join(parts) + "\n"
 
@@ -272,6 +302,8 @@ def main(words):
     crates = [crate_of(name) for name in uses() if name not in BESIDE]
     says = sentences()
     pages = {PAGES / f"{it.name}.md": page(it, says) for it in crates if it.functions}
+    pages |= {PAGES / f"{it.name}.md": facade_page(it, crates)
+              for it in crates if it.gives and not it.functions}
     pages[INDEX] = index(crates, says)
     if not words:
         PAGES.mkdir(exist_ok=True)

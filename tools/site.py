@@ -19,7 +19,8 @@ SITE = TOP / "out" / "site"
 # The navigation, in this order. Documents that aren't named here follow under the last heading.
 GROUPS = {
     "": "README",
-    "Use it": "docs/EMBEDDING docs/C docs/TOOL docs/ZIMGASOL docs/INTEROP docs/FAULTS docs/BENCHMARKS",
+    "Use it": "docs/EMBEDDING docs/C docs/contracts/zimgasol docs/TOOL docs/ZIMGASOL docs/INTEROP "
+              "docs/FAULTS docs/BENCHMARKS",
     "Proof": "docs/PROMISES docs/CONTRACTS docs/FORMATS docs/EXAMPLES",
     "The project": "docs/ARCHITECTURE docs/DECISIONS docs/TOOLCHAIN CONTRIBUTING", "More": ""}
 PAGE = Template((TOP / "tools" / "site.html").read_text())
