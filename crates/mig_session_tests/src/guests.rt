@@ -25,7 +25,7 @@ use uuid::Uuid;
 /// The limit of the blocks' bytes together: 1 TiB.
 pub(crate) const LIMIT: u64 = 1 << 40;
 
-// What kind of guests are drawn, and in what pieces their streams are fed.
+// What kind of random guests are made, and in what pieces their streams are fed.
 #[derive(Clone, Copy)]
 struct Kind {
     // The pages of the guest's blocks.
@@ -37,7 +37,7 @@ struct Kind {
     packet: u64,
     // The fewest bytes that the channels have for each round.
     bytes: u64,
-    // The length of each piece; where there is none, it is drawn for each.
+    // The length of each piece; if it is None, each piece has a random one.
     piece: Option<usize>,
 }
 
