@@ -23,6 +23,9 @@ GROUPS = {
               "docs/FAULTS docs/BENCHMARKS",
     "Proof": "docs/PROMISES docs/CONTRACTS docs/FORMATS docs/EXAMPLES",
     "The project": "docs/ARCHITECTURE docs/DECISIONS docs/TOOLCHAIN CONTRIBUTING", "More": ""}
+# What the navigation calls pages whose headings say too little there.
+NAMES = {"docs/ZIMGASOL": "The program zimgasol", "docs/TOOL": "The program mig_tool",
+         "docs/EXAMPLES": "Cases and tests", "docs/INTEROP": "QEMU at the other end"}
 PAGE = Template((TOP / "tools" / "site.html").read_text())
 
 
@@ -75,7 +78,7 @@ def navigation(page, titles):
     for heading, group in GROUPS.items():
         pages = filter(titles.get, rest if heading == "More" else group.split())
         rows = [f'<li><a href="{path_of(it, page)}"{" aria-current=page" * (it == page)}>'
-                f"{titles[it]}</a></li>" for it in pages]
+                f"{NAMES.get(it, titles[it])}</a></li>" for it in pages]
         parts.append(f"<h2>{heading}</h2>" * bool(heading and rows) + f"<ul>{''.join(rows)}</ul>")
     return "".join(parts)
 
