@@ -243,7 +243,10 @@ def facade_page(crate, crates):
     """The page of a crate that only gives on names."""
     quoted = re.compile(r"<!-- quoted from crates/(\S+) -->")
     doc = [quoted.sub(r"([`\1`](../../crates/\1))\n", line) for line in crate.doc]
-    parts = [MADE, f"# The crate {crate.name}\n", filled(doc, has_headings=True) + "\n"]
+    link = lambda match: place_of(match[1], crates)[1]
+    doc = [re.sub(r"`(\w+)`", link, line) if line.startswith("|") else line
+           for line in filled(doc, has_headings=True).splitlines()]
+    parts = [MADE, f"# The crate {crate.name}\n", *doc, ""]
     parts.append("## What it gives on\n")
     groups = {}
     for name in sorted((name for _, name in crate.gives), key=str.lower):

@@ -30,9 +30,9 @@
 //!
 //! # Examples
 //!
-//! Each is quoted from a use in `mig_uses` or from a test, which the gate proves and runs. That it
-//! still stands there, `tools/quotes.py` compares. In tests `rt` is the runtime that a test is
-//! passed, and `assert!(rt; ..)` and `expect(rt, ..)` end it where something isn't so.
+//! Each is quoted from a use in `mig_uses` or from a test, which the gate proves and runs. A script
+//! compares them with the code (`tools/quotes.py`). `rt` is the runtime that a test is passed;
+//! `assert!(rt; ..)` and `expect(rt, ..)` fail the test.
 //!
 //! # All of a guest, sent and loaded
 //!
