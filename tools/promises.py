@@ -5,10 +5,10 @@
     tools/promises.py --check    compares them, and fails where they aren't what it would write
 
 A page has the public types and functions of one crate of the product: of each function its
-signature, its sentence and its clauses as they stand, and below all the definitions that these
-cite. The sentence is the function's comment, and what tools/promises.md says of it beside that,
-which stands before the errors. The page of a crate that only gives on names has its comment, and
-where each name stands.
+signature, its sentence and its clauses as they stand, but for line breaks, and below all the
+definitions that these cite. The sentence is the function's comment, and what tools/promises.md says
+of it beside that, which stands before the errors. The page of a crate that only gives on names has
+its comment, and where each name stands.
 
 It fails where a public function with a contract has no sentence, where tools/promises.md names a
 function or a definition that is gone, and where it read other numbers of public functions and
@@ -151,8 +151,23 @@ def cited(text, names):
     return list(found)
 
 
+def folded(line):
+    """A line of code in lines of 100 columns, broken where brackets are fewest."""
+    indent = len(line) - len(line.lstrip())
+    if len(line) <= 100:
+        return line
+    places, depth = [], 0
+    for at, sign in enumerate(line[:101]):
+        depth += (sign in "({[") - (sign in ")}]")
+        if sign == " " and at > indent + 50:
+            is_before = line[at + 1] in "→×⊎≡≢↔≤<"
+            places.append((depth, not is_before, -at))
+    at = -min(places)[2] if places else line.index(" ", indent)
+    return line[:at] + "\n" + folded(" " * (indent + 4 * (indent < 8)) + line[at + 1:])
+
+
 def code(text):
-    return f"```rust\n{text}\n```\n"
+    return "```rust\n" + "\n".join(map(folded, text.splitlines())) + "\n```\n"
 
 
 def type_part(it):
