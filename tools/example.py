@@ -331,7 +331,10 @@ class Stopped(Exception):
     """The stream is over, or isn't as it should be."""
 
 
-def page_records(text, page_size, named):
+SUBSECTIONS = {b"configuration/target-page-bits": 4, b"configuration/uuid": 16}
+
+
+def page_records(text, page_size, named, frame):
     """The page records of a single stream up to its end or its first fault, each with its block, number and content: read by
     itself, with nothing of the library's."""
     at, names, found = 0, [name for _, name in named], []
@@ -361,9 +364,11 @@ def page_records(text, page_size, named):
             kind = number(1)
             if kind == 7:
                 take(number(4))
-            elif kind == 5:
-                take({b"configuration/target-page-bits": 8, b"configuration/uuid": 20}[take(number(1))])
-            elif kind == 8:
+            elif kind == 5 and frame == 1:
+                name = take(number(1))
+                want(name in SUBSECTIONS and number(4) == 1)
+                take(SUBSECTIONS[name])
+            elif kind == 8 and frame == 1:
                 take(2), take(number(2))
             else:
                 want(kind in (1, 2, 3) and number(4) == 1)
@@ -519,7 +524,7 @@ class Rows:
             return
         into = load_in_place(self.library, page_size, table or [(1, b"other")], case.frame, text, cut)
         # the blocks have the records of a section that isn't complete, too
-        written = {(block, number): content for block, number, content in page_records(text, page_size, table or [])}
+        written = {(block, number): content for block, number, content in page_records(text, page_size, table or [], case.frame)}
         blocks = memory_name((block, number, content) for (block, number), content in sorted(written.items()))
         if wanted.startswith("ok"):
             self.want(name, f"{question}, page records", blocks, wanted.split("; ", 2)[2])

@@ -60,7 +60,7 @@ RefusesPiece len blocks status s = IsOneOf (done ∷ is_over ∷ too_long ∷ ba
 
 -- What is so after a piece was fed into a memory: the memory has all page records of the stream so
 -- far; or an allocation was refused, and it has the first of them. A load that failed so before
--- takes every piece, and stays as it is.
+-- takes every piece, and only counts its bytes.
 pub record FeedsMemory (piece : List ℕ) (before after : Image) (status : ℕ) (old new : EagerLoad) : Type 0 where
   pub is_named : IsOneOf (done ∷ no_memory ∷ []) status
   pub takes : status ≡ done → (given : LoadSettings) (first : Image) (text : List ℕ) → EagerlyLoads before given first old text false
