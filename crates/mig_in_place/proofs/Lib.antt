@@ -8,6 +8,7 @@ pub mod Exact
 pub mod Names
 pub mod Waiting
 pub mod Waits
+pub mod SomeTakes
 pub mod Zips
 pub mod Steps
 pub mod Lying
@@ -29,4 +30,5 @@ pub mod Taking
 pub mod Turns
 pub mod ChannelEnds
 pub mod Ended
+pub mod Over
 pub mod Sendings

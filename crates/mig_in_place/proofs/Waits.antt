@@ -46,7 +46,7 @@ use Rattle.mig_in_place.proofs.Exact.{status_behind}
 use Rattle.mig_in_place.proofs.Names.{at_round, stream_over, main_stays_named, channels_stay_named}
 use Rattle.mig_in_place.proofs.Waiting.{waits, main_kept, all_kept, one_kept, any_kept, main_goes, channel_goes, running_waits, waits_here, same_rounds_onto}
 
-pending_is : (s : Status) → is_pending s ≡ true → s ≡ Pending
+pub pending_is : (s : Status) → is_pending s ≡ true → s ≡ Pending
 pending_is Whole e = absurd cc
 pending_is Clean e = absurd cc
 pending_is (Bad f) e = absurd cc
@@ -174,7 +174,7 @@ channel_goes_on given uuid first texts k j step before now size goes was are set
 -- ---- a channel that is held back
 
 -- a main stream whose size list may still come is pending at each round
-list_waits : (k : ℕ) (reading : StreamReading) → reading.rounds ≡ [] → reading.state ≡ stream_state.Reading → is_pending (main_status k reading) ≡ true
+pub list_waits : (k : ℕ) (reading : StreamReading) → reading.rounds ≡ [] → reading.state ≡ stream_state.Reading → is_pending (main_status k reading) ≡ true
 list_waits k reading none reads =
     let n : length reading.rounds ≡ 0 = ap (λ (l : List (List PageRecord)). length l) none in
     elim (cases_lt 0 k) [

@@ -17,7 +17,7 @@ use Rattle.mig_answer.specs.Growing.{GoesOn}
 use Rattle.mig_answer.specs.MultiLoad.{Answer, IsAnswer, failed}
 use Rattle.mig_answer.specs.Sent.{IsSentInAnyOrder, IsMachineSentInAnyOrder, sent_rounds}
 use Rattle.mig_session.specs.declared.source.Source.{Source}
-use Rattle.mig_session.specs.Session.{at_source}
+use Rattle.mig_session.specs.Session.{HasSource, counts_in, at_source}
 use Rattle.mig_in_place.specs.Answer.{rounds_onto, IsInPlaceAnswer}
 use Rattle.mig_in_place.specs.Session.{text_of, TakesBytes}
 
@@ -38,6 +38,11 @@ abbrev pub WaitingBytesChangeNothing : Type 0
 WaitingBytesChangeNothing = (given : LoadSettings) (uuid : List ℕ) (first : Image) (texts : Texts) (memory : Image) (rounds : ℕ) (from : Source) (new : Text) → IsTable first.table
     → GoesOn (text_of texts from) new → (TakesBytes (for_table first.table given) uuid rounds texts from → ⊥)
     → IsInPlaceAnswer given uuid first texts memory rounds Running → IsInPlaceAnswer given uuid first (at_source from (λ text. new) texts) memory rounds Running
+
+-- As long as a load runs it takes bytes of some source, whatever has come.
+abbrev pub RunningTakesSome : Type 0
+RunningTakesSome = (given : LoadSettings) (uuid : List ℕ) (first : Image) (texts : Texts) (memory : Image) (rounds : ℕ) → IsTable first.table
+    → IsInPlaceAnswer given uuid first texts memory rounds Running → (from : Source) × HasSource (counts_in texts) from × TakesBytes (for_table first.table given) uuid rounds texts from
 
 -- What a sender on several channels has sent of the memory's table is loaded: the memory has the
 -- rounds sent on top of what it held first.

@@ -121,6 +121,11 @@ abbrev pub StepsOn : (Texts → Texts) → Image → InPlaceLoad → Image → I
 StepsOn step before old after new = (given : LoadSettings) (uuid : List ℕ) (first : Image) (texts : Texts)
     → StandsFor given uuid first texts before old → StandsFor given uuid first (step texts) after new
 
+-- an allocation had been refused before
+abbrev pub StillLacks : (Texts → Texts) → Image → InPlaceLoad → Image → InPlaceLoad → Type 0
+StillLacks step before old after new = (given : LoadSettings) (uuid : List ℕ) (first : Image) (texts : Texts)
+    → LacksMemory given uuid first texts before old → LacksMemory given uuid first (step texts) after new
+
 -- An allocation was refused as a piece of a source was fed, of which some bytes had been taken.
 abbrev pub RunsOut : Source → List ℕ → Image → InPlaceLoad → Image → InPlaceLoad → Type 0
 RunsOut from piece before old after new = (given : LoadSettings) (uuid : List ℕ) (first : Image) (texts : Texts)

@@ -1,7 +1,7 @@
 //! What holds of each answer of a load in place: laws over the definitions, as clauses of functions
 //! that do nothing.
 
-ghost use Rattle.mig_in_place.specs.Law.{InPlaceTellsAlike, InPlaceDoneIsExact, WaitingBytesChangeNothing, SentIsLoadedInPlace, MachineSentIsLoadedInPlace};
+ghost use Rattle.mig_in_place.specs.Law.{InPlaceTellsAlike, InPlaceDoneIsExact, WaitingBytesChangeNothing, RunningTakesSome, SentIsLoadedInPlace, MachineSentIsLoadedInPlace};
 
 /// Rounds and verdict are those of any load on several channels.
 pub fn in_place_tells_alike()
@@ -16,6 +16,11 @@ pub fn in_place_done_is_exact()
 /// Bytes that wait with the caller change no answer.
 pub fn waiting_bytes_change_nothing()
     ensures { WaitingBytesChangeNothing }
+{}
+
+/// As long as a load runs it takes bytes of some source.
+pub fn running_takes_some()
+    ensures { RunningTakesSome }
 {}
 
 /// What a sender on several channels has sent is loaded in place.

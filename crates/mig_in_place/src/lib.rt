@@ -21,6 +21,6 @@ mod session;
 
 pub use laws::{
     in_place_done_is_exact, in_place_tells_alike, machine_sent_is_loaded_in_place,
-    sent_is_loaded_in_place, waiting_bytes_change_nothing,
+    running_takes_some, sent_is_loaded_in_place, waiting_bytes_change_nothing,
 };
 pub use session::InPlaceSession;

@@ -23,7 +23,7 @@ ghost use Rattle.mig_stream.specs.Reader.{HasTable};
 ghost use Rattle.mig_answer.specs.Texts.{Text};
 ghost use Rattle.mig_in_place.specs.Round.{KeepsSome};
 ghost use Rattle.mig_in_place.specs.Sources.{counts_of, main_count, channel_count, at_next_round, StandsAt, HoldsChannel, TellsChannelStatus, TellsHello, HasTakenRecords};
-ghost use Rattle.mig_in_place.specs.Session.{TakesBytes, StandsFor, LacksMemory, StepsOn, RunsOut, Tells, Loading, Loads, Stands, IsDue, TellsVerdict, PassesAt, IsUnsettled, Lacks, LacksBehind, with_bytes, with_over, TakesNoMore, IsOpenAt, IsMainOf};
+ghost use Rattle.mig_in_place.specs.Session.{TakesBytes, StandsFor, LacksMemory, StepsOn, StillLacks, RunsOut, Tells, Loading, Loads, Stands, IsDue, TellsVerdict, PassesAt, IsUnsettled, Lacks, LacksBehind, with_bytes, with_over, TakesNoMore, IsOpenAt, IsMainOf};
 
 use crate::channel::Channel;
 use crate::main_stream::{MainStream, is_pending};
@@ -517,10 +517,12 @@ impl<A: Allocator> InPlaceSession<A> {
         take_main_round(&mut self.main, &mut self.round, memory);
     }
 
-    /// Ends a source, all of whose bytes were taken. A second call changes nothing.
+    /// Ends a source, all of whose bytes were taken. A second call changes nothing, and no call
+    /// changes a verdict that is there.
     pub fn end(&mut self, source: Source)
         requires { HasSource (counts_of self.old.sources) source }
-        ensures steps { (memory : Image) → self.old.verdict ≡ running → StepsOn (end_step source) memory self.old memory self.new }
+        ensures steps { (memory : Image) → StepsOn (end_step source) memory self.old memory self.new }
+        ensures lacking { (memory : Image) → StillLacks (end_step source) memory self.old memory self.new }
         ensures settled { self.old.verdict ≢ running → (self.new.verdict ≡ self.old.verdict) × (self.new.rounds ≡ self.old.rounds) }
         ensures counts { counts_of self.new.sources ≡ with_end (counts_of self.old.sources) source }
         ensures table { self.new.table ≡ self.old.table }
@@ -560,7 +562,7 @@ impl<A: Allocator> InPlaceSession<A> {
     }
 
     // The same, and that the main stream doesn't have the round in hand then.
-    fn is_taking(&self, source: Source) -> bool
+    pub(crate) fn is_taking(&self, source: Source) -> bool
         requires { HasSource (counts_of self.now.sources) source }
         ensures takes { (memory : Image) → self.now.verdict ≡ running
             → Tells memory self.now (λ given uuid first texts. IsTrue result ↔ TakesBytes (for_table first.table given) uuid self.now.rounds texts source) }

@@ -33,13 +33,13 @@ fn machine_of(rt: &(impl AllocGlobal + Abort), ram: &[u8]) -> Vec<u8> {
     main
 }
 
-// How many rounds a load in a frame has, and its verdict, once it was fed all streams.
-fn load_in(
+// A load in a frame that was fed all streams, and whose channel has ended.
+fn fed_in(
     rt: &(impl AllocGlobal + Abort),
     frame: Frame,
     texts: &Sent,
     memory: &mut Memory,
-) -> (u64, Verdict) {
+) -> InPlaceSession {
     let settings = LoadSettings::new(4096, LIMIT).with_frame(frame);
     let made = InPlaceSession::new_in(rt.alloc(), memory.table(), settings, &Uuid::nil(), 1);
     let mut load = made.expect(rt, "a load");
@@ -48,6 +48,17 @@ fn load_in(
     let channel = text_of(rt, texts, CHANNEL);
     assert!(rt; feed(rt, &mut load, memory, CHANNEL, channel).is_ok());
     end(rt, &mut load, CHANNEL);
+    load
+}
+
+// How many rounds such a load has, and its verdict.
+fn load_in(
+    rt: &(impl AllocGlobal + Abort),
+    frame: Frame,
+    texts: &Sent,
+    memory: &mut Memory,
+) -> (u64, Verdict) {
+    let load = fed_in(rt, frame, texts, memory);
     (load.rounds(), load.verdict())
 }
 
@@ -60,6 +71,19 @@ fn machines_main_stream(rt: HostRuntime) {
     let loaded = load_in(&rt, Frame::Machine, &texts, &mut memory);
     assert!(rt; loaded == (1, Verdict::Done));
     assert!(rt; is_full(&memory, at(0, 0), 0) && has_byte(&memory, at(0, 1), 0, 9));
+}
+
+// The main stream ends after the verdict, which stays.
+#[test]
+fn main_stream_that_ends_after_the_verdict(rt: HostRuntime) {
+    let mut texts = page_and_zeros(&rt);
+    texts.main = machine_of(&rt, &texts.main);
+    let mut memory = zeroed(rt.alloc(), &[("a", 2)]).expect(&rt, "a memory");
+    let mut load = fed_in(&rt, Frame::Machine, &texts, &mut memory);
+    assert!(rt; load.verdict() == Verdict::Done && !load.ended(Source::Main));
+    end(&rt, &mut load, Source::Main);
+    assert!(rt; load.verdict() == Verdict::Done && load.rounds() == 1);
+    assert!(rt; load.ended(Source::Main));
 }
 
 // Read as RAM's sections it fails at its first COMMAND, before its table is known.
