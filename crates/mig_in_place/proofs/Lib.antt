@@ -28,6 +28,7 @@ pub mod Beginning
 pub mod Feeding
 pub mod Taking
 pub mod Turns
+pub mod Turning
 pub mod ChannelEnds
 pub mod Ended
 pub mod Over

@@ -4,6 +4,9 @@ pub mod Named
 pub mod Answer
 pub mod Session
 pub mod Law
+-- Turns of sources, whose bytes wait in buffers
+pub mod Turns
+pub mod TurnFaultNumber
 -- Internal: what is kept of the round in hand, and of the sources
 pub mod Round
 pub mod Sources

@@ -8,19 +8,26 @@
 //! judges at the round's end. So its memory may hold anything at the places that the unfinished
 //! round names. Both return the same verdict.
 //!
-//! Definitions, in reading order: `Named`, `Answer`, `Session`, `Law` (`specs/`). `Round` and
-//! `Sources` are internal: only contracts of private functions name them.
+//! A `SourceReader` reads a source, keeps in a buffer what the load doesn't take yet, and so lets a
+//! caller serve several connections by turns, in whatever order they have bytes.
+//!
+//! Definitions, in reading order: `Named`, `Answer`, `Session`, `Law`, `Turns` (`specs/`). `Round`
+//! and `Sources` are internal: only contracts of private functions name them.
 #![tactic(auto)]
 
 mod channel;
 mod laws;
 mod main_stream;
+mod pumping;
 mod put;
 mod round;
 mod session;
+mod source_reader;
 
 pub use laws::{
     in_place_done_is_exact, in_place_tells_alike, machine_sent_is_loaded_in_place,
     running_takes_some, sent_is_loaded_in_place, waiting_bytes_change_nothing,
 };
+pub use pumping::{RoundRobin, TurnOrder, pump_by_turns};
 pub use session::InPlaceSession;
+pub use source_reader::{SourceReader, Turn, TurnFault};

@@ -17,4 +17,6 @@ mod refused;
 #[cfg(test)]
 mod texts;
 #[cfg(test)]
+mod turning;
+#[cfg(test)]
 mod waiting;

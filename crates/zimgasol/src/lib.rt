@@ -15,6 +15,7 @@
 //! | a main stream and channels, whole | `load_multi` |
 //! | a main stream and channels, in pieces or from readers | `Session`, `pump` |
 //! | a main stream and channels, and the blocks of the guest | `InPlaceSession` |
+//! | the same from live connections | `SourceReader`, `pump_by_turns` |
 //! | a whole machine's stream, as QEMU writes it | the calls `.._in`, with `LoadSettings` |
 //! | a fault of a load of whole streams | `single_valid_up_to`, `multi_valid_up_to`: its byte |
 //! | two memories to compare | `first_difference`, `differences` |
@@ -305,7 +306,9 @@
 //! stream's records, `StreamReader`, `RecordReader` and `StreamWriter`, are those of `mig_stream`.
 #![tactic(auto)]
 
-pub use mig_in_place::InPlaceSession;
+pub use mig_in_place::{
+    InPlaceSession, RoundRobin, SourceReader, Turn, TurnFault, TurnOrder, pump_by_turns,
+};
 pub use mig_load::{
     Counted, EagerState, Fault, FeedFault, InPlaceFault, InPlaceLoader, InPlaceState, LoadFault,
     LoadSettings, Loaded, Origin, PieceReader, PumpFault, ReadFailed, Session, SingleLoader,

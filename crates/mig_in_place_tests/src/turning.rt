@@ -1,0 +1,338 @@
+//! Loads in place that are fed by turns, from readers that give little and that fail.
+
+use crate::both::{LIMIT, below, failed, source_at, text_of};
+use crate::texts::{page_and_zeros, sevens_on_two, sevens_then_zeros_on_two};
+use mig_answer::Verdict;
+use mig_fixtures::{TestHeap, at, is_full, zeroed};
+use mig_in_place::{
+    InPlaceSession, RoundRobin, SourceReader, Turn, TurnFault, TurnOrder, pump_by_turns,
+};
+use mig_mem::Memory;
+use mig_send::Sent;
+use mig_session::{Counted, Source};
+use mig_single_load::{Fault, Origin};
+use rand_pcg::Pcg32;
+use std::alloc::{AllocGlobal, Allocator};
+use std::io::{self, Read};
+use std::process::Abort;
+use uuid::Uuid;
+
+const FIRST: Source = Source::Channel(0);
+
+const SECOND: Source = Source::Channel(1);
+
+// A reader that gives at most so many bytes a read. It fails once, at this read, counted from 1; at
+// none if it is 0.
+#[derive(Drop)]
+struct Slow<'a> {
+    rest: &'a [u8],
+    len: usize,
+    fails_at: usize,
+}
+
+impl<'a> Read for Slow<'a> {
+    fn read(&mut self, buf: &mut [u8]) -> io::Result<usize> {
+        let fails = self.fails_at == 1;
+        self.fails_at = self.fails_at.saturating_sub(1);
+        if fails {
+            return Err(io::Error::from(io::ErrorKind::Other));
+        }
+        let n = self.len.min(self.rest.len()).min(buf.len());
+        let (piece, rest) = self.rest.split_at(n);
+        buf[..n].copy_from_slice(piece);
+        self.rest = rest;
+        Ok(n)
+    }
+}
+
+// An order that always chooses the source of this number.
+#[derive(Drop)]
+struct Always(usize);
+
+impl TurnOrder for Always {
+    fn next_turn<A: Allocator>(&mut self, _load: &InPlaceSession<A>) -> usize {
+        self.0
+    }
+}
+
+// An order that chooses by chance, also numbers of no source.
+#[derive(Drop)]
+struct ByChance(Pcg32);
+
+impl TurnOrder for ByChance {
+    fn next_turn<A: Allocator>(&mut self, load: &InPlaceSession<A>) -> usize {
+        let numbers = load.channels().saturating_add(3);
+        below(&mut self.0, numbers as u64) as usize
+    }
+}
+
+type Reader<'a> = SourceReader<Counted<Slow<'a>>>;
+
+// A load, its memory, and a reader of each source.
+#[derive(Drop)]
+struct Turning<'a> {
+    load: InPlaceSession,
+    memory: Memory,
+    sources: Vec<Reader<'a>>,
+}
+
+// The readers of streams, the main stream's first, of at most so many bytes a read.
+fn readers<'a>(
+    rt: &(impl AllocGlobal + Abort),
+    texts: &'a Sent,
+    len: usize,
+    fails_at: usize,
+) -> Vec<Reader<'a>> {
+    let mut sources = Vec::new(rt.alloc());
+    for number in 0..=texts.channels.len() {
+        let rest = text_of(rt, texts, source_at(number));
+        let reader = Counted::new(Slow {
+            rest,
+            len,
+            fails_at,
+        });
+        let source = SourceReader::new(rt.alloc(), reader).expect(rt, "a buffer");
+        assert!(rt; sources.push(source).is_ok());
+    }
+    sources
+}
+
+// A load of streams into a block `a` of so many pages.
+fn made<'a>(
+    rt: &(impl AllocGlobal + Abort),
+    pages: u64,
+    texts: &'a Sent,
+    len: usize,
+) -> Turning<'a> {
+    let memory = zeroed(rt.alloc(), &[("a", pages)]).expect(rt, "a memory");
+    let channels = texts.channels.len();
+    assert!(rt; 1 <= channels && channels <= 255);
+    let load = InPlaceSession::new(rt.alloc(), memory.table(), &Uuid::nil(), channels, LIMIT);
+    Turning {
+        load: load.expect(rt, "a load"),
+        memory,
+        sources: readers(rt, texts, len, 0),
+    }
+}
+
+impl<'a> Turning<'a> {
+    // Takes a turn of a source.
+    fn turn(&mut self, rt: &impl Abort, source: Source) -> Result<Turn, TurnFault> {
+        let number = match source {
+            Source::Main => 0,
+            Source::Channel(j) => j.wrapping_add(1),
+        };
+        assert!(rt; self.load.has(source) && self.load.has_room(source, 65_536));
+        let reader = self.sources.get_mut(number).expect(rt, "a reader");
+        reader.turn(&mut self.load, &mut self.memory, source)
+    }
+
+    // Pumps by at most so many turns.
+    fn pump(&mut self, order: &mut impl TurnOrder, turns: u64) -> Result<Verdict, TurnFault> {
+        pump_by_turns(
+            &mut self.sources,
+            order,
+            &mut self.load,
+            &mut self.memory,
+            turns,
+        )
+    }
+
+    // How many bytes of a source were taken.
+    fn fed(&self, rt: &impl Abort, source: Source) -> u64 {
+        assert!(rt; self.load.has(source));
+        self.load.fed(source)
+    }
+
+    // How many bytes of a source wait.
+    fn waiting(&self, rt: &impl Abort, number: usize) -> usize {
+        self.sources
+            .get(number)
+            .expect(rt, "a reader")
+            .waiting()
+            .len()
+    }
+}
+
+// Pumps streams of two rounds from readers of at most so many bytes, and expects the verdict.
+fn assert_pumped(rt: &(impl AllocGlobal + Abort), len: usize, turns: u64) {
+    let texts = sevens_then_zeros_on_two(rt);
+    let mut turning = made(rt, 1, &texts, len);
+    assert!(rt; turning.pump(&mut RoundRobin::new(), turns) == Ok(Verdict::Done));
+    assert!(rt; turning.load.rounds() == 2 && is_full(&turning.memory, at(0, 0), 0));
+}
+
+#[test]
+fn pumped_to_the_end(rt: HostRuntime) {
+    assert_pumped(&rt, 1, 100_000);
+    assert_pumped(&rt, 1000, 100);
+    assert_pumped(&rt, usize::MAX, 20);
+}
+
+// A channel that is a round ahead isn't read, and what was read of it waits.
+#[test]
+fn source_ahead_waits_in_its_buffer(rt: HostRuntime) {
+    let texts = sevens_then_zeros_on_two(&rt);
+    let mut turning = made(&rt, 1, &texts, usize::MAX);
+    assert!(rt; turning.turn(&rt, Source::Main) == Ok(Turn::Taken(127)));
+    assert!(rt; turning.turn(&rt, FIRST) == Ok(Turn::Taken(64 + 5440 + 1344)));
+    assert!(rt; turning.waiting(&rt, 1) == 1344 && turning.load.rounds() == 0);
+    assert!(rt; turning.turn(&rt, FIRST) == Ok(Turn::Waits) && turning.waiting(&rt, 1) == 1344);
+    assert!(rt; turning.turn(&rt, SECOND) == Ok(Turn::Taken(64 + 3 * 1344)));
+    assert!(rt; turning.load.rounds() == 1 && turning.turn(&rt, SECOND) == Ok(Turn::Waits));
+    assert!(rt; turning.turn(&rt, FIRST) == Ok(Turn::Taken(1344)));
+    assert!(rt; turning.waiting(&rt, 1) == 0 && turning.load.rounds() == 2);
+    assert!(rt; turning.turn(&rt, FIRST) == Ok(Turn::Ended));
+    assert!(rt; turning.load.verdict() == Verdict::Running);
+    assert!(rt; turning.turn(&rt, SECOND) == Ok(Turn::Ended));
+    assert!(rt; turning.load.verdict() == Verdict::Done);
+    assert!(rt; turning.turn(&rt, Source::Main) == Ok(Turn::Waits));
+}
+
+// After a read that failed the next turn reads on.
+#[test]
+fn read_that_fails(rt: HostRuntime) {
+    let texts = page_and_zeros(&rt);
+    let mut turning = made(&rt, 2, &texts, 1000);
+    turning.sources = readers(&rt, &texts, 1000, 2);
+    assert!(rt; turning.turn(&rt, Source::Main) == Ok(Turn::Taken(101)));
+    assert!(rt; turning.turn(&rt, FIRST) == Ok(Turn::Taken(1000)));
+    assert!(rt; turning.turn(&rt, FIRST) == Err(TurnFault::Read));
+    assert!(rt; turning.waiting(&rt, 1) == 0 && turning.load.verdict() == Verdict::Running);
+    assert!(rt; turning.turn(&rt, FIRST) == Ok(Turn::Taken(1000)));
+    assert!(rt; turning.fed(&rt, FIRST) == 2000);
+}
+
+// Each channel's second read fails. The main stream is closed with its first one.
+#[test]
+fn pumped_on_after_reads_that_fail(rt: HostRuntime) {
+    let texts = sevens_then_zeros_on_two(&rt);
+    let mut turning = made(&rt, 1, &texts, usize::MAX);
+    turning.sources = readers(&rt, &texts, usize::MAX, 2);
+    let mut order = RoundRobin::new();
+    for _ in 0..2 {
+        assert!(rt; turning.pump(&mut order, 100) == Err(TurnFault::Read));
+        assert!(rt; turning.load.verdict() == Verdict::Running);
+    }
+    assert!(rt; turning.pump(&mut order, 100) == Ok(Verdict::Done));
+    assert!(rt; turning.load.rounds() == 2 && is_full(&turning.memory, at(0, 0), 0));
+}
+
+// Of the second channel only its hello is taken before the main stream has come. As long as it is
+// held back, another source has its turn.
+#[test]
+fn order_is_followed(rt: HostRuntime) {
+    let texts = sevens_then_zeros_on_two(&rt);
+    let mut turning = made(&rt, 1, &texts, usize::MAX);
+    let mut order = Always(2);
+    assert!(rt; turning.pump(&mut order, 1) == Ok(Verdict::Running));
+    assert!(rt; turning.fed(&rt, SECOND) == 64 && turning.fed(&rt, Source::Main) == 0);
+    assert!(rt; turning.waiting(&rt, 2) == 3 * 1344);
+    assert!(rt; turning.pump(&mut order, 1) == Ok(Verdict::Running));
+    assert!(rt; turning.fed(&rt, Source::Main) == 127 && turning.fed(&rt, FIRST) == 0);
+    // what waits comes first, up to the end of the first round
+    assert!(rt; turning.pump(&mut Always(1), 1) == Ok(Verdict::Running));
+    assert!(rt; turning.fed(&rt, SECOND) == 64 + 1344 && turning.fed(&rt, FIRST) == 0);
+    assert!(rt; turning.pump(&mut order, 100) == Ok(Verdict::Done));
+}
+
+// A source without a reader is waited for.
+#[test]
+fn reader_that_comes_later(rt: HostRuntime) {
+    let texts = sevens_then_zeros_on_two(&rt);
+    let mut turning = made(&rt, 1, &texts, usize::MAX);
+    let last = turning.sources.pop().expect(&rt, "a reader");
+    let mut order = RoundRobin::new();
+    assert!(rt; turning.pump(&mut order, 100) == Ok(Verdict::Running));
+    assert!(rt; turning.fed(&rt, FIRST) == 64 + 5440 + 1344 && turning.waiting(&rt, 1) == 1344);
+    assert!(rt; turning.load.rounds() == 0 && turning.sources.push(last).is_ok());
+    assert!(rt; turning.pump(&mut order, 100) == Ok(Verdict::Done));
+}
+
+// A load doesn't depend on the order of turns.
+#[test]
+fn pumped_by_chance(rt: HostRuntime) {
+    let texts = sevens_on_two(&rt);
+    for seed in 0..20u64 {
+        let mut random = Pcg32::new(seed, 0);
+        let len = below(&mut random, 100_000).saturating_add(100) as usize;
+        let mut turning = made(&rt, 129, &texts, len);
+        let pumped = turning.pump(&mut ByChance(random), 10_000);
+        assert!(rt; pumped == Ok(Verdict::Done) && turning.load.rounds() == 1);
+        assert!(rt; is_full(&turning.memory, at(0, 0), 7));
+        assert!(rt; is_full(&turning.memory, at(0, 128), 7));
+    }
+}
+
+// What was read for a memory of another table waits, and is taken into the right one.
+#[test]
+fn memory_of_another_table(rt: HostRuntime) {
+    let texts = page_and_zeros(&rt);
+    let mut turning = made(&rt, 2, &texts, usize::MAX);
+    let right = turning.memory;
+    turning.memory = zeroed(rt.alloc(), &[("a", 3)]).expect(&rt, "a memory");
+    assert!(rt; turning.turn(&rt, Source::Main) == Err(TurnFault::OtherTable));
+    assert!(rt; turning.waiting(&rt, 0) == 101);
+    turning.memory = right;
+    assert!(rt; turning.turn(&rt, Source::Main) == Ok(Turn::Taken(101)));
+}
+
+// Feeds the main stream with the load's next allocation refused.
+fn assert_runs_out<A: Allocator + Copy>(
+    rt: &impl Abort,
+    load: &mut InPlaceSession<A>,
+    memory: &mut Memory,
+    main: &mut Reader<'_>,
+) {
+    assert!(rt; load.has(Source::Main) && load.has_room(Source::Main, 65_536));
+    let turn = main.turn(load, memory, Source::Main);
+    assert!(rt; turn == Err(TurnFault::NoMemory));
+    assert!(rt; load.verdict() == failed(0, Origin::Round, Fault::NoMemory));
+    assert!(rt; load.has(Source::Main) && load.has_room(Source::Main, 65_536));
+    assert!(rt; main.turn(load, memory, Source::Main) == Ok(Turn::Waits));
+}
+
+#[test]
+fn allocation_refused(rt: HostRuntime) {
+    let texts = page_and_zeros(&rt);
+    let mut memory = zeroed(rt.alloc(), &[("a", 2)]).expect(&rt, "a memory");
+    let heap = TestHeap::new(rt.alloc());
+    let load = InPlaceSession::new(&heap, memory.table(), &Uuid::nil(), 1, LIMIT);
+    let mut load = load.expect(&rt, "a load");
+    let mut sources = readers(&rt, &texts, 50, 0);
+    let main = sources.get_mut(0).expect(&rt, "a reader");
+    heap.refuse(1);
+    assert_runs_out(&rt, &mut load, &mut memory, main);
+}
+
+#[test]
+fn allocation_refused_as_it_is_pumped(rt: HostRuntime) {
+    let texts = page_and_zeros(&rt);
+    let mut memory = zeroed(rt.alloc(), &[("a", 2)]).expect(&rt, "a memory");
+    let heap = TestHeap::new(rt.alloc());
+    let load = InPlaceSession::new(&heap, memory.table(), &Uuid::nil(), 1, LIMIT);
+    let mut load = load.expect(&rt, "a load");
+    let mut sources = readers(&rt, &texts, 50, 0);
+    let mut order = RoundRobin::new();
+    heap.refuse(1);
+    let pumped = pump_by_turns(&mut sources, &mut order, &mut load, &mut memory, 100);
+    assert!(rt; pumped == Err(TurnFault::NoMemory));
+    let pumped = pump_by_turns(&mut sources, &mut order, &mut load, &mut memory, 100);
+    assert!(rt; pumped == Ok(failed(0, Origin::Round, Fault::NoMemory)));
+}
+
+#[test]
+fn buffer_refused(rt: HostRuntime) {
+    let heap = TestHeap::new(rt.alloc());
+    heap.refuse(1);
+    let bytes: &[u8] = &[1, 2, 3];
+    assert!(rt; SourceReader::new(&heap, Counted::new(bytes)).is_err());
+    assert!(rt; SourceReader::new(&heap, Counted::new(bytes)).is_ok());
+}
+
+#[test]
+fn numbers_of_faults(rt: HostRuntime) {
+    assert_eq!(rt; TurnFault::Read.number(), 70);
+    assert_eq!(rt; TurnFault::OtherTable.number(), 63);
+    assert_eq!(rt; TurnFault::NoMemory.number(), 60);
+}
