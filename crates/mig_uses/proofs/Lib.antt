@@ -7,3 +7,4 @@ pub mod Arriving
 pub mod Restoring
 pub mod Settling
 pub mod Onto
+pub mod Received

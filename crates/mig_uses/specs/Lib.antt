@@ -3,3 +3,4 @@ pub mod LiveGuest
 pub mod Incoming
 pub mod Comparison
 pub mod Migration
+pub mod ByTurns

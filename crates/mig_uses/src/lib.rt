@@ -2,11 +2,13 @@
 //!
 //! Read them in this order. `first` sends a guest's memory and loads it again. `backup` and `live_guest` are the single stream, of a guest that is paused and of one that runs on.
 //! `incoming` loads such a stream as it comes, and `in_place` one that is there whole, into the blocks where the guest is to run.
-//! `migration` moves a guest on several channels, and `two_readers` loads a main stream and one channel from readers. `comparison` and
-//! `notice` are what comes after a load: whether two memories are the same, and what a user is told.
+//! `migration` moves a guest on several channels, and `two_readers` loads a main stream and one channel from readers. `by_turns` loads
+//! what comes over several connections into the blocks where the guest is to run. `comparison` and `notice` are what comes after a load:
+//! whether two memories are the same, and what a user is told.
 #![tactic(auto)]
 
 mod backup;
+mod by_turns;
 mod comparison;
 mod first;
 mod in_place;
@@ -17,6 +19,7 @@ mod notice;
 mod two_readers;
 
 pub use backup::{back_up, every_page, restore};
+pub use by_turns::receive;
 pub use comparison::{Comparison, compare};
 pub use first::copy;
 pub use in_place::load_onto;
