@@ -1,17 +1,24 @@
 #!/usr/bin/env python3
-"""Loads each capture of a folder with crates/mig_captures, and compares what comes with what the folder says of it.
+"""Loads each capture of a folder, and compares what comes with what the folder says of it.
 
     tools/captures.py FOLDER [PROGRAM]
-    tools/captures.py --zimgasol FOLDER [PROGRAM]
+    tools/captures.py --zimgasol PROGRAM FOLDER
 
-A capture is `NAME.stream`, `NAME.main` with its channels `NAME.0`, `NAME.1` and so on, or libvirt's `NAME.save`. Beside it
-`NAME.image` is the guest's memory, in the order of the size list, and `NAME.blocks` what is known of it, as JSON. From these come
-the verdict that is expected, the SHA-256 of the memory, and where RAM's END ends. Each capture is loaded whole and in pieces of
-1000 bytes. PROGRAM is the built program, crates/mig_captures/out/mig_captures where none is given; where that isn't built, the
-program runs from its source, unproved. Prints a line for each capture, and ends with status 1 where one differs.
+A capture is `NAME.stream`, `NAME.main` with its channels `NAME.0`, `NAME.1` and so on, or libvirt's
+`NAME.save`. Beside it `NAME.image` is the guest's memory, in the order of the size list, and
+`NAME.blocks` what is known of it, as JSON. From these come the verdict that is expected, the SHA-256
+of the memory, and where RAM's END ends.
 
-With --zimgasol each capture is extracted by the program `zimgasol`, which crates/zimgasol_runs runs: what comes is its line, and the
-SHA-256 of each block. A save of libvirt's is read with its header.
+Without --zimgasol each capture is loaded whole and in pieces of 1000 bytes by crates/mig_captures.
+PROGRAM is that program as it is built, crates/mig_captures/out/mig_captures where none is named;
+where that isn't built, the program runs from its source, unproved.
+
+With --zimgasol PROGRAM is `zimgasol` as `make program` builds it. Each capture is verified, listed
+and extracted, its channels named by `--channel`. Compared are: the lines and the JSON that it
+prints, the status, and the SHA-256 of the file of each block. Of a capture that is refused: the
+fault, and that no file stays. A table has a row for each capture.
+
+Ends with status 1 where a capture differs.
 """
 import hashlib
 import json
@@ -21,11 +28,10 @@ import sys
 import tempfile
 from pathlib import Path
 
-import stream_facts
+from zimgasol_captures import try_captures
 
 CRATE = Path(__file__).resolve().parent.parent / "crates" / "mig_captures"
 BUILT = CRATE / "out" / "mig_captures"
-RUNS = CRATE.parent / "zimgasol_runs"
 NO_UUID = "00000000-0000-0000-0000-000000000000"
 PIECES = (0, 1000)
 SECONDS = 3000
@@ -78,17 +84,32 @@ class Capture:
         channels = [it for it in path.parent.glob(f"{path.stem}.*") if it.suffix[1:].isdigit()] if path.suffix == ".main" else []
         self.channels = sorted(channels, key=lambda it: int(it.suffix[1:]))
         self.fault = expected_fault(known)
+        # of a stream that couldn't be walked `walk` may say at which byte
+        at = re.search(r" at (\d+)$", known.get("walk", ""))
+        self.fault_byte = int(at[1]) if at else None
         words = known.get("words", [])
         self.uuid = words[words.index("-uuid") + 1] if "-uuid" in words else NO_UUID
+        # a list of [id, length]; None where there is no NAME.blocks
+        self.blocks = known.get("blocks")
+        self.notes = known.get("before", [])[1:] + known.get("between", [])
+
+    @property
+    def end(self):
+        """The byte of the file at which RAM ends."""
+        stream = stream_of(self.path)
+        return self.path.stat().st_size - len(stream) + ram_end(stream)
+
+    def image_digests(self, lengths):
+        """The SHA-256 of blocks that follow one another in NAME.image."""
+        with self.path.with_suffix(".image").open("rb") as image:
+            digests = [hashlib.sha256(image.read(length)).hexdigest() for length in lengths]
+            return digests if not image.read(1) else []
 
     def expected(self):
         if self.fault is not None:
             return f"fault {self.fault}"
-        digest = hashlib.sha256()
-        with self.path.with_suffix(".image").open("rb") as image:
-            while piece := image.read(1 << 20):
-                digest.update(piece)
-        return f"ok, closed at {ram_end(stream_of(self.path))}, memory {digest.hexdigest()}"
+        length = self.path.with_suffix(".image").stat().st_size
+        return f"ok, closed at {ram_end(stream_of(self.path))}, memory {self.image_digests([length])[0]}"
 
     def came(self, line):
         """What a line of the program says, as far as `expected` speaks of it."""
@@ -124,79 +145,6 @@ def run(program, folder, names, words):
     return done.stdout.splitlines()
 
 
-# ---- the program zimgasol
-
-
-class Extracted(Capture):
-    """A capture that `zimgasol` extracts."""
-
-    def __init__(self, path):
-        super().__init__(path)
-        blocks = path.with_suffix(".blocks")
-        known = json.loads(blocks.read_text()) if blocks.exists() else {}
-        self.blocks = known.get("blocks")
-
-    def commands(self):
-        channels = "".join(f" --channel {it.name}" for it in self.channels)
-        ident = f" --uuid {self.uuid}" if self.channels else ""
-        if self.fault is not None:
-            return [f"zimgasol verify {self.path.name}{channels}{ident}"]
-        return [f"zimgasol extract {self.path.name} {self.path.name}.d{channels}{ident}", f"cat {self.path.name}.d/blocks.json"]
-
-    def expected(self):
-        if self.fault is not None:
-            return f"fault {self.fault}"
-        size = self.path.stat().st_size
-        end = ram_end(stream_of(self.path)) + size - len(stream_of(self.path))
-        return f"RAM ends at byte {end}, {size - end} bytes follow, memory {' '.join(self.digests())}"
-
-    def digests(self):
-        """The SHA-256 of each block."""
-        lengths = [length for _, length in self.blocks or []]
-        lengths = lengths or [len(it) for it in stream_facts.facts(self.path.read_bytes())["memory"].values()]
-        with self.path.with_suffix(".image").open("rb") as image:
-            return [hashlib.sha256(image.read(length)).hexdigest() for length in lengths]
-
-    def came(self, lines):
-        """What the lines of the commands say, as far as `expected` speaks of it."""
-        text = "\n".join(lines)
-        if self.fault is not None:
-            fault = re.search(r"fault \d+", text)
-            return fault[0] if fault else text
-        end = re.search(r"RAM ends at byte \d+, \d+ bytes follow", text)
-        digests = re.findall(r'"sha256": "(\w+)"', text)
-        return f"{end[0]}, memory {' '.join(digests)}" if end else text
-
-
-def answers(said, captures):
-    """The lines that the commands of each capture printed."""
-    parts = re.split(r"^\$ .*\n", said, flags=re.M)[1:]
-    for capture in captures:
-        count = len(capture.commands())
-        yield [line for part in parts[:count] for line in part.splitlines()]
-        parts = parts[count:]
-
-
-def zimgasol(folder, program):
-    """Extracts each capture of a folder."""
-    captures = [Extracted(it) for it in sorted(folder.iterdir()) if it.suffix in (".stream", ".main", ".save")]
-    names = {it.name: it.resolve() for capture in captures for it in [capture.path, *capture.channels]}
-    script = "".join(f"{command}\n" for capture in captures for command in capture.commands())
-    with tempfile.TemporaryDirectory(prefix="captures-") as room:
-        if program.exists():
-            for name, path in names.items():
-                (Path(room) / name).symlink_to(path)
-            command, where = [str(program)], room
-        else:
-            print("from its source, unproved", file=sys.stderr)
-            data = [part for name, path in names.items() for part in ("--data", f"{name}={path}")]
-            command, where = ["rt", "try", "--seconds", str(SECONDS), *data], RUNS
-        done = subprocess.run(command, cwd=where, input=script, capture_output=True, text=True)
-    if done.returncode:
-        sys.exit(done.stdout + done.stderr + f"the program ended with {done.returncode}")
-    return report([(it, it.expected(), {it.came(lines)}) for it, lines in zip(captures, answers(done.stdout, captures))])
-
-
 def report(results):
     """Prints a line for each capture. Returns 1 where one differs."""
     wrong = 0
@@ -209,15 +157,18 @@ def report(results):
 
 
 def main(words):
-    if words[:1] == ["--zimgasol"] and len(words) in (2, 3):
-        return zimgasol(Path(words[1]), Path(words[2]).resolve() if words[2:] else RUNS / "out" / "zimgasol_runs")
-    if len(words) not in (1, 2):
+    by_zimgasol = words[:1] == ["--zimgasol"]
+    if by_zimgasol and len(words) != 3 or not by_zimgasol and len(words) not in (1, 2):
         sys.exit(__doc__)
-    folder = Path(words[0])
+    folder = Path(words[-1] if by_zimgasol else words[0])
     found = sorted(it for it in folder.iterdir() if it.suffix in (".stream", ".main", ".save"))
     if not found:
         sys.exit(f"{folder} has no capture")
     captures = [Capture(it) for it in found]
+    if by_zimgasol:
+        wrong = try_captures(str(Path(words[1]).resolve()), captures)
+        print(f"\n{len(captures)} captures, {wrong or 'none'} other than expected")
+        return 1 if wrong else 0
     with tempfile.TemporaryDirectory(prefix="captures-") as room:
         lines = run(Path(words[1]).resolve() if words[1:] else BUILT, Path(room), *lay_out(captures, Path(room)))
     if len(lines) != len(PIECES) * len(captures):
@@ -226,4 +177,5 @@ def main(words):
     return report([(it, it.expected(), {it.came(line) for line in said}) for it, said in zip(captures, each)])
 
 
-sys.exit(main(sys.argv[1:]))
+if __name__ == "__main__":
+    sys.exit(main(sys.argv[1:]))

@@ -1,0 +1,208 @@
+"""Captures of QEMU and libvirt by the program `zimgasol`: `tools/captures.py --zimgasol`.
+
+What is expected of a capture comes from its own files: the blocks and what stands between the
+sections from NAME.blocks, the memory from NAME.image, where RAM ends from the last footer, and the
+counts of sections, records and packets from tools/stream_facts.py and tools/channel_facts.py, which
+share nothing with the program. These two readers have to find NAME's memory, too.
+"""
+import hashlib
+import json
+import subprocess
+import tempfile
+import uuid
+from pathlib import Path
+
+import channel_facts
+import stream_facts
+
+SECONDS = 300
+COMMANDS = {1: "OPEN_RETURN_PATH", 2: "PING", 3: "POSTCOPY_ADVISE", 11: "SWITCHOVER_START"}
+
+
+class Differs(Exception):
+    """What isn't as it is expected."""
+
+
+def expect(what, wanted, came):
+    if wanted != came:
+        raise Differs(f"{what}: expected {wanted!r}, came {came!r}")
+
+
+def digest_of(path):
+    digest = hashlib.sha256()
+    with path.open("rb") as file:
+        while piece := file.read(1 << 20):
+            digest.update(piece)
+    return digest.hexdigest()
+
+
+def facts_of(capture):
+    """What the readers beside the program find in a capture, compared with its files."""
+    data = capture.path.read_bytes()
+    if capture.channels:
+        found = channel_facts.facts(data, [it.read_bytes() for it in capture.channels])
+    else:
+        found = stream_facts.facts(data)
+    found["bytes"] = len(data)
+    sizes = [[name, len(it)] for name, it in found["memory"].items()]
+    if capture.blocks:
+        expect("NAME.blocks, blocks", capture.blocks, sizes)
+        expect("NAME.blocks, notes", capture.notes, [said(it) for it in found["notes"]])
+    found["digests"] = capture.image_digests([length for _, length in sizes])
+    digests = [stream_facts.digest(it) for it in found["memory"].values()]
+    expect("NAME.image", found["digests"], digests)
+    expect("end of RAM", capture.end, found["end"])
+    return found
+
+
+def said(note):
+    """A note as NAME.blocks says it."""
+    if note[0] == "machine":
+        return f"CONFIGURATION {note[1]}"
+    if note[0] == "subsection":
+        return f"SUBSECTION {note[1]}"
+    return f"COMMAND {COMMANDS[note[1]]}"
+
+
+def note_value(note):
+    if note[0] == "machine":
+        return {"machine": note[1], "at": note[-1]}
+    if note[0] == "subsection":
+        return {"subsection": note[1], "content": note[2], "at": note[-1]}
+    number, sections, at = note[1:]
+    return {"command": number, "name": COMMANDS[number], "after_sections": sections, "at": at}
+
+
+def without_lengths(notes):
+    """The notes of the JSON, but for how many bytes a COMMAND has, which the readers pass over."""
+    return [{key: it[key] for key in it if key != "bytes"} for it in notes]
+
+
+def whole_line(name, found, capture):
+    """The line of `verify` and `extract`."""
+    memory = sum(map(len, found["memory"].values()))
+    if capture.channels:
+        counts = (f"rounds {found['rounds']}, channels {len(capture.channels)}, "
+                  f"packets {found['packets']}")
+        ident = f", UUID {uuid.UUID(bytes=found['uuid'])}"
+    else:
+        counts, ident = f"sections {found['sections']}", ""
+    after = found["bytes"] - found["end"]
+    return (f"{name}: whole: {counts}, blocks {len(found['memory'])}, memory {memory} bytes{ident}, "
+            f"RAM ends at byte {found['end']}, {after} bytes follow\n")
+
+
+def listing(name, found, capture):
+    """The JSON of `inspect`, but for the channels and libvirt's header."""
+    blocks = [{"id": it, "bytes": len(memory), "pages": found["counts"][it][0],
+               "zero_pages": found["counts"][it][1],
+               "pages_without_record": max(0, len(memory) // 4096 - sum(found["counts"][it]))}
+              for it, memory in found["memory"].items()]
+    listed = {"file": name, "bytes": found["bytes"], "page_size": 4096, "blocks": blocks,
+              "notes": [note_value(it) for it in found["notes"]], "end": found["end"],
+              "whole": True, "fault": None}
+    if capture.channels:
+        listed.update(rounds=found["rounds"], uuid=str(uuid.UUID(bytes=found["uuid"])))
+    else:
+        listed.update(sections=found["sections"])
+    return listed
+
+
+def channel_listing(path, channel):
+    numbers = channel["numbers"]
+    return {"file": path.name, "bytes": path.stat().st_size, "id": channel["id"],
+            "packets": len(numbers), "first_number": min(numbers), "last_number": max(numbers),
+            "pages": channel["pages"], "zero_pages": channel["zeros"], "end": path.stat().st_size}
+
+
+class Run:
+    """The program on one capture, in a folder that has the capture's files."""
+
+    def __init__(self, program, room, capture):
+        self.program, self.room, self.capture = program, room, capture
+        self.name = capture.path.name
+        for it in [capture.path, *capture.channels]:
+            (room / it.name).symlink_to(it.resolve())
+        # (in the other order: `zimgasol` takes them in any)
+        self.channels = [w for it in capture.channels[::-1] for w in ("--channel", it.name)]
+
+    def ran(self, *words, status=0):
+        """What the program prints and what it says of errors. It has to end with a status."""
+        how = {"cwd": self.room, "capture_output": True, "text": True, "timeout": SECONDS}
+        done = subprocess.run([self.program, *words], stdin=subprocess.DEVNULL, **how)
+        if done.returncode != status:
+            error = done.stderr.strip()[-300:]
+            raise Differs(f"{words[0]}: expected status {status}, came {done.returncode}: {error}")
+        return done.stdout, done.stderr
+
+    def verify(self, found):
+        wanted = whole_line(self.name, found, self.capture), ""
+        expect("verify", wanted, self.ran("verify", self.name, *self.channels))
+        return f"ends at byte {found['end']}"
+
+    def inspect(self, found):
+        printed, error = self.ran("inspect", self.name, *self.channels, "--json")
+        expect("inspect, error output", "", error)
+        came = json.loads(printed)
+        came["notes"] = without_lengths(came["notes"])
+        libvirt, channels = came.pop("libvirt", None), came.pop("channels", [])
+        expect("inspect", listing(self.name, found, self.capture), came)
+        wanted = [channel_listing(*it) for it in zip(self.capture.channels, found.get("channels", []))]
+        expect("inspect, channels", wanted[::-1], channels)
+        expect("inspect, libvirt's header", found.get("before", 0), libvirt["bytes"] if libvirt else 0)
+        pages, zeros = (sum(it[at] for it in found["counts"].values()) for at in (0, 1))
+        return f"{pages} pages, {zeros} zeros"
+
+    def extract(self, found):
+        ident = ["--uuid", self.capture.uuid] if self.channels else []
+        wanted = whole_line(self.name, found, self.capture), ""
+        expect("extract", wanted, self.ran("extract", self.name, "out", *self.channels, *ident))
+        listed = json.loads((self.room / "out" / "blocks.json").read_text())["blocks"]
+        digests = found["digests"]
+        wanted = [(it, len(found["memory"][it])) for it in found["memory"]]
+        expect("blocks.json", wanted, [(it["id"], it["bytes"]) for it in listed])
+        expect("blocks.json, SHA-256", digests, [it["sha256"] for it in listed])
+        files = [self.room / "out" / it["file"] for it in listed]
+        expect("SHA-256 of the files", digests, [digest_of(it) for it in files])
+        there = sorted(it.name for it in (self.room / "out").iterdir())
+        expect("files", sorted([*(it.name for it in files), "blocks.json"]), there)
+        return f"{len(files)} files"
+
+    def refused(self):
+        """A capture with a fault: each command names it, and no file stays."""
+        wanted, byte = f"fault {self.capture.fault}: ", self.capture.fault_byte
+        for command, more in (("verify", []), ("inspect", ["--json"]), ("extract", ["out"])):
+            printed, error = self.ran(command, self.name, *more, *self.channels, status=1)
+            if wanted not in error or error.count("\n") != 1:
+                raise Differs(f"{command}: expected {wanted!r}, came {error!r}")
+            if byte is not None and f": byte {byte} (" not in error:
+                raise Differs(f"{command}: expected byte {byte}, came {error!r}")
+            if command == "inspect":
+                came = json.loads(printed)
+                expect("inspect", (self.capture.fault, False), (came["fault"]["number"], came["whole"]))
+            else:
+                expect(f"{command}, output", "", printed)
+        if (self.room / "out").exists():
+            raise Differs("extract: its folder stays")
+        return [f"fault {self.capture.fault}"] * 3
+
+    def row(self):
+        if self.capture.fault is not None:
+            return self.refused()
+        found = facts_of(self.capture)
+        return [self.verify(found), self.inspect(found), self.extract(found)]
+
+
+def try_captures(program, captures):
+    """Prints a row for each capture. Returns how many differ."""
+    print("| Capture | `verify` | `inspect` | `extract` | Result |\n|---|---|---|---|---|")
+    wrong = 0
+    for capture in captures:
+        with tempfile.TemporaryDirectory(prefix="captures-") as room:
+            try:
+                cells = [*Run(program, Path(room), capture).row(), "as expected"]
+            except (Differs, ValueError, KeyError, subprocess.TimeoutExpired) as why:
+                wrong += 1
+                cells = ["", "", "", f"DIFFERS: {why}"]
+        print("|", " | ".join([capture.path.name, *cells]), "|", flush=True)
+    return wrong
