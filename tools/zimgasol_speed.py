@@ -1,94 +1,144 @@
 #!/usr/bin/env python3
-"""Processor seconds and peak memory of the built program `zimgasol`, by words, on two guests of each size.
+"""Processor seconds and peak memory of the program `zimgasol`, word by word, on guests of each size.
 
     make program
-    tools/zimgasol_speed.py [GIB ..]     # without sizes: 1 and 4
+    tools/zimgasol_speed.py [--sparse] [--folder FOLDER] [--zimgasol PROGRAM] [GIB ..]
 
-One guest has no page of zeros, the other one is sparse: one MiB of 16 has bytes. The stream, what is
-extracted and what is saved lie in /dev/shm, where three times the guest's size is taken. Over
-channels the guest goes as `save --channels 4` writes it.
+A guest has one block. It has no page of zeros, or with --sparse one MiB of 16 has bytes. Sizes are
+1 and 4 GiB where none is named. Files lie in FOLDER (/dev/shm), where up to four times the bytes of
+the guest's pages are taken. Over channels the guest goes as `save --channels 4` writes it.
+
+A peak is the most memory of the program that was resident, in MiB, as the system counts it for GNU
+time (`/usr/bin/time`, of Debian's package `time`). A process that Python starts itself counts
+Python's memory, too. Each word has to end with status 0; `compare` shows so that what was extracted,
+of one stream and over channels, is one memory.
 """
+import argparse
 import os
 import shutil
 import struct
 import subprocess
 import sys
+import tempfile
 from pathlib import Path
 
 TOP = Path(__file__).resolve().parent.parent
 PROGRAM = TOP / "crates/zimgasol_cli/out/zimgasol_cli"
-STREAM, FOLDER = Path("/dev/shm/zimgasol_speed.sav"), Path("/dev/shm/zimgasol_speed")
-SAVED = Path("/dev/shm/zimgasol_speed_saved.sav")
-CHANNELS = [SAVED.with_name(f"{SAVED.name}.{i}") for i in range(4)]
-PAGE = 4096
+TIME = "/usr/bin/time"
+PAGE, GIB = 4096, 1 << 30
+# pages of a section, and those of the part of it that has bytes in a sparse guest
+SECTION, FILLED = 4096, 256
 
 
 def be(form, *numbers):
     return struct.pack(">" + form, *numbers)
 
 
-def write_stream(pages, filled):
-    """Writes a machine's stream of one block: 4096 pages a section, of which so many of 16 MiB have bytes."""
+def write_stream(path, pages, is_sparse):
+    """Writes a machine's stream of one block."""
     content = os.urandom(64 * PAGE)
     end = be("Q", 0x10) + b"\x7e" + be("I", 2)
-    with STREAM.open("wb") as out:
+    with path.open("wb") as out:
         out.write(be("II", 0x5145564D, 3) + b"\x07" + be("I", 4) + b"none")
         out.write(b"\x01" + be("I", 2) + b"\x03ram" + be("II", 0, 4))
         out.write(be("Q", pages * PAGE | 4) + b"\x02pc" + be("Q", pages * PAGE) + end)
         for page in range(pages):
-            if page % 4096 == 0:
+            if page % SECTION == 0:
                 out.write(b"\x02" + be("I", 2))
-            has_bytes = page // 256 % 16 < filled
+            has_bytes = not is_sparse or page % SECTION < FILLED
             flags = (0x08 if has_bytes else 0x02) | (0x20 if page else 0)
             at = page % 64 * PAGE
             out.write(be("Q", page * PAGE | flags) + (b"" if page else b"\x02pc"))
             out.write(content[at:at + PAGE] if has_bytes else b"\0")
-            if page % 4096 == 4095 or page == pages - 1:
+            if page % SECTION == SECTION - 1 or page == pages - 1:
                 out.write(end)
         out.write(b"\x03" + be("I", 2) + end + b"\x00")
 
 
-def measure(name, *words):
-    run = subprocess.Popen([PROGRAM, *words], stdout=subprocess.DEVNULL)
-    _, status, used = os.wait4(run.pid, 0)
-    if status != 0:
-        sys.exit(f"{name}: status {os.WEXITSTATUS(status)}")
-    print(f"  {name:20} user {used.ru_utime:6.2f} s, system {used.ru_stime:6.2f} s, peak {used.ru_maxrss / 1024:.1f} MiB")
+class Guest:
+    """A guest in a folder, and what each word took."""
+
+    def __init__(self, program, folder, gib, is_sparse):
+        self.program, self.folder, self.figures = program, folder, {}
+        self.stream, self.saved = folder / "guest.sav", folder / "saved.sav"
+        self.memory, self.again = folder / "memory", folder / "again"
+        write_stream(self.stream, gib * GIB // PAGE, is_sparse)
+
+    def measure(self, name, *words):
+        """Runs the program. Keeps its processor seconds and its peak in KiB."""
+        report = self.folder / "time"
+        command = [TIME, "-o", report, "-f", "%U %S %M", self.program, *words, "--quiet"]
+        done = subprocess.run(command, capture_output=True, text=True)
+        if done.returncode:
+            sys.exit(f"{name}: status {done.returncode}: {done.stderr.strip()[-300:]}")
+        user, system, peak = report.read_text().split()[-3:]
+        self.figures[name] = float(user) + float(system), int(peak)
+
+    def measure_single(self):
+        self.measure("verify", "verify", self.stream)
+        self.measure("extract", "extract", self.stream, self.memory)
+        self.measure("extract --no-digest", "extract", self.stream, self.again, "--no-digest")
+        self.measure("compare, two folders", "compare", self.memory, self.again)
+        shutil.rmtree(self.again)
+        self.measure("compare, a stream and a folder", "compare", self.stream, self.memory)
+        self.stream.unlink()
+        block = ["--block", f"pc={self.memory / 'pc.bin'}"]
+        self.measure("save", "save", *block, "--frame", "machine", self.saved)
+        self.measure("save --since", "save", *block, "--since", self.memory, "--replace", self.saved)
+        self.measure("extract --since", "extract", self.saved, self.again, "--frame", "ram",
+                     "--since", self.memory, "--no-digest")
+        shutil.rmtree(self.again)
+        self.saved.unlink()
+
+    def measure_channels(self):
+        block = ["--block", f"pc={self.memory / 'pc.bin'}"]
+        files = [f"{self.saved}.{i}" for i in range(4)]
+        channels = [word for file in files for word in ("--channel", file)]
+        self.measure("save --channels 4", "save", *block, "--frame", "machine", "--channels", "4",
+                     self.saved)
+        self.measure("verify, 4 channels", "verify", self.saved, *channels)
+        self.measure("extract --no-digest, 4 channels", "extract", self.saved, self.again,
+                     *channels, "--no-digest")
+        for file in files:
+            os.unlink(file)
+        self.measure("compare, of 4 channels", "compare", self.memory, self.again)
 
 
-def measure_all():
-    measure("verify", "verify", STREAM)
-    measure("extract", "extract", STREAM, FOLDER)
-    measure("extract --no-digest", "extract", STREAM, FOLDER, "--replace", "--no-digest")
-    block = f"pc={FOLDER}/pc.bin"
-    measure("save", "save", "--block", block, "--frame", "machine", SAVED)
-    measure("compare", "compare", FOLDER, FOLDER)
-    measure("save --since", "save", "--block", block, "--since", FOLDER, "--replace", SAVED)
-    SAVED.unlink()
-    STREAM.unlink()
-    measure("save --channels", "save", "--block", block, "--frame", "machine", "--channels", "4", SAVED)
-    channels = [word for file in CHANNELS for word in ("--channel", file)]
-    measure("verify --channel", "verify", SAVED, *channels)
-    measure("extract --channel", "extract", SAVED, FOLDER, *channels, "--replace", "--no-digest")
+def measured(program, room, gib, is_sparse):
+    """What each word took of a guest of a size."""
+    with tempfile.TemporaryDirectory(prefix="zimgasol-speed-", dir=room) as folder:
+        guest = Guest(program, Path(folder), gib, is_sparse)
+        guest.measure_single()
+        guest.measure_channels()
+    print(f"{gib} GiB measured", file=sys.stderr)
+    return guest.figures
 
 
-def clean():
-    for file in (STREAM, SAVED, *CHANNELS):
-        file.unlink(missing_ok=True)
-    shutil.rmtree(FOLDER, ignore_errors=True)
+def put_table(title, sizes, rows):
+    print(f"\n{title}:\n")
+    print("| Work |", " | ".join(f"{gib} GiB" for gib in sizes), "|")
+    print("|---" * (len(sizes) + 1) + "|")
+    for name, cells in rows:
+        print(f"| `{name}` |", " | ".join(cells), "|")
 
 
 def main():
-    if not PROGRAM.exists():
-        sys.exit("zimgasol isn't built: make program")
-    for gib in [int(word) for word in sys.argv[1:]] or [1, 4]:
-        for name, filled in (("no page of zeros", 16), ("sparse", 1)):
-            print(f"{gib} GiB, {name}:")
-            try:
-                write_stream(gib * 2**30 // PAGE, filled)
-                measure_all()
-            finally:
-                clean()
+    parser = argparse.ArgumentParser(description=__doc__, formatter_class=argparse.RawTextHelpFormatter)
+    parser.add_argument("--sparse", action="store_true")
+    parser.add_argument("--folder", default="/dev/shm")
+    parser.add_argument("--zimgasol", default=PROGRAM, metavar="PROGRAM")
+    parser.add_argument("sizes", type=int, nargs="*", default=[1, 4], metavar="GIB")
+    words = parser.parse_args()
+    for program, how in ((words.zimgasol, "make program"), (TIME, "apt-get install time")):
+        if not os.access(program, os.X_OK):
+            sys.exit(f"there is no {program}: {how}")
+    program = Path(words.zimgasol).resolve()
+    each = [measured(program, words.folder, gib, words.sparse) for gib in words.sizes]
+    print("a sparse guest" if words.sparse else "a guest without pages of zeros")
+    put_table("processor seconds", words.sizes,
+              [(name, [f"{it[name][0]:.2f}" for it in each]) for name in each[0]])
+    put_table("peak, MiB", words.sizes,
+              [(name, [f"{it[name][1] / 1024:.1f}" for it in each]) for name in each[0]])
 
 
 main()
