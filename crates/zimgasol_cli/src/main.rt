@@ -4,11 +4,13 @@
 //! `main` passes its words and the standard streams to `run` of `zimgasol_command`.
 #![tactic(auto)]
 
+use std::fs::File;
+use std::io::{ErrorKind, Write};
 use std::process::ExitCode;
 use std::{env, io};
-use zimgasol_command::run;
+use zimgasol_command::{FAILED, WORDS, run};
 
-// The words after the program's name.
+// Returns the words after the program's name.
 fn words_given(rt: &HostRuntime) -> io::Result<Vec<String>> {
     let mut words = Vec::new(rt.alloc());
     for word in env::args(rt)?.skip(1) {
@@ -17,11 +19,27 @@ fn words_given(rt: &HostRuntime) -> io::Result<Vec<String>> {
     Ok(words)
 }
 
-fn main(rt: HostRuntime) -> io::Result<ExitCode> {
-    let words = words_given(&rt)?;
-    let mut input = rt.stdin();
-    let mut output = rt.stdout();
+// Prints why the words can't be read, and returns the status.
+fn put_unread<E: Write>(errors: &mut E, error: &io::Error) -> u8 {
+    if error.kind() == ErrorKind::InvalidData {
+        let _ = writeln!(errors, "zimgasol: a word isn't UTF-8");
+        return WORDS;
+    }
+    let _ = writeln!(errors, "zimgasol: no memory");
+    FAILED
+}
+
+fn main(rt: HostRuntime) -> ExitCode {
+    // The system gives a file that is opened the least free number, from 0. A standard stream that
+    // is closed leaves its number free, and what is printed would go into a guest's file. A folder
+    // has the number instead: reads and writes of it fail.
+    let _first = File::open(&rt, "/");
+    let _second = File::open(&rt, "/");
+    let _third = File::open(&rt, "/");
     let mut errors = rt.stderr();
-    let status = run(&rt, &words, &mut input, &mut output, &mut errors);
-    Ok(ExitCode::from(status))
+    let status = match words_given(&rt) {
+        Ok(words) => run(&rt, &words, &mut rt.stdin(), &mut rt.stdout(), &mut errors),
+        Err(error) => put_unread(&mut errors, &error),
+    };
+    ExitCode::from(status)
 }

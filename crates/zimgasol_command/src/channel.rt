@@ -13,7 +13,7 @@ use std::alloc::{AllocGlobal, Global};
 use std::fs::{Files, OpenFile};
 use std::io::Read;
 use uuid::Uuid;
-use zimgasol_names::shown;
+use zimgasol_names::shown_name;
 
 /// A file that a channel is read from.
 #[derive(Drop)]
@@ -46,7 +46,7 @@ fn open_inlet<H: AllocGlobal + Files>(rt: &H, path: &str) -> Result<Inlet<H::Fil
     let mut pieces = Pieces::new(alloc)?;
     file.refill(&mut pieces)?;
     Ok(Inlet {
-        name: shown(alloc, path.as_bytes())?,
+        name: shown_name(alloc, path)?,
         file,
         len,
         pieces,

@@ -16,7 +16,7 @@ use std::alloc::{AllocError, AllocGlobal, Global};
 use std::fs::Files;
 use std::io::{self, ErrorKind, Read, Write};
 use std::rt::Clock;
-use zimgasol_names::{path_in, shown};
+use zimgasol_names::{path_in, shown, shown_name};
 
 /// The name of the folder that streams are extracted into.
 const TEMPORARY_NAME: &str = ".zimgasol-compare.partial";
@@ -72,7 +72,7 @@ impl Temporary {
 fn of_stream(alloc: Global, name: &str, trouble: Trouble) -> Trouble {
     match trouble {
         Trouble::Unread(error) => unwritten(alloc, name, error),
-        Trouble::Libvirt(why) => match shown(alloc, name.as_bytes()) {
+        Trouble::Libvirt(why) => match shown_name(alloc, name) {
             Ok(name) => Trouble::Refused(name, why),
             Err(_) => Trouble::NoMemory,
         },
@@ -103,7 +103,7 @@ fn extracted<'a, H: AllocGlobal + Files + Clock, R: Read, E: Write>(
         Ok(survey) => survey,
         Err(trouble) => return Err(of_stream(alloc, words.file, trouble)),
     };
-    let name = shown(alloc, words.file.as_bytes())?;
+    let name = shown_name(alloc, words.file)?;
     if !put_wrongs(alloc, errors, &name, &survey)? {
         return Ok(None);
     }
@@ -285,8 +285,8 @@ fn compare_folders<H: AllocGlobal + Files, W: Write>(
         let why = Unfit::OtherPages(b.page_size, a.page_size);
         return Err(unfit(alloc, words.second.file, why));
     }
-    let a_name = shown(alloc, words.first.file.as_bytes())?;
-    let b_name = shown(alloc, words.second.file.as_bytes())?;
+    let a_name = shown_name(alloc, words.first.file)?;
+    let b_name = shown_name(alloc, words.second.file)?;
     let comparing = Comparing {
         alloc,
         a,

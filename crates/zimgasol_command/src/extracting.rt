@@ -25,7 +25,7 @@ use std::fs::Files;
 use std::io::{ErrorKind, Read, Write};
 use std::rt::Clock;
 use std::str;
-use zimgasol_names::{file_name, path_in, shown};
+use zimgasol_names::{file_name, path_in, shown, shown_name};
 
 /// How many bytes of pages that follow one another are written at once.
 const RUN_LEN: usize = 262_144;
@@ -455,7 +455,7 @@ fn extract_several<H: AllocGlobal + Files + Clock, R: Read, W: Write, E: Write>(
     };
     several.is_laid_over = words.since.is_some();
     extraction.finish(rt, several.fault().is_none())?;
-    let name = shown(alloc, words.stream.file.as_bytes())?;
+    let name = shown_name(alloc, words.stream.file)?;
     several.put_judgement(alloc, output, errors, &name, words.stream.talk)
 }
 
@@ -473,6 +473,6 @@ pub(crate) fn extract<H: AllocGlobal + Files + Clock, R: Read, W: Write, E: Writ
         return extract_several(rt, words, channels, input, output, errors);
     }
     let survey = extract_survey(rt, words, input, errors)?;
-    let name = shown(alloc, words.stream.file.as_bytes())?;
+    let name = shown_name(alloc, words.stream.file)?;
     put_judgement(alloc, output, errors, &name, &survey, words.stream.talk)
 }

@@ -49,4 +49,4 @@ mod verifying;
 mod watch;
 mod words;
 
-pub use running::run;
+pub use running::{FAILED, WORDS, run};

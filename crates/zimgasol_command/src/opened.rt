@@ -9,7 +9,7 @@ use crate::trouble::{Trouble, Unfit};
 use std::alloc::Global;
 use std::fs::{File, Files, OpenFile};
 use std::io::Read;
-use zimgasol_names::shown;
+use zimgasol_names::shown_name;
 
 /// A file that is read.
 #[derive(Drop)]
@@ -37,7 +37,7 @@ pub(crate) fn open<H: Files>(
 
 /// Returns the trouble of a file or a folder that isn't what is needed.
 pub(crate) fn unfit(alloc: Global, path: &str, why: Unfit) -> Trouble {
-    match shown(alloc, path.as_bytes()) {
+    match shown_name(alloc, path) {
         Ok(path) => Trouble::Unfit(path, why),
         Err(_) => Trouble::NoMemory,
     }

@@ -20,16 +20,19 @@ use std::alloc::{AllocGlobal, Global};
 use std::fs::{File, Files, OpenFile};
 use std::io::{self, Read, Write};
 use std::rt::Clock;
-use zimgasol_names::shown;
+use zimgasol_names::shown_name;
 
-/// The statuses that the program ends with.
+/// The status of what ended well.
 const WELL: u8 = 0;
 
+/// The status of a stream with a fault, of memory that differs, and of what can't be saved.
 const REFUSED: u8 = 1;
 
-const WORDS: u8 = 2;
+/// The status of words that are wrong.
+pub const WORDS: u8 = 2;
 
-const FAILED: u8 = 3;
+/// The status of a file or a stream that can't be read or written, or of no memory.
+pub const FAILED: u8 = 3;
 
 /// Runs the program: does what the words ask for, and returns the status. The words are those after
 /// the program's name.
@@ -62,7 +65,10 @@ fn said<W: Write, E: Write>(output: &mut W, errors: &mut E, error: &Error) -> u8
     }
     match write!(output, "{error}") {
         Ok(()) => WELL,
-        Err(_) => FAILED,
+        Err(failed) => {
+            let _ = writeln!(errors, "zimgasol: the output: {failed}");
+            FAILED
+        }
     }
 }
 
@@ -132,7 +138,7 @@ fn put_named_trouble<E: Write>(
     name: &str,
     trouble: &Trouble,
 ) -> io::Result<()> {
-    match shown(alloc, name.as_bytes()) {
+    match shown_name(alloc, name) {
         Ok(name) => put_trouble(errors, &name, trouble),
         Err(_) => writeln!(errors, "zimgasol: no memory"),
     }
@@ -227,7 +233,7 @@ fn verify<H: AllocGlobal + Files + Clock, R: Read, W: Write, E: Write>(
     errors: &mut E,
 ) -> Result<bool, Trouble> {
     let alloc = rt.alloc();
-    let name = shown(alloc, words.file.as_bytes())?;
+    let name = shown_name(alloc, words.file)?;
     if channels.is_single(alloc)? {
         let survey = read_stream(rt, words, input, &mut NoSink, errors)?;
         return put_judgement(alloc, output, errors, &name, &survey, words.talk);
@@ -246,7 +252,7 @@ fn inspect<H: AllocGlobal + Files + Clock, R: Read, W: Write, E: Write>(
     errors: &mut E,
 ) -> Result<bool, Trouble> {
     let alloc = rt.alloc();
-    let name = shown(alloc, words.file.as_bytes())?;
+    let name = shown_name(alloc, words.file)?;
     if !channels.is_single(alloc)? {
         let several = read_several(rt, words, channels, input, &mut NoSink, errors)?;
         if json {

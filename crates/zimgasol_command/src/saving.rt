@@ -16,7 +16,7 @@ use std::alloc::{AllocGlobal, Global};
 use std::fs::{Files, OpenFile};
 use std::io::{self, Write};
 use std::rt::Clock;
-use zimgasol_names::shown;
+use zimgasol_names::shown_name;
 
 /// What was saved.
 #[derive(Clone, Copy)]
@@ -247,7 +247,7 @@ fn put_saved<W: Write>(
     plan: &Plan<'_>,
     saved: Saved,
 ) -> Result<(), Trouble> {
-    let name = shown(alloc, words.file.as_bytes())?;
+    let name = shown_name(alloc, words.file)?;
     let blocks = plan.sources.len();
     let total = plan.total();
     match put_counts(output, &name, blocks, total, saved) {

@@ -75,7 +75,7 @@ impl<F: Read + OpenFile + Drop> Several<F> {
                 let block = self.fault_block(alloc, fault)?;
                 let source = self.source_name(name, fault);
                 let spot = self.spot(fault);
-                put_spotted(errors, source, spot, fault, &block).map_err(output_failed)?;
+                let _ = put_spotted(errors, source, spot, fault, &block);
                 Ok(false)
             }
             None => {

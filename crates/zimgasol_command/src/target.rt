@@ -5,14 +5,14 @@ use crate::trouble::{Trouble, Unfit};
 use std::alloc::Global;
 use std::fs::{File, Files, OpenFile};
 use std::io::{self, Write};
-use zimgasol_names::shown;
+use zimgasol_names::shown_name;
 
 /// What the name of a file that isn't complete ends with.
 pub(crate) const PARTIAL: &str = ".partial";
 
 /// Returns the trouble of a file or a folder that can't be made, written or renamed.
 pub(crate) fn unwritten(alloc: Global, path: &str, error: io::Error) -> Trouble {
-    match shown(alloc, path.as_bytes()) {
+    match shown_name(alloc, path) {
         Ok(path) => Trouble::OfFile(path, error),
         Err(_) => Trouble::NoMemory,
     }
@@ -34,7 +34,7 @@ pub(crate) fn is_free<H: Files>(
     if replace {
         return Ok(());
     }
-    Err(Trouble::Exists(shown(alloc, path.as_bytes())?))
+    Err(Trouble::Exists(shown_name(alloc, path)?))
 }
 
 /// Makes a file anew, to be written and read.

@@ -91,7 +91,7 @@ pub(crate) fn put_wrongs<E: Write>(
     match fault_of(survey) {
         Some(place) => {
             let block = block_at(alloc, survey)?;
-            put_fault(errors, name, &place, &block).map_err(Trouble::Output)?;
+            let _ = put_fault(errors, name, &place, &block);
             Ok(false)
         }
         None => {

@@ -7,7 +7,7 @@ use std::alloc::{AllocError, Global};
 use std::io::{self, Write};
 use std::rt::Clock;
 use std::time::Instant;
-use zimgasol_names::shown;
+use zimgasol_names::shown_name;
 
 /// How far a reading is, and when that was printed last.
 #[derive(Drop)]
@@ -52,7 +52,7 @@ impl Watch {
             None
         };
         Ok(Watch {
-            name: shown(alloc, name.as_bytes())?,
+            name: shown_name(alloc, name)?,
             started,
             total: None,
             second: 0,

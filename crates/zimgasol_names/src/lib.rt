@@ -6,4 +6,4 @@ mod naming;
 mod showing;
 
 pub use naming::{file_name, names_are_distinct, names_are_plain, path_in};
-pub use showing::{id_text, shown};
+pub use showing::{id_text, shown, shown_name};

@@ -1,6 +1,6 @@
 //! Bytes that a stream or a file brings, as text that steers no terminal.
 
-ghost use Rattle.std.specs.Prelude.{◌≡◌, IfOk, All, string_bytes, IsAscii};
+ghost use Rattle.std.specs.Prelude.{◌≡◌, ◌<◌, length, IfOk, All, string_bytes, codes, IsAscii};
 ghost use Rattle.percent_encoding.specs.Percent.{percent_encode as encoded};
 ghost use Rattle.zimgasol_names.specs.Shown.{IsPrintable};
 
@@ -21,6 +21,22 @@ pub fn shown(alloc: Global, bytes: &[u8]) -> Result<String, AllocError>
     let mut text = String::new(alloc);
     percent_encode(bytes, HIDDEN).append_to(&mut text)?;
     Ok(text)
+}
+
+/// Returns the name of a file as printable ASCII, as `shown` does; `""` of an empty one.
+///
+/// # Errors
+///
+/// `AllocError`: an allocation was refused.
+pub fn shown_name(alloc: Global, name: &str) -> Result<String, AllocError>
+    ensures value { IfOk result (λ text. 0 < length name.now → string_bytes text ≡ encoded HIDDEN name.now) }
+    ensures empty { IfOk result (λ text. length name.now ≡ 0 → string_bytes text ≡ codes "\"\"") }
+    ensures printable { IfOk result (λ text. All IsPrintable (string_bytes text)) }
+{
+    if name.is_empty() {
+        return String::from_str(alloc, "\"\"");
+    }
+    shown(alloc, name.as_bytes())
 }
 
 /// Returns a block's id as text. Ids that a stream is read with are ASCII, so the text is the id.

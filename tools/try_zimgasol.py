@@ -1,0 +1,267 @@
+#!/usr/bin/env python3
+"""Runs the built program `zimgasol` where something is in its way, and compares what it prints.
+
+    make program
+    tools/try_zimgasol.py [PROGRAM]
+
+PROGRAM is crates/zimgasol_cli/out/zimgasol_cli where none is named. Each row is a command of bash,
+all that it has to print, and its status: ids and names that steer a terminal or lead out of a
+folder, full and read-only disks, outputs that are closed, full or end early, inputs that end early
+or can't be read, files and folders that exist, and a program that is killed. What isn't as expected
+is printed. Ends with status 0 where all rows hold.
+
+A full disk is a tmpfs of 64 KiB, which `unshare -rm` mounts. Where that isn't allowed these rows
+are left out, and the last line says so.
+"""
+import os
+import re
+import shlex
+import struct
+import subprocess
+import sys
+import tempfile
+from pathlib import Path
+
+from zimgasol_page import END_OF_RECORDS, be, opening, part, record
+
+TOP = Path(__file__).resolve().parent.parent
+BUILT = TOP / "crates" / "zimgasol_cli" / "out" / "zimgasol_cli"
+DATA = TOP / "crates" / "zimgasol_runs" / "data"
+SECONDS = 60
+WHOLE = ("guest.sav: whole: sections 3, blocks 1, memory 131072 bytes, RAM ends at byte 86395, "
+         "1011 bytes follow\n")
+PIPED = WHOLE.replace("guest.sav", "-")
+CUT = ("byte 40000 (section 2, PART, block \"ram\"): fault 34: the text was over before its end byte; "
+       "the file was cut, or the save didn't come to its end\n")
+BAD_NUMBER = "Bad file descriptor (os error 9)\n"
+FULL = "No space left on device (os error 28)\n"
+BROKEN = "zimgasol: the output: Broken pipe (os error 32)\n"
+FOLDER = "Is a directory (os error 21)\n"
+NOTHING = "No such file or directory (os error 2)\n"
+EXISTS = "is there already; `--replace` replaces it\n"
+UNPLAIN = "is no plain file, and isn't replaced\n"
+OUTPUT = "zimgasol: the output: "
+SAVE = "zimgasol save --block ram=memory/ram.bin"
+LINKED = "ln -s $PWD/beside"
+# ids that would lead out of a folder, hide a file or an option, or be too long for a name
+IDS = ["../evil", "/etc/x", "..", ".", ".hidden", "a/b", 'q"q', "a b", "%41", "*", "~", "$x", "-rf",
+       "blocks.json", "x" * 255, "%" * 255]
+NAMES = ["%2E%2E%2Fevil", "%2Fetc%2Fx", "%2E%2E", "%2E", "%2Ehidden", "a%2Fb", "q%22q", "a%20b",
+         "%2541", "%2A", "%7E", "%24x", "-rf", "blocks.json", "%long-14", "%long-15"]
+
+# ---- rows: what is tried, the command, all that it prints (a pattern, where it is compiled), status
+STREAMS = (
+    ("closed output", "zimgasol verify guest.sav >&-", OUTPUT + BAD_NUMBER, 3),
+    ("", "zimgasol --help >&-", OUTPUT + BAD_NUMBER, 3),
+    ("", f"{SAVE} - >&- 2>&- <&-", "", 3),
+    ("full output", "zimgasol verify guest.sav > /dev/full", OUTPUT + FULL, 3),
+    ("", "zimgasol inspect guest.sav > /dev/full", OUTPUT + FULL, 3),
+    ("", "zimgasol inspect guest.sav --json > /dev/full", OUTPUT + FULL, 3),
+    ("", "zimgasol --version > /dev/full", OUTPUT + FULL, 3),
+    ("", "zimgasol compare memory memory > /dev/full", OUTPUT + FULL, 3),
+    ("", f"{SAVE} - > /dev/full", OUTPUT + FULL, 3),
+    ("full output, the files stay", "zimgasol extract guest.sav full > /dev/full; echo $?; ls full",
+     f"{OUTPUT}{FULL}3\nblocks.json\nram.bin\n", 0),
+    # (head may have read all before it ends)
+    ("output that ends early", "zimgasol inspect guest.sav | head -1",
+     re.compile(r"file guest\.sav, 87406 bytes\n(zimgasol: the output: Broken pipe \(os error 32\)\n)?"), 0),
+    ("", "(sleep 0.3; zimgasol inspect guest.sav; echo $? >&2) | true", f"{BROKEN}3\n", 0),
+    ("", "(sleep 0.3; zimgasol --help; echo $? >&2) | true", f"{BROKEN}3\n", 0),
+    ("", f"({SAVE} -; echo $? >&2) | head -c 1 > /dev/null", f"{BROKEN}3\n", 0),
+    ("closed error output", "zimgasol verify cut.sav 2>&-", "", 1),
+    ("full error output", "zimgasol verify cut.sav 2> /dev/full", "", 1),
+    # the line of --progress must not go into a file that has the number of the error output
+    ("closed error output, --progress",
+     "(head -c 90000 sparse.sav; sleep 1.2; tail -c +90001 sparse.sav; sleep 1.2) |"
+     " zimgasol extract - quiet --progress --quiet 2>&-; echo $?;"
+     " zimgasol extract sparse.sav plain --quiet; cmp quiet/ram.bin plain/ram.bin && echo same",
+     "0\nsame\n", 0),
+    ("closed output, a file", f"{SAVE} closed.sav >&-; echo $?; zimgasol verify --frame ram closed.sav",
+     f"{OUTPUT}{BAD_NUMBER}3\nclosed.sav: whole: sections 3, blocks 1, memory 131072 bytes, "
+     "the stream ends at byte 86382, 0 bytes follow\n", 0),
+    ("input that ends early", "head -c 40000 guest.sav | zimgasol verify -", f"-: {CUT}", 1),
+    ("", "head -c 40000 guest.sav | zimgasol extract - early; echo $?; ls early",
+     f"-: {CUT}1\nls: cannot access 'early': No such file or directory\n", 2),
+    ("", ": | zimgasol verify -", "-: byte 0 (before section 1): fault 34: the text was over before its "
+     "end byte; the file was cut, or the save didn't come to its end\n", 1),
+    ("input in pieces", "(head -c 9 guest.sav; sleep 0.2; tail -c +10 guest.sav) | zimgasol verify -",
+     PIPED, 0),
+    ("closed input", "zimgasol verify - <&-", re.compile(r"-: .* \(os error \d+\)\n"), 3),
+    ("input that is a folder", "zimgasol verify - < .", f"-: {FOLDER}", 3),
+    ("", "zimgasol verify .", f".: {FOLDER}", 3),
+    ("", "zimgasol verify guest.sav --channel .", f".: {FOLDER}", 3),
+    ("input that fails", "zimgasol verify /proc/self/mem",
+     "/proc/self/mem: Input/output error (os error 5)\n", 3),
+)
+IDENTS = (
+    ("ids", "zimgasol extract ids.sav deep/ids --quiet; echo $?; ls -A . .. deep | grep -c -e evil -e hidden;"
+     " ls -A deep/ids", "0\n0\n" + "".join(f"{it}\n" for it in sorted([*(f"{it}.bin" for it in NAMES), "blocks.json"])), 0),
+    ("", "zimgasol extract ids.sav one --block ../evil --quiet; echo $?; ls -A one",
+     "0\n%2E%2E%2Fevil.bin\nblocks.json\n", 0),
+    ("", "zimgasol extract guest.sav none --block $'\\e[2J'; echo $?; ls none",
+     "guest.sav: has no block \"%1B[2J\"\n1\nls: cannot access 'none': No such file or directory\n", 2),
+    ("", "zimgasol verify steering.sav", "steering.sav: byte 42 (section 1, START): fault 21: an entry's id "
+     "isn't 1 to 255 bytes of 0x20 to 0x7E\n", 1),
+    ("", "zimgasol inspect machine.sav | sed -n 2p", 'machine "%1B[2J%22x"\n', 0),
+    ("", "zimgasol save --block $'\\e=memory/ram.bin' out.sav",
+     'zimgasol: --block "%1B": the id isn\'t 1 to 255 characters of printable ASCII\n', 2),
+    ("names", "zimgasol verify $'\\e[2J\\n\"'", f"%1B[2J%0A%22: {NOTHING}", 3),
+    ("", "zimgasol verify $'gr\\xc3\\xbcn'", f"gr%C3%BCn: {NOTHING}", 3),
+    ("", "zimgasol verify $'\\xff'", "zimgasol: a word isn't UTF-8\n", 2),
+    ("", "zimgasol verify ''", f'"": {NOTHING}', 3),
+    ("", "zimgasol extract guest.sav ''", f'"": {NOTHING}', 3),
+    ("", "cp guest.sav ./-x; zimgasol verify -- -x", WHOLE.replace("guest", "-x", 1).replace("-x.sav", "-x"), 0),
+)
+PLACES = (
+    ("no folder", "zimgasol extract guest.sav nowhere/memory", f"nowhere/memory: {NOTHING}", 3),
+    ("", f"{SAVE} nowhere/out.sav", f"nowhere/out.sav.partial: {NOTHING}", 3),
+    ("a file in place of a folder", "zimgasol extract guest.sav guest.sav",
+     "guest.sav/ram.bin.partial: Not a directory (os error 20)\n", 3),
+    ("files that exist", "zimgasol extract guest.sav memory", f"memory/blocks.json: {EXISTS}", 3),
+    ("", "mkdir old; echo old > old/ram.bin; zimgasol extract guest.sav old; echo $?; ls old; cat old/ram.bin",
+     f"old/ram.bin: {EXISTS}3\nram.bin\nold\n", 0),
+    ("", "zimgasol extract guest.sav old --replace; ls old", f"{WHOLE}blocks.json\nram.bin\n", 0),
+    ("a fault keeps old files", "zimgasol extract cut.sav old --replace; echo $?; ls old; cmp old/ram.bin memory/ram.bin",
+     f"cut.sav: {CUT}1\nblocks.json\nram.bin\n", 0),
+    ("", f"echo old > old.sav; {SAVE} old.sav; echo $?; {SAVE} --since nowhere --replace old.sav; cat old.sav",
+     f"old.sav: {EXISTS}3\nnowhere/blocks.json: {NOTHING}old\n", 0),
+    ("a folder in place of a file", "mkdir -p dir/ram.bin; zimgasol extract guest.sav dir --replace; echo $?; ls dir",
+     f"dir/ram.bin: {UNPLAIN}3\nram.bin\n", 0),
+    ("", "mkdir -p part/ram.bin.partial; zimgasol extract guest.sav part; echo $?; ls part",
+     "part/ram.bin.partial: File exists (os error 17)\n3\nram.bin.partial\n", 0),
+    ("", f"{SAVE} memory --replace", f"memory: {UNPLAIN}", 3),
+    ("a link in place of a file", f"mkdir link; {LINKED} link/ram.bin; zimgasol extract guest.sav link --replace; echo $?; ls beside",
+     f"link/ram.bin: {UNPLAIN}3\nls: cannot access 'beside': No such file or directory\n", 2),
+    ("", f"mkdir linked; {LINKED} linked/ram.bin.partial; zimgasol extract guest.sav linked --quiet; echo $?; ls beside linked",
+     "0\nls: cannot access 'beside': No such file or directory\nlinked:\nblocks.json\nram.bin\n", 2),
+    ("", f"{LINKED} linked.sav; {SAVE} --replace linked.sav; echo $?; ls beside",
+     f"linked.sav: {UNPLAIN}3\nls: cannot access 'beside': No such file or directory\n", 2),
+    ("a pipe in place of a file", f"mkfifo pipe; {SAVE} --replace pipe", f"pipe: {UNPLAIN}", 3),
+    ("a device in place of a file", f"{SAVE} --replace /dev/null", f"/dev/null: {UNPLAIN}", 3),
+    ("a list that isn't one", "mkdir list; echo '{}' > list/blocks.json; zimgasol compare list memory",
+     "list/blocks.json: is no list of blocks that `extract` wrote\n", 3),
+    ("a list that leads elsewhere", "mkdir out; sed 's|ram.bin|../memory/ram.bin|' memory/blocks.json > out/blocks.json;"
+     " zimgasol compare out memory", "out/blocks.json: is no list of blocks that `extract` wrote\n", 3),
+    ("a list without its file", "mkdir gone; cp memory/blocks.json gone; zimgasol compare gone memory",
+     f"gone/ram.bin: {NOTHING}", 3),
+    ("another `compare`", "mkdir .zimgasol-compare.partial; zimgasol compare guest.sav memory; echo $?;"
+     " rmdir .zimgasol-compare.partial", ".zimgasol-compare.partial: is there already: another `compare` runs, or was "
+     "killed; then remove it\n3\n", 0),
+    ("libvirt's files", "zimgasol verify never.save", "never.save: libvirt never completed this save\n", 1),
+    ("", "zimgasol extract zstd.save zstd; echo $?; ls zstd", "zstd.save: libvirt compressed the stream with zstd; save it "
+     "with save_image_format = \"raw\"\n1\nls: cannot access 'zstd': No such file or directory\n", 2),
+    ("", "zimgasol compare memory zstd.save; ls -A | grep -c compare", "zstd.save: libvirt compressed the stream with zstd; "
+     "save it with save_image_format = \"raw\"\n0\n", 1),
+    ("a program that is killed", "bash -c '(head -c 300000 noise.sav; sleep 1.5) |"
+     " timeout -s KILL 0.7 zimgasol extract - killed' 2> /dev/null; ls killed;"
+     " zimgasol extract guest.sav killed; ls killed", f"ram.bin.partial\n{WHOLE}blocks.json\nram.bin\n", 0),
+)
+DISKS = (
+    ("full disk", "zimgasol extract ../guest.sav memory; echo $?; ls -A", f"memory/ram.bin.partial: {FULL}3\n", 0),
+    ("", "mkdir memory; zimgasol extract ../guest.sav memory; echo $?; ls -A memory; rmdir memory",
+     f"memory/ram.bin.partial: {FULL}3\n", 0),
+    ("", "zimgasol extract ../sparse.sav memory; echo $?; ls -A", f"memory/ram.bin.partial: {FULL}3\n", 0),
+    ("", "zimgasol save --block ram=../memory/ram.bin out.sav; echo $?; ls -A", f"out.sav.partial: {FULL}3\n", 0),
+    ("", "zimgasol save --block ram=../memory/ram.bin --channels 2 out.sav; echo $?; ls -A",
+     f"out.sav.0.partial: {FULL}3\n", 0),
+    ("", "echo > beside; zimgasol compare ../guest.sav ./guest.sav; echo $?; ls -A; rm beside",
+     f"./.zimgasol-compare.partial/a/ram.bin.partial: {FULL}3\nbeside\n", 0),
+    ("full disk, an output", "zimgasol inspect ../guest.sav > listing; head -c 70000 /dev/zero > fill 2> /dev/null;"
+     " zimgasol inspect ../guest.sav --json > more; echo $?; rm *", f"{OUTPUT}{FULL}3\n", 0),
+    ("read-only disk", "mount -o remount,ro none . && zimgasol extract ../guest.sav memory",
+     "memory: Read-only file system (os error 30)\n", 3),
+    ("", "mount -o remount,ro none . && zimgasol extract ../guest.sav .",
+     "./ram.bin.partial: Read-only file system (os error 30)\n", 3),
+    ("", "mount -o remount,ro none . && zimgasol save --block ram=../memory/ram.bin out.sav",
+     "out.sav.partial: Read-only file system (os error 30)\n", 3),
+)
+
+
+def stream(blocks, machine="none"):
+    """A machine's stream of blocks, whose pages that are named have bytes."""
+    records, last = b"", None
+    for block, (length, filled) in blocks.items():
+        for page in range(length):
+            records += record(block, page, bytes([page % 255 + 1 if page in filled else 0]) * 4096, last)
+            last = block
+    sizes = {block: length * 4096 for block, (length, _) in blocks.items()}
+    return opening(sizes, machine) + part(records) + b"\x03" + be("I", 1) + END_OF_RECORDS + b"\0"
+
+
+def libvirt(magic, form):
+    """The beginning of a file of `virsh save`."""
+    return magic + struct.pack("<19I", 2, 0, 1, form, *[0] * 15) + (DATA / "guest.sav").read_bytes()
+
+
+def lay_out(room):
+    guest = (DATA / "guest.sav").read_bytes()
+    # (the first pages, and some far behind them: what is written between is one run)
+    filled = [*range(20), *range(400, 420), 900]
+    files = {"guest.sav": guest, "cut.sav": guest[:40000], "sparse.sav": stream({"ram": (1000, filled)}),
+             "noise.sav": stream({"ram": (100, range(100))}),
+             "ids.sav": stream({it: (1, [0]) for it in IDS}), "steering.sav": stream({"\x1b[2J": (1, [0])}),
+             "machine.sav": stream({"ram": (1, [0])}, '\x1b[2J"x'),
+             "never.save": libvirt(b"LibvirtQemudPart", 0), "zstd.save": libvirt(b"LibvirtQemudSave", 5)}
+    for name, content in files.items():
+        (room / name).write_bytes(content)
+    for name in ("deep", "disk"):
+        (room / name).mkdir()
+
+
+class Tries:
+    """A folder with the program as `zimgasol`, and how many rows held."""
+
+    def __init__(self, program, folder):
+        self.room, self.held, self.failed = folder / "room", 0, 0
+        (folder / "bin").mkdir()
+        (folder / "bin" / "zimgasol").symlink_to(program)
+        self.env = {**os.environ, "PATH": f"{folder / 'bin'}:{os.environ['PATH']}", "LC_ALL": "C"}
+        self.room.mkdir()
+        lay_out(self.room)
+
+    def ran(self, command):
+        how = {"cwd": self.room, "env": self.env, "stdin": subprocess.DEVNULL, "timeout": SECONDS}
+        done = subprocess.run(["bash", "-c", command], stdout=subprocess.PIPE, stderr=subprocess.STDOUT, **how)
+        return done.stdout.decode(errors="backslashreplace"), done.returncode
+
+    def row(self, what, command, wanted, status):
+        said, came = self.ran(command)
+        holds = wanted.fullmatch(said) if isinstance(wanted, re.Pattern) else said == wanted
+        unprintable = [it for it in said if it != "\n" and not " " <= it <= "~"]
+        if holds and came == status and not unprintable:
+            self.held += 1
+            return
+        self.failed += 1
+        print(f"{what}: {command}\n  wanted {status}: {wanted!r}\n  came   {came}: {said!r}", flush=True)
+
+    def rows(self, rows, wrap=lambda command: command):
+        what = ""
+        for row in rows:
+            what = row[0] or what
+            self.row(what, wrap(row[1]), *row[2:])
+
+
+def on_disk(command):
+    """A command in the folder `disk`, where a small disk is mounted."""
+    return "unshare -rm bash -c " + shlex.quote(f"mount -t tmpfs -o size=64k none disk && cd disk && {command}")
+
+
+def main(words):
+    program = Path(words[0]).resolve() if words else BUILT
+    if len(words) > 1 or not os.access(program, os.X_OK):
+        sys.exit(__doc__)
+    with tempfile.TemporaryDirectory(prefix="try-zimgasol-") as folder:
+        tries = Tries(program, Path(folder))
+        tries.row("extract", "zimgasol extract guest.sav memory", WHOLE, 0)
+        for rows in (STREAMS, IDENTS, PLACES):
+            tries.rows(rows)
+        has_disk = tries.ran(on_disk(":"))[1] == 0
+        if has_disk:
+            tries.rows(DISKS, on_disk)
+    left = "" if has_disk else f", {len(DISKS)} left out: no disk can be mounted"
+    print(f"{tries.held} held, {tries.failed} failed{left}")
+    return 1 if tries.failed else 0
+
+
+if __name__ == "__main__":
+    sys.exit(main(sys.argv[1:]))
