@@ -1,4 +1,5 @@
--- The pages of a piece that differ from what stood at their places before, and what `save` sends of them.
+-- The pages of a piece that differ from the older ones at their places, and what `save` sends of
+-- them.
 use Rattle.std.specs.Prelude.{ℕ, zero, suc, ◌≡◌, ◌+◌, ◌*◌, ◌≤◌, ◌⊎◌, List, [], ◌∷◌, ◌++◌, length, slice_range, Option, IfSome}
 use Rattle.std.specs.Option.{option_copied}
 use Rattle.mig_mem.specs.Image.{Page}
@@ -12,12 +13,12 @@ HasPage size bytes page = page * size + size ≤ length bytes
 abbrev pub page_of : ℕ → List ℕ → ℕ → List ℕ
 page_of size bytes page = slice_range bytes (page * size) (page * size + size)
 
--- it stood there before with the same bytes
+-- the older bytes have the page, and it is the same
 pub record IsSamePage (size : ℕ) (bytes old : List ℕ) (page : ℕ) : Type 0 where
   pub was_there : HasPage size old page
   pub same : page_of size old page ≡ page_of size bytes page
 
--- A piece of a block: pages of this size that follow one another, and what stood at their places before.
+-- A piece of a block: consecutive pages of this size, and the older bytes at their places.
 pub record Piece : Type 0 where
   pub size : ℕ
   pub bytes : List ℕ
@@ -27,7 +28,7 @@ pub record Piece : Type 0 where
 abbrev pub piece_of : Pages → Piece
 piece_of pages = record { size = pages.page_size; bytes = pages.bytes.now; before = option_copied pages.before }
 
--- a page of it is there, and didn't stand there before
+-- the piece has the page, and the older bytes haven't
 pub record Differs (piece : Piece) (page : ℕ) : Type 0 where
   pub is_there : HasPage piece.size piece.bytes page
   pub is_new : IfSome piece.before (λ old. ¬ IsSamePage piece.size piece.bytes old page)

@@ -1,8 +1,8 @@
-//! What a user may do about a fault.
+//! Says what a user may do about a fault of a stream.
 
 use mig_stream::StreamFault;
 
-/// Returns what a user may do about a fault, where there is something to say.
+/// Returns what a user may do about `fault`; None where nothing helps.
 pub(crate) fn advice(fault: StreamFault) -> Option<&'static str> {
     match fault {
         StreamFault::Magic => Some(

@@ -1,12 +1,11 @@
-//! What stands between RAM's sections: the machine's name, the configuration's subsections and
-//! COMMANDs. The reader of the stream checks them and passes over them; here they are noted, to be
-//! printed.
+//! Notes what is between RAM's sections, to be printed: the machine's name, the configuration's
+//! subsections and COMMANDs. The reader of the stream checks these items, and skips them.
 
 ghost use Rattle.std.specs.Prelude.{◌≤◌};
 
 use std::alloc::{AllocError, Global};
 
-/// How many of these items are noted, so that no stream takes more memory by having more.
+/// The most items that are noted, so that a stream of many takes no more memory.
 const MOST_NOTED: usize = 64;
 
 /// The most bytes of a machine's name.
@@ -23,59 +22,59 @@ pub(crate) enum SectionKind {
     End,
 }
 
-/// What is noted.
+/// An item between the sections.
 #[derive(Debug, Drop)]
 pub(crate) enum Noted {
     /// The machine's name.
     Machine(Vec<u8>),
-    /// A subsection of the configuration: its name, and what it holds.
+    /// A subsection of the configuration: its name and content.
     Subsection(Vec<u8>, Vec<u8>),
-    /// A COMMAND of this number, with so many bytes.
+    /// A COMMAND: its number, and how many bytes it has.
     Command(u16, u16),
 }
 
-/// An item that was noted.
+/// An item with its place.
 #[derive(Debug, Drop)]
 pub(crate) struct Note {
-    /// At which byte of the stream it begins.
+    /// The byte of the stream at which it begins.
     pub at: u64,
-    /// How many sections were whole before it.
+    /// The complete sections before it.
     pub sections: u64,
-    /// What it is.
+    /// The item.
     pub noted: Noted,
 }
 
-/// Notes what stands between the sections of one stream.
+/// Notes the items between the sections of one stream.
 #[derive(Drop)]
 pub(crate) struct Between {
-    /// What was noted.
+    /// The items that were noted, in their order.
     pub notes: Vec<Note>,
-    /// How many items weren't noted, since there were too many.
+    /// The items after the first 64, which are counted alone.
     pub unnoted: u64,
     /// The section that is open, and the byte of the stream at which it begins.
     pub open: Option<(SectionKind, u64)>,
-    // how many sections are whole
+    // the complete sections
     sections: u64,
-    // the bytes of an item that isn't whole, and the place in the stream after them
+    // the bytes of an item that isn't complete, and the place in the stream after them
     item: Vec<u8>,
     at: u64,
-    // nothing more is noted: what stands there is none of these items
+    // whether nothing more is noted, since another item than these came
     is_over: bool,
 }
 
-// What an item's first bytes say of it.
+// What the first bytes of an item show.
 enum Progress {
-    // so many more bytes are needed to know
+    // how many more bytes are needed
     More(usize),
     // a section begins
     Section(SectionKind),
-    // it is whole, but for so many bytes that are passed over
+    // the item is complete, but for this many bytes, which are skipped
     Whole(u64),
-    // it is none of the items that are noted
+    // another item than those that are noted
     Other,
 }
 
-// Returns whether an item is whole, of which so many bytes are needed.
+// Returns whether an item of `len` bytes is complete.
 fn up_to(item: &[u8], len: usize) -> Progress {
     if item.len() < len {
         Progress::More(len - item.len())
@@ -84,7 +83,7 @@ fn up_to(item: &[u8], len: usize) -> Progress {
     }
 }
 
-// Returns the number at a place; 0 where there is none.
+// Returns the big-endian number of 4 bytes at the byte `at`; 0 where there is none.
 fn number_at(item: &[u8], at: usize) -> u32 {
     match item.get(at..) {
         Some(rest) => match rest.first_chunk::<4>() {
@@ -95,7 +94,7 @@ fn number_at(item: &[u8], at: usize) -> u32 {
     }
 }
 
-// Returns the short number at a place; 0 where there is none.
+// Returns the big-endian number of 2 bytes at the byte `at`; 0 where there is none.
 fn short_at(item: &[u8], at: usize) -> u16 {
     match item.get(at..) {
         Some(rest) => match rest.first_chunk::<2>() {
@@ -106,6 +105,7 @@ fn short_at(item: &[u8], at: usize) -> u16 {
     }
 }
 
+// Reads the machine's name: a length, and the name.
 fn machine_step(item: &[u8]) -> Progress {
     if item.len() < 5 {
         return Progress::More(5 - item.len());
@@ -117,7 +117,7 @@ fn machine_step(item: &[u8]) -> Progress {
     up_to(item, 5 + len)
 }
 
-// How many bytes the name of a subsection has, with the type byte, the length and the version.
+// Returns the bytes of a subsection's name with the type byte, the length and the version.
 fn subsection_head_len(item: &[u8]) -> usize
     ensures { (6 ≤ result) × (result ≤ 261) }
 {
@@ -127,6 +127,7 @@ fn subsection_head_len(item: &[u8]) -> usize
     }
 }
 
+// Reads a subsection of the configuration.
 fn subsection_step(item: &[u8]) -> Progress {
     if item.len() < 2 {
         return Progress::More(1);
@@ -143,7 +144,7 @@ fn subsection_step(item: &[u8]) -> Progress {
     }
 }
 
-// A number of names, each with its length before it.
+// Reads the capabilities: a count, and for each a length and the name.
 fn capabilities_step(item: &[u8], head_len: usize) -> Progress
     requires { head_len ≤ 261 }
 {
@@ -163,6 +164,7 @@ fn capabilities_step(item: &[u8], head_len: usize) -> Progress
     up_to(item, end)
 }
 
+// Reads a COMMAND: its number, its length, and that many bytes.
 fn command_step(item: &[u8]) -> Progress {
     if item.len() < 5 {
         return Progress::More(5 - item.len());
@@ -170,6 +172,7 @@ fn command_step(item: &[u8]) -> Progress {
     Progress::Whole(u64::from(short_at(item, 3)))
 }
 
+// Reads the first bytes of an item.
 fn step(item: &[u8]) -> Progress {
     match item.first() {
         None => Progress::More(1),
@@ -183,16 +186,18 @@ fn step(item: &[u8]) -> Progress {
     }
 }
 
+// Returns the name of a subsection.
 fn subsection_name(item: &[u8]) -> &[u8] {
     let head_len = subsection_head_len(item);
     item.get(2..head_len - 4).unwrap_or(&[])
 }
 
+// Copies bytes; none where there are none.
 fn copied(alloc: Global, bytes: Option<&[u8]>) -> Result<Vec<u8>, AllocError> {
     bytes.unwrap_or(&[]).to_vec(alloc)
 }
 
-// Returns what a whole item says.
+// Returns the note of a complete item.
 fn said_by(alloc: Global, item: &[u8]) -> Result<Noted, AllocError> {
     Ok(match item.first() {
         Some(0x07) => Noted::Machine(copied(alloc, item.get(5..))?),
@@ -205,7 +210,7 @@ fn said_by(alloc: Global, item: &[u8]) -> Result<Noted, AllocError> {
 }
 
 impl Between {
-    /// Creates one that notes what follows the 8 bytes of a stream's header.
+    /// Creates the notes of a stream. The first item begins after the 8 bytes of the header.
     pub(crate) fn new(alloc: Global) -> Between {
         Between {
             notes: Vec::new(alloc),
@@ -218,14 +223,14 @@ impl Between {
         }
     }
 
-    /// Tells it that the open section ended before the byte `at` of the stream.
+    /// Ends the open section before the byte `at` of the stream.
     pub(crate) fn end_section(&mut self, at: u64) {
         self.open = None;
         self.sections = self.sections.saturating_add(1);
         self.at = at;
     }
 
-    /// Looks at a piece of the stream, whose first byte is the byte `start` of it.
+    /// Reads `piece`, which begins at the byte `start` of the stream.
     pub(crate) fn look(&mut self, piece: &[u8], start: u64) -> Result<(), AllocError> {
         for _ in 0..u64::MAX {
             if self.is_over || self.open.is_some() {
@@ -248,7 +253,7 @@ impl Between {
         Ok(())
     }
 
-    // Takes bytes of the item from a piece. Returns whether there were any.
+    // Takes up to `len` bytes of the item from `piece`. Returns whether there were any.
     fn take(&mut self, piece: &[u8], start: u64, len: usize) -> Result<bool, AllocError> {
         let Some(from) = self.at.checked_sub(start) else {
             return Ok(false);
@@ -263,7 +268,7 @@ impl Between {
         Ok(!taken.is_empty())
     }
 
-    // Notes the item, which is whole but for so many bytes.
+    // Notes the item, and skips the `after` bytes that end it.
     fn note(&mut self, after: u64) -> Result<(), AllocError> {
         if self.notes.len() < MOST_NOTED {
             let note = Note {

@@ -1,4 +1,4 @@
-//! The file that a block is extracted into, until it is complete and has its name.
+//! Writes the file that a block is extracted into, up to its digest.
 
 use crate::input::read_piece;
 use crate::target::sync;
@@ -13,10 +13,11 @@ use zimgasol_names::id_text;
 /// A file that a block is written into.
 #[derive(Drop)]
 pub(crate) struct BlockFile<F: Drop> {
-    /// The block's number in the stream; that of no block of it where the block is copied alone.
+    /// The block's number in the stream. A block that only the folder of `--since` has gets a
+    /// number that no block of the stream has.
     pub block: usize,
     pub id: Vec<u8>,
-    /// Its name in the folder, in the end.
+    /// Its name in the folder once it is complete.
     pub name: String,
     pub partial_path: String,
     pub path: String,
@@ -25,20 +26,20 @@ pub(crate) struct BlockFile<F: Drop> {
     pub digest: Option<[u8; 32]>,
 }
 
-/// Writes bytes to a place of a file.
+/// Writes `bytes` to a file from its byte `at` on.
 pub(crate) fn write_at<F: Write + Seek>(file: &mut F, at: u64, bytes: &[u8]) -> io::Result<()> {
     file.seek(SeekFrom::Start(at))?;
     file.write_all(bytes)
 }
 
-/// Writes a text as a line, and has it on its disk.
+/// Writes `bytes` and a newline to a file, and waits until they are on its disk.
 pub(crate) fn write_text<F: Write + OpenFile>(file: &mut F, bytes: &[u8]) -> io::Result<()> {
     file.write_all(bytes)?;
     file.write_all(b"\n")?;
     sync(file)
 }
 
-/// Returns what the list says of a block's file.
+/// Returns the entry of `blocks.json` about a block's file.
 pub(crate) fn block_value<F: Drop>(alloc: Global, file: &BlockFile<F>) -> Result<Value, Trouble> {
     let id = id_text(alloc, &file.id)?;
     let Some(digest) = &file.digest else {
@@ -53,7 +54,12 @@ pub(crate) fn block_value<F: Drop>(alloc: Global, file: &BlockFile<F>) -> Result
     })?)
 }
 
-/// Gives a file its length, and, if that is wanted, has it on its disk and reads it for its digest.
+/// Sets the length of a file. Where `durable`, waits until it is on its disk; where `digest`, reads
+/// it through `buffer` for its SHA-256.
+///
+/// # Errors
+///
+/// `Trouble::Unread` where the file can't be set, synced or read.
 pub(crate) fn complete_file<F: Read + Write + Seek + OpenFile + Drop>(
     file: &mut BlockFile<F>,
     durable: bool,
@@ -70,6 +76,7 @@ pub(crate) fn complete_file<F: Read + Write + Seek + OpenFile + Drop>(
     Ok(())
 }
 
+// Sets the length of a file, and its position to the first byte.
 fn with_len<F: Write + Seek + OpenFile>(file: &mut F, len: u64, durable: bool) -> io::Result<()> {
     file.set_len(len)?;
     if durable {
@@ -79,7 +86,7 @@ fn with_len<F: Write + Seek + OpenFile>(file: &mut F, len: u64, durable: bool) -
     Ok(())
 }
 
-// Returns the SHA-256 of what a file has from its place on.
+// Returns the SHA-256 of a file's bytes from its position on.
 fn digest_of<F: Read>(file: &mut F, buffer: &mut [u8]) -> Result<[u8; 32], Trouble> {
     let mut hasher = Sha256::new();
     for _ in 0..u64::MAX {
@@ -92,6 +99,7 @@ fn digest_of<F: Read>(file: &mut F, buffer: &mut [u8]) -> Result<[u8; 32], Troub
     Ok(hasher.finalize())
 }
 
+// Returns a digest in hexadecimal digits.
 fn hex_digest(alloc: Global, digest: &[u8; 32]) -> Result<String, Trouble> {
     let mut text = String::new(alloc);
     for byte in digest {

@@ -1,4 +1,4 @@
-//! The blocks of a stream, with how many page records each has.
+//! Counts the page records of each block of a stream.
 
 ghost use Rattle.std.specs.Prelude.{◌≡◌, ◌+◌, ◌-◌, ◌<◌, ◌^◌};
 
@@ -8,14 +8,14 @@ use std::alloc::{AllocError, Global};
 /// The page records of one block.
 #[derive(Clone, Copy, Debug, PartialEq, Eq)]
 pub(crate) struct PageCounts {
-    /// Those that have a page's bytes.
+    /// The records with a page's bytes.
     pub pages: u64,
-    /// Those that say only that a page is zeros.
+    /// The records of pages of zeros.
     pub zeros: u64,
 }
 
 impl PageCounts {
-    /// None.
+    /// No records.
     pub(crate) const NONE: PageCounts = PageCounts { pages: 0, zeros: 0 };
 
     /// Returns how many records the block has.
@@ -25,7 +25,7 @@ impl PageCounts {
         self.pages.saturating_add(self.zeros)
     }
 
-    // Counts one record more.
+    // Returns the counts with one record more.
     fn with(self, is_zero: bool) -> PageCounts {
         if is_zero {
             return PageCounts {
@@ -40,15 +40,15 @@ impl PageCounts {
     }
 }
 
-/// Returns how many pages of a block have no record at least, where it has so many pages and
-/// records. A page may have several records.
+/// Returns how many of a block's `pages` have none of its `records` at least. A page may have
+/// several.
 pub(crate) fn pages_without(pages: u64, records: u64) -> u64
     ensures { result ≡ pages - records }
 {
     pages.saturating_sub(records)
 }
 
-/// The table of a stream, and the page records of its blocks, in its order.
+/// The table of a stream, and the counts of page records, block by block.
 #[derive(Drop)]
 pub(crate) struct Blocks {
     pub table: Table,
@@ -56,13 +56,13 @@ pub(crate) struct Blocks {
 }
 
 impl Blocks {
-    /// Creates them with no records.
+    /// Creates the counts of a stream without records.
     pub(crate) fn new(alloc: Global, table: Table) -> Result<Blocks, AllocError> {
         let counts = vec![in alloc; PageCounts::NONE; table.len()]?;
         Ok(Blocks { table, counts })
     }
 
-    /// Counts a record.
+    /// Counts a record of the page at `place`, which is zeros where `is_zero`.
     pub(crate) fn count(&mut self, place: Place, is_zero: bool) {
         if place.block < self.counts.len() {
             self.counts[place.block] = self.counts[place.block].with(is_zero);
@@ -102,7 +102,7 @@ impl Blocks {
         }
     }
 
-    /// Returns how many pages of a block have no record at least.
+    /// Returns how many pages of a block have no record, at least.
     pub(crate) fn missing(&self, block: usize) -> u64 {
         pages_without(self.pages(block), self.records(block))
     }

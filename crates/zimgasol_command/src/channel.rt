@@ -1,4 +1,4 @@
-//! The channels of a migration, each read from a file of its own.
+//! Reads the channels of a migration, each from a file.
 
 ghost use Rattle.std.specs.Prelude.{◌≤◌};
 
@@ -18,10 +18,10 @@ use zimgasol_names::shown_name;
 /// A file that a channel is read from.
 #[derive(Drop)]
 pub(crate) struct Inlet<F: Drop> {
-    /// Its name, as it is shown.
+    /// Its name, as it is printed.
     pub name: String,
     file: Opened<F>,
-    // how many bytes the file has; 0 of a pipe
+    // the length of the file in bytes; 0 of a pipe
     len: u64,
     pieces: Pieces,
 }
@@ -32,7 +32,7 @@ impl<F: Read + OpenFile + Drop> Inlet<F> {
         self.pieces.read
     }
 
-    /// Returns how many bytes there are; of a pipe, how many were read.
+    /// Returns the length in bytes; of a pipe, how many bytes were read.
     pub(crate) fn len(&self) -> u64 {
         self.len.max(self.pieces.read)
     }
@@ -54,6 +54,10 @@ fn open_inlet<H: AllocGlobal + Files>(rt: &H, path: &str) -> Result<Inlet<H::Fil
 }
 
 /// Opens the files of channels, and reads the first piece of each.
+///
+/// # Errors
+///
+/// `Trouble::OfFile` where one can't be opened or read, `Trouble::NoMemory`.
 pub(crate) fn open_inlets<H: AllocGlobal + Files>(
     rt: &H,
     paths: &[&str],
@@ -65,7 +69,7 @@ pub(crate) fn open_inlets<H: AllocGlobal + Files>(
     Ok(inlets)
 }
 
-/// Returns the UUID that the hello of the first channel names; that of zeros where it has none.
+/// Returns the UUID that the first channel's hello names; zeros where it has none.
 pub(crate) fn hello_uuid<F: Read + OpenFile + Drop>(inlets: &[Inlet<F>]) -> Uuid {
     let Some(inlet) = inlets.first() else {
         return Uuid::nil();
@@ -79,14 +83,14 @@ pub(crate) fn hello_uuid<F: Read + OpenFile + Drop>(inlets: &[Inlet<F>]) -> Uuid
     }
 }
 
-/// A channel: its file, and how far it was read.
+/// A channel: its file, and the reading of its bytes.
 #[derive(Drop)]
 pub(crate) struct Channel<F: Drop> {
     pub inlet: Inlet<F>,
     pub lane: Lane,
 }
 
-/// Creates the channels of a migration under `uuid`, one for each file.
+/// Creates a channel for each file; the hellos have to name `uuid`.
 pub(crate) fn channels_of<F: Read + OpenFile + Drop>(
     alloc: Global,
     inlets: Vec<Inlet<F>>,
@@ -103,7 +107,11 @@ pub(crate) fn channels_of<F: Read + OpenFile + Drop>(
 }
 
 impl<F: Read + OpenFile + Drop> Channel<F> {
-    /// Reads up to the end of the round in hand, and passes the pages to `sink`.
+    /// Reads up to the end of the current round, and passes the pages to `sink`.
+    ///
+    /// # Errors
+    ///
+    /// `Trouble::OfFile` where a read fails, `Trouble::NoMemory`, and those of `sink`.
     pub(crate) fn read_round<H: Files, S: PageSink<H>>(
         &mut self,
         guest: &mut Option<Guest>,

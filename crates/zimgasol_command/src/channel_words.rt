@@ -1,4 +1,4 @@
-//! The words that say which channels there are, and under which UUID.
+//! Reads the words that name channels and their UUID.
 
 ghost use Rattle.std.specs.Prelude.{◌≤◌, IfOk};
 
@@ -11,7 +11,11 @@ use uuid::Uuid;
 /// The most channels of a migration: a hello names its channel in a byte.
 pub(crate) const MOST_CHANNELS: usize = 255;
 
-/// Returns the UUID that a word says.
+/// Returns the UUID that `word` is.
+///
+/// # Errors
+///
+/// `Trouble::Words` where it is none.
 pub(crate) fn uuid_word(alloc: Global, word: &str) -> Result<Uuid, Trouble> {
     match Uuid::parse_str(word) {
         Ok(uuid) => Ok(uuid),
@@ -19,8 +23,11 @@ pub(crate) fn uuid_word(alloc: Global, word: &str) -> Result<Uuid, Trouble> {
     }
 }
 
-/// Returns the UUID that each hello has to name, where the words say one. Refuses words that don't go
-/// together.
+/// Returns the UUID that each hello has to name; None where the words name none.
+///
+/// # Errors
+///
+/// `Trouble::Words` of more than 255 channels, of a UUID without channels, and of what is no UUID.
 pub(crate) fn wanted_uuid(
     alloc: Global,
     words: &ChannelWords<'_>,
@@ -37,7 +44,11 @@ pub(crate) fn wanted_uuid(
     }
 }
 
-/// Returns how many channels a word says: 1 to 255.
+/// Returns the number of channels that `word` is: 1 to 255.
+///
+/// # Errors
+///
+/// `Trouble::Words` of anything else.
 pub(crate) fn count_word(alloc: Global, word: &str) -> Result<usize, Trouble>
     ensures { IfOk result (λ count. (1 ≤ count) × (count ≤ 255)) }
 {
@@ -48,8 +59,11 @@ pub(crate) fn count_word(alloc: Global, word: &str) -> Result<usize, Trouble>
 }
 
 impl ChannelWords<'_> {
-    /// Returns whether there are none: the stream is a single one. Refuses words that don't go
-    /// together.
+    /// Returns whether no channel is named: the stream is a single one.
+    ///
+    /// # Errors
+    ///
+    /// Those of `wanted_uuid`.
     pub(crate) fn is_single(&self, alloc: Global) -> Result<bool, Trouble> {
         let _uuid = wanted_uuid(alloc, self)?;
         Ok(self.files.is_empty())

@@ -1,6 +1,6 @@
-//! `compare`: the pages in which the memory of two streams, or folders that `extract` made, differs.
+//! `compare`: lists the pages in which the memory of two streams or folders differs.
 //!
-//! A stream may name a page several times, so its memory is known only at its end: a stream is
+//! A stream may name a page several times, so its memory is known only at its end. So a stream is
 //! extracted into a folder beside the second operand, and then two folders are compared.
 
 use crate::differing::Differing;
@@ -21,16 +21,16 @@ use zimgasol_names::{path_in, shown, shown_name};
 /// The name of the folder that streams are extracted into.
 const TEMPORARY_NAME: &str = ".zimgasol-compare.partial";
 
-// The folder that streams are extracted into.
+// The temporary folder that streams are extracted into.
 #[derive(Drop)]
 struct Temporary {
     alloc: Global,
     path: String,
-    // whether it was made
+    // whether this run made it
     made: bool,
 }
 
-// Returns the path of the temporary folder: beside what has this path.
+// Returns the path of the temporary folder, beside the file or folder `path`.
 fn temporary_path(alloc: Global, path: &str) -> Result<String, AllocError> {
     match path.trim_end_matches('/').rsplit_once('/') {
         Some((folder, _)) => path_in(alloc, folder, TEMPORARY_NAME, ""),
@@ -39,7 +39,7 @@ fn temporary_path(alloc: Global, path: &str) -> Result<String, AllocError> {
 }
 
 impl Temporary {
-    // Makes the folder, where it wasn't made yet.
+    // Makes the folder, unless this run made it already. Refuses one that is there.
     fn make<H: Files>(&mut self, rt: &H) -> Result<(), Trouble> {
         if self.made {
             return Ok(());
@@ -56,7 +56,7 @@ impl Temporary {
         }
     }
 
-    // Removes the folder with what it has.
+    // Removes the folder with all its files, where this run made it.
     fn remove<H: Files>(&self, rt: &H) -> Result<(), Trouble> {
         if !self.made {
             return Ok(());
@@ -68,7 +68,7 @@ impl Temporary {
     }
 }
 
-// Returns the trouble of reading a stream, with the stream's name.
+// Adds the name of a stream to the trouble of reading it.
 fn of_stream(alloc: Global, name: &str, trouble: Trouble) -> Trouble {
     match trouble {
         Trouble::Unread(error) => unwritten(alloc, name, error),
@@ -80,8 +80,8 @@ fn of_stream(alloc: Global, name: &str, trouble: Trouble) -> Trouble {
     }
 }
 
-// Extracts a stream into the temporary folder, under a name of its own. Returns what its list says;
-// None where the stream has a fault, which is written to `errors`.
+// Extracts a stream into the folder `path`. Returns the list of its blocks; None where the stream
+// has a fault, which is written to `errors`.
 fn extracted<'a, H: AllocGlobal + Files + Clock, R: Read, E: Write>(
     rt: &H,
     words: &StreamWords<'a>,
@@ -110,8 +110,8 @@ fn extracted<'a, H: AllocGlobal + Files + Clock, R: Read, E: Write>(
     Ok(Some(read_folder(rt, path)?))
 }
 
-// Returns what the list of an operand says, which is extracted where it is a stream. None where that
-// has a fault.
+// Returns the list of an operand's blocks. A stream is extracted first, into the folder `name` of
+// the temporary one; None where it has a fault.
 fn operand<H: AllocGlobal + Files + Clock, R: Read, E: Write>(
     rt: &H,
     words: &StreamWords<'_>,
@@ -131,7 +131,7 @@ fn operand<H: AllocGlobal + Files + Clock, R: Read, E: Write>(
     extracted(rt, words, &path, input, errors)
 }
 
-// Adds the pages that differ, of which the first is the page `first`.
+// Adds those of `pages` that differ; the first of `pages` is the block's page `first`.
 fn add_differing(
     differing: &mut Differing,
     first: u64,
@@ -148,7 +148,7 @@ fn add_differing(
     Ok(())
 }
 
-// Returns the pages in which two blocks of one length differ.
+// Returns the pages in which two blocks of the same length differ.
 fn differing_pages<H: AllocGlobal + Files>(
     rt: &H,
     a: &FolderBlock,
@@ -175,7 +175,7 @@ fn differing_pages<H: AllocGlobal + Files>(
     Ok(differing)
 }
 
-// Two folders that are compared, with the names that they have in messages.
+// Two folders that are compared, with their names for messages.
 #[derive(Clone, Copy)]
 struct Comparing<'a> {
     alloc: Global,
@@ -190,7 +190,8 @@ fn output_failed(error: io::Error) -> Trouble {
 }
 
 impl Comparing<'_> {
-    // Compares a block of both. Returns whether it is the same.
+    // Compares a block that both have, and writes the line of its differences. Returns whether it
+    // is the same.
     fn compare_block<H: AllocGlobal + Files, W: Write>(
         &self,
         rt: &H,
@@ -223,7 +224,7 @@ impl Comparing<'_> {
         Ok(false)
     }
 
-    // Writes the line of a block that only one has.
+    // Writes the line of a block that only `name` has.
     fn put_only<W: Write>(&self, output: &mut W, id: &str, name: &str) -> Result<(), Trouble> {
         let id = shown(self.alloc, id.as_bytes())?;
         writeln!(output, "block \"{id}\": only in {name}").map_err(output_failed)
@@ -272,7 +273,7 @@ impl Comparing<'_> {
     }
 }
 
-// Compares what was read of both. Returns whether the memory is the same.
+// Compares the blocks of both, and writes the result. Returns whether the memory is the same.
 fn compare_folders<H: AllocGlobal + Files, W: Write>(
     rt: &H,
     words: &CompareWords<'_>,
@@ -301,7 +302,7 @@ fn compare_folders<H: AllocGlobal + Files, W: Write>(
     Ok(is_same)
 }
 
-// Reads both, and compares them. Returns whether both are whole and the memory is the same.
+// Reads both operands, and compares them. Returns whether both are complete and the same.
 fn compare_in<H: AllocGlobal + Files + Clock, R: Read, W: Write, E: Write>(
     rt: &H,
     words: &CompareWords<'_>,
@@ -319,7 +320,12 @@ fn compare_in<H: AllocGlobal + Files + Clock, R: Read, W: Write, E: Write>(
     compare_folders(rt, words, &a, &b, output)
 }
 
-/// Compares the memory of two streams or folders. Returns whether both are whole and it is the same.
+/// Compares the memory of two streams or folders. Returns whether both are complete and the same.
+///
+/// # Errors
+///
+/// `Trouble::Words` where both are the standard input, `Trouble::Unfit` of other page sizes or
+/// another run's folder, those of reading and extracting them, and `Trouble::Output`.
 pub(crate) fn compare<H: AllocGlobal + Files + Clock, R: Read, W: Write, E: Write>(
     rt: &H,
     words: &CompareWords<'_>,

@@ -1,14 +1,14 @@
-//! The pages of a block that differ, as ranges.
+//! Counts the pages of a block that differ, and lists them as ranges.
 
 ghost use Rattle.std.specs.Prelude.{◌≡◌, ◌+◌, ◌↔◌, ◌<◌, ◌≤◌, ◌^◌, IsSome, IfSome};
 
 use std::alloc::{AllocError, Global};
 use std::io::{self, Write};
 
-/// How many ranges of a block are listed.
+/// The most ranges of a block that are listed.
 const MOST_RANGES: usize = 16;
 
-/// Pages that follow one another: from the first to the last one.
+/// Consecutive pages, from the first to the last one.
 #[derive(Clone, Copy, Debug, PartialEq, Eq)]
 pub(crate) struct PageRange {
     pub first: u64,
@@ -16,7 +16,7 @@ pub(crate) struct PageRange {
 }
 
 impl PageRange {
-    /// Returns the range with a page more at its end; None where the page doesn't follow it.
+    /// Returns the range with `page` added at its end; None where `page` doesn't follow it.
     pub(crate) fn with(self, page: u64) -> Option<PageRange>
         ensures follows { IsSome result ↔ (self.last + 1 ≡ page) }
         ensures value { IfSome result (λ range. range ≡ record { first = self.first; last = page }) }
@@ -34,16 +34,16 @@ impl PageRange {
 /// The pages of a block that differ.
 #[derive(Drop)]
 pub(crate) struct Differing {
-    /// How many they are.
+    /// The number of pages.
     pub count: u64,
-    /// The first ranges of them.
+    /// The first ranges of pages.
     pub ranges: Vec<PageRange>,
     /// Whether there are more ranges.
     pub has_more: bool,
 }
 
 impl Differing {
-    /// Creates none.
+    /// Creates an empty list.
     pub(crate) fn new(alloc: Global) -> Differing {
         Differing {
             count: 0,
@@ -52,7 +52,7 @@ impl Differing {
         }
     }
 
-    /// Adds a page after all that were added.
+    /// Adds `page`, which is after all pages that were added.
     pub(crate) fn add(&mut self, page: u64) -> Result<(), AllocError> {
         self.count = self.count.saturating_add(1);
         if let Some(last) = self.ranges.last_mut()
@@ -72,7 +72,7 @@ impl Differing {
         Ok(())
     }
 
-    /// Writes the ranges.
+    /// Writes the ranges, as `0-3, 7`.
     pub(crate) fn put<W: Write>(&self, output: &mut W) -> io::Result<()> {
         let mut before = "";
         for range in &self.ranges {

@@ -1,8 +1,8 @@
-//! `extract`: the memory of a stream, a file for each block.
+//! `extract`: writes the memory of a stream into a folder, a file for each block.
 //!
-//! Pages are written to their places as they come. A file has its last name only when the stream is
-//! whole, the file is complete and on its disk. With `--since` each file begins as a copy of its
-//! block in another folder, and the stream's pages are laid over it.
+//! Pages are written to their places as they come. A file gets its final name when the stream is
+//! complete and the file is on its disk. With `--since` each file begins as a copy of its block in
+//! another folder, and the stream's pages are written over it.
 
 use crate::block_file::{BlockFile, block_value, complete_file, write_at, write_text};
 use crate::folder::{Folder, LIST_NAME, read_folder};
@@ -27,10 +27,10 @@ use std::rt::Clock;
 use std::str;
 use zimgasol_names::{file_name, path_in, shown, shown_name};
 
-/// How many bytes of pages that follow one another are written at once.
+/// The most bytes of consecutive pages that are written at once.
 const RUN_LEN: usize = 262_144;
 
-// Bytes of one block's file that are to be written, at their place.
+// Consecutive pages of one file that are to be written, and the byte at which they begin.
 #[derive(Drop)]
 struct Run {
     file: usize,
@@ -38,7 +38,7 @@ struct Run {
     bytes: Vec<u8>,
 }
 
-// The folder that blocks are written into, and their files.
+// The folder that blocks are extracted into, and their files.
 #[derive(Drop)]
 struct Extraction<H: Files> {
     alloc: Global,
@@ -51,13 +51,13 @@ struct Extraction<H: Files> {
     digest: bool,
     // whether a file is on its disk before it gets its name
     durable: bool,
-    // whether the folder was made
+    // whether this run made the folder
     made: bool,
     page_size: u64,
-    // the folder that the files begin as copies of
+    // the folder of `--since`
     since: Option<Folder>,
     files: Vec<BlockFile<H::File>>,
-    // the pages that aren't zeros in their files
+    // the pages that may have other bytes than zeros in their files
     written: Option<Dirty>,
     run: Run,
     zeros: Vec<u8>,
@@ -97,7 +97,7 @@ impl<H: Files> Extraction<H> {
         })
     }
 
-    // Makes the folder, where there is none.
+    // Makes the folder, unless there is one.
     fn make_folder(&mut self, rt: &H) -> Result<(), Trouble> {
         match rt.create_dir(&self.folder) {
             Ok(()) => {
@@ -109,12 +109,12 @@ impl<H: Files> Extraction<H> {
         }
     }
 
-    // Refuses a path that is there already, unless it may be replaced.
+    // Refuses a path that exists, unless `--replace` is set and it is a plain file.
     fn is_free(&self, rt: &H, path: &str) -> Result<(), Trouble> {
         is_free(rt, self.alloc, path, self.replace)
     }
 
-    // Opens the file of a block.
+    // Makes the file of the block `id`, which has the number `block` and `len` bytes.
     fn open_block(&mut self, rt: &H, id: &[u8], block: usize, len: u64) -> Result<(), Trouble> {
         let name = file_name(self.alloc, id, block)?;
         let path = path_in(self.alloc, &self.folder, &name, "")?;
@@ -134,7 +134,7 @@ impl<H: Files> Extraction<H> {
         Ok(())
     }
 
-    // Opens the files of the blocks of a table that are extracted.
+    // Makes the files of the blocks that are extracted.
     fn open_blocks(&mut self, rt: &H, table: &Table) -> Result<(), Trouble> {
         for block in 0..table.len() {
             let id = table.id(block);
@@ -146,12 +146,12 @@ impl<H: Files> Extraction<H> {
         Ok(())
     }
 
-    // Returns the place of a block's file in the list.
+    // Returns the index of a block's file; None where the block isn't extracted.
     fn file_of(&self, block: usize) -> Option<usize> {
         self.files.iter().position(|file| file.block == block)
     }
 
-    // Writes a page to its place.
+    // Writes a page to the byte `at` of a file, with the pages before it where it follows them.
     fn write_page(&mut self, file: usize, at: u64, page: &[u8]) -> Result<(), Trouble> {
         let follows = self.run.start.saturating_add(self.run.bytes.len() as u64);
         if file != self.run.file || at != follows || self.run.bytes.len() >= RUN_LEN {
@@ -163,7 +163,7 @@ impl<H: Files> Extraction<H> {
         Ok(())
     }
 
-    // Writes the bytes that are to be written.
+    // Writes the pages that wait.
     fn write_run(&mut self) -> Result<(), Trouble> {
         if self.run.bytes.is_empty() {
             return Ok(());
@@ -178,7 +178,8 @@ impl<H: Files> Extraction<H> {
         Ok(())
     }
 
-    // Returns whether the file of a page has other bytes than zeros there, and notes that it has.
+    // Returns whether a page has to be written: it isn't zeros, or its file may have other bytes
+    // there.
     fn note(&mut self, place: Place, is_zero: bool) -> Result<bool, Trouble> {
         let Some(written) = &mut self.written else {
             return Ok(false);
@@ -193,7 +194,7 @@ impl<H: Files> Extraction<H> {
         Ok(true)
     }
 
-    // Completes all files, and gives them their names.
+    // Completes all files, and renames them.
     fn complete(&mut self, rt: &H) -> Result<(), Trouble> {
         self.write_run()?;
         let mut buffer = piece_buffer(self.alloc)?;
@@ -212,7 +213,7 @@ impl<H: Files> Extraction<H> {
         self.rename_all(rt)
     }
 
-    // Gives all files their names, the list last.
+    // Gives all files their final names, the list last.
     fn rename_all(&self, rt: &H) -> Result<(), Trouble> {
         for file in &self.files {
             rename(rt, self.alloc, &file.partial_path, &file.path)?;
@@ -233,6 +234,7 @@ impl<H: Files> Extraction<H> {
         }
     }
 
+    // Returns the list of blocks.
     fn list(&self) -> Result<Value, Trouble> {
         let mut list = Vec::new(self.alloc);
         for file in &self.files {
@@ -242,8 +244,8 @@ impl<H: Files> Extraction<H> {
         Ok(json!(in self.alloc; {"page_size": self.page_size, "blocks": list})?)
     }
 
-    // Completes all files if what was read is whole; where it isn't, or they can't be completed, no
-    // file stays.
+    // Completes all files where the stream is complete. Where it isn't, or they can't be completed,
+    // removes them.
     fn finish(&mut self, rt: &H, is_whole: bool) -> Result<(), Trouble> {
         if !is_whole {
             self.remove(rt);
@@ -256,7 +258,7 @@ impl<H: Files> Extraction<H> {
         completed
     }
 
-    // Removes what isn't complete.
+    // Removes the files that have no final name, and the folder where this run made it.
     fn remove(&self, rt: &H) {
         for file in &self.files {
             let _left = rt.remove_file(&file.partial_path);
@@ -270,7 +272,7 @@ impl<H: Files> Extraction<H> {
     }
 }
 
-// Returns whether a block is to be extracted.
+// Returns whether the block `id` is extracted; `block` is the only one, where it is named.
 fn is_wanted(block: &Option<String>, id: &[u8]) -> bool {
     match block {
         Some(wanted) => wanted.as_bytes() == id,
@@ -279,7 +281,7 @@ fn is_wanted(block: &Option<String>, id: &[u8]) -> bool {
 }
 
 impl<H: Files> Extraction<H> {
-    // Begins with what the blocks have in another folder; `blocks` is how many the stream has.
+    // Copies all blocks of the folder `since`. `blocks` is how many the stream has.
     fn begin_since(&mut self, rt: &H, since: &Folder, blocks: usize) -> Result<(), Trouble> {
         for (number, other) in since.blocks.iter().enumerate() {
             let id = other.id.as_bytes();
@@ -293,11 +295,12 @@ impl<H: Files> Extraction<H> {
         Ok(())
     }
 
+    // Returns whether the block `id` has a file.
     fn has_block(&self, id: &[u8]) -> bool {
         self.files.iter().any(|file| file.id.as_slice() == id)
     }
 
-    // Copies what a block has in another folder into its file, but for pages of zeros.
+    // Copies a block of the folder `since` into its file, but for pages of zeros.
     fn copy_since(&mut self, rt: &H, since: &Folder, file: usize) -> Result<(), Trouble> {
         let Some(there) = self.files.get(file) else {
             return Ok(());
@@ -322,7 +325,7 @@ impl<H: Files> Extraction<H> {
         Ok(())
     }
 
-    // Puts the pages of a block whose bytes begin at a place of it.
+    // Puts the pages in `bytes`, which begin at the byte `at` of a block.
     fn put_pages(&mut self, block: usize, at: u64, bytes: &[u8]) -> Result<(), Trouble> {
         let size = self.page_size.max(1);
         let mut page = at / size;
@@ -333,7 +336,7 @@ impl<H: Files> Extraction<H> {
         Ok(())
     }
 
-    // Puts what a page has: its bytes, or None for a page of zeros.
+    // Puts the content of a page: its bytes, or None for a page of zeros.
     fn put_page(&mut self, place: Place, content: Option<&[u8]>) -> Result<(), Trouble> {
         let Some(file) = self.file_of(place.block) else {
             return Ok(());
@@ -378,7 +381,7 @@ impl<H: Files> PageSink<H> for Extraction<H> {
 }
 
 impl<H: Files> Extraction<H> {
-    // Writes a page of zeros to its place.
+    // Writes a page of zeros to the byte `at` of a file.
     fn write_zeros(&mut self, file: usize, at: u64) -> Result<(), Trouble> {
         self.write_run()?;
         let len = self.page_size.min(self.zeros.len() as u64) as usize;
@@ -392,8 +395,7 @@ impl<H: Files> Extraction<H> {
     }
 }
 
-// Reads the list of the folder that the files begin as copies of, which has to have pages of the
-// same size.
+// Reads the list of the folder of `--since`. Refuses it where it has pages of another size.
 fn since_of<H: AllocGlobal + Files>(
     rt: &H,
     words: &ExtractWords<'_>,
@@ -410,7 +412,13 @@ fn since_of<H: AllocGlobal + Files>(
     Ok(Some(since))
 }
 
-/// Extracts the memory of a stream. Returns what was read; where it isn't whole, no file stays.
+/// Extracts the memory of a single stream. Returns what was read. Where the stream has a fault, no
+/// file stays.
+///
+/// # Errors
+///
+/// Those of `read_stream`, `read_folder` and `is_free`, and `Trouble::OfFile` where a file can't be
+/// written. No file stays under its final name, unless it is the renaming that fails.
 pub(crate) fn extract_survey<H: AllocGlobal + Files + Clock, R: Read, E: Write>(
     rt: &H,
     words: &ExtractWords<'_>,
@@ -432,8 +440,8 @@ pub(crate) fn extract_survey<H: AllocGlobal + Files + Clock, R: Read, E: Write>(
     Ok(survey)
 }
 
-// Extracts the memory that a main stream and its channels have, and prints the judgement. Returns
-// whether all is whole.
+// Extracts the memory of a main stream and its channels, and prints the verdict. Returns whether
+// all sources are complete.
 fn extract_several<H: AllocGlobal + Files + Clock, R: Read, W: Write, E: Write>(
     rt: &H,
     words: &ExtractWords<'_>,
@@ -459,7 +467,12 @@ fn extract_several<H: AllocGlobal + Files + Clock, R: Read, W: Write, E: Write>(
     several.put_judgement(alloc, output, errors, &name, words.stream.talk)
 }
 
-/// Extracts the memory of a stream, and prints its judgement. Returns whether the stream is whole.
+/// Extracts the memory of a stream, with its channels, and prints the verdict. Returns whether it
+/// is complete.
+///
+/// # Errors
+///
+/// Those of `extract_survey` and `read_several`, and `Trouble::Output`: then the files stay.
 pub(crate) fn extract<H: AllocGlobal + Files + Clock, R: Read, W: Write, E: Write>(
     rt: &H,
     words: &ExtractWords<'_>,

@@ -1,4 +1,4 @@
-//! A folder that `extract` made: its list of blocks.
+//! Reads `blocks.json`, the list of blocks in a folder that `extract` made.
 
 use crate::opened::{open, unfit};
 use crate::trouble::{Trouble, Unfit};
@@ -11,10 +11,10 @@ use zimgasol_names::path_in;
 /// The name of the list of blocks.
 pub(crate) const LIST_NAME: &str = "blocks.json";
 
-/// How many bytes of a list are read. A list of 256 blocks with the longest ids has fewer.
+/// The most bytes of a list that are read. A list of 256 blocks with the longest ids has fewer.
 const MOST_LIST_LEN: usize = 1_048_576;
 
-/// A block of the folder.
+/// A block in the folder.
 #[derive(Drop)]
 pub(crate) struct FolderBlock {
     pub id: String,
@@ -37,7 +37,12 @@ impl Folder {
         self.blocks.iter().position(|block| block.id.as_str() == id)
     }
 
-    /// Returns the block with an id, which has to have as many bytes as what is called `name`.
+    /// Returns the block `id`, which has to have `len` bytes.
+    ///
+    /// # Errors
+    ///
+    /// `Trouble::Unfit`: of `name`, where the block has another length; of `id`, where there is
+    /// none.
     pub(crate) fn block_like(
         &self,
         alloc: Global,
@@ -52,7 +57,7 @@ impl Folder {
         }
     }
 
-    /// Returns how many bytes all blocks have.
+    /// Returns how many bytes all blocks have together.
     pub(crate) fn total(&self) -> u64 {
         let mut total = 0u64;
         for block in &self.blocks {
@@ -62,8 +67,8 @@ impl Folder {
     }
 }
 
-// Returns what an entry of the list says. None where it is none that `extract` writes; also where the
-// file lies outside the folder.
+// Returns the block that an entry of the list describes. None where `extract` writes no such entry,
+// and where its file lies outside the folder.
 fn block_in(alloc: Global, folder: &str, entry: &Value) -> Result<Option<FolderBlock>, AllocError> {
     let Some(id) = entry.get("id").and_then(Value::as_str) else {
         return Ok(None);
@@ -84,7 +89,7 @@ fn block_in(alloc: Global, folder: &str, entry: &Value) -> Result<Option<FolderB
     }))
 }
 
-// Returns what a list says. None where it is none that `extract` writes.
+// Returns the folder that a list describes. None where `extract` writes no such list.
 fn folder_in(alloc: Global, folder: &str, list: &Value) -> Result<Option<Folder>, AllocError> {
     let Some(page_size) = list.get("page_size").and_then(Value::as_u64) else {
         return Ok(None);
@@ -102,7 +107,7 @@ fn folder_in(alloc: Global, folder: &str, list: &Value) -> Result<Option<Folder>
     Ok(Some(Folder { page_size, blocks }))
 }
 
-// Returns what the bytes of a list say. None where they are none that `extract` writes.
+// Returns the folder that the bytes of a list describe. None where `extract` writes no such list.
 fn folder_of(alloc: Global, folder: &str, bytes: &[u8]) -> Result<Option<Folder>, AllocError> {
     let Ok(text) = str::from_utf8(bytes) else {
         return Ok(None);
@@ -113,7 +118,12 @@ fn folder_of(alloc: Global, folder: &str, bytes: &[u8]) -> Result<Option<Folder>
     }
 }
 
-/// Reads the list of a folder.
+/// Reads the list of the folder `folder`.
+///
+/// # Errors
+///
+/// `Trouble::OfFile` where it can't be opened or read, `Trouble::Unfit` where `extract` writes no
+/// such list, `Trouble::NoMemory`.
 pub(crate) fn read_folder<H: AllocGlobal + Files>(rt: &H, folder: &str) -> Result<Folder, Trouble> {
     let alloc = rt.alloc();
     let path = path_in(alloc, folder, LIST_NAME, "")?;

@@ -1,5 +1,6 @@
-//! What came of a guest over several channels: its blocks with how many page records each has, and
-//! the round in hand, which is judged by the numbers and places of its packets and records.
+//! Counts the pages of a guest that comes over several channels, and judges its rounds.
+//!
+//! A round is judged by the numbers of its packets and by the places of pages, and keeps no page.
 
 ghost use Rattle.std.specs.Prelude.{◌≡◌, ◌+◌, ◌*◌, ◌<◌, ◌≤◌, ◌^◌, length, IfSome};
 ghost use Rattle.mig_packet.specs.PageSize.{IsPageSize};
@@ -14,7 +15,7 @@ use mig_stream::StreamRound;
 use std::alloc::Global;
 use std::fs::Files;
 
-// As many packets are numbered at most. No stream in a file has so many.
+// The most packets that are numbered. No channels in files have as many.
 const PACKET_LIMIT: u64 = 1 << 63;
 
 /// The most bytes of an id in a packet.
@@ -23,7 +24,7 @@ const MOST_ID_LEN: usize = 255;
 /// A guest whose rounds come over several channels.
 #[derive(Drop)]
 pub(crate) struct Guest {
-    /// The blocks, with the page records of all rounds and of the one in hand.
+    /// The blocks, and their records and packets' pages in all rounds so far.
     pub blocks: Blocks,
     arrivals: Arrivals,
     // the offsets of a packet, and the packet of zeros that has them
@@ -31,7 +32,7 @@ pub(crate) struct Guest {
     bytes: Vec<u8>,
 }
 
-// Lists the offsets of a packet.
+// Lists the offsets of a packet's pages.
 fn list_offsets(head: &PacketHead<'_>, offsets: &mut Vec<u64>) -> Result<(), Trouble> {
     offsets.clear();
     for i in 0..head.normal_len().saturating_add(head.zero_len()) {
@@ -40,8 +41,8 @@ fn list_offsets(head: &PacketHead<'_>, offsets: &mut Vec<u64>) -> Result<(), Tro
     Ok(())
 }
 
-// Writes the packet of zeros that has the number and the pages of a head, and reads it back. None
-// where it can't be written.
+// Makes the packet of zeros with the number, flags, id and pages of `head`. None where it can't be
+// written.
 fn zeros_of<'b>(
     head: &PacketHead<'_>,
     offsets: &[u64],
@@ -64,7 +65,7 @@ fn zeros_of<'b>(
 }
 
 impl Guest {
-    /// Creates one of a table, of which nothing came.
+    /// Creates a guest of the blocks of `table`, of which nothing came.
     pub(crate) fn new(alloc: Global, table: &Table) -> Result<Guest, Trouble> {
         Ok(Guest {
             blocks: Blocks::new(alloc, table.try_copy()?)?,
@@ -74,8 +75,8 @@ impl Guest {
         })
     }
 
-    /// Adds a packet to the round in hand. A round is judged by the heads of its packets, so it goes
-    /// in as the packet of zeros with that number and those pages.
+    /// Adds a packet to the current round, by its head: as the packet of zeros with the same number
+    /// and pages, since a round is judged by these alone.
     pub(crate) fn packet(&mut self, head: &PacketHead<'_>) -> Result<(), Trouble> {
         list_offsets(head, &mut self.offsets)?;
         let Some(packet) = zeros_of(head, &self.offsets, &mut self.bytes) else {
@@ -88,7 +89,7 @@ impl Guest {
         Ok(())
     }
 
-    /// Adds the main stream's records to the round in hand, and passes them to `sink`.
+    /// Adds the main stream's records to the current round, and passes them to `sink`.
     pub(crate) fn records<H: Files, S: PageSink<H>>(
         &mut self,
         round: &StreamRound<'_>,
@@ -105,8 +106,8 @@ impl Guest {
         Ok(())
     }
 
-    /// Counts what came of a page, and passes it to `sink`. A place that no block has is left to the
-    /// judgement of the round.
+    /// Counts a page, and passes it to `sink`. Where no block has `place` it does neither: the
+    /// round is refused when it is judged.
     pub(crate) fn put<H: Files, S: PageSink<H>>(
         &mut self,
         place: Place,
@@ -120,7 +121,8 @@ impl Guest {
         sink.put(place, content)
     }
 
-    /// Returns the place of the page at an offset of a block. None where no page begins there.
+    /// Returns the place of the page that begins at the byte `offset` of a block; None where none
+    /// does.
     pub(crate) fn place(&self, block: usize, offset: u64) -> Option<Place>
         ensures { IfSome result (λ place. (place.block ≡ block) × (place.page * self.now.blocks.table.page_size ≡ offset)) }
     {
@@ -134,14 +136,15 @@ impl Guest {
         })
     }
 
-    /// Returns how many packets the round in hand has.
+    /// Returns how many packets the current round has.
     pub(crate) fn packets(&self) -> u64
         ensures { result ≡ length self.now.arrivals.numbers }
     {
         self.arrivals.len() as u64
     }
 
-    /// Judges the round in hand, whose packets are to be numbered from `base` on. Returns its fault.
+    /// Judges the current round, whose packets have to be numbered from `base` on. Returns its
+    /// fault; None where it has none.
     pub(crate) fn judge(&mut self, base: u64) -> Result<Option<RoundFault>, Trouble> {
         if base > PACKET_LIMIT || self.packets() > PACKET_LIMIT - base {
             return Err(Trouble::NoMemory);
@@ -149,7 +152,7 @@ impl Guest {
         Ok(self.arrivals.judge(base).err())
     }
 
-    /// Goes on to the next round.
+    /// Begins the next round.
     pub(crate) fn clear(&mut self) {
         self.arrivals.clear();
     }

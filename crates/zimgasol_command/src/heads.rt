@@ -1,11 +1,11 @@
-//! The first bytes of the item of a stream that isn't whole, or has the fault: for the block that it
+//! Keeps the first bytes of the item at which a stream's reading stands, for the block that it
 //! names.
 
 ghost use Rattle.std.specs.Prelude.{◌≡◌};
 
 use std::alloc::{AllocError, Global};
 
-/// How many bytes of an item are kept: a page record's head, with the longest id.
+/// The most bytes of an item that are kept: a page record's head, with the longest id.
 const MOST_LEN: usize = 264;
 
 /// The flags of a page record that names its block, with a page's bytes or for a page of zeros
@@ -20,8 +20,8 @@ pub(crate) struct Head {
     bytes: Vec<u8>,
 }
 
-// Returns the bytes of a piece from a place of the stream on, where the piece begins at `start`. None
-// where the place is before the piece.
+// Returns the bytes of `piece` from the stream's byte `at` on; `piece` begins at the byte `start`.
+// None where `at` is before the piece.
 fn rest_from(piece: &[u8], start: u64, at: u64) -> Option<&[u8]> {
     let from = at.checked_sub(start)?;
     if from >= piece.len() as u64 {
@@ -31,15 +31,15 @@ fn rest_from(piece: &[u8], start: u64, at: u64) -> Option<&[u8]> {
 }
 
 impl Head {
-    /// Creates one of no bytes.
+    /// Creates a head without bytes.
     pub(crate) fn new(alloc: Global) -> Head {
         Head {
             bytes: Vec::new(alloc),
         }
     }
 
-    /// Looks at a piece of the stream, which begins at the byte `start`, after it was read: the item
-    /// begins at the byte `at`.
+    /// Keeps what `piece` has of the item, after it was read. The item begins at the stream's byte
+    /// `at`, and `piece` at its byte `start`.
     pub(crate) fn look(&mut self, piece: &[u8], start: u64, at: u64) -> Result<(), AllocError> {
         match rest_from(piece, start, at) {
             Some(rest) => {
@@ -50,7 +50,7 @@ impl Head {
         }
     }
 
-    // Takes as many of these bytes as are kept.
+    // Keeps as many of `bytes` as there is room for.
     fn take(&mut self, bytes: &[u8]) -> Result<(), AllocError> {
         let len = MOST_LEN.saturating_sub(self.bytes.len());
         let taken = &bytes[..len.min(bytes.len())];
@@ -58,13 +58,13 @@ impl Head {
         Ok(())
     }
 
-    /// Returns the id of the block that the item names, if it is a page record with one.
+    /// Returns the id of the block that the item names; None where it is no page record with one.
     pub(crate) fn id(&self) -> Option<&[u8]> {
         id_in(&self.bytes)
     }
 }
 
-// Returns the id that a page record names. None where it is cut or names none.
+// Returns the id that a page record names; None where the record is cut or names none.
 fn id_in(item: &[u8]) -> Option<&[u8]> {
     let flags = *item.get(7)?;
     let high = *item.get(6)?;

@@ -1,4 +1,4 @@
-//! Reads of an input: piece after piece, through one buffer.
+//! Reads an input in pieces, through one buffer.
 
 ghost use Rattle.std.specs.Prelude.{◌≡◌, ◌≤◌, length, IfOk};
 
@@ -6,7 +6,7 @@ use crate::trouble::Trouble;
 use std::alloc::Global;
 use std::io::{self, ErrorKind, Read};
 
-/// How many bytes a piece has at most.
+/// The most bytes of a piece.
 pub(crate) const PIECE_LEN: usize = 262_144;
 
 /// Returns the buffer that pieces are read into.
@@ -15,7 +15,7 @@ pub(crate) fn piece_buffer(alloc: Global) -> Result<Vec<u8>, Trouble> {
     Ok(buffer)
 }
 
-// Reads once, and again where a signal interrupted it.
+// Reads once, and once more after each signal that interrupts the read.
 fn read_some<R: Read>(input: &mut R, buffer: &mut [u8]) -> io::Result<usize>
     ensures len { length buffer.new ≡ length buffer.old }
     ensures count { IfOk result (λ n. n ≤ length buffer.old) }
@@ -30,8 +30,12 @@ fn read_some<R: Read>(input: &mut R, buffer: &mut [u8]) -> io::Result<usize>
     Ok(0)
 }
 
-/// Reads until the buffer is full or the input is over. Returns how many bytes it read: where they
-/// are fewer than the buffer has, the input is over.
+/// Reads until `buffer` is full or the input ends. Returns how many bytes it read: where these are
+/// fewer than `buffer` has, the input has ended.
+///
+/// # Errors
+///
+/// `Trouble::Unread` where a read fails. What was read before it is in `buffer`, and is lost.
 pub(crate) fn read_piece<R: Read>(input: &mut R, buffer: &mut [u8]) -> Result<usize, Trouble>
     ensures len { length buffer.new ≡ length buffer.old }
     ensures count { IfOk result (λ n. n ≤ length buffer.old) }

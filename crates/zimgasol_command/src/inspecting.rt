@@ -1,4 +1,4 @@
-//! `inspect`: what a stream has, in lines or as JSON.
+//! `inspect`: lists what a single stream has, in lines or as JSON.
 
 use crate::between::{Note, Noted};
 use crate::blocks::Blocks;
@@ -13,7 +13,7 @@ use zimgasol_names::{id_text, shown};
 
 // ---- lines
 
-/// Returns QEMU's name of a COMMAND (`enum qemu_vm_cmd` in `migration/savevm.c`).
+/// Returns QEMU's name of the COMMAND `number` (`enum qemu_vm_cmd` in `migration/savevm.c`).
 fn command_name(number: u16) -> &'static str {
     match number {
         1 => "OPEN_RETURN_PATH",
@@ -70,7 +70,7 @@ fn hex_of(alloc: Global, bytes: &[u8]) -> Result<String, AllocError> {
     Ok(text)
 }
 
-/// Writes the line of each block.
+/// Writes a line for each block.
 pub(crate) fn put_blocks<W: Write>(
     alloc: Global,
     output: &mut W,
@@ -92,12 +92,12 @@ pub(crate) fn put_blocks<W: Write>(
     Ok(())
 }
 
-// Returns whether an item was read, or has the fault: what stands after the fault was looked at too.
+// Returns whether an item was read, or has the fault. Items after the fault may be noted, too.
 fn is_read(survey: &Survey, note: &Note) -> bool {
     note.at <= survey.valid
 }
 
-// Writes what comes before the blocks.
+// Writes the lines before those of the blocks.
 fn put_head<W: Write>(
     alloc: Global,
     output: &mut W,
@@ -127,7 +127,7 @@ fn put_head<W: Write>(
     Ok(())
 }
 
-// Writes how far the stream goes.
+// Writes where the stream ends, or up to where it was read.
 fn put_end<W: Write>(output: &mut W, survey: &Survey) -> io::Result<()> {
     let sections = survey.sections;
     let end = survey.before().saturating_add(survey.valid);
@@ -141,7 +141,11 @@ fn put_end<W: Write>(output: &mut W, survey: &Survey) -> io::Result<()> {
     writeln!(output, "whole")
 }
 
-/// Writes what a stream has, a line for each thing.
+/// Writes what a stream has, in lines. `name` is the file's, as it is printed.
+///
+/// # Errors
+///
+/// `Trouble::Output` where `output` can't be written, `Trouble::NoMemory`.
 pub(crate) fn put_lines<W: Write>(
     alloc: Global,
     output: &mut W,
@@ -163,7 +167,7 @@ fn array(alloc: Global) -> Vec<Value> {
     Vec::new(alloc)
 }
 
-/// Returns what is said of an item between the sections.
+/// Returns the JSON of an item between the sections.
 pub(crate) fn note_value(alloc: Global, note: &Note) -> Result<Value, AllocError> {
     let at = note.at;
     let sections = note.sections;
@@ -196,7 +200,7 @@ fn notes_value(alloc: Global, survey: &Survey) -> Result<Value, AllocError> {
     Ok(Value::Array(notes))
 }
 
-/// Returns what is said of each block.
+/// Returns the JSON of the blocks.
 pub(crate) fn blocks_value(alloc: Global, blocks: &Blocks) -> Result<Value, AllocError> {
     let mut list = array(alloc);
     for (block, counts) in blocks.counts.iter().enumerate() {
@@ -274,7 +278,11 @@ fn survey_value(alloc: Global, name: &str, survey: &Survey) -> Result<Value, All
     })
 }
 
-/// Writes what a stream has as JSON.
+/// Writes what a stream has, as JSON. `name` is the file's, as it is printed.
+///
+/// # Errors
+///
+/// `Trouble::Output` where `output` can't be written, `Trouble::NoMemory`.
 pub(crate) fn put_json<W: Write>(
     alloc: Global,
     output: &mut W,

@@ -1,4 +1,4 @@
-//! A channel of a migration: how far its bytes were read, and what was counted of them.
+//! Reads the bytes of one channel, packet by packet, and counts its packets and pages.
 
 ghost use Rattle.std.specs.Prelude.{◌≡◌, ◌+◌, ◌<◌, ◌≤◌, ◌^◌, length};
 
@@ -15,17 +15,19 @@ use uuid::Uuid;
 /// What was counted of a channel.
 #[derive(Clone, Copy)]
 pub(crate) struct ChannelCounts {
-    /// The packets that are whole.
+    /// The complete packets.
     pub packets: u64,
-    /// The numbers of the first and the last of them.
+    /// The least number of a complete packet.
     pub first: Option<u64>,
+    /// The greatest number of a complete packet.
     pub last: Option<u64>,
-    /// The pages that came with their bytes, and those that are zeros.
+    /// The pages that came with their bytes.
     pub pages: u64,
+    /// The pages of zeros.
     pub zeros: u64,
-    /// How many bytes the hello and the packets have that are whole.
+    /// The bytes of the hello and of the complete packets.
     pub valid: u64,
-    /// How many of these are before the round in hand.
+    /// Those of them that are before the current round.
     pub round_start: u64,
 }
 
@@ -40,7 +42,7 @@ impl ChannelCounts {
         round_start: 0,
     };
 
-    // Counts a packet, which ends at the byte `end`.
+    // Counts the packet `number`, which ends at the byte `end`.
     fn add(&mut self, number: u64, end: u64) {
         self.packets = self.packets.saturating_add(1);
         self.first = Some(self.first.unwrap_or(number).min(number));
@@ -49,21 +51,24 @@ impl ChannelCounts {
     }
 }
 
-/// How far a channel was read.
+/// The reading of one channel.
 #[derive(Drop)]
 pub(crate) struct Lane {
     reader: PageReader,
-    // the number of the packet that was begun, and the block that its pages are of
+    // the number of the packet that was begun, and the block of its pages
     number: u64,
     block: Option<usize>,
-    // whether the round in hand has come
+    // whether the current round is complete
     is_whole: bool,
     pub counts: ChannelCounts,
 }
 
 impl Lane {
-    /// Creates the lane of one of `channels` channels of a migration under `uuid`, of which nothing
-    /// was read.
+    /// Creates the reading of one of `channels` channels, whose hello has to name `uuid`.
+    ///
+    /// # Errors
+    ///
+    /// `Trouble::NoMemory`.
     pub(crate) fn new(
         alloc: Global,
         page_size: PageSize,
@@ -82,12 +87,12 @@ impl Lane {
         })
     }
 
-    /// Returns whether bytes of the round in hand may still come.
+    /// Returns whether bytes of the current round may still come.
     pub(crate) fn is_pending(&self) -> bool {
         matches!(self.status(), Status::Pending)
     }
 
-    /// Returns how the channel stands at the round in hand.
+    /// Returns the channel's status in the current round.
     pub(crate) fn status(&self) -> Status {
         if self.is_whole {
             return Status::Whole;
@@ -95,7 +100,7 @@ impl Lane {
         channel_end(self.reader.state())
     }
 
-    /// Returns the id that its hello names.
+    /// Returns the id that the hello names; None until the hello is complete.
     pub(crate) fn hello(&self) -> Option<u8> {
         self.reader.hello_id()
     }
@@ -105,14 +110,18 @@ impl Lane {
         self.reader.end();
     }
 
-    /// Goes on to the next round.
+    /// Begins the next round.
     pub(crate) fn advance(&mut self) {
         self.is_whole = false;
         self.counts.round_start = self.counts.valid;
     }
 
-    /// Reads on in `piece`, up to its end or that of the round in hand. Passes the pages to `sink`.
+    /// Reads `piece` up to its end or that of the current round, and passes the pages to `sink`.
     /// Returns how many bytes were taken, and whether more are needed.
+    ///
+    /// # Errors
+    ///
+    /// `Trouble::NoMemory`, and those of `sink`.
     pub(crate) fn read<H: Files, S: PageSink<H>>(
         &mut self,
         piece: &[u8],
@@ -143,7 +152,7 @@ impl Lane {
         Ok((piece.len().saturating_sub(rest.len()), false))
     }
 
-    // Adds the packet whose head has come to the round in hand, with its pages of zeros.
+    // Adds the packet whose head has come to the current round, with its pages of zeros.
     fn begin_packet<H: Files, S: PageSink<H>>(
         &mut self,
         guest: &mut Option<Guest>,

@@ -1,10 +1,21 @@
-//! The program `zimgasol` as a function: it looks into a guest that was saved in a file, tells
-//! whether the file is whole, lists what it has, and takes the memory out.
+//! The program `zimgasol` as a function: it verifies a guest that was saved in a file, lists what
+//! the file has, extracts the memory, compares two, and saves memory as a stream.
 //!
-//! `run` is passed the words, the standard streams and files. A stream is read in pieces, and each
-//! page is passed on as it comes (`survey`), so nothing keeps a guest: `verifying` and `inspecting`
-//! count the pages, `extracting` writes them into files. What the libraries read and refuse is
-//! theirs (`mig_stream`); here are the words, files, and what is printed.
+//! `run` is passed the words, the standard streams and files. The libraries read streams and
+//! channels, and define their faults (`mig_stream`, `mig_packet`); here are words, files and
+//! output.
+//!
+//! | Modules | What they do |
+//! |---|---|
+//! | `running`, `words`, `block_words`, `channel_words` | what the words ask for, and the status |
+//! | `survey`, `libvirt`, `between`, `heads`, `place` | read a single stream, in pieces |
+//! | `several`, `main_stream`, `channel`, `lane`, `sections`, `guest` | read several channels |
+//! | `verifying`, `missing`, `inspecting`, `advice`, `several_..` | print what was read |
+//! | `extracting`, `block_file`, `target`, `folder` | write each block into a file |
+//! | `saving`, `plan`, `send`, `saving_channels`, `packets`, `pages` | make a stream of files |
+//! | `comparing`, `differing` | list the pages that differ |
+//!
+//! A page is passed to a `PageSink` as it comes, so that no guest is kept.
 #![tactic(auto)]
 
 mod advice;

@@ -1,30 +1,31 @@
-//! The header that libvirt puts before QEMU's stream in the file of `virsh save`
+//! Reads the header that libvirt puts before QEMU's stream in the file of `virsh save`
 //! (`virQEMUSaveHeader` in libvirt's `src/qemu/qemu_saveimage.h`).
 
 use crate::trouble::Trouble;
 
-/// How many bytes the header has before its XML.
+/// The bytes of the header, before its XML.
 const HEADER_LEN: usize = 92;
 
-/// What the file of a save that was completed begins with.
+/// The first bytes of a file whose save was completed.
 const MAGIC: &[u8] = b"LibvirtQemudSave";
 
-/// What it begins with until it is complete.
+/// The first bytes of a file until its save is completed.
 const PARTIAL_MAGIC: &[u8] = b"LibvirtQemudPart";
 
 /// The version of the header.
 const VERSION: u32 = 2;
 
-/// A header of libvirt's, of a save whose stream follows as QEMU wrote it.
+/// A header of libvirt's, after which the stream follows as QEMU wrote it.
 #[derive(Clone, Copy)]
 pub(crate) struct LibvirtHeader {
-    /// How many bytes stand before QEMU's stream: the header, the XML and the cookie.
+    /// The bytes before QEMU's stream: the header, the XML and the cookie.
     pub len: u64,
     /// Whether the guest was running when it was saved.
     pub was_running: bool,
 }
 
-// Returns the number at a place, in the order of bytes in which the version is one.
+// Returns the number of 4 bytes at the byte `at`, little-endian where `is_little`; 0 where there is
+// none.
 fn field(bytes: &[u8], at: usize, is_little: bool) -> u32 {
     let Some(rest) = bytes.get(at..) else {
         return 0;
@@ -36,7 +37,7 @@ fn field(bytes: &[u8], at: usize, is_little: bool) -> u32 {
     }
 }
 
-// Returns why the stream of a header can't be read, by the number of its format.
+// Returns why a stream in the format `format` can't be read.
 fn format_trouble(format: u32) -> &'static str {
     match format {
         1 => "libvirt compressed the stream with gzip; save it with save_image_format = \"raw\"",
@@ -49,7 +50,12 @@ fn format_trouble(format: u32) -> &'static str {
     }
 }
 
-/// Returns the header that the first bytes of a file have; None where it is no file of libvirt's.
+/// Returns the header at the beginning of a file; None where the file isn't libvirt's.
+///
+/// # Errors
+///
+/// `Trouble::Libvirt` where the save was never completed, the header is cut or has another version,
+/// or the stream is compressed or sparse.
 pub(crate) fn header_of(bytes: &[u8]) -> Result<Option<LibvirtHeader>, Trouble> {
     if bytes.starts_with(PARTIAL_MAGIC) {
         return Err(Trouble::Libvirt("libvirt never completed this save"));

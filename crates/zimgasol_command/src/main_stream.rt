@@ -1,4 +1,4 @@
-//! The main stream beside channels: how far it was read.
+//! Reads the main stream beside channels, round by round.
 
 ghost use Rattle.std.specs.Prelude.{◌≡◌, ◌+◌, ◌<◌, ◌≤◌, ◌^◌, length};
 
@@ -16,18 +16,18 @@ use std::alloc::{AllocGlobal, Global};
 use std::fs::Files;
 use std::io::Read;
 
-/// How far a main stream was read.
+/// The reading of a main stream.
 #[derive(Drop)]
 pub(crate) struct MainStream {
     reader: StreamReader<'static>,
     pieces: Pieces,
     sections: Sections,
-    // whether the round in hand has come
+    // whether the current round is complete
     is_whole: bool,
 }
 
 impl MainStream {
-    /// Creates the main stream of which nothing was read.
+    /// Creates the reading of a main stream, of which nothing was read.
     pub(crate) fn new(alloc: Global, words: &StreamWords<'_>) -> Result<MainStream, Trouble> {
         let page_size = words.page_size.bytes();
         Ok(MainStream {
@@ -38,8 +38,12 @@ impl MainStream {
         })
     }
 
-    /// Reads up to the end of the round in hand. Creates the guest once the table is known, and
+    /// Reads up to the end of the current round. Creates the guest once the table is known, and
     /// passes the pages to `sink`.
+    ///
+    /// # Errors
+    ///
+    /// `Trouble::Unread` where a read fails, `Trouble::NoMemory`, and those of `sink`.
     pub(crate) fn read_round<H: AllocGlobal + Files, R: Read, S: PageSink<H>>(
         &mut self,
         rt: &H,
@@ -61,6 +65,7 @@ impl MainStream {
         Ok(())
     }
 
+    // Returns whether the stream goes on.
     fn is_reading(&self) -> bool {
         matches!(self.reader.state(), StreamState::Reading)
     }
@@ -99,7 +104,7 @@ impl MainStream {
         Ok(())
     }
 
-    // Takes the records of the round in hand, if they have come. Returns whether they have.
+    // Takes the records of the current round, if it is complete. Returns whether it is.
     fn take_round<H: Files, S: PageSink<H>>(
         &mut self,
         guest: &mut Option<Guest>,
@@ -118,7 +123,11 @@ impl MainStream {
         }
     }
 
-    /// Reads the rest of the input, which is only counted.
+    /// Reads the rest of `input`, and counts its bytes.
+    ///
+    /// # Errors
+    ///
+    /// `Trouble::Unread` where a read fails.
     pub(crate) fn read_rest<R: Read>(&mut self, input: &mut R) -> Result<(), Trouble> {
         for _ in 0..u64::MAX {
             self.pieces.take_all();
@@ -129,7 +138,7 @@ impl MainStream {
         Ok(())
     }
 
-    /// Returns how the main stream stands at the round in hand.
+    /// Returns the main stream's status in the current round.
     pub(crate) fn status(&self) -> Status {
         if self.is_whole {
             return Status::Whole;
@@ -137,22 +146,22 @@ impl MainStream {
         stream_end(self.reader.state())
     }
 
-    /// Goes on to the next round.
+    /// Begins the next round.
     pub(crate) fn advance(&mut self) {
         self.is_whole = false;
     }
 
-    /// Returns what stands between the sections that were read.
+    /// Returns the items between the sections that were read.
     pub(crate) fn read_notes(&self) -> &[Note] {
         self.sections.notes(self.valid())
     }
 
-    /// Returns how many sections are whole, and which is open.
+    /// Returns how many sections are complete, and the kind of the one that is open.
     pub(crate) fn section(&self) -> (u64, Option<SectionKind>) {
         (self.sections.count, self.sections.kind(self.valid()))
     }
 
-    /// Returns how many bytes of the stream are whole items without a fault.
+    /// Returns how many bytes of the stream are complete items without a fault.
     pub(crate) fn valid(&self) -> u64 {
         self.reader.valid_up_to()
     }

@@ -1,4 +1,4 @@
-//! The note of a whole stream in which a block has fewer page records than pages.
+//! Notes which blocks of a complete stream have fewer page records than pages.
 //!
 //! A main stream of QEMU 7.2 whose pages went over multifd's channels reads as whole, and has no
 //! records of those pages. A stream of the changes since another one has few records too.
@@ -12,7 +12,7 @@ use std::alloc::Global;
 use std::io::Write;
 use zimgasol_names::shown;
 
-/// How many blocks have a line of their own.
+/// The most blocks that have a line of their own.
 const MOST_LINES: u64 = 4;
 
 // Returns where the other pages may be.
@@ -23,7 +23,7 @@ fn whereabouts(frame: Frame) -> &'static str {
     }
 }
 
-// Writes the line of a block.
+// Writes the line of a block; `others` says where its other pages may be.
 fn put_block<E: Write>(
     alloc: Global,
     errors: &mut E,
@@ -45,7 +45,7 @@ fn put_block<E: Write>(
     Ok(())
 }
 
-// Writes the lines of the first blocks. Returns how many blocks there are.
+// Writes the lines of the first blocks that lack records. Returns how many blocks lack them.
 fn put_blocks<E: Write>(
     alloc: Global,
     errors: &mut E,
@@ -65,8 +65,12 @@ fn put_blocks<E: Write>(
     Ok(count)
 }
 
-/// Writes a line for each block of a whole stream that has fewer records than pages, and after the
-/// first four of them how many more there are.
+/// Writes which blocks of a complete stream have fewer records than pages; nothing of a stream with
+/// a fault, or of one that is laid over other memory.
+///
+/// # Errors
+///
+/// `Trouble::NoMemory`.
 pub(crate) fn put_missing<E: Write>(
     alloc: Global,
     errors: &mut E,
@@ -82,8 +86,12 @@ pub(crate) fn put_missing<E: Write>(
     }
 }
 
-/// Writes a line for each block that has fewer records than pages, and after the first four of them
-/// how many more there are; `others` says what the other pages may be.
+/// Writes a line for each block that has fewer records than pages, and after four lines how many
+/// more blocks there are. `others` says where their other pages may be.
+///
+/// # Errors
+///
+/// `Trouble::NoMemory`.
 pub(crate) fn put_few<E: Write>(
     alloc: Global,
     errors: &mut E,

@@ -1,4 +1,4 @@
-//! A file that is read, with its name for messages.
+//! Opens a file for reading, and keeps its name for messages.
 
 ghost use Rattle.std.specs.Prelude.{◌≡◌, ◌≤◌, length, IfOk};
 
@@ -19,7 +19,11 @@ pub(crate) struct Opened<F: Drop> {
     file: F,
 }
 
-/// Opens a file to read it.
+/// Opens the file `path` for reading.
+///
+/// # Errors
+///
+/// `Trouble::OfFile` where it can't be opened, `Trouble::NoMemory`.
 pub(crate) fn open<H: Files>(
     rt: &H,
     alloc: Global,
@@ -35,7 +39,7 @@ pub(crate) fn open<H: Files>(
     }
 }
 
-/// Returns the trouble of a file or a folder that isn't what is needed.
+/// Returns the trouble of the file or folder `path`, which isn't what is needed.
 pub(crate) fn unfit(alloc: Global, path: &str, why: Unfit) -> Trouble {
     match shown_name(alloc, path) {
         Ok(path) => Trouble::Unfit(path, why),
@@ -44,7 +48,11 @@ pub(crate) fn unfit(alloc: Global, path: &str, why: Unfit) -> Trouble {
 }
 
 impl<F: Read + OpenFile + Drop> Opened<F> {
-    /// Reads until the buffer is full or the file is over. Returns how many bytes it read.
+    /// Reads until `buffer` is full or the file ends. Returns how many bytes it read.
+    ///
+    /// # Errors
+    ///
+    /// `Trouble::OfFile` where a read fails.
     pub(crate) fn read(&mut self, buffer: &mut [u8]) -> Result<usize, Trouble>
         ensures len { length buffer.new ≡ length buffer.old }
         ensures count { IfOk result (λ n. n ≤ length buffer.old) }
@@ -56,7 +64,12 @@ impl<F: Read + OpenFile + Drop> Opened<F> {
         }
     }
 
-    /// Reads the next piece, if no byte of the last one waits. Returns whether bytes wait.
+    /// Reads the next piece into `pieces`, if no byte of the last one waits. Returns whether bytes
+    /// wait.
+    ///
+    /// # Errors
+    ///
+    /// `Trouble::OfFile` where a read fails.
     pub(crate) fn refill(&mut self, pieces: &mut Pieces) -> Result<bool, Trouble> {
         match pieces.refill(&mut self.file) {
             Ok(is_there) => Ok(is_there),
@@ -65,7 +78,11 @@ impl<F: Read + OpenFile + Drop> Opened<F> {
         }
     }
 
-    /// Returns how many bytes the file has.
+    /// Returns the length of the file in bytes; 0 of a pipe.
+    ///
+    /// # Errors
+    ///
+    /// `Trouble::OfFile` where the system doesn't report it.
     pub(crate) fn len(&self) -> Result<u64, Trouble> {
         match self.file.metadata() {
             Ok(metadata) => Ok(metadata.len()),
@@ -73,7 +90,7 @@ impl<F: Read + OpenFile + Drop> Opened<F> {
         }
     }
 
-    /// Returns the trouble of a file that isn't what is needed.
+    /// Returns the trouble of this file, which isn't what is needed.
     pub(crate) fn unfit(&self, why: Unfit) -> Trouble {
         unfit(self.alloc, &self.path, why)
     }

@@ -1,8 +1,8 @@
-//! The packets that `save` writes on channels: each has the pages of one block that differ, as many as
-//! a packet takes, and goes on the next channel in turn.
+//! Writes the packets of `save --channels`. Each has pages of one block that differ, as many as it
+//! takes, and goes on the next channel in turn.
 //!
-//! The first round is empty, since QEMU 10 and 11 crash on channels whose first packets have pages. The
-//! second one has all pages.
+//! The first round is empty, since QEMU 10 and 11 crash on channels whose first packets have pages.
+//! The second one has all pages.
 
 ghost use Rattle.std.specs.Prelude.{◌≡◌, ◌+◌, ◌*◌, ◌<◌, ◌≤◌, ◌^◌, length, OnOk, IsTrue};
 ghost use Rattle.mig_packet.specs.PageSize.{IsPageSize, page_limit};
@@ -25,17 +25,18 @@ use uuid::Uuid;
 /// The most bytes of an id in a packet.
 const MOST_ID_LEN: usize = 255;
 
-// The pages of one block that are to go into a packet.
+// Pages of one block that go into a packet.
 #[derive(Drop)]
 struct Batch {
     block: usize,
-    // the offsets of pages with their contents one after the other, and those of pages of zeros
+    // the offsets of pages with contents, their contents, and the offsets of pages of zeros
     normal: Vec<u64>,
     contents: Vec<u8>,
     zeros: Vec<u64>,
 }
 
 impl Batch {
+    // Creates a batch without pages.
     fn new(alloc: Global) -> Batch {
         Batch {
             block: 0,
@@ -50,7 +51,7 @@ impl Batch {
         self.normal.len().saturating_add(self.zeros.len())
     }
 
-    // Adds a page at an offset of the block.
+    // Adds the page at the byte `offset` of the block.
     fn add(&mut self, offset: u64, content: &[u8]) -> Result<(), NoMemory> {
         if is_zero(content) {
             self.zeros.push(offset)?;
@@ -61,14 +62,14 @@ impl Batch {
         Ok(())
     }
 
-    // Forgets the pages.
+    // Removes all pages.
     fn clear(&mut self) {
         self.normal.clear();
         self.contents.clear();
         self.zeros.clear();
     }
 
-    // Returns whether a packet of a block with this id takes the pages.
+    // Returns whether a packet of the block `id` takes the pages.
     fn fits(&self, page_size: u64, id: &[u8]) -> bool
         requires { IsPageSize page_size }
         ensures few { IsTrue result → length self.now.normal.items + length self.now.zeros.items ≤ page_limit page_size }
@@ -87,7 +88,7 @@ impl Batch {
     }
 }
 
-// Writes the packet of a number into a buffer, in place of what it held.
+// Writes the packet `number` of a batch into `bytes`, in place of what these were.
 fn write_packet(
     page_size: u64,
     bytes: &mut Vec<u8>,
@@ -116,21 +117,20 @@ pub(crate) struct PacketSending<F: Drop> {
     main: StreamWriter,
     channels: Vec<Outlet<F>>,
     batch: Batch,
-    // what a packet of no pages is made of
+    // a batch without pages
     none: Batch,
-    // the number of the next packet, and the channel that it goes on
+    // the number of the next packet, and the channel that the next batch goes on
     number: u64,
     turn: usize,
-    // the bytes that were written last
+    // the packet that was written last
     bytes: Vec<u8>,
-    /// How many pages were sent.
+    /// The pages that were sent.
     pub pages: u64,
-    /// How many bytes were written on the main stream.
+    /// The bytes of the main stream that were written.
     pub written: u64,
 }
 
-// Writes the first bytes of a main stream, and returns the writer of the others with how many they
-// are.
+// Writes the first bytes of a main stream. Returns how many they are, and the writer of the others.
 fn begin_main<W: Write>(
     alloc: Global,
     out: &mut W,
@@ -148,7 +148,7 @@ fn begin_main<W: Write>(
     Ok((first.len() as u64, main))
 }
 
-// Writes the hello of a channel, which has the number of a byte.
+// Writes the hello of the channel `number`.
 fn put_hello<F: Write + OpenFile + Drop>(
     channel: &mut Outlet<F>,
     uuid: &Uuid,
@@ -161,8 +161,14 @@ fn put_hello<F: Write + OpenFile + Drop>(
 }
 
 impl<F: Write + OpenFile + Drop> PacketSending<F> {
-    /// Begins a main stream, of a machine of this name if there is one, and channels under `uuid`,
-    /// each with its hello, and sends the empty round.
+    /// Begins a main stream and its channels, with a hello under `uuid` on each, and sends the
+    /// empty round. The machine's name has at most 1,024 bytes; without one no configuration is
+    /// written.
+    ///
+    /// # Errors
+    ///
+    /// `Trouble::Output` where `out` can't be written, `Trouble::OfFile` of a channel,
+    /// `Trouble::NoMemory`.
     pub(crate) fn begin<W: Write>(
         alloc: Global,
         out: &mut W,
@@ -190,7 +196,7 @@ impl<F: Write + OpenFile + Drop> PacketSending<F> {
         Ok(sending)
     }
 
-    // Writes the packet of the pages that are to go into one into the buffer.
+    // Writes the packet of the batch into the buffer.
     fn write_batch(&mut self) -> Result<(), Trouble> {
         let table = self.main.table();
         table.keeps_limits();
@@ -219,7 +225,7 @@ impl<F: Write + OpenFile + Drop> PacketSending<F> {
         Ok(())
     }
 
-    // Puts the packet in the buffer on a channel.
+    // Writes the packet in the buffer on a channel, and counts it.
     fn put_packet(&mut self, channel: usize) -> Result<(), Trouble> {
         self.number = self.number.saturating_add(1);
         match self.channels.get_mut(channel) {
@@ -228,7 +234,7 @@ impl<F: Write + OpenFile + Drop> PacketSending<F> {
         }
     }
 
-    // Sends the pages that are to go into a packet, if there are any.
+    // Sends the batch, if it has pages.
     fn send_batch(&mut self) -> Result<(), Trouble> {
         if self.batch.len() == 0 {
             return Ok(());
@@ -256,7 +262,8 @@ impl<F: Write + OpenFile + Drop> PacketSending<F> {
         Ok(())
     }
 
-    // Adds a page of a block. Returns whether the stream has a place for it.
+    // Adds a page to the batch, which is sent first where it is full or of another block. Returns
+    // whether the stream's table has `place`.
     fn add(&mut self, place: Place, content: &[u8]) -> Result<bool, Trouble> {
         let table = self.main.table();
         let page_size = table.page_size();
@@ -274,9 +281,14 @@ impl<F: Write + OpenFile + Drop> PacketSending<F> {
         Ok(true)
     }
 
-    /// Ends the main stream: with the end byte; a machine's stream after RAM's END with the byte that
-    /// ends it all (`QEMU_VM_EOF`). Returns the channels, how many pages were sent, and how many bytes
-    /// were written on the main stream.
+    /// Ends the main stream: one of RAM with its end byte, a machine's with RAM's END and the byte
+    /// `QEMU_VM_EOF`. Returns the channels, how many pages were sent, and how many bytes were
+    /// written on the main stream.
+    ///
+    /// # Errors
+    ///
+    /// `Trouble::Output` where `out` can't be written, `Trouble::OfFile` of a channel,
+    /// `Trouble::NoMemory`.
     pub(crate) fn finish<W: Write>(
         mut self,
         out: &mut W,

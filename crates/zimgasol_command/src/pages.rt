@@ -1,4 +1,4 @@
-//! Files that are read side by side, some pages at a time, for the pages that differ.
+//! Reads a file and an older one side by side, some pages at a time, for the pages that differ.
 
 ghost use Rattle.std.specs.Prelude.{◌≡◌, ◌≤◌, ◌↔◌, ◌/◌, ◌<◌, length, IsSome, IfSome, IsTrue};
 ghost use Rattle.zimgasol_command.specs.Differing.{HasPage, page_of, piece_of, Differs};
@@ -9,19 +9,19 @@ use std::alloc::Global;
 use std::fs::OpenFile;
 use std::io::Read;
 
-/// How many pages are read at once, and so how many a section has at most.
+/// The pages that are read at once, and so the most pages of a section.
 pub(crate) const PIECE_PAGES: usize = 256;
 
-/// Pages that follow one another in a block, and those that stood at their places before.
+/// Consecutive pages of a block, and the older ones at their places.
 #[derive(Clone, Copy)]
 pub(crate) struct Pages<'a> {
     pub bytes: &'a [u8],
-    /// None where all pages count as different.
+    /// The older bytes; None where all pages count as different.
     pub before: Option<&'a [u8]>,
     pub page_size: usize,
 }
 
-// Returns a page of those that follow one another; None past the last one that is whole.
+// Returns the page `page` of `bytes`; None past the last complete one.
 fn page_at(bytes: &[u8], page: usize, page_size: usize) -> Option<&[u8]>
     ensures there { IsSome result ↔ HasPage page_size bytes.now page }
     ensures value { IfSome result (λ bytes_there. bytes_there.now ≡ page_of page_size bytes.now page) }
@@ -41,7 +41,7 @@ impl<'a> Pages<'a> {
         }
     }
 
-    /// Returns a page, if it differs from the one before.
+    /// Returns the page `page`, if it differs from the older one.
     pub(crate) fn differing(&self, page: usize) -> Option<&'a [u8]>
         ensures differs { IsSome result ↔ Differs (piece_of self.now) page }
         ensures value { IfSome result (λ bytes. bytes.now ≡ page_of self.now.page_size self.now.bytes.now page) }
@@ -67,7 +67,7 @@ impl<'a> Pages<'a> {
     }
 }
 
-/// A file, and the one before it, that are read.
+/// The reading of a file and an older one.
 #[derive(Drop)]
 pub(crate) struct Reading<F: Drop> {
     file: Opened<F>,
@@ -80,7 +80,7 @@ pub(crate) struct Reading<F: Drop> {
 }
 
 impl<F: Read + OpenFile + Drop> Reading<F> {
-    /// Creates one that has read nothing.
+    /// Creates the reading of `file` and the older file `before`, of which nothing was read.
     pub(crate) fn new(
         alloc: Global,
         file: Opened<F>,
@@ -103,6 +103,10 @@ impl<F: Read + OpenFile + Drop> Reading<F> {
     }
 
     /// Reads the next pages. Returns whether there are any.
+    ///
+    /// # Errors
+    ///
+    /// `Trouble::OfFile` where a read fails.
     pub(crate) fn read_on(&mut self) -> Result<bool, Trouble> {
         self.len = self.file.read(&mut self.bytes)?;
         if let Some(before) = &mut self.before {
@@ -111,7 +115,7 @@ impl<F: Read + OpenFile + Drop> Reading<F> {
         Ok(self.len != 0)
     }
 
-    /// Returns the trouble of the file, whose length isn't what it was before.
+    /// Returns the trouble of the file, whose length has changed.
     pub(crate) fn changed(&self) -> Trouble {
         self.file.unfit(Unfit::Changed)
     }

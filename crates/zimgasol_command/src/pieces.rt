@@ -1,4 +1,4 @@
-//! An input that is read piece after piece, with what waits of the piece that was read last.
+//! Reads one of several inputs in pieces, and keeps what waits of the last piece.
 
 ghost use Rattle.std.specs.Prelude.{◌≤◌};
 
@@ -7,7 +7,7 @@ use crate::trouble::Trouble;
 use std::alloc::Global;
 use std::io::Read;
 
-/// How many bytes a piece has at most, where several inputs are read.
+/// The most bytes of a piece, where several inputs are read.
 const PIECE_LEN: usize = 131_072;
 
 /// The piece that was read last.
@@ -17,12 +17,12 @@ pub(crate) struct Pieces {
     // the bytes that wait begin and end here
     start: usize,
     end: usize,
-    /// How many bytes were read of the input.
+    /// The bytes of the input that were read.
     pub read: u64,
 }
 
 impl Pieces {
-    /// Creates those of an input of which nothing was read.
+    /// Creates an empty piece: nothing of the input was read.
     pub(crate) fn new(alloc: Global) -> Result<Pieces, Trouble> {
         let buffer = vec![in alloc; 0u8; PIECE_LEN]?;
         Ok(Pieces {
@@ -33,8 +33,12 @@ impl Pieces {
         })
     }
 
-    /// Reads the next piece, if no byte waits. Returns whether bytes wait: where none does, the input
-    /// is over.
+    /// Reads the next piece, if no byte waits. Returns whether bytes wait: where none does, the
+    /// input has ended.
+    ///
+    /// # Errors
+    ///
+    /// `Trouble::Unread` where a read fails.
     pub(crate) fn refill<R: Read>(&mut self, input: &mut R) -> Result<bool, Trouble> {
         if self.start < self.end {
             return Ok(true);

@@ -1,4 +1,4 @@
-//! Where a stream has a fault, and which it is.
+//! Locates the fault of a single stream: byte, section and block.
 
 use crate::between::SectionKind;
 use crate::survey::Survey;
@@ -6,16 +6,16 @@ use mig_stream::{StreamFault, StreamState};
 use std::alloc::{AllocError, Global};
 use zimgasol_names::shown;
 
-/// A fault of a stream, with its place in the file.
+/// A fault of a stream, and where in the file it is.
 #[derive(Clone, Copy)]
 pub(crate) struct FaultPlace {
     pub fault: StreamFault,
     /// The byte of the file at which the item with the fault begins; of a stream that was cut, the
     /// byte at which the file ends.
     pub byte: u64,
-    /// How many sections are whole before it.
+    /// The complete sections before it.
     pub sections: u64,
-    /// The section that it is in; None between two sections.
+    /// The kind of the section that it is in; None between two sections.
     pub kind: Option<SectionKind>,
 }
 
@@ -34,8 +34,8 @@ pub(crate) fn fault_of(survey: &Survey) -> Option<FaultPlace> {
     })
 }
 
-// Returns the section that the stream was read into; None where it was read to the end of one. What
-// stands after the fault was looked at too.
+// Returns the kind of the section in which the reading stopped; None between two sections. A
+// section after the fault doesn't count.
 fn kind_at(survey: &Survey) -> Option<SectionKind> {
     match survey.between.open {
         Some((kind, at)) if at < survey.valid => Some(kind),
@@ -43,7 +43,7 @@ fn kind_at(survey: &Survey) -> Option<SectionKind> {
     }
 }
 
-// Returns the id of the block of the last page record, as it is shown.
+// Returns the id of the block of the last page record, as it is printed.
 fn last_id(alloc: Global, survey: &Survey) -> Result<Option<String>, AllocError> {
     let Some(place) = survey.last else {
         return Ok(None);
@@ -57,8 +57,8 @@ fn last_id(alloc: Global, survey: &Survey) -> Result<Option<String>, AllocError>
     Ok(Some(shown(alloc, blocks.table.id(place.block))?))
 }
 
-/// Returns the id of the block at a fault, as it is shown: that which the item with the fault names,
-/// or else that of the last page record. None outside the sections that have page records.
+/// Returns the id of the block at a fault, as it is printed: the one that the item with the fault
+/// names, or else that of the last page record. None outside the sections that have page records.
 pub(crate) fn block_at(alloc: Global, survey: &Survey) -> Result<Option<String>, AllocError> {
     match kind_at(survey) {
         Some(SectionKind::Part | SectionKind::End) => {}

@@ -1,4 +1,4 @@
-//! What `save` is to send: the blocks, their files, and the files that stand for what was before.
+//! Plans what `save` sends: the blocks, their files, and those of `--since`.
 
 ghost use Rattle.mig_mem.specs.PageSize.{IsPageSize};
 
@@ -18,9 +18,9 @@ use zimgasol_names::shown;
 #[derive(Drop)]
 pub(crate) struct Source<'a> {
     pub word: BlockWord<'a>,
-    /// How many bytes its file has.
+    /// The bytes of its file.
     pub len: u64,
-    /// The path of the file with what it had before.
+    /// The path of its file in the folder of `--since`.
     pub before: Option<String>,
 }
 
@@ -42,7 +42,7 @@ impl Plan<'_> {
     }
 }
 
-/// Returns the trouble of words that are wrong.
+/// Returns the trouble of the value `word` of `option`, which is wrong.
 pub(crate) fn wrong(alloc: Global, option: &str, word: &str, why: &'static str) -> Trouble {
     match named_word(alloc, option, word) {
         Ok(words) => Trouble::Words(words, why),
@@ -50,12 +50,13 @@ pub(crate) fn wrong(alloc: Global, option: &str, word: &str, why: &'static str) 
     }
 }
 
+// Returns an option with its value, as they are printed.
 fn named_word(alloc: Global, option: &str, word: &str) -> Result<String, AllocError> {
     let word = shown(alloc, word.as_bytes())?;
     format!(in alloc; "{option} \"{word}\"")
 }
 
-// Refuses a file whose length is none of a block.
+// Refuses a file whose length is no block's.
 fn check_len(alloc: Global, file: &str, len: u64, page_size: u64) -> Result<(), Trouble> {
     if len == 0 {
         return Err(unfit(alloc, file, Unfit::Empty));
@@ -66,7 +67,7 @@ fn check_len(alloc: Global, file: &str, len: u64, page_size: u64) -> Result<(), 
     Ok(())
 }
 
-// Returns the path of what a block had before.
+// Returns the path of a block's file in the folder of `--since`.
 fn before_in(
     alloc: Global,
     since: &Folder,
@@ -77,7 +78,7 @@ fn before_in(
     Ok(block.path.clone()?)
 }
 
-// Returns the block that a word names.
+// Returns the block that `word` names.
 fn source_of<'a, H: AllocGlobal + Files>(
     rt: &H,
     word: &'a str,
@@ -97,6 +98,7 @@ fn source_of<'a, H: AllocGlobal + Files>(
     Ok(Source { word, len, before })
 }
 
+// Returns the blocks that the words name.
 fn sources_of<'a, H: AllocGlobal + Files>(
     rt: &H,
     words: &SaveWords<'a>,
@@ -110,7 +112,7 @@ fn sources_of<'a, H: AllocGlobal + Files>(
     Ok(sources)
 }
 
-// Returns the trouble of a word whose block can't be in a table.
+// Returns the trouble of the word whose block has the number `number`.
 fn word_trouble(
     alloc: Global,
     sources: &[Source<'_>],
@@ -123,6 +125,7 @@ fn word_trouble(
     }
 }
 
+// Returns the trouble of blocks that make no table.
 fn table_trouble(alloc: Global, sources: &[Source<'_>], fault: TableFault) -> Trouble {
     match fault {
         TableFault::NoMemory => Trouble::NoMemory,
@@ -159,7 +162,7 @@ fn table_of(alloc: Global, page_size: u64, sources: &[Source<'_>]) -> Result<Tab
     }
 }
 
-// Refuses a machine's name that the stream can't have.
+// Refuses a machine's name that doesn't go into the stream.
 fn check_machine(alloc: Global, words: &SaveWords<'_>) -> Result<(), Trouble> {
     let Some(name) = words.machine else {
         return Ok(());
@@ -173,7 +176,13 @@ fn check_machine(alloc: Global, words: &SaveWords<'_>) -> Result<(), Trouble> {
     }
 }
 
-/// Returns what the words ask to send.
+/// Returns the plan of what the words ask for.
+///
+/// # Errors
+///
+/// `Trouble::Words` of words that are wrong, `Trouble::Unfit` of a file that is no block's memory
+/// or isn't in the folder of `--since`, `Trouble::TooLarge`, and `Trouble::OfFile` where a file
+/// can't be opened.
 pub(crate) fn plan_of<'a, H: AllocGlobal + Files>(
     rt: &H,
     words: &SaveWords<'a>,

@@ -34,8 +34,10 @@ pub const WORDS: u8 = 2;
 /// The status of a file or a stream that can't be read or written, or of no memory.
 pub const FAILED: u8 = 3;
 
-/// Runs the program: does what the words ask for, and returns the status. The words are those after
-/// the program's name.
+/// Runs the program on `words`, those after its name, and returns the status: 0 where all is well,
+/// 1 where something is refused or differs, `WORDS` or `FAILED`.
+///
+/// What went wrong is written to `errors`. A line that `errors` doesn't take changes no status.
 pub fn run<H: AllocGlobal + Files + Clock, R: Read, W: Write, E: Write>(
     rt: &H,
     words: &[String],
@@ -51,7 +53,7 @@ pub fn run<H: AllocGlobal + Files + Clock, R: Read, W: Write, E: Write>(
     }
 }
 
-// Prints what is to be said of the words, and returns the status.
+// Prints help, version, or why the words are wrong, and returns the status.
 fn said<W: Write, E: Write>(output: &mut W, errors: &mut E, error: &Error) -> u8
     ensures { result ≤ 3 }
 {
@@ -72,7 +74,7 @@ fn said<W: Write, E: Write>(output: &mut W, errors: &mut E, error: &Error) -> u8
     }
 }
 
-// Does what is asked for, and returns the status.
+// Does what `request` asks for, and returns the status.
 fn done<H: AllocGlobal + Files + Clock, R: Read, W: Write, E: Write>(
     rt: &H,
     request: &Request<'_>,
@@ -108,7 +110,7 @@ fn done<H: AllocGlobal + Files + Clock, R: Read, W: Write, E: Write>(
     }
 }
 
-// Returns the status that goes with what went wrong.
+// Returns the status of `trouble`.
 fn trouble_status(trouble: &Trouble) -> u8
     ensures { result ≤ 3 }
 {
@@ -121,7 +123,7 @@ fn trouble_status(trouble: &Trouble) -> u8
     }
 }
 
-// Returns the status that goes with a file that isn't what is needed.
+// Returns the status of a file or a folder that isn't what is needed.
 fn unfit_status(why: Unfit) -> u8
     ensures { result ≤ 3 }
 {
@@ -131,7 +133,7 @@ fn unfit_status(why: Unfit) -> u8
     }
 }
 
-// Writes the line of what went wrong, with the file's name as it is shown.
+// Writes the line of `trouble`, about the file `name`.
 fn put_named_trouble<E: Write>(
     alloc: Global,
     errors: &mut E,
@@ -144,7 +146,7 @@ fn put_named_trouble<E: Write>(
     }
 }
 
-// Writes the line of what went wrong.
+// Writes the line of `trouble`; `name` is printable.
 fn put_trouble<E: Write>(errors: &mut E, name: &str, trouble: &Trouble) -> io::Result<()> {
     match trouble {
         Trouble::NoMemory => writeln!(errors, "zimgasol: no memory"),
@@ -166,7 +168,7 @@ fn put_trouble<E: Write>(errors: &mut E, name: &str, trouble: &Trouble) -> io::R
     }
 }
 
-// Writes the line of a file that isn't what is needed.
+// Writes the line of a file or a folder that isn't what is needed.
 fn put_unfit<E: Write>(errors: &mut E, name: &str, why: Unfit) -> io::Result<()> {
     match why {
         Unfit::Pages(len, size) => writeln!(
@@ -196,7 +198,13 @@ fn put_unfit<E: Write>(errors: &mut E, name: &str, why: Unfit) -> io::Result<()>
     }
 }
 
-/// Reads a stream, from its file or from the standard input, and passes its pages to `sink`.
+/// Reads a stream to its end, from its file or from `input`, and passes its pages to `sink`. A
+/// fault of the stream is no error: the survey has it.
+///
+/// # Errors
+///
+/// `Trouble::Unread` where the file can't be opened or read, `Trouble::Libvirt` of libvirt's
+/// header, `Trouble::NoMemory`, and those of `sink`.
 pub(crate) fn read_stream<H: AllocGlobal + Files + Clock, R: Read, S: PageSink<H>, E: Write>(
     rt: &H,
     words: &StreamWords<'_>,
@@ -224,6 +232,7 @@ pub(crate) fn read_stream<H: AllocGlobal + Files + Clock, R: Read, S: PageSink<H
     Ok(survey)
 }
 
+// Reads a stream, with its channels, and prints whether it is complete. Returns whether it is.
 fn verify<H: AllocGlobal + Files + Clock, R: Read, W: Write, E: Write>(
     rt: &H,
     words: &StreamWords<'_>,
@@ -242,6 +251,7 @@ fn verify<H: AllocGlobal + Files + Clock, R: Read, W: Write, E: Write>(
     several.put_judgement(alloc, output, errors, &name, words.talk)
 }
 
+// Reads a stream, with its channels, and lists what it has. Returns whether it is complete.
 fn inspect<H: AllocGlobal + Files + Clock, R: Read, W: Write, E: Write>(
     rt: &H,
     words: &StreamWords<'_>,

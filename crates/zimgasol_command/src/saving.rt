@@ -1,7 +1,7 @@
-//! `save`: a single stream made of files with the memory of blocks.
+//! `save`: makes a single stream of files with the memory of blocks.
 //!
-//! Each file is read some pages at a time, and each piece is sent as a section of its own, so that
-//! nothing keeps a guest.
+//! Each file is read in pieces of 256 pages, and each piece is sent as a section, so that no guest
+//! is kept.
 
 use crate::opened::open;
 use crate::pages::{Pages, Reading};
@@ -21,15 +21,15 @@ use zimgasol_names::shown_name;
 /// What was saved.
 #[derive(Clone, Copy)]
 pub(crate) struct Saved {
-    /// How many pages.
+    /// The pages that were sent.
     pub pages: u64,
-    /// How many bytes the stream has; the main stream, where there are channels.
+    /// The bytes of the stream; of the main stream where there are channels.
     pub bytes: u64,
-    /// How many channels there are, and how many bytes they have together.
+    /// The number of channels, and the bytes of all of them.
     pub channels: Option<(usize, u64)>,
 }
 
-// Opens the files of a block.
+// Opens the file of a block, and that of `--since`.
 fn reading_of<H: AllocGlobal + Files>(
     rt: &H,
     source: &Source<'_>,
@@ -44,20 +44,20 @@ fn reading_of<H: AllocGlobal + Files>(
     Reading::new(alloc, file, before, page_size.min(8192) as usize)
 }
 
-// Where a block is being sent.
+// A block that is being sent.
 #[derive(Clone, Copy)]
 struct Part<'a> {
     block: usize,
     pages: u64,
-    // how many bytes the blocks before it have
+    // the bytes of the blocks before it
     before: u64,
     source: &'a Source<'a>,
 }
 
-/// Takes the pieces of the blocks that are sent.
+/// Sends the pieces of blocks.
 pub(crate) trait PieceSink: Drop {
-    /// Sends the pages of a block that differ, of which the first is the page `first`; `out` takes
-    /// the stream. Returns false where the stream has no place for one of them.
+    /// Sends those of `pages` that differ; the first of `pages` is the block's page `first`. Writes
+    /// the stream to `out`. Returns false where the stream's table has no place for one of them.
     fn send<W: Write>(
         &mut self,
         out: &mut W,
@@ -67,10 +67,10 @@ pub(crate) trait PieceSink: Drop {
     ) -> Result<bool, Trouble>;
 }
 
-// A single stream.
+// Sends pieces as sections of a single stream.
 #[derive(Drop)]
 struct Single {
-    // None after a piece that wasn't sent
+    // None after a piece that couldn't be sent
     sending: Option<Sending>,
 }
 
@@ -90,7 +90,7 @@ impl PieceSink for Single {
     }
 }
 
-// Sends a block.
+// Sends a block, piece after piece.
 fn send_block<H: AllocGlobal + Files + Clock, S: PieceSink, W: Write, E: Write>(
     rt: &H,
     part: &Part<'_>,
@@ -120,7 +120,12 @@ fn send_block<H: AllocGlobal + Files + Clock, S: PieceSink, W: Write, E: Write>(
     Ok(())
 }
 
-/// Sends all blocks.
+/// Sends all blocks of `plan`, in their order.
+///
+/// # Errors
+///
+/// `Trouble::OfFile` where a file can't be read, `Trouble::Unfit` where its length has changed, and
+/// those of `sink`.
 pub(crate) fn send_blocks<H: AllocGlobal + Files + Clock, S: PieceSink, W: Write, E: Write>(
     rt: &H,
     plan: &Plan<'_>,
@@ -144,7 +149,7 @@ pub(crate) fn send_blocks<H: AllocGlobal + Files + Clock, S: PieceSink, W: Write
     Ok(())
 }
 
-// Writes the stream.
+// Writes the whole stream to `out`.
 fn write_stream<H: AllocGlobal + Files + Clock, W: Write, E: Write>(
     rt: &H,
     words: &SaveWords<'_>,
@@ -171,7 +176,7 @@ fn write_stream<H: AllocGlobal + Files + Clock, W: Write, E: Write>(
     })
 }
 
-// Writes the stream into a file, and has it on its disk.
+// Writes the stream into the file `partial`, and waits until it is on its disk.
 fn write_file<H: AllocGlobal + Files + Clock, E: Write>(
     rt: &H,
     words: &SaveWords<'_>,
@@ -192,8 +197,7 @@ fn write_file<H: AllocGlobal + Files + Clock, E: Write>(
     }
 }
 
-// Saves into a file, which gets its name when it is complete; where it doesn't come to that, no file
-// stays.
+// Saves into a file, which gets its final name when it is complete. After a failure no file stays.
 fn save_file<H: AllocGlobal + Files + Clock, E: Write>(
     rt: &H,
     words: &SaveWords<'_>,
@@ -217,6 +221,7 @@ fn save_file<H: AllocGlobal + Files + Clock, E: Write>(
     Ok(saved)
 }
 
+// Writes the line of what was saved; `name` is printable.
 fn put_counts<W: Write>(
     output: &mut W,
     name: &str,
@@ -256,6 +261,7 @@ fn put_saved<W: Write>(
     }
 }
 
+// Flushes the output.
 fn flush<W: Write>(output: &mut W) -> Result<(), Trouble> {
     match output.flush() {
         Ok(()) => Ok(()),
@@ -263,7 +269,14 @@ fn flush<W: Write>(output: &mut W) -> Result<(), Trouble> {
     }
 }
 
-/// Saves the memory of the blocks as a stream. Returns true: where it isn't saved, there is an `Err`.
+/// Saves the memory of blocks as a stream, with channels where the words ask for them. Returns
+/// true.
+///
+/// # Errors
+///
+/// Those of `channel_plan` and `plan_of`, `Trouble::Exists` and `Trouble::Unfit` of OUT,
+/// `Trouble::OfFile` where a file can't be read or written: then none stays. `Trouble::Output`: of
+/// a stream that went into a file, it stays.
 pub(crate) fn save<H: AllocGlobal + Files + Clock, W: Write, E: Write>(
     rt: &H,
     words: &SaveWords<'_>,

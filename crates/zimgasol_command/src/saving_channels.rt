@@ -1,4 +1,4 @@
-//! `save --channels`: a main stream and channels, each in a file of its own.
+//! `save --channels`: makes a main stream and channels, each in a file.
 
 use crate::channel_words::{count_word, uuid_word};
 use crate::packets::PacketSending;
@@ -14,15 +14,19 @@ use std::io::Write;
 use std::rt::Clock;
 use uuid::Uuid;
 
-/// The channels that are to be written.
+/// How many channels are written, and under which UUID.
 #[derive(Clone, Copy)]
 pub(crate) struct ChannelPlan {
     count: usize,
     uuid: Uuid,
 }
 
-/// Returns the channels that the words ask for; None where they ask for none. Refuses words that don't
-/// go together.
+/// Returns the channels that the words ask for; None where they ask for none.
+///
+/// # Errors
+///
+/// `Trouble::Words` of a UUID without channels, of channels where OUT is the standard output, and
+/// of values that are wrong.
 pub(crate) fn channel_plan(
     alloc: Global,
     words: &SaveWords<'_>,
@@ -43,12 +47,12 @@ pub(crate) fn channel_plan(
     }
 }
 
-// Returns the path of a channel's file: the name of the main stream's file, a dot, and its number.
+// Returns the path of a channel's file: that of the main stream's, a dot, and `number`.
 fn channel_path(alloc: Global, file: &str, number: usize) -> Result<String, AllocError> {
     format!(in alloc; "{file}.{number}")
 }
 
-// Refuses files that are there already, unless they may be replaced.
+// Refuses files that exist, unless `--replace` is set and they are plain files.
 fn check_free<H: AllocGlobal + Files>(
     rt: &H,
     words: &SaveWords<'_>,
@@ -63,7 +67,7 @@ fn check_free<H: AllocGlobal + Files>(
     Ok(())
 }
 
-// Opens a file that is written under another name until it is complete.
+// Makes the file that gets the name `path` when it is complete.
 fn open_outlet<H: AllocGlobal + Files>(rt: &H, path: String) -> Result<Outlet<H::File>, Trouble> {
     let alloc = rt.alloc();
     let partial = format!(in alloc; "{path}{PARTIAL}")?;
@@ -77,7 +81,7 @@ fn open_outlet<H: AllocGlobal + Files>(rt: &H, path: String) -> Result<Outlet<H:
     })
 }
 
-// Opens the files of the channels.
+// Makes the files of `count` channels.
 fn open_channels<H: AllocGlobal + Files>(
     rt: &H,
     words: &SaveWords<'_>,
@@ -92,7 +96,8 @@ fn open_channels<H: AllocGlobal + Files>(
     Ok(outlets)
 }
 
-// Writes the main stream and the channels, and has them on their disk. Returns the channels.
+// Writes the main stream and the channels, and waits until they are on their disk. Returns what was
+// saved, and the channels.
 fn write_all<H: AllocGlobal + Files + Clock, E: Write>(
     rt: &H,
     words: &SaveWords<'_>,
@@ -124,7 +129,7 @@ fn write_all<H: AllocGlobal + Files + Clock, E: Write>(
     Ok((saved, outlets))
 }
 
-// Removes the files that have no name yet.
+// Removes the files that have no final name.
 fn remove_all<H: AllocGlobal + Files>(rt: &H, words: &SaveWords<'_>, count: usize) {
     let alloc = rt.alloc();
     for number in 0..count {
@@ -139,8 +144,8 @@ fn remove_all<H: AllocGlobal + Files>(rt: &H, words: &SaveWords<'_>, count: usiz
     }
 }
 
-// Gives all files their names, the main stream's last. One that is replaced is removed first, so that
-// no main stream stands beside channels of another one.
+// Gives all files their final names, the main stream last. An old main stream is removed first, so
+// that none is beside channels of another one.
 fn rename_all<H: Files>(
     rt: &H,
     main: &Outlet<H::File>,
@@ -153,7 +158,7 @@ fn rename_all<H: Files>(
     main.rename(rt)
 }
 
-// Writes all files, and gives them their names.
+// Writes all files, and renames them.
 fn save_all<H: AllocGlobal + Files + Clock, E: Write>(
     rt: &H,
     words: &SaveWords<'_>,
@@ -174,8 +179,12 @@ fn save_all<H: AllocGlobal + Files + Clock, E: Write>(
     }
 }
 
-/// Saves into a main stream and channels, whose files get their names when all are complete; where it
-/// doesn't come to that, none stays.
+/// Saves into a main stream and channels, which get their final names when all are complete.
+///
+/// # Errors
+///
+/// `Trouble::Exists` and `Trouble::Unfit` of files that exist, `Trouble::OfFile` where one can't be
+/// read or written. No file stays that has no final name.
 pub(crate) fn save_channels<H: AllocGlobal + Files + Clock, E: Write>(
     rt: &H,
     words: &SaveWords<'_>,

@@ -1,6 +1,7 @@
-//! Where the sections of a main stream end. The reader of the stream checks each item and passes over
-//! what stands between the sections; here the items are followed by their lengths alone, so that the
-//! COMMANDs between the sections are noted, and a fault's section is known.
+//! Follows the sections of a main stream by the lengths of their items.
+//!
+//! The reader of the stream checks each item, and skips what is between the sections. Here the
+//! COMMANDs between the sections are noted, and the section of a fault is found.
 
 ghost use Rattle.std.specs.Prelude.{◌≤◌};
 
@@ -20,50 +21,50 @@ const FLAG_CONTINUE: u16 = 0x20;
 
 const FLAG_MULTIFD_FLUSH: u16 = 0x200;
 
-/// How many bytes a section's footer has.
+/// The bytes of a section's footer.
 const FOOTER_LEN: usize = 5;
 
-// What is followed next.
+// The item that comes next.
 #[derive(Clone, Copy, PartialEq, Eq)]
 enum Next {
     // the head of a section, after its type byte
     Head(SectionKind),
     // a record
     Record,
-    // an entry of the size list, with so many bytes of blocks still to come
+    // an entry of the size list, and the bytes of the blocks that are still to come
     Entry(u64),
     // the footer
     Footer,
-    // nothing more: no item of RAM's section stands there
+    // no item of RAM's section: nothing more is followed
     Lost,
 }
 
-// What an item's first bytes say of it.
+// What the first bytes of an item show.
 enum Found {
-    // so many more bytes are needed to know
+    // how many more bytes are needed
     More(usize),
-    // it is whole, but for so many bytes that are passed over, and what follows it
+    // the item is complete, but for this many bytes, which are skipped; and what follows it
     Whole(u64, Next),
-    // it is the footer, whole
+    // the footer is complete
     End,
 }
 
 /// Follows the sections of one main stream.
 #[derive(Drop)]
 pub(crate) struct Sections {
-    // what stands between the sections
+    // the items between the sections
     between: Between,
-    /// How many sections are whole.
+    /// The complete sections.
     pub count: u64,
     page_size: u64,
     // None between sections
     next: Option<Next>,
-    // the bytes of an item that isn't whole, and the place in the stream after them
+    // the bytes of an item that isn't complete, and the place in the stream after them
     item: Vec<u8>,
     at: u64,
 }
 
-// Returns what is known of an item of which `len` bytes are needed.
+// Returns whether an item of `len` bytes is complete; `next` follows it.
 fn up_to(item: &[u8], len: usize, next: Next) -> Found {
     if item.len() < len {
         Found::More(len - item.len())
@@ -72,7 +73,7 @@ fn up_to(item: &[u8], len: usize, next: Next) -> Found {
     }
 }
 
-// Returns the byte at a place, as a length.
+// Returns the length in the byte `at`; None where there is none.
 fn len_at(item: &[u8], at: usize) -> Option<usize> {
     match item.get(at) {
         Some(len) => Some(usize::from(*len)),
@@ -80,6 +81,7 @@ fn len_at(item: &[u8], at: usize) -> Option<usize> {
     }
 }
 
+// Reads the head of a section.
 fn head_found(item: &[u8], kind: SectionKind) -> Found {
     let SectionKind::Start = kind else {
         return up_to(item, 4, Next::Record);
@@ -94,7 +96,7 @@ fn head_found(item: &[u8], kind: SectionKind) -> Found {
     }
 }
 
-// Returns the number of eight bytes at a place; 0 where there is none.
+// Returns the big-endian number of 8 bytes at the byte `at`; 0 where there is none.
 fn number_at(item: &[u8], at: usize) -> u64 {
     match item.get(at..) {
         Some(rest) => match rest.first_chunk::<8>() {
@@ -105,6 +107,7 @@ fn number_at(item: &[u8], at: usize) -> u64 {
     }
 }
 
+// Reads the head of a record.
 fn record_found(item: &[u8], page_size: u64) -> Found {
     if item.len() < 8 {
         return Found::More(8 - item.len());
@@ -121,7 +124,7 @@ fn record_found(item: &[u8], page_size: u64) -> Found {
     }
 }
 
-// Returns what is known of a page record that has so many bytes after its head and id.
+// Reads a page record, which has `len` bytes after its head and id.
 fn page_found(item: &[u8], flags: u16, len: u64) -> Found {
     if flags & FLAG_CONTINUE != 0 {
         return Found::Whole(len, Next::Record);
@@ -132,6 +135,7 @@ fn page_found(item: &[u8], flags: u16, len: u64) -> Found {
     }
 }
 
+// Reads an entry of the size list; `left` bytes of blocks are still to come with it.
 fn entry_found(item: &[u8], left: u64) -> Found {
     let Some(id) = len_at(item, 0) else {
         return Found::More(1);
@@ -148,6 +152,7 @@ fn entry_found(item: &[u8], left: u64) -> Found {
     }
 }
 
+// Reads a footer.
 fn footer_found(item: &[u8]) -> Found {
     if item.len() < FOOTER_LEN {
         return Found::More(FOOTER_LEN - item.len());
@@ -156,7 +161,7 @@ fn footer_found(item: &[u8]) -> Found {
 }
 
 impl Sections {
-    /// Creates those of a stream of which nothing came.
+    /// Creates the sections of a stream of which nothing came.
     pub(crate) fn new(alloc: Global, page_size: u64) -> Sections {
         Sections {
             between: Between::new(alloc),
@@ -168,7 +173,7 @@ impl Sections {
         }
     }
 
-    /// Returns the section that the byte `valid` is in; None where it is between two.
+    /// Returns the kind of the section that the byte `valid` is in; None where it is between two.
     pub(crate) fn kind(&self, valid: u64) -> Option<SectionKind> {
         match self.between.open {
             Some((kind, at)) if at < valid => Some(kind),
@@ -176,15 +181,15 @@ impl Sections {
         }
     }
 
-    /// Returns what stands between the sections up to the byte `valid`.
+    /// Returns the items between the sections, up to the byte `valid`.
     pub(crate) fn notes(&self, valid: u64) -> &[Note] {
         let notes = self.between.notes.as_slice();
         let count = notes.iter().filter(|note| note.at <= valid).count();
         notes.get(..count).unwrap_or(&[])
     }
 
-    /// Looks at a piece of the stream, whose first byte is the byte `start` of it. Nothing is
-    /// followed that begins at the byte `limit` or after it.
+    /// Reads `piece`, which begins at the byte `start` of the stream. Items that begin at the byte
+    /// `limit` or after it aren't followed.
     pub(crate) fn look(&mut self, piece: &[u8], start: u64, limit: u64) -> Result<(), AllocError> {
         for _ in 0..u64::MAX {
             let Some(next) = self.next else {
@@ -209,7 +214,7 @@ impl Sections {
         Ok(())
     }
 
-    // Looks at what stands between the sections. Returns whether a section begins.
+    // Reads the items between two sections. Returns whether a section begins.
     fn look_between(&mut self, piece: &[u8], start: u64, limit: u64) -> Result<bool, AllocError> {
         if self.at >= limit {
             return Ok(false);
@@ -226,7 +231,7 @@ impl Sections {
         Ok(true)
     }
 
-    // Goes on by what was found. Returns whether there is more to look at.
+    // Goes on by what was found. Returns whether `piece` may have more.
     fn follow(&mut self, piece: &[u8], start: u64, found: Found) -> Result<bool, AllocError> {
         match found {
             Found::More(len) => self.take(piece, start, len),
@@ -246,7 +251,7 @@ impl Sections {
         }
     }
 
-    // Takes bytes of the item from a piece. Returns whether there were any.
+    // Takes up to `len` bytes of the item from `piece`. Returns whether there were any.
     fn take(&mut self, piece: &[u8], start: u64, len: usize) -> Result<bool, AllocError> {
         let Some(from) = self.at.checked_sub(start) else {
             return Ok(false);

@@ -1,4 +1,4 @@
-//! The stream that `save` writes: a section for each piece of a file that has pages to be sent.
+//! Writes the single stream of `save`: a section for each piece that has pages to be sent.
 
 ghost use Rattle.std.specs.Prelude.{◌≡◌, ◌+◌, ◌++◌, ◌∷◌, [], ℕ, List, IfOk, IfSome, IsTrue};
 ghost use Rattle.mig_mem.specs.Image.{Page};
@@ -14,22 +14,22 @@ use mig_stream::Frame;
 use std::alloc::Global;
 use std::io::Write;
 
-/// The most bytes that a machine's name has.
+/// The most bytes of a machine's name.
 pub(crate) const MOST_NAME_LEN: usize = 1024;
 
 /// A stream that is being written.
 #[derive(Drop)]
 pub(crate) struct Sending {
     sender: SingleSender,
-    // the bytes that were drained last
+    // the bytes of the stream that were drained last
     bytes: Vec<u8>,
-    /// How many page records were sent.
+    /// The page records that were sent.
     pub pages: u64,
-    /// How many bytes were written.
+    /// The bytes that were written.
     pub written: u64,
 }
 
-// Puts a page. Returns whether the stream has a place for it.
+// Puts a page into `round`. Returns whether its table has the place.
 fn put(round: &mut OpenRound, place: Place, page: &[u8]) -> Result<bool, NoMemory>
     ensures before { round.new.before ≡ round.old.before }
     ensures put { IfOk result (λ has_place. IsTrue has_place → (done : List Page) → HasPut round.old done
@@ -43,7 +43,8 @@ fn put(round: &mut OpenRound, place: Place, page: &[u8]) -> Result<bool, NoMemor
     Ok(true)
 }
 
-// Puts a page, if it differs. Returns whether it does; None where the stream has no place for it.
+// Puts the page `page` of `pages`, if it differs. Returns whether it does; None where the stream's
+// table has no place for it.
 fn put_differing(
     round: &mut OpenRound,
     block: usize,
@@ -72,7 +73,8 @@ fn put_differing(
     Ok(Some(true))
 }
 
-// Puts the pages that differ. Returns how many there are; None where the stream has no place for one.
+// Puts the pages that differ. Returns how many there are; None where the stream's table has no
+// place for one of them.
 fn put_all_differing(
     round: &mut OpenRound,
     block: usize,
@@ -94,8 +96,8 @@ fn put_all_differing(
     Ok(Some(count))
 }
 
-// Sends the pages that differ as a section. Returns how many there are with the sender; None where
-// the stream has no place for one.
+// Sends the pages that differ as a section. Returns how many there are, and the sender; None where
+// the stream's table has no place for one of them.
 fn send_section(
     sender: SingleSender,
     block: usize,
@@ -118,7 +120,11 @@ fn send_section(
     }
 }
 
-/// Writes bytes of the stream.
+/// Writes `bytes` of the stream to `out`.
+///
+/// # Errors
+///
+/// `Trouble::Output` where `out` doesn't take them.
 pub(crate) fn write<W: Write>(out: &mut W, bytes: &[u8]) -> Result<(), Trouble> {
     match out.write_all(bytes) {
         Ok(()) => Ok(()),
@@ -126,7 +132,8 @@ pub(crate) fn write<W: Write>(out: &mut W, bytes: &[u8]) -> Result<(), Trouble> 
     }
 }
 
-// Writes the first bytes of a machine's stream with its name, and returns the sender of the others.
+// Writes the first bytes of a machine's stream, with its name. Returns how many they are, and the
+// sender.
 fn begin_named<W: Write>(
     alloc: Global,
     out: &mut W,
@@ -142,7 +149,12 @@ fn begin_named<W: Write>(
 }
 
 impl Sending {
-    /// Begins a stream, of a machine of this name if there is one, which has at most 1,024 bytes.
+    /// Begins a stream of the blocks of `table`. The machine's name has at most 1,024 bytes;
+    /// without one no configuration is written.
+    ///
+    /// # Errors
+    ///
+    /// `Trouble::Output` where `out` can't be written, `Trouble::NoMemory`.
     pub(crate) fn begin<W: Write>(
         alloc: Global,
         out: &mut W,
@@ -161,8 +173,12 @@ impl Sending {
         })
     }
 
-    /// Sends the pages of a block that differ, of which the first is the page `first`. Returns None
-    /// where the stream has no place for one of them.
+    /// Sends those of `pages` that differ; the first of `pages` is the block's page `first`.
+    /// Returns None where the stream's table has no place for one of them.
+    ///
+    /// # Errors
+    ///
+    /// `Trouble::Output` where `out` can't be written, `Trouble::NoMemory`.
     pub(crate) fn send<W: Write>(
         self,
         out: &mut W,
@@ -192,8 +208,12 @@ impl Sending {
         }))
     }
 
-    /// Ends the stream: with the end byte; a machine's stream after RAM's END with the byte that
-    /// ends it all (`QEMU_VM_EOF`). Returns how many pages were sent and bytes written.
+    /// Ends the stream: one of RAM with its end byte, a machine's with RAM's END and the byte
+    /// `QEMU_VM_EOF`. Returns how many pages were sent, and how many bytes were written.
+    ///
+    /// # Errors
+    ///
+    /// `Trouble::Output` where `out` can't be written, `Trouble::NoMemory`.
     pub(crate) fn finish<W: Write>(self, out: &mut W, frame: Frame) -> Result<(u64, u64), Trouble> {
         let Sending {
             sender,
@@ -210,7 +230,7 @@ impl Sending {
     }
 }
 
-// Returns the last bytes of a stream, up to the end of RAM where it is a machine's.
+// Returns the last bytes of a stream; of a machine's, those up to the end of RAM.
 fn last_bytes(sender: SingleSender, frame: Frame) -> Result<Vec<u8>, NoMemory> {
     let ended = match frame {
         Frame::Ram => sender.finish(),

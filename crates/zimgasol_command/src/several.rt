@@ -1,9 +1,9 @@
-//! The reading of a main stream and its channels: round after round, each source up to the end of
-//! the round, each page passed on as it comes.
+//! Reads a main stream and its channels, round by round: each source up to the end of the round.
+//! Passes each page on as it comes.
 //!
-//! No page is kept: a bit for each page, and the number of each packet of the round in hand. The
-//! verdict is that of `verdict_told` (`mig_answer`) on how the sources stand, and that of
-//! `Arrivals::judge` (`mig_assemble`) on each round that all of them have.
+//! No page is kept, but a bit for each page, and the number of each packet of the current round.
+//! The verdict on the sources' statuses is that of `verdict_told` (`mig_answer`), the verdict on a
+//! complete round that of `Arrivals::judge` (`mig_assemble`).
 
 ghost use Rattle.std.specs.Prelude.{◌≡◌, ◌↔◌, ◌≤◌, Some, IsNone};
 ghost use Rattle.mig_single_load.specs.declared.fault.LoadFault.{LoadFault};
@@ -26,7 +26,7 @@ use std::io::{Read, Write};
 use std::rt::Clock;
 use uuid::Uuid;
 
-/// What a main stream and channels were read to have.
+/// What was read of a main stream and its channels.
 #[derive(Drop)]
 pub(crate) struct Several<F: Drop> {
     alloc: Global,
@@ -36,11 +36,11 @@ pub(crate) struct Several<F: Drop> {
     pub uuid: Uuid,
     pub main: MainStream,
     pub channels: Vec<Channel<F>>,
-    /// What came of the guest, once the size list was whole.
+    /// The guest, once the size list is complete.
     pub guest: Option<Guest>,
-    /// How many rounds are whole.
+    /// The complete rounds.
     pub rounds: u64,
-    // how many packets they have
+    // the packets of the complete rounds
     base: u64,
     pub verdict: Verdict,
     /// Whether it is laid over other memory, so that it needs no record of each page.
@@ -76,7 +76,7 @@ fn opened<H: AllocGlobal + Files>(
 }
 
 impl<F: Read + OpenFile + Drop> Several<F> {
-    /// Returns the fault; None where all is whole.
+    /// Returns the fault; None where all sources are complete.
     pub(crate) fn fault(&self) -> Option<LoadFault>
         ensures whole { IsNone result ↔ (self.now.verdict ≡ verdict.Done) }
         ensures fault { (fault : LoadFault) → self.now.verdict ≡ verdict.Failed fault → result ≡ Some fault }
@@ -92,7 +92,7 @@ impl<F: Read + OpenFile + Drop> Several<F> {
         }
     }
 
-    /// Returns how many packets all channels have.
+    /// Returns how many complete packets all channels have.
     pub(crate) fn packets(&self) -> u64 {
         let mut packets = 0u64;
         for channel in &self.channels {
@@ -110,7 +110,7 @@ impl<F: Read + OpenFile + Drop> Several<F> {
         len
     }
 
-    // Notes how many bytes there are to read, where the main stream is a file.
+    // Takes the lengths of the files for the progress, where the main stream is one.
     fn expect(&self, main: &Metadata, watch: &mut Watch) {
         if !main.is_file() {
             return;
@@ -122,7 +122,7 @@ impl<F: Read + OpenFile + Drop> Several<F> {
         watch.expect_total(total);
     }
 
-    // Reads all sources, round after round, up to the verdict.
+    // Reads all sources, round by round, up to the verdict.
     fn read<H: AllocGlobal + Files + Clock, R: Read, S: PageSink<H>, E: Write>(
         &mut self,
         rt: &H,
@@ -137,7 +137,7 @@ impl<F: Read + OpenFile + Drop> Several<F> {
                 channel.read_round(&mut self.guest, sink)?;
             }
             watch.show(rt, errors, self.read_len());
-            if let Some(verdict) = self.told()? {
+            if let Some(verdict) = self.verdict_so_far()? {
                 self.verdict = verdict;
                 break;
             }
@@ -146,8 +146,8 @@ impl<F: Read + OpenFile + Drop> Several<F> {
         self.main.read_rest(input)
     }
 
-    // Returns the verdict of the round that all sources were read up to; None where it is lawful.
-    fn told(&mut self) -> Result<Option<Verdict>, Trouble> {
+    // Returns the verdict of the round up to which all sources were read; None where they go on.
+    fn verdict_so_far(&mut self) -> Result<Option<Verdict>, Trouble> {
         let mut statuses = Vec::new(self.alloc);
         let mut hellos = Vec::new(self.alloc);
         for channel in &self.channels {
@@ -162,7 +162,7 @@ impl<F: Read + OpenFile + Drop> Several<F> {
         }
     }
 
-    // Judges the round in hand, which all sources have. Returns its fault; None where it is lawful.
+    // Judges the current round, which all sources have. Returns its fault; None where it has none.
     fn judged(&mut self) -> Result<Option<Verdict>, Trouble> {
         let Some(guest) = &mut self.guest else {
             return Err(Trouble::NoMemory);
@@ -177,7 +177,7 @@ impl<F: Read + OpenFile + Drop> Several<F> {
         })))
     }
 
-    // Goes on to the next round.
+    // Begins the next round.
     fn advance(&mut self) {
         self.rounds = self.rounds.saturating_add(1);
         if let Some(guest) = &mut self.guest {
@@ -191,8 +191,13 @@ impl<F: Read + OpenFile + Drop> Several<F> {
     }
 }
 
-/// Reads a main stream, from its file or from the standard input, and its channels from theirs.
-/// Passes the pages to `sink`.
+/// Reads a main stream, from its file or from `input`, and its channels from their files. Passes
+/// the pages to `sink`. A fault is no error: what is returned has it.
+///
+/// # Errors
+///
+/// `Trouble::Words` of words that don't go together, `Trouble::Unread` and `Trouble::OfFile` where
+/// a file can't be opened or read, `Trouble::NoMemory`, and those of `sink`.
 pub(crate) fn read_several<H: AllocGlobal + Files + Clock, R: Read, S: PageSink<H>, E: Write>(
     rt: &H,
     words: &StreamWords<'_>,

@@ -1,4 +1,4 @@
-//! Where a main stream or its channels have a fault, which it is, and what a user may do about it.
+//! Locates the fault of a main stream and its channels, and says what a user may do about it.
 
 ghost use Rattle.std.specs.Prelude.{◌≤◌};
 
@@ -16,24 +16,25 @@ use std::fs::OpenFile;
 use std::io::{self, Read, Write};
 use zimgasol_names::shown;
 
-/// In what a fault is, beside the round.
+/// The source that a fault is in, and where in it.
 #[derive(Clone, Copy)]
 pub(crate) enum Within {
-    /// The main stream, after so many whole sections, in one of this kind or between two.
+    /// The main stream: the complete sections before the fault, and the kind of the section that it
+    /// is in; None between two.
     Main(u64, Option<SectionKind>),
     /// A channel's hello.
     Hello,
-    /// A channel, after so many whole packets.
+    /// A channel: the complete packets before the fault.
     Channel(u64),
-    /// No one source.
+    /// The round of all sources.
     Round,
 }
 
-/// Where a fault is.
+/// The place of a fault.
 #[derive(Clone, Copy)]
 pub(crate) struct Spot {
-    /// The byte of its source at which the item with the fault begins; of a source that was cut, the
-    /// byte at which it ends. None where it is in no one source.
+    /// The byte of the source at which the item with the fault begins; of a source that was cut,
+    /// the byte at which it ends. None of a round's fault.
     pub byte: Option<u64>,
     pub within: Within,
 }
@@ -45,7 +46,7 @@ impl Spot {
     };
 }
 
-// Returns whether a channel has the fault in its hello.
+// Returns whether a fault of a channel is in its hello.
 fn is_of_hello(fault: Fault) -> bool {
     match fault {
         Fault::HelloTwice => true,
@@ -60,7 +61,7 @@ fn is_of_hello(fault: Fault) -> bool {
     }
 }
 
-// Returns whether a source was over too early.
+// Returns whether a fault is that a source ended too early.
 fn is_cut(fault: Fault) -> bool {
     match fault {
         Fault::Stream(StreamFault::Truncated) => true,
@@ -71,7 +72,7 @@ fn is_cut(fault: Fault) -> bool {
 }
 
 impl<F: Read + OpenFile + Drop> Several<F> {
-    /// Returns where a fault is.
+    /// Returns the place of `fault`.
     pub(crate) fn spot(&self, fault: LoadFault) -> Spot {
         match fault.source {
             Origin::Main => self.main_spot(fault.fault),
@@ -80,6 +81,7 @@ impl<F: Read + OpenFile + Drop> Several<F> {
         }
     }
 
+    // Returns the place of a fault of the main stream.
     fn main_spot(&self, fault: Fault) -> Spot {
         let (count, kind) = self.main.section();
         let byte = if is_cut(fault) {
@@ -93,6 +95,7 @@ impl<F: Read + OpenFile + Drop> Several<F> {
         }
     }
 
+    // Returns the place of a fault of the channel `number`.
     fn channel_spot(&self, number: usize, fault: Fault) -> Spot {
         let Some(channel) = self.channels.get(number) else {
             return Spot::ROUND;
@@ -115,7 +118,7 @@ impl<F: Read + OpenFile + Drop> Several<F> {
         }
     }
 
-    /// Returns the id of the block that a round's fault is in, as it is shown.
+    /// Returns the id of the block that a round's fault is in, as it is printed.
     pub(crate) fn fault_block(
         &self,
         alloc: Global,
@@ -171,7 +174,7 @@ fn advice_of(fault: Fault) -> Option<&'static str> {
     }
 }
 
-// Writes where a fault is, beside its byte.
+// Writes where in its source a fault is.
 fn put_within<W: Write>(
     output: &mut W,
     round: u64,
@@ -193,7 +196,7 @@ fn put_within<W: Write>(
     }
 }
 
-/// Writes the line of a fault: the file, where in it, which fault, and what to do.
+/// Writes the line of a fault: the file, the place in it, the fault, and what to do.
 pub(crate) fn put_spotted<W: Write>(
     output: &mut W,
     name: &str,

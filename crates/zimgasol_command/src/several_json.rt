@@ -1,4 +1,4 @@
-//! What a main stream and its channels have, as JSON.
+//! Lists what a main stream and its channels have, as JSON.
 
 ghost use Rattle.std.specs.Prelude.{◌≤◌};
 
@@ -13,7 +13,7 @@ use std::alloc::{AllocError, Global};
 use std::fs::OpenFile;
 use std::io::{Read, Write};
 
-// Returns a number, or null.
+// Returns the JSON of a number, or null.
 fn number_value(alloc: Global, number: Option<u64>) -> Result<Value, AllocError> {
     match number {
         Some(number) => json!(in alloc; number),
@@ -21,6 +21,7 @@ fn number_value(alloc: Global, number: Option<u64>) -> Result<Value, AllocError>
     }
 }
 
+// Returns the JSON of a channel.
 fn channel_value<F: Read + OpenFile + Drop>(
     alloc: Global,
     channel: &Channel<F>,
@@ -42,7 +43,7 @@ fn channel_value<F: Read + OpenFile + Drop>(
     })
 }
 
-// Returns which source a fault is in.
+// Returns the JSON of the source that a fault is in.
 fn source_value(alloc: Global, source: Origin) -> Result<Value, AllocError> {
     match source {
         Origin::Main => json!(in alloc; "main"),
@@ -102,7 +103,11 @@ impl<F: Read + OpenFile + Drop> Several<F> {
         })
     }
 
-    /// Writes what the main stream and the channels have as JSON.
+    /// Writes what the main stream and the channels have, as JSON.
+    ///
+    /// # Errors
+    ///
+    /// `Trouble::Output` where `output` can't be written, `Trouble::NoMemory`.
     pub(crate) fn put_json<W: Write>(
         &self,
         alloc: Global,

@@ -1,5 +1,4 @@
-//! What is printed of a main stream and its channels: the judgement in a line, and all that they
-//! have.
+//! Prints the verdict on a main stream and its channels, and lists what they have, in lines.
 
 ghost use Rattle.std.specs.Prelude.{◌≤◌};
 
@@ -16,7 +15,7 @@ use std::alloc::Global;
 use std::fs::OpenFile;
 use std::io::{self, Read, Write};
 
-/// What the pages without records of a whole guest may be.
+/// What a complete guest without records of all its pages may be.
 const OTHERS: &str = "it may be the changes since another stream";
 
 fn output_failed(error: io::Error) -> Trouble {
@@ -24,7 +23,7 @@ fn output_failed(error: io::Error) -> Trouble {
 }
 
 impl<F: Read + OpenFile + Drop> Several<F> {
-    // Returns the name of the source that a fault is in; `name` is the main stream's.
+    // Returns the name of the file that a fault is in; `name` is the main stream's.
     fn source_name<'a>(&'a self, name: &'a str, fault: LoadFault) -> &'a str {
         match fault.source {
             Origin::Main | Origin::Round => name,
@@ -35,7 +34,7 @@ impl<F: Read + OpenFile + Drop> Several<F> {
         }
     }
 
-    // Writes the line of a guest that is whole.
+    // Writes the line of complete sources.
     fn put_whole<W: Write>(&self, output: &mut W, name: &str) -> io::Result<()> {
         let rounds = self.rounds;
         let channels = self.channels.len();
@@ -62,8 +61,12 @@ impl<F: Read + OpenFile + Drop> Several<F> {
         writeln!(output, "{what} ends at byte {end}, {after} bytes follow")
     }
 
-    /// Writes what is wrong to `errors`: the fault, or the blocks without records of all their pages.
-    /// Returns whether all is whole.
+    /// Writes what is wrong to `errors`: the fault, or which blocks lack pages. Returns whether all
+    /// sources are complete.
+    ///
+    /// # Errors
+    ///
+    /// `Trouble::NoMemory`.
     pub(crate) fn put_wrongs<E: Write>(
         &self,
         alloc: Global,
@@ -89,8 +92,12 @@ impl<F: Read + OpenFile + Drop> Several<F> {
         }
     }
 
-    /// Writes the judgement: to `output` that all is whole, if that is wanted, and to `errors` what is
-    /// wrong. Returns whether all is whole.
+    /// Writes the verdict: to `output` that all sources are complete, unless `--quiet` is set, and
+    /// to `errors` what is wrong. Returns whether they are complete.
+    ///
+    /// # Errors
+    ///
+    /// `Trouble::Output` where `output` can't be written, `Trouble::NoMemory`.
     pub(crate) fn put_judgement<W: Write, E: Write>(
         &self,
         alloc: Global,
@@ -105,7 +112,7 @@ impl<F: Read + OpenFile + Drop> Several<F> {
         self.put_wrongs(alloc, errors, name)
     }
 
-    // Writes what comes before the blocks.
+    // Writes the lines before those of the channels and blocks.
     fn put_head<W: Write>(&self, alloc: Global, output: &mut W, name: &str) -> Result<(), Trouble> {
         let len = self.main.len();
         writeln!(output, "file {name}, {len} bytes").map_err(output_failed)?;
@@ -118,7 +125,11 @@ impl<F: Read + OpenFile + Drop> Several<F> {
         writeln!(output, "UUID {uuid}").map_err(output_failed)
     }
 
-    /// Writes what the main stream and the channels have, a line for each thing.
+    /// Writes what the main stream and the channels have, in lines.
+    ///
+    /// # Errors
+    ///
+    /// `Trouble::Output` where `output` can't be written, `Trouble::NoMemory`.
     pub(crate) fn put_lines<W: Write>(
         &self,
         alloc: Global,
@@ -135,7 +146,7 @@ impl<F: Read + OpenFile + Drop> Several<F> {
         self.put_last(output).map_err(output_failed)
     }
 
-    // Writes how far the rounds go.
+    // Writes the number of rounds, and where RAM ends or up to where it was read.
     fn put_last<W: Write>(&self, output: &mut W) -> io::Result<()> {
         let rounds = self.rounds;
         writeln!(output, "rounds {rounds}")?;

@@ -1,4 +1,4 @@
-//! Who takes the pages of a stream as they are read.
+//! The trait of what takes the pages of a stream as they are read.
 
 use crate::trouble::Trouble;
 use mig_mem::{Place, Table};
@@ -6,14 +6,14 @@ use std::fs::Files;
 
 /// Takes the pages of a stream, in the order of its records.
 pub(crate) trait PageSink<H: Files> {
-    /// Is passed the stream's table, once, before the first page.
+    /// Takes the stream's table, once, before the first page.
     fn begin(&mut self, rt: &H, table: &Table) -> Result<(), Trouble>;
 
-    /// Takes what a record says of a page: its bytes, or None for a page of zeros.
+    /// Takes the content of a page from its record: its bytes, or None for a page of zeros.
     fn put(&mut self, place: Place, content: Option<&[u8]>) -> Result<(), Trouble>;
 }
 
-/// Takes pages and does nothing with them.
+/// Takes pages, and drops them.
 #[derive(Drop)]
 pub(crate) struct NoSink;
 

@@ -1,5 +1,5 @@
-//! The reading of a single stream: piece after piece, each page passed on as it comes, with what the
-//! stream has and where it has a fault.
+//! Reads a single stream in pieces. Passes each page on as it comes, counts what the stream has,
+//! and finds its fault.
 
 ghost use Rattle.std.specs.Prelude.{◌≡◌, ◌≤◌, ◌^◌, length, IfOk};
 ghost use Rattle.mig_stream.specs.Giving.{HasNoneLeft};
@@ -20,42 +20,42 @@ use std::fs::{Files, Metadata};
 use std::io::{Read, Write};
 use std::rt::Clock;
 
-/// What a stream was read to have.
+/// What was read of a stream.
 #[derive(Drop)]
 pub(crate) struct Survey {
-    /// What the stream was read as.
+    /// The frame that the stream was read in.
     pub frame: Frame,
     pub page_size: u64,
     /// The header of libvirt's before the stream.
     pub libvirt: Option<LibvirtHeader>,
-    /// The blocks, once the size list was whole.
+    /// The blocks and their records, once the size list is complete.
     pub blocks: Option<Blocks>,
-    /// How many sections are whole.
+    /// The complete sections.
     pub sections: u64,
-    /// Where the last page record is.
+    /// The page of the last page record.
     pub last: Option<Place>,
-    /// What stands between the sections.
+    /// The items between the sections.
     pub between: Between,
-    /// The item that isn't whole, or has the fault.
+    /// The first bytes of the item that isn't complete, or has the fault.
     pub head: Head,
-    /// How the stream stands.
+    /// Whether the stream is closed, has a fault, or has ended too early.
     pub state: StreamState,
-    /// How many bytes of the stream are whole items without a fault.
+    /// The bytes of the stream that are complete items without a fault.
     pub valid: u64,
-    /// How many bytes the input has, with libvirt's header and what follows the stream.
+    /// The bytes of the input, with libvirt's header and what follows the stream.
     pub len: u64,
-    /// How far the reading is.
+    /// The progress that is printed.
     pub watch: Watch,
-    /// Whether it is laid over other memory, so that it needs no record of each page.
+    /// Whether the stream is laid over other memory, so that it needs no record of each page.
     pub is_laid_over: bool,
-    // where the stream is read on; None once it isn't
+    // what the next piece is read on from; None after the stream's end or fault
     pause: Option<Pause>,
-    // how many bytes of the stream have come
+    // the bytes of the stream that have come
     fed: u64,
 }
 
 impl Survey {
-    /// Creates one of a stream that wasn't read yet.
+    /// Creates the survey of a stream of which nothing was read.
     pub(crate) fn new(alloc: Global, words: &StreamWords<'_>, watch: Watch) -> Survey {
         let page_size = words.page_size.bytes();
         Survey {
@@ -77,7 +77,7 @@ impl Survey {
         }
     }
 
-    /// Returns how many bytes stand before the stream.
+    /// Returns how many bytes are before the stream: those of libvirt's header.
     pub(crate) fn before(&self) -> u64 {
         match self.libvirt {
             Some(header) => header.len,
@@ -85,14 +85,19 @@ impl Survey {
         }
     }
 
-    /// Notes the file that the stream is read from.
+    /// Takes the length of the file that the stream is read from, for the progress.
     pub(crate) fn expect_file(&mut self, metadata: &Metadata) {
         if metadata.is_file() {
             self.watch.expect_total(metadata.len());
         }
     }
 
-    /// Reads an input to its end, and passes the pages of its stream to `sink`.
+    /// Reads `input` to its end, and passes the pages of its stream to `sink`.
+    ///
+    /// # Errors
+    ///
+    /// `Trouble::Unread` where a read fails, `Trouble::Libvirt` of libvirt's header,
+    /// `Trouble::NoMemory`, and those of `sink`.
     pub(crate) fn read<H: AllocGlobal + Files + Clock, R: Read, S: PageSink<H>, E: Write>(
         &mut self,
         rt: &H,
@@ -118,7 +123,7 @@ impl Survey {
         Ok(())
     }
 
-    // Reads a piece of the stream.
+    // Reads the next piece of the stream.
     fn feed<H: AllocGlobal + Files, S: PageSink<H>>(
         &mut self,
         rt: &H,
@@ -142,7 +147,7 @@ impl Survey {
         Ok(())
     }
 
-    // Takes all that a reader gives of a piece.
+    // Takes all records that `reader` gives of `piece`, which begins at the stream's byte `start`.
     fn take_records<H: AllocGlobal + Files, S: PageSink<H>>(
         &mut self,
         rt: &H,
@@ -168,7 +173,7 @@ impl Survey {
         }
     }
 
-    // Takes the table, once it is known.
+    // Takes the table, as soon as `reader` has it.
     fn begin<H: AllocGlobal + Files, S: PageSink<H>>(
         &mut self,
         rt: &H,
@@ -185,7 +190,7 @@ impl Survey {
         Ok(())
     }
 
-    // Takes the records that a reader gave last.
+    // Counts the records that `reader` gave last, and passes them to `sink`.
     fn take_given<H: Files, S: PageSink<H>>(
         &mut self,
         reader: &RecordReader<'_>,

@@ -1,4 +1,4 @@
-//! A file that is written under another name until it is complete.
+//! Writes files under another name until they are complete.
 
 use crate::opened::unfit;
 use crate::trouble::{Trouble, Unfit};
@@ -7,10 +7,10 @@ use std::fs::{File, Files, OpenFile};
 use std::io::{self, Write};
 use zimgasol_names::shown_name;
 
-/// What the name of a file that isn't complete ends with.
+/// The end of the name of a file that isn't complete.
 pub(crate) const PARTIAL: &str = ".partial";
 
-/// Returns the trouble of a file or a folder that can't be made, written or renamed.
+/// Returns the trouble of the file or folder `path`, with which the system reports `error`.
 pub(crate) fn unwritten(alloc: Global, path: &str, error: io::Error) -> Trouble {
     match shown_name(alloc, path) {
         Ok(path) => Trouble::OfFile(path, error),
@@ -18,7 +18,11 @@ pub(crate) fn unwritten(alloc: Global, path: &str, error: io::Error) -> Trouble 
     }
 }
 
-/// Refuses a path that is there already, unless it is a plain file that may be replaced.
+/// Refuses `path` where it exists, unless it is a plain file and `replace` is set.
+///
+/// # Errors
+///
+/// `Trouble::Exists` of a plain file, `Trouble::Unfit` of anything else, as a link or a folder.
 pub(crate) fn is_free<H: Files>(
     rt: &H,
     alloc: Global,
@@ -37,7 +41,11 @@ pub(crate) fn is_free<H: Files>(
     Err(Trouble::Exists(shown_name(alloc, path)?))
 }
 
-/// Makes a file anew, to be written and read.
+/// Makes the file `path` for writing and reading. A file or a link of that name is removed first.
+///
+/// # Errors
+///
+/// `Trouble::OfFile` where it can't be made.
 pub(crate) fn create<H: Files>(rt: &H, alloc: Global, path: &str) -> Result<H::File, Trouble> {
     let _left = rt.remove_file(path);
     match File::options()
@@ -51,7 +59,11 @@ pub(crate) fn create<H: Files>(rt: &H, alloc: Global, path: &str) -> Result<H::F
     }
 }
 
-/// Gives a file its name.
+/// Renames the file `from` to `to`, which it replaces.
+///
+/// # Errors
+///
+/// `Trouble::OfFile` of `to`.
 pub(crate) fn rename<H: Files>(rt: &H, alloc: Global, from: &str, to: &str) -> Result<(), Trouble> {
     match rt.rename(from, to) {
         Ok(()) => Ok(()),
@@ -59,25 +71,29 @@ pub(crate) fn rename<H: Files>(rt: &H, alloc: Global, from: &str, to: &str) -> R
     }
 }
 
-/// Has what was written of a file on its disk.
+/// Waits until what was written of a file is on its disk.
 pub(crate) fn sync<F: Write + OpenFile>(file: &mut F) -> io::Result<()> {
     file.flush()?;
     file.sync_all()
 }
 
-/// A file that is being written, with its name in the end.
+/// A file that is being written, with the name that it gets.
 #[derive(Drop)]
 pub(crate) struct Outlet<F: Drop> {
     pub alloc: Global,
     pub path: String,
     pub partial: String,
     pub file: F,
-    /// How many bytes were written.
+    /// The bytes that were written.
     pub written: u64,
 }
 
 impl<F: Write + OpenFile + Drop> Outlet<F> {
-    /// Writes bytes.
+    /// Writes `bytes`.
+    ///
+    /// # Errors
+    ///
+    /// `Trouble::OfFile` where they can't be written.
     pub(crate) fn write(&mut self, bytes: &[u8]) -> Result<(), Trouble> {
         self.written = self.written.saturating_add(bytes.len() as u64);
         match self.file.write_all(bytes) {
@@ -86,7 +102,11 @@ impl<F: Write + OpenFile + Drop> Outlet<F> {
         }
     }
 
-    /// Has what was written on its disk.
+    /// Waits until what was written is on its disk.
+    ///
+    /// # Errors
+    ///
+    /// `Trouble::OfFile` where the system reports a failure.
     pub(crate) fn sync(&mut self) -> Result<(), Trouble> {
         match sync(&mut self.file) {
             Ok(()) => Ok(()),
@@ -94,7 +114,11 @@ impl<F: Write + OpenFile + Drop> Outlet<F> {
         }
     }
 
-    /// Gives the file its name.
+    /// Gives the file its final name.
+    ///
+    /// # Errors
+    ///
+    /// `Trouble::OfFile` where it can't be renamed.
     pub(crate) fn rename<H: Files>(&self, rt: &H) -> Result<(), Trouble> {
         rename(rt, self.alloc, &self.partial, &self.path)
     }

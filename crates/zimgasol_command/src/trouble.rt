@@ -1,10 +1,10 @@
-//! What ends a word of the program before its work is done, beside a fault of the stream.
+//! What ends a command before its work is done: all but a fault of the stream.
 
 use mig_mem::NoMemory;
 use std::alloc::{AllocError, AllocFailed};
 use std::io;
 
-/// What went wrong outside the stream.
+/// What went wrong beside a fault of the stream. Names are as they are printed.
 #[derive(Drop)]
 pub(crate) enum Trouble {
     /// An allocation was refused.
@@ -21,20 +21,20 @@ pub(crate) enum Trouble {
     Unfit(String, Unfit),
     /// The blocks that are saved have more than 2^40 bytes together.
     TooLarge,
-    /// A stream of this name can't be read: why.
+    /// A stream of this name isn't read: why.
     Refused(String, &'static str),
     /// These words are wrong.
     Words(String, &'static str),
     /// The stream has no block of this id.
     NoBlock(String),
-    /// A header of libvirt's whose stream can't be read: why.
+    /// The stream after libvirt's header isn't read: why.
     Libvirt(&'static str),
 }
 
 /// Why a file isn't the memory of a block, or a folder isn't what `extract` makes.
 #[derive(Clone, Copy)]
 pub(crate) enum Unfit {
-    /// It has so many bytes, which isn't a multiple of the page size.
+    /// Its length in bytes is no multiple of the page size: both.
     Pages(u64, u64),
     /// It has no bytes.
     Empty,
@@ -42,15 +42,15 @@ pub(crate) enum Unfit {
     NoFile,
     /// It is the temporary folder of another run.
     OtherRun,
-    /// It had another length before.
+    /// Its length changed while it was read.
     Changed,
     /// It isn't a list of blocks.
     NoList,
-    /// It has no block of the id that is saved.
+    /// The folder of `--since` has no block of this id.
     NoBlock,
-    /// Its block has so many bytes, and the file that is saved so many.
+    /// Its length in bytes, and another one in the folder of `--since`.
     OtherLen(u64, u64),
-    /// Its page size is this one, and the other's is that one.
+    /// Its page size, and another one of what it goes with.
     OtherPages(u64, u64),
 }
 

@@ -1,4 +1,4 @@
-//! `verify`: whether a stream is whole, in one line.
+//! `verify`: prints whether a single stream is complete, or its fault.
 
 use crate::advice::advice;
 use crate::between::SectionKind;
@@ -19,8 +19,8 @@ pub(crate) fn put_block<W: Write>(output: &mut W, block: &Option<String>) -> io:
     }
 }
 
-/// Writes where a fault of a stream is, beside its byte: after so many whole sections, in one of
-/// `kind` or between two.
+/// Writes in which section a fault is, after `sections` complete ones: in one of `kind`, or between
+/// two.
 pub(crate) fn put_section<W: Write>(
     output: &mut W,
     sections: u64,
@@ -39,7 +39,7 @@ pub(crate) fn put_section<W: Write>(
     }
 }
 
-/// Writes the line of a fault: the file, where in it, which fault, and what to do.
+/// Writes the line of a fault: the file, the place in it, the fault, and what to do.
 pub(crate) fn put_fault<W: Write>(
     output: &mut W,
     name: &str,
@@ -57,7 +57,7 @@ pub(crate) fn put_fault<W: Write>(
     writeln!(output)
 }
 
-// Writes the line of a stream that is whole.
+// Writes the line of a complete stream.
 fn put_whole<W: Write>(output: &mut W, name: &str, survey: &Survey) -> io::Result<()> {
     let sections = survey.sections;
     write!(output, "{name}: whole: sections {sections}, ")?;
@@ -72,7 +72,7 @@ fn put_whole<W: Write>(output: &mut W, name: &str, survey: &Survey) -> io::Resul
     writeln!(output, "{what} ends at byte {end}, {after} bytes follow")
 }
 
-/// Returns what ends where a stream of this frame is closed.
+/// Returns the name of what ends where a stream of `frame` is closed.
 pub(crate) fn end_name(frame: Frame) -> &'static str {
     match frame {
         Frame::Machine => "RAM",
@@ -80,8 +80,12 @@ pub(crate) fn end_name(frame: Frame) -> &'static str {
     }
 }
 
-/// Writes what is wrong with a stream to `errors`: its fault, or the blocks without records of all
-/// their pages. Returns whether it is whole.
+/// Writes what is wrong with a stream to `errors`: its fault, or which blocks lack page records.
+/// Returns whether the stream is complete.
+///
+/// # Errors
+///
+/// `Trouble::NoMemory`.
 pub(crate) fn put_wrongs<E: Write>(
     alloc: Global,
     errors: &mut E,
@@ -101,8 +105,12 @@ pub(crate) fn put_wrongs<E: Write>(
     }
 }
 
-/// Writes the judgement of a stream: to `output` that it is whole, if that is wanted, and to `errors`
-/// what is wrong with it. Returns whether it is whole.
+/// Writes the verdict on a stream: to `output` that it is complete, unless `--quiet` is set, and to
+/// `errors` what is wrong with it. Returns whether it is complete.
+///
+/// # Errors
+///
+/// `Trouble::Output` where `output` can't be written, `Trouble::NoMemory`.
 pub(crate) fn put_judgement<W: Write, E: Write>(
     alloc: Global,
     output: &mut W,

@@ -1,4 +1,4 @@
-//! `--progress`: how far a reading is, once a second.
+//! `--progress`: a line a second with how much was read.
 
 ghost use Rattle.std.specs.Prelude.{◌≡◌, ◌*◌, ◌/◌, ◌≤◌, ◌<◌};
 
@@ -9,19 +9,19 @@ use std::rt::Clock;
 use std::time::Instant;
 use zimgasol_names::shown_name;
 
-/// How far a reading is, and when that was printed last.
+/// When a reading began, how much it has to read, and when a line was printed last.
 #[derive(Drop)]
 pub(crate) struct Watch {
     name: String,
     // None where nothing is printed
     started: Option<Instant>,
-    // how many bytes there are in all, where that is known
+    // the bytes of the whole input, where they are known
     total: Option<u64>,
     // the second in which a line was printed last
     second: u64,
 }
 
-/// Returns how many of a hundred parts are done.
+/// Returns the share of `total` that is `done`, in percent, rounded down.
 pub(crate) fn share(done: u64, total: u64) -> u64
     requires { 0 < total }
     ensures { done ≤ total → result ≡ done * 100 / total }
@@ -30,7 +30,7 @@ pub(crate) fn share(done: u64, total: u64) -> u64
     (done * 100 / u128::from(total)) as u64
 }
 
-/// Returns how many MiB a second were done, rounded down.
+/// Returns the rate at which `done` bytes were read in `seconds`, in MiB a second, rounded down.
 pub(crate) fn rate(done: u64, seconds: u64) -> u64
     requires { 0 < seconds }
     ensures { result ≡ done / 1048576 / seconds }
@@ -39,7 +39,7 @@ pub(crate) fn rate(done: u64, seconds: u64) -> u64
 }
 
 impl Watch {
-    /// Creates one for a reading that begins now; `name` is what is read.
+    /// Creates the watch of a reading that begins now; `name` is the file that is read.
     pub(crate) fn new<H: Clock>(
         rt: &H,
         alloc: Global,
@@ -59,12 +59,12 @@ impl Watch {
         })
     }
 
-    /// Says how many bytes there are in all.
+    /// Sets how many bytes there are in all.
     pub(crate) fn expect_total(&mut self, total: u64) {
         self.total = Some(total);
     }
 
-    /// Prints how far the reading is, if the last line is of an earlier second.
+    /// Prints that `done` bytes were read, unless this second has a line already.
     pub(crate) fn show<H: Clock, E: Write>(&mut self, rt: &H, errors: &mut E, done: u64) {
         let Some(started) = self.started else {
             return;
@@ -80,7 +80,7 @@ impl Watch {
     }
 }
 
-/// Writes the line of a reading that took so many seconds so far.
+/// Writes that `done` bytes were read in `seconds`, with their share of `total` and the rate.
 pub(crate) fn put_progress<E: Write>(
     errors: &mut E,
     name: &str,

@@ -1,4 +1,4 @@
-//! The command line: what its words ask for.
+//! The command line, declared for `clap`, and what its words ask for.
 
 ghost use Rattle.mig_mem.specs.PageSize.{IsPageSize};
 
@@ -30,10 +30,10 @@ impl PageSize {
     }
 }
 
-/// What is printed beside the answer.
+/// What is printed beside the result.
 #[derive(Clone, Copy)]
 pub(crate) struct Talk {
-    /// Whether a line a second says how far the reading is.
+    /// Whether a line a second has the progress.
     pub progress: bool,
     /// Whether the line of success is left out.
     pub quiet: bool,
@@ -49,7 +49,7 @@ pub(crate) struct StreamWords<'a> {
     pub talk: Talk,
 }
 
-/// The channels that a stream's pages went over; none of a single stream.
+/// The channels beside a main stream; a single stream has none.
 #[derive(Drop)]
 pub(crate) struct ChannelWords<'a> {
     /// The files' names.
@@ -58,7 +58,7 @@ pub(crate) struct ChannelWords<'a> {
     pub uuid: Option<&'a str>,
 }
 
-/// What `extract` is to do.
+/// The words of `extract`.
 #[derive(Clone, Copy)]
 pub(crate) struct ExtractWords<'a> {
     pub stream: StreamWords<'a>,
@@ -76,7 +76,7 @@ pub(crate) struct ExtractWords<'a> {
     pub durable: bool,
 }
 
-/// What `save` is to do.
+/// The words of `save`.
 #[derive(Drop)]
 pub(crate) struct SaveWords<'a> {
     /// The words `ID=FILE`.
@@ -98,7 +98,7 @@ pub(crate) struct SaveWords<'a> {
     pub talk: Talk,
 }
 
-/// What `compare` is to do.
+/// The words of `compare`.
 #[derive(Clone, Copy)]
 pub(crate) struct CompareWords<'a> {
     /// Each is a stream, or a folder that `extract` made.
@@ -110,14 +110,14 @@ pub(crate) struct CompareWords<'a> {
 #[derive(Drop)]
 pub(crate) enum Request<'a> {
     Verify(StreamWords<'a>, ChannelWords<'a>),
-    /// Text, or JSON.
+    /// True for JSON, false for lines.
     Inspect(StreamWords<'a>, ChannelWords<'a>, bool),
     Extract(ExtractWords<'a>, ChannelWords<'a>),
     Save(SaveWords<'a>),
     Compare(CompareWords<'a>),
 }
 
-// ---- the command line as it is declared
+// ---- the declaration
 
 fn file_arg<'a>(alloc: Global) -> Arg<'a> {
     Arg::new(alloc, "FILE").required(true).help(
@@ -181,7 +181,7 @@ fn uuid_option<'a>(alloc: Global, help: &'a str) -> Arg<'a> {
         .help(help)
 }
 
-// A command that reads a stream.
+// Declares a command that reads a stream.
 fn stream_command<'a>(
     alloc: Global,
     name: &'a str,
@@ -243,7 +243,7 @@ fn extract_command<'a>(alloc: Global) -> Result<Command<'a>, AllocError> {
     ))
 }
 
-// The options of `save` that say which blocks there are, and what is left out.
+// Declares `save` with the options that name its blocks, and what it leaves out.
 fn save_sources<'a>(alloc: Global) -> Result<Command<'a>, AllocError> {
     Command::new(alloc, "save")
         .about("Makes a stream of files with the memory of blocks, as a backup of a guest")
@@ -339,7 +339,7 @@ fn program<'a>(alloc: Global) -> Result<Command<'a>, AllocError> {
         .subcommand(compare_command(alloc)?)
 }
 
-// ---- what was read
+// ---- the words that were read
 
 fn page_size_in<'a>(matches: &ArgMatches<'a>) -> PageSize {
     match matches.get_str("page") {
@@ -362,7 +362,7 @@ fn talk_in(matches: &ArgMatches<'_>) -> Talk {
     }
 }
 
-// The stream that an argument names.
+// Returns the stream that `argument` names.
 fn stream_in<'a>(matches: &ArgMatches<'a>, argument: &str) -> StreamWords<'a> {
     StreamWords {
         file: matches.get_str(argument).unwrap_or("-"),
@@ -372,7 +372,7 @@ fn stream_in<'a>(matches: &ArgMatches<'a>, argument: &str) -> StreamWords<'a> {
     }
 }
 
-// The channels that are named.
+// Returns the channels that are named.
 fn channels_in<'a>(
     alloc: Global,
     matches: &ArgMatches<'a>,
@@ -435,7 +435,11 @@ fn request_in<'a>(
     })
 }
 
-/// Returns what the words ask for; or what is printed instead, which is also help and version.
+/// Returns what the words ask for.
+///
+/// # Errors
+///
+/// What is printed instead: why the words are wrong, or help or the version, which were asked for.
 pub(crate) fn asked<'a>(alloc: Global, words: &'a [String]) -> Result<Request<'a>, Error> {
     let matches = program(alloc)?.try_get_matches_from(words)?;
     match matches.subcommand() {

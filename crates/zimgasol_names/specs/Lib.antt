@@ -1,3 +1,3 @@
--- Text that steers no terminal, and the names of files.
+-- Printable ids and names, and the names of files.
 pub mod Shown
 pub mod Naming

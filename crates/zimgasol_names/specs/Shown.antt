@@ -1,4 +1,4 @@
--- Text that steers no terminal.
+-- Printable ASCII, which controls no terminal.
 use Rattle.std.specs.Prelude.{ℕ, ◌≤◌}
 
 -- the byte is an ASCII character from the space to the tilde

@@ -1,5 +1,8 @@
-//! What a stranger's bytes become where people see them: the names of the files that blocks are
-//! extracted into, which lead out of no folder and hide no other, and text that steers no terminal.
+//! Names of files and printable ids, of the bytes that a stream brings.
+//!
+//! The file that a block is extracted into has a name that leads out of no folder, and that no
+//! other block's file has. What is printed of ids and names is printable ASCII, so it controls no
+//! terminal.
 #![tactic(auto)]
 
 mod naming;

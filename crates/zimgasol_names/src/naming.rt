@@ -1,4 +1,4 @@
-//! The names of the files that blocks are extracted into.
+//! Makes the names of the files that blocks are extracted into.
 
 ghost use Rattle.std.specs.Prelude.{◌≡◌, ◌<◌, ◌++◌, ◌^◌, length, IfOk, string_bytes, codes};
 ghost use Rattle.percent_encoding.specs.Percent.{percent_encode as encoded};
@@ -8,7 +8,7 @@ use percent_encoding::{AsciiSet, NON_ALPHANUMERIC, ascii_set, percent_encode};
 use std::alloc::{AllocError, Global};
 
 /// The most bytes of a name before its suffix, where it is made of the id. A file system takes 255
-/// bytes, and a file that isn't whole yet has a longer name than in the end.
+/// bytes, and a file that isn't complete has a longer name.
 const MOST_LEN: usize = 200;
 
 /// The characters that are escaped in an id that begins with a dot.
@@ -35,9 +35,9 @@ fn escaped_set(id: &[u8]) -> AsciiSet
     }
 }
 
-/// Returns the name of the file of a block, which has this id and number. It is the id, with the
-/// bytes that may not stand in a name as `%` and two hexadecimal digits; or, where that is too long,
-/// `%long-` with the number. It ends with `.bin`.
+/// Returns the name of the file of the block `id`, which has the number `block`. It is the id, with
+/// other bytes than letters, digits and some marks as `%` and two hexadecimal digits; where that
+/// has more than 200 bytes, it is `%long-` and the number. It ends with `.bin`.
 ///
 /// # Errors
 ///
@@ -57,18 +57,22 @@ pub fn file_name(alloc: Global, id: &[u8], block: usize) -> Result<String, Alloc
     Ok(name)
 }
 
-/// The name of each block leads to a file in its folder: it has no slash, and doesn't begin with a
-/// dot.
+/// Shows that the name of each block's file has no slash, and doesn't begin with a dot: it is in
+/// its folder.
 pub fn names_are_plain()
     ensures { NamesArePlain }
 {}
 
-/// No block's file hides another's: their names differ where ids and numbers do.
+/// Shows that the names of two blocks' files differ, where ids and numbers do.
 pub fn names_are_distinct()
     ensures { NamesAreDistinct }
 {}
 
-/// Returns the path of a name in a folder, with something after the name.
+/// Returns the path of the file `name` in `folder`, with `after` at its end.
+///
+/// # Errors
+///
+/// `AllocError`: an allocation was refused.
 pub fn path_in(alloc: Global, folder: &str, name: &str, after: &str) -> Result<String, AllocError>
     ensures { IfOk result (λ path. string_bytes path ≡ folder.now ++ codes "/" ++ name.now ++ after.now) }
 {

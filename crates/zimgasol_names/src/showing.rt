@@ -1,4 +1,4 @@
-//! Bytes that a stream or a file brings, as text that steers no terminal.
+//! Makes ids and names printable.
 
 ghost use Rattle.std.specs.Prelude.{◌≡◌, ◌<◌, length, IfOk, All, string_bytes, codes, IsAscii};
 ghost use Rattle.percent_encoding.specs.Percent.{percent_encode as encoded};
@@ -8,12 +8,15 @@ use percent_encoding::{AsciiSet, CONTROLS, ascii_set, percent_encode};
 use std::alloc::{AllocError, Global};
 use std::str;
 
-/// The characters that aren't shown as they are: those that steer a terminal, and the quotation mark
-/// that ends an id.
+/// The ASCII characters that are escaped: those that control a terminal, and the quotation mark,
+/// which ends an id.
 const HIDDEN: AsciiSet = ascii_set!(CONTROLS.add(b'"'));
 
-/// Returns bytes as text of printable characters: each byte that is none, and `"`, is `%` with two
-/// hexadecimal digits.
+/// Returns `bytes` as printable ASCII: any other byte, and `"`, is `%` and two hexadecimal digits.
+///
+/// # Errors
+///
+/// `AllocError`: an allocation was refused.
 pub fn shown(alloc: Global, bytes: &[u8]) -> Result<String, AllocError>
     ensures value { IfOk result (λ text. string_bytes text ≡ encoded HIDDEN bytes.now) }
     ensures printable { IfOk result (λ text. All IsPrintable (string_bytes text)) }
@@ -39,7 +42,7 @@ pub fn shown_name(alloc: Global, name: &str) -> Result<String, AllocError>
     shown(alloc, name.as_bytes())
 }
 
-/// Returns a block's id as text. Ids that a stream is read with are ASCII, so the text is the id.
+/// Returns a block's id as a string. The ids of a stream are ASCII, so it is the id itself.
 ///
 /// # Errors
 ///

@@ -1,5 +1,6 @@
-//! The examples of docs/ZIMGASOL.md and more cases as a stored run: it reads their commands from the
-//! input, runs each as `run` of `zimgasol_command` does, and prints each with what it prints.
+//! Runs the examples of docs/ZIMGASOL.md and more cases, as a stored run. It reads their commands
+//! from the input, passes each to `run` of `zimgasol_command`, and prints the command and its
+//! output.
 //!
 //! A command is `zimgasol` with its words and maybe `< FILE`, or what stands around it: `cat FILE`,
 //! `cat FILE FILE > FILE`, `head -c N FILE > FILE` and `echo $?`. It is no part of the product.

@@ -3,7 +3,7 @@ use Rattle.std.specs.Prelude.{string_bytes}
 use Rattle.std.proofs.lemmas.Str.{IsUtf8-from_ascii}
 use Rattle.zimgasol_names.proofs.showing.id_text.Goals as goal
 
--- whatever text there is, since it holds of none
+-- what holds of each result holds of the one that there may be
 if_absurd : {T E : Type 0} (r : Result T E) (P : T → Type 0) → ((x : T) → P x) → IfOk r P
 if_absurd (Ok x) P all = all x
 if_absurd (Err e) P all = tt
