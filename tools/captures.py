@@ -22,6 +22,7 @@ Ends with status 1 where a capture differs.
 """
 import hashlib
 import json
+import os
 import re
 import subprocess
 import sys
@@ -166,6 +167,8 @@ def main(words):
         sys.exit(f"{folder} has no capture")
     captures = [Capture(it) for it in found]
     if by_zimgasol:
+        if not os.access(words[1], os.X_OK):
+            sys.exit(f"there is no program {words[1]}: make program")
         wrong = try_captures(str(Path(words[1]).resolve()), captures)
         print(f"\n{len(captures)} captures, {wrong or 'none'} other than expected")
         return 1 if wrong else 0
