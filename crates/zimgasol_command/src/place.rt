@@ -1,5 +1,10 @@
 //! Locates the fault of a single stream: byte, section and block.
 
+ghost use Rattle.std.specs.Prelude.{◌≡◌, ◌↔◌, IsNone, IfSome};
+ghost use Rattle.mig_stream.specs.declared.fault.StreamFault.{StreamFault};
+ghost use Rattle.mig_stream.specs.declared.fault.StreamFault.TheVariants as fault;
+ghost use Rattle.mig_stream.specs.declared.item.StreamState.TheVariants as state;
+
 use crate::between::SectionKind;
 use crate::survey::Survey;
 use mig_stream::{StreamFault, StreamState};
@@ -20,7 +25,11 @@ pub(crate) struct FaultPlace {
 }
 
 /// Returns the fault of a stream that was read to its end; None where the stream is whole.
-pub(crate) fn fault_of(survey: &Survey) -> Option<FaultPlace> {
+pub(crate) fn fault_of(survey: &Survey) -> Option<FaultPlace>
+    ensures complete { IsNone result ↔ (survey.now.state ≡ state.Closed) }
+    ensures fault { (f : StreamFault) → survey.now.state ≡ state.Bad f → IfSome result (λ place. place.fault ≡ f) }
+    ensures cut { survey.now.state ≡ state.Reading → IfSome result (λ place. (place.fault ≡ fault.Truncated) × (place.byte ≡ survey.now.len)) }
+{
     let (fault, byte) = match survey.state {
         StreamState::Closed => return None,
         StreamState::Reading => (StreamFault::Truncated, survey.len),

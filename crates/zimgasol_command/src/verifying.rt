@@ -1,5 +1,8 @@
 //! `verify`: prints whether a single stream is complete, or its fault.
 
+ghost use Rattle.std.specs.Prelude.{◌≡◌, ◌↔◌, IfOk, IsTrue};
+ghost use Rattle.mig_stream.specs.declared.item.StreamState.TheVariants as state;
+
 use crate::advice::advice;
 use crate::between::SectionKind;
 use crate::missing::put_missing;
@@ -91,7 +94,9 @@ pub(crate) fn put_wrongs<E: Write>(
     errors: &mut E,
     name: &str,
     survey: &Survey,
-) -> Result<bool, Trouble> {
+) -> Result<bool, Trouble>
+    ensures verdict { IfOk result (λ is_complete. IsTrue is_complete ↔ (survey.now.state ≡ state.Closed)) }
+{
     match fault_of(survey) {
         Some(place) => {
             let block = block_at(alloc, survey)?;
