@@ -1,6 +1,6 @@
 -- The pages of a piece that differ from the older ones at their places, and what `save` sends of
 -- them.
-use Rattle.std.specs.Prelude.{ℕ, zero, suc, ◌≡◌, ◌+◌, ◌*◌, ◌≤◌, ◌⊎◌, List, [], ◌∷◌, ◌++◌, length, slice_range, Option, IfSome}
+use Rattle.std.specs.Prelude.{ℕ, zero, suc, ◌≡◌, ◌+◌, ◌*◌, ◌≤◌, ◌<◌, ◌^◌, ◌⊎◌, List, [], ◌∷◌, ◌++◌, length, slice_range, Option, IfSome}
 use Rattle.std.specs.Option.{option_copied}
 use Rattle.mig_mem.specs.Image.{Page}
 use Rattle.zimgasol_command.specs.declared.pages.Pages.{Pages}
@@ -45,3 +45,11 @@ unfoldable pub AreSent : ℕ → ℕ → Piece → ℕ → List Page → Type 0
 AreSent block first piece zero pages = pages ≡ []
 AreSent block first piece (suc n) pages = (rest : List Page) × AreSent block first piece n rest
     × ((Differs piece n × (pages ≡ rest ++ page_sent block first piece n ∷ [])) ⊎ ((Differs piece n → ⊥) × (pages ≡ rest)))
+
+-- The count that began at `start` has all of the first n pages that differ: as many as are sent.
+abbrev pub IsCountedTo : ℕ → Piece → ℕ → ℕ → ℕ → Type 0
+IsCountedTo first piece n start count = (sent : List Page) × AreSent 0 first piece n sent × (start + length sent < 2 ^ 64 → count ≡ start + length sent)
+
+-- what one page more does to such a count
+abbrev pub CountsPage : ℕ → Piece → ℕ → ℕ → ℕ → Type 0
+CountsPage first piece page old new = (start : ℕ) → IsCountedTo first piece page start old → IsCountedTo first piece (page + 1) start new

@@ -1,14 +1,17 @@
 //! Writes the file that a block is extracted into, up to its digest.
 
+ghost use Rattle.std.specs.Prelude.{◌≡◌, ◌++◌, IfOk, codes, string_bytes};
+ghost use Rattle.zimgasol_names.specs.Naming.{name_of};
+
 use crate::input::read_piece;
-use crate::target::sync;
+use crate::target::{PARTIAL, sync};
 use crate::trouble::Trouble;
 use serde_json::{Value, json};
 use sha2::{Digest, Sha256};
-use std::alloc::Global;
+use std::alloc::{AllocError, Global};
 use std::fs::OpenFile;
 use std::io::{self, Read, Seek, SeekFrom, Write};
-use zimgasol_names::id_text;
+use zimgasol_names::{file_name, id_text, path_in};
 
 /// A file that a block is written into.
 #[derive(Drop)]
@@ -24,6 +27,42 @@ pub(crate) struct BlockFile<F: Drop> {
     pub len: u64,
     pub file: F,
     pub digest: Option<[u8; 32]>,
+}
+
+/// The names of the file of a block.
+#[derive(Drop)]
+pub(crate) struct BlockNames {
+    /// Its name in the folder once it is complete.
+    pub name: String,
+    /// Its path once it is complete.
+    pub path: String,
+    /// Its path until then.
+    pub partial_path: String,
+}
+
+/// Returns the names of the file of the block `id`, which has the number `block`, in `folder`.
+///
+/// # Errors
+///
+/// `AllocError`: an allocation was refused.
+pub(crate) fn names_in(
+    alloc: Global,
+    folder: &str,
+    id: &[u8],
+    block: usize,
+) -> Result<BlockNames, AllocError>
+    ensures name { IfOk result (λ names. string_bytes names.name ≡ name_of id.now block) }
+    ensures path { IfOk result (λ names. string_bytes names.path ≡ folder.now ++ codes "/" ++ name_of id.now block) }
+    ensures partial { IfOk result (λ names. string_bytes names.partial_path ≡ folder.now ++ codes "/" ++ name_of id.now block ++ codes ".partial") }
+{
+    let name = file_name(alloc, id, block)?;
+    let path = path_in(alloc, folder, &name, "")?;
+    let partial_path = path_in(alloc, folder, &name, PARTIAL)?;
+    Ok(BlockNames {
+        name,
+        path,
+        partial_path,
+    })
 }
 
 /// Writes `bytes` to a file from its byte `at` on.

@@ -3,6 +3,9 @@
 //! A stream may name a page several times, so its memory is known only at its end. So a stream is
 //! extracted into a folder beside the second operand, and then two folders are compared.
 
+ghost use Rattle.std.specs.Prelude.{IfOk};
+ghost use Rattle.zimgasol_command.specs.Differing.{piece_of, IsCountedTo, CountsPage};
+
 use crate::differing::Differing;
 use crate::extracting::extract_survey;
 use crate::folder::{Folder, FolderBlock, read_folder};
@@ -140,11 +143,32 @@ fn add_differing(
     if pages.are_same() {
         return Ok(());
     }
+    add_each(differing, first, pages)
+}
+
+// Adds those of `pages` that differ, page by page.
+fn add_each(differing: &mut Differing, first: u64, pages: &Pages<'_>) -> Result<(), AllocError>
+    ensures counted { IfOk result (λ _. IsCountedTo first (piece_of pages.now) 256 differing.old.count differing.new.count) }
+{
     for page in 0..PIECE_PAGES {
-        if pages.differing(page).is_some() {
-            differing.add(first.saturating_add(page as u64))?;
-        }
+        add_page(differing, first, pages, page)?;
     }
+    Ok(())
+}
+
+// Adds the page `page` of `pages`, if it differs.
+fn add_page(
+    differing: &mut Differing,
+    first: u64,
+    pages: &Pages<'_>,
+    page: usize,
+) -> Result<(), AllocError>
+    ensures counted { IfOk result (λ _. CountsPage first (piece_of pages.now) page differing.old.count differing.new.count) }
+{
+    let Some(_bytes) = pages.differing(page) else {
+        return Ok(());
+    };
+    differing.add(first.saturating_add(page as u64))?;
     Ok(())
 }
 

@@ -1,6 +1,6 @@
 //! Counts the pages of a block that differ, and lists them as ranges.
 
-ghost use Rattle.std.specs.Prelude.{◌≡◌, ◌+◌, ◌↔◌, ◌<◌, ◌≤◌, ◌^◌, IsSome, IfSome};
+ghost use Rattle.std.specs.Prelude.{◌≡◌, ◌+◌, ◌↔◌, ◌<◌, ◌≤◌, ◌^◌, IfOk, IsSome, IfSome};
 
 use std::alloc::{AllocError, Global};
 use std::io::{self, Write};
@@ -53,7 +53,9 @@ impl Differing {
     }
 
     /// Adds `page`, which is after all pages that were added.
-    pub(crate) fn add(&mut self, page: u64) -> Result<(), AllocError> {
+    pub(crate) fn add(&mut self, page: u64) -> Result<(), AllocError>
+        ensures count { IfOk result (λ _. self.old.count + 1 < 2 ^ 64 → self.new.count ≡ self.old.count + 1) }
+    {
         self.count = self.count.saturating_add(1);
         if let Some(last) = self.ranges.last_mut()
             && let Some(longer) = last.with(page)

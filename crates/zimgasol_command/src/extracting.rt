@@ -4,7 +4,9 @@
 //! complete and the file is on its disk. With `--since` each file begins as a copy of its block in
 //! another folder, and the stream's pages are written over it.
 
-use crate::block_file::{BlockFile, block_value, complete_file, write_at, write_text};
+use crate::block_file::{
+    BlockFile, BlockNames, block_value, complete_file, names_in, write_at, write_text,
+};
 use crate::folder::{Folder, LIST_NAME, read_folder};
 use crate::input::piece_buffer;
 use crate::opened::{open, unfit};
@@ -25,7 +27,7 @@ use std::fs::Files;
 use std::io::{ErrorKind, Read, Write};
 use std::rt::Clock;
 use std::str;
-use zimgasol_names::{file_name, path_in, shown, shown_name};
+use zimgasol_names::{path_in, shown, shown_name};
 
 /// The most bytes of consecutive pages that are written at once.
 const RUN_LEN: usize = 262_144;
@@ -116,11 +118,14 @@ impl<H: Files> Extraction<H> {
 
     // Makes the file of the block `id`, which has the number `block` and `len` bytes.
     fn open_block(&mut self, rt: &H, id: &[u8], block: usize, len: u64) -> Result<(), Trouble> {
-        let name = file_name(self.alloc, id, block)?;
-        let path = path_in(self.alloc, &self.folder, &name, "")?;
-        let partial_path = path_in(self.alloc, &self.folder, &name, PARTIAL)?;
-        self.is_free(rt, &path)?;
-        let file = create(rt, self.alloc, &partial_path)?;
+        let names = names_in(self.alloc, &self.folder, id, block)?;
+        self.is_free(rt, &names.path)?;
+        let file = create(rt, self.alloc, &names.partial_path)?;
+        let BlockNames {
+            name,
+            path,
+            partial_path,
+        } = names;
         self.files.push(BlockFile {
             block,
             id: id.to_vec(self.alloc)?,

@@ -1,6 +1,7 @@
 //! Prints the verdict on a main stream and its channels, and lists what they have, in lines.
 
-ghost use Rattle.std.specs.Prelude.{◌≤◌};
+ghost use Rattle.std.specs.Prelude.{◌≡◌, ◌↔◌, ◌≤◌, IfOk, IsTrue};
+ghost use Rattle.mig_answer.specs.declared.verdict.Verdict.TheVariants as verdict;
 
 use crate::channel::Channel;
 use crate::inspecting::{put_blocks, put_note};
@@ -72,7 +73,9 @@ impl<F: Read + OpenFile + Drop> Several<F> {
         alloc: Global,
         errors: &mut E,
         name: &str,
-    ) -> Result<bool, Trouble> {
+    ) -> Result<bool, Trouble>
+        ensures verdict { IfOk result (λ is_complete. IsTrue is_complete ↔ (self.now.verdict ≡ verdict.Done)) }
+    {
         match self.fault() {
             Some(fault) => {
                 let block = self.fault_block(alloc, fault)?;
@@ -105,7 +108,9 @@ impl<F: Read + OpenFile + Drop> Several<F> {
         errors: &mut E,
         name: &str,
         talk: Talk,
-    ) -> Result<bool, Trouble> {
+    ) -> Result<bool, Trouble>
+        ensures verdict { IfOk result (λ is_complete. IsTrue is_complete ↔ (self.now.verdict ≡ verdict.Done)) }
+    {
         if self.fault().is_none() && !talk.quiet {
             self.put_whole(output, name).map_err(output_failed)?;
         }

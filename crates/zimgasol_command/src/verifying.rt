@@ -123,7 +123,9 @@ pub(crate) fn put_judgement<W: Write, E: Write>(
     name: &str,
     survey: &Survey,
     talk: Talk,
-) -> Result<bool, Trouble> {
+) -> Result<bool, Trouble>
+    ensures verdict { IfOk result (λ is_complete. IsTrue is_complete ↔ (survey.now.state ≡ state.Closed)) }
+{
     if fault_of(survey).is_none() && !talk.quiet {
         put_whole(output, name, survey).map_err(Trouble::Output)?;
     }
