@@ -1,11 +1,15 @@
-//! The sending of a guest as a single stream, and the loading of that stream.
-ghost use Rattle.std.specs.Prelude.{◌≤◌, ◌*◌, ◌^◌};
+//! The sending of a guest as a single stream, and the loading of that stream: whole, and in pieces
+//! into memory that is there, as a stream of RAM's sections alone and as a machine's.
+ghost use Rattle.std.specs.Prelude.{◌≡◌, ◌≤◌, ◌*◌, ◌^◌};
+ghost use Rattle.mig_single_load.specs.Settings.{ram_settings};
 
 use crate::guest::{Guest, ZERO_TENTHS, fill};
+use crate::in_place::{Placed, by_pages, by_sections};
 use crate::yardstick::{PAGE_SIZE, Yardstick, put_title, report};
 use mig_mem::{MAX_TOTAL, Memory, PAGE_SIZE_4K, Place};
 use mig_send::SingleSender;
-use mig_single_load::{Loaded, load_single};
+use mig_single_load::{LoadSettings, Loaded, load_single_in};
+use mig_stream::Frame;
 use std::alloc::Global;
 use std::io;
 use std::rt::Clock;
@@ -34,7 +38,9 @@ fn report_guest(
     for (tenths, name) in &ZERO_TENTHS {
         fill(&mut guest.image, pages, *tenths);
         report_sending(rt, alloc, name, guest, &copies)?;
-        report_loading(rt, alloc, name, guest, &copies)?;
+        for frame in [Frame::Ram, Frame::Machine] {
+            report_loading(rt, alloc, frame, guest, &copies)?;
+        }
     }
     Ok(())
 }
@@ -51,7 +57,7 @@ fn report_sending(
 
 // The length of the stream of one round; 0 where an allocation is refused.
 fn sent_len(alloc: Global, guest: &Guest) -> usize {
-    match sent(alloc, guest) {
+    match sent(alloc, guest, Frame::Ram) {
         Some(text) => text.len(),
         None => 0,
     }
@@ -60,49 +66,102 @@ fn sent_len(alloc: Global, guest: &Guest) -> usize {
 fn report_loading(
     rt: &(impl Clock + Print),
     alloc: Global,
-    name: &str,
+    frame: Frame,
     guest: &Guest,
     copies: &Yardstick,
 ) -> io::Result<()> {
-    let Some(text) = sent(alloc, guest) else {
+    let Some(text) = sent(alloc, guest, frame) else {
         return println!(rt; "no memory for the stream");
     };
-    let image = &guest.image;
+    let [whole, sections, pages] = names_of(frame);
+    let unit = "rounds loaded";
+    report(
+        rt,
+        whole,
+        unit,
+        copies,
+        || whole_len(alloc, &text, guest, frame),
+    )?;
+    report(
+        rt,
+        sections,
+        unit,
+        copies,
+        || sections_len(alloc, &text, guest, frame),
+    )?;
+    report(
+        rt,
+        pages,
+        unit,
+        copies,
+        || pages_len(alloc, &text, guest, frame),
+    )
+}
+
+// The names of the three loads of a stream.
+fn names_of(frame: Frame) -> [&'static str; 3] {
+    match frame {
+        Frame::Ram => ["  whole", "  in place", "  in place, eager"],
+        Frame::Machine => ["  machine's", "  machine's, in place", "  machine's, eager"],
+    }
+}
+
+// The stream of one round; None where an allocation is refused. A machine's ends after RAM's END.
+fn sent(alloc: Global, guest: &Guest, frame: Frame) -> Option<Vec<u8>> {
+    let mut sender = SingleSender::new(alloc, guest.image.table()).ok()?;
+    sender.round(&guest.image, &guest.dirty).ok()?;
+    match frame {
+        Frame::Ram => sender.finish().ok(),
+        Frame::Machine => sender.finish_open().ok(),
+    }
+}
+
+// How a stream of a frame is loaded.
+fn settings_of(frame: Frame) -> LoadSettings
+    ensures { result ≡ record (ram_settings 4096 (2 ^ 40)) { frame = frame } }
+{
+    LoadSettings::new(PAGE_SIZE_4K, MAX_TOTAL).with_frame(frame)
+}
+
+// Whether a memory's last page is as it was sent.
+fn is_sent(guest: &Guest, memory: &Memory) -> bool {
     let last = Place {
         block: 0,
         page: guest.dirty.count().saturating_sub(1),
     };
-    report(
-        rt,
-        name,
-        "rounds loaded",
-        copies,
-        || rounds_loaded(alloc, &text, image, last),
-    )
-}
-
-// The stream of one round; None where an allocation is refused.
-fn sent(alloc: Global, guest: &Guest) -> Option<Vec<u8>> {
-    let mut sender = SingleSender::new(alloc, guest.image.table()).ok()?;
-    sender.round(&guest.image, &guest.dirty).ok()?;
-    sender.finish().ok()
-}
-
-// How many rounds a load of a stream puts into memory; 0 where it fails, or one page isn't as it was sent.
-fn rounds_loaded(alloc: Global, text: &[u8], image: &Memory, page: Place) -> usize {
-    let loaded = load_single(alloc, PAGE_SIZE_4K, text, MAX_TOTAL);
-    rounds_of(&loaded, image, page)
-}
-
-// How many rounds a load put into memory, if it did so without a fault and one page is as it was sent; else 0.
-fn rounds_of(loaded: &Loaded, image: &Memory, page: Place) -> usize {
-    if loaded.verdict.is_err() {
-        return 0;
+    match (memory.page(last), guest.image.page(last)) {
+        (Some(content), Some(wanted)) => content == wanted,
+        _ => false,
     }
-    match (&loaded.memory, image.page(page)) {
-        (Some(memory), Some(content)) if memory.page(page) == Some(content) => {
-            loaded.rounds as usize
-        }
+}
+
+// How many rounds a load of the whole stream puts into memory; 0 where it fails, or one page isn't as it was sent.
+fn whole_len(alloc: Global, text: &[u8], guest: &Guest, frame: Frame) -> usize {
+    let Loaded {
+        memory,
+        rounds,
+        verdict,
+    } = load_single_in(alloc, settings_of(frame), text);
+    match memory {
+        Some(memory) if verdict.is_ok() && is_sent(guest, &memory) => rounds as usize,
         _ => 0,
     }
+}
+
+// How many rounds are in a memory; 0 where there is none, or one page isn't as it was sent.
+fn placed_len(placed: Option<Placed>, guest: &Guest) -> usize {
+    match placed {
+        Some(placed) if is_sent(guest, &placed.memory) => placed.rounds as usize,
+        _ => 0,
+    }
+}
+
+fn sections_len(alloc: Global, text: &[u8], guest: &Guest, frame: Frame) -> usize {
+    let placed = by_sections(alloc, guest.image.table(), settings_of(frame), text);
+    placed_len(placed, guest)
+}
+
+fn pages_len(alloc: Global, text: &[u8], guest: &Guest, frame: Frame) -> usize {
+    let placed = by_pages(alloc, guest.image.table(), settings_of(frame), text);
+    placed_len(placed, guest)
 }

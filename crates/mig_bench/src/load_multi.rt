@@ -1,7 +1,9 @@
-//! The load of a round on several channels: of whole texts, by a worker on a thread of its own for each, and by a session that is fed pieces.
+//! The load of a round on several channels: of whole texts, by a worker on a thread of its own for each, and by a session that is fed
+//! pieces, with memory of its own or into memory that is there.
 ghost use Rattle.std.specs.Prelude.{◌≤◌, ◌*◌, ◌^◌};
 
 use crate::guest::{Guest, ZERO_TENTHS, fill};
+use crate::in_place::from_channels;
 use crate::measure::{Measured, best_of_five};
 use crate::sending::sent;
 use crate::session::fed;
@@ -22,7 +24,7 @@ use uuid::Uuid;
 const CHANNELS: [usize; 3] = [1, 2, 4];
 
 /// Loads a round of all pages of a guest on one channel, on two and on four, with none, half and nine tenths of them zeros: the whole texts,
-/// and by a session that is fed the main stream and then pieces of the channels in turn.
+/// and by sessions that are fed the main stream and then pieces of the channels in turn.
 pub fn run<R: Clock + Print + Threads + Wait + Sync>(
     rt: &R,
     alloc: Global,
@@ -57,10 +59,13 @@ fn report<R: Clock + Print + Threads + Wait + Sync>(
     };
     let whole = best_of_five(rt, || whole_len(rt, alloc, guest, &texts))?;
     let fed = best_of_five(rt, || fed_len(alloc, guest, &texts))?;
+    let placed = best_of_five(rt, || placed_len(alloc, guest, &texts))?;
     print!(rt; "  whole texts, {channels}: ")?;
     put(rt, copies, &whole, &whole)?;
     print!(rt; "  a session,   {channels}: ")?;
-    put(rt, copies, &whole, &fed)
+    put(rt, copies, &whole, &fed)?;
+    print!(rt; "  in place,    {channels}: ")?;
+    put(rt, copies, &whole, &placed)
 }
 
 // Prints a time as a ratio to the copies and to that of the whole texts.
@@ -126,6 +131,14 @@ fn fed_len(alloc: Global, guest: &Guest, texts: &Sent) -> usize {
     };
     match session.verdict() {
         Verdict::Done if is_loaded(guest, session.memory()) => session.rounds() as usize,
+        _ => 0,
+    }
+}
+
+// How many rounds a session puts into memory that is there; 0 where it fails, or one page isn't as it was sent.
+fn placed_len(alloc: Global, guest: &Guest, texts: &Sent) -> usize {
+    match from_channels(alloc, guest.image.table(), texts) {
+        Some(placed) if is_loaded(guest, Some(&placed.memory)) => placed.rounds as usize,
         _ => 0,
     }
 }

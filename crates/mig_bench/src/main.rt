@@ -8,6 +8,7 @@
 
 mod guest;
 mod hostile;
+mod in_place;
 mod load;
 mod load_multi;
 mod measure;

@@ -8,6 +8,9 @@ use std::alloc::Global;
 use std::thread::Threads;
 use uuid::Uuid;
 
+/// How many bytes a load is fed at once.
+pub const PIECE: usize = 65_536;
+
 // How many pages a packet may have, at this page size.
 const LIMIT: usize = 524_288 / PAGE_SIZE;
 

@@ -3,15 +3,13 @@ ghost use Rattle.std.specs.Prelude.{◌≡◌, IsTrue, length};
 ghost use Rattle.mig_session.specs.Sources.{Counts};
 ghost use Rattle.mig_session.specs.Session.{HasSource};
 
+use crate::sending::PIECE;
 use mig_mem::{MAX_TOTAL, PAGE_SIZE_4K};
 use mig_send::Sent;
 use mig_session::{Session, Source};
 use std::alloc::Global;
 use std::marker::Model;
 use uuid::Uuid;
-
-// How many bytes are fed at once.
-const PIECE: usize = 65_536;
 
 // A session under the UUID of zeros, and how many channels it has.
 #[derive(Drop)]
@@ -87,8 +85,8 @@ pub fn fed(alloc: Global, texts: &Sent) -> Option<Session> {
     Some(feeding.session)
 }
 
-// The length of the longest text.
-fn longest(texts: &[Vec<u8>]) -> usize {
+/// Returns the length of the longest text.
+pub fn longest(texts: &[Vec<u8>]) -> usize {
     let mut longest = 0usize;
     for text in texts {
         longest = longest.max(text.len());

@@ -1,0 +1,138 @@
+//! Loads into memory that is there already: of a single stream, and of several channels, each fed
+//! in pieces.
+
+use crate::sending::PIECE;
+use crate::session::longest;
+use mig_answer::Verdict;
+use mig_in_place::InPlaceSession;
+use mig_mem::{MAX_TOTAL, Memory, Table};
+use mig_send::Sent;
+use mig_session::Source;
+use mig_single_load::{EagerState, InPlaceLoader, LoadSettings};
+use std::alloc::Global;
+use uuid::Uuid;
+
+/// A memory, and how many rounds were loaded into it.
+#[derive(Drop)]
+pub struct Placed {
+    pub memory: Memory,
+    pub rounds: u64,
+}
+
+// ---- a single stream
+
+/// Loads a stream section by section. None where it has a fault, or an allocation is refused.
+pub fn by_sections(
+    alloc: Global,
+    table: &Table,
+    settings: LoadSettings,
+    text: &[u8],
+) -> Option<Placed> {
+    let memory = Memory::zeroed(alloc, table).ok()?;
+    let mut loader = loader(alloc, memory, settings)?;
+    for piece in text.chunks(PIECE) {
+        if loader.ended() || loader.fed() > MAX_TOTAL || piece.len() > PIECE {
+            return None;
+        }
+        loader.feed(piece).ok()?;
+    }
+    loader.end();
+    loader.verdict().ok()?;
+    let rounds = loader.rounds();
+    Some(Placed {
+        memory: loader.into_memory(),
+        rounds,
+    })
+}
+
+// A loader into a memory. None where an allocation is refused.
+fn loader(alloc: Global, memory: Memory, settings: LoadSettings) -> Option<InPlaceLoader> {
+    if settings.limit > MAX_TOTAL {
+        return None;
+    }
+    InPlaceLoader::new_in(alloc, memory, settings).ok()
+}
+
+/// Loads a stream page by page. None where it has a fault, or an allocation is refused.
+pub fn by_pages(
+    alloc: Global,
+    table: &Table,
+    settings: LoadSettings,
+    text: &[u8],
+) -> Option<Placed> {
+    if settings.limit > MAX_TOTAL {
+        return None;
+    }
+    let mut memory = Memory::zeroed(alloc, table).ok()?;
+    let mut state = EagerState::new_in(alloc, table, settings).ok()?;
+    for piece in text.chunks(PIECE) {
+        if state.ended() || state.fed() > MAX_TOTAL || piece.len() > PIECE {
+            return None;
+        }
+        state.feed(&mut memory, piece).ok()?;
+    }
+    state.end();
+    state.verdict().ok()?;
+    let rounds = state.rounds();
+    Some(Placed { memory, rounds })
+}
+
+// ---- several channels
+
+// Feeds a piece, all of which is to be taken.
+fn feed(
+    session: &mut InPlaceSession,
+    memory: &mut Memory,
+    source: Source,
+    piece: &[u8],
+) -> Option<()> {
+    if !session.has(source) || session.ended(source) || !session.has_room(source, piece.len()) {
+        return None;
+    }
+    match session.feed(memory, source, piece) {
+        Ok(taken) if taken == piece.len() => Some(()),
+        _ => None,
+    }
+}
+
+// Feeds the main stream, and then pieces of the channels in turn.
+fn feed_all(session: &mut InPlaceSession, memory: &mut Memory, texts: &Sent) -> Option<()> {
+    feed(session, memory, Source::Main, &texts.main)?;
+    for at in 0..=longest(&texts.channels) / PIECE {
+        for (channel, text) in texts.channels.iter().enumerate() {
+            if let Some(piece) = text.chunks(PIECE).nth(at) {
+                feed(session, memory, Source::Channel(channel), piece)?;
+            }
+        }
+    }
+    Some(())
+}
+
+// Ends all sources.
+fn end_all(session: &mut InPlaceSession) {
+    session.end(Source::Main);
+    for channel in 0..session.channels() {
+        let source = Source::Channel(channel);
+        if session.has(source) {
+            session.end(source);
+        }
+    }
+}
+
+/// Loads the texts of one round. None where they have a fault, or an allocation is refused.
+pub fn from_channels(alloc: Global, table: &Table, texts: &Sent) -> Option<Placed> {
+    let channels = texts.channels.len();
+    if channels == 0 || channels > 255 {
+        return None;
+    }
+    let mut memory = Memory::zeroed(alloc, table).ok()?;
+    let made = InPlaceSession::new(alloc, table, &Uuid::nil(), channels, MAX_TOTAL);
+    let mut session = made.ok()?;
+    feed_all(&mut session, &mut memory, texts)?;
+    end_all(&mut session);
+    if session.verdict() != Verdict::Done {
+        return None;
+    }
+    let rounds = session.rounds();
+    Some(Placed { memory, rounds })
+}
