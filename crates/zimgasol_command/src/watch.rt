@@ -1,6 +1,6 @@
 //! `--progress`: a line a second with how much was read.
 
-ghost use Rattle.std.specs.Prelude.{◌≡◌, ◌*◌, ◌/◌, ◌≤◌, ◌<◌};
+ghost use Rattle.std.specs.Prelude.{◌≡◌, ◌-◌, ◌*◌, ◌/◌, ◌^◌, ◌≤◌, ◌<◌};
 
 use crate::words::Talk;
 use std::alloc::{AllocError, Global};
@@ -36,6 +36,20 @@ pub(crate) fn rate(done: u64, seconds: u64) -> u64
     ensures { result ≡ done / 1048576 / seconds }
 {
     done / 1_048_576 / seconds
+}
+
+/// Returns how many seconds the rest of `total` takes, at the rate at which `done` bytes were read in
+/// `seconds`, rounded down: at most 2^64 - 1.
+pub(crate) fn seconds_left(done: u64, total: u64, seconds: u64) -> u64
+    requires { 0 < done }
+    ensures { done ≤ total → (total - done) * seconds / done < 2 ^ 64 → result ≡ (total - done) * seconds / done }
+{
+    let rest = u128::from(total.saturating_sub(done));
+    let left = rest * u128::from(seconds) / u128::from(done);
+    if left > u128::from(u64::MAX) {
+        return u64::MAX;
+    }
+    left as u64
 }
 
 impl Watch {
@@ -80,7 +94,8 @@ impl Watch {
     }
 }
 
-/// Writes that `done` bytes were read in `seconds`, with their share of `total` and the rate.
+/// Writes that `done` bytes were read in `seconds`, with their share of `total`, the rate, and how
+/// many seconds are left at this rate.
 pub(crate) fn put_progress<E: Write>(
     errors: &mut E,
     name: &str,
@@ -98,6 +113,13 @@ pub(crate) fn put_progress<E: Write>(
     if seconds != 0 {
         let rate = rate(done, seconds);
         write!(errors, ", {rate} MiB a second")?;
+    }
+    if let Some(total) = total
+        && done != 0
+        && seconds != 0
+    {
+        let left = seconds_left(done, total, seconds);
+        write!(errors, ", {left} s left")?;
     }
     writeln!(errors)
 }
