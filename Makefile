@@ -29,7 +29,7 @@ program: ## half an hour and more | proves and builds zimgasol: crates/zimgasol_
 lib: header ## half an hour and more | proves and builds the library for C: out/libzimgasol.a, .so
 	@tools/lib.sh
 
-install: ## at once, after lib | puts library, header, .pc file, licence and docs/C.md below PREFIX=DIR
+install: ## at once, after lib or program | puts what was built, and its page, below PREFIX=DIR
 	@tools/install.sh "$(PREFIX)"
 
 example: lib ## a minute, after lib | builds and runs the C programs of examples/c
