@@ -4,22 +4,20 @@
 //! extracted into a folder beside the second operand, and then two folders are compared.
 
 ghost use Rattle.std.specs.Prelude.{IfOk};
-ghost use Rattle.zimgasol_command.specs.Differing.{piece_of, IsCountedTo, CountsPage};
+ghost use Rattle.zimgasol_files.specs.Differing.{piece_of, IsCountedTo, CountsPage};
 
 use crate::differing::Differing;
 use crate::extracting::extract_survey;
-use crate::folder::{Folder, FolderBlock, read_folder};
-use crate::opened::{open, unfit};
-use crate::pages::{PIECE_PAGES, Pages, Reading};
-use crate::target::unwritten;
-use crate::trouble::{Trouble, Unfit};
-use crate::verifying::put_wrongs;
-use crate::words::{CompareWords, ExtractWords, StreamWords};
 use std::alloc::{AllocError, AllocGlobal, Global};
 use std::fs::Files;
 use std::io::{self, ErrorKind, Read, Write};
 use std::rt::Clock;
+use zimgasol_files::{
+    CompareWords, ExtractWords, Folder, FolderBlock, PIECE_PAGES, Pages, Reading, StreamWords,
+    Trouble, Unfit, open, read_folder, unfit, unwritten,
+};
 use zimgasol_names::{path_in, shown, shown_name};
+use zimgasol_output::put_wrongs;
 
 /// The name of the folder that streams are extracted into.
 const TEMPORARY_NAME: &str = ".zimgasol-compare.partial";

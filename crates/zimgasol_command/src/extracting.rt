@@ -4,21 +4,6 @@
 //! complete and the file is on its disk. With `--since` each file begins as a copy of its block in
 //! another folder, and the stream's pages are written over it.
 
-use crate::block_file::{
-    BlockFile, BlockNames, block_value, complete_file, names_in, write_at, write_text,
-};
-use crate::folder::{Folder, LIST_NAME, read_folder};
-use crate::input::piece_buffer;
-use crate::opened::{open, unfit};
-use crate::place::fault_of;
-use crate::running::read_stream;
-use crate::several::read_several;
-use crate::sink::PageSink;
-use crate::survey::Survey;
-use crate::target::{PARTIAL, create, is_free, rename, unwritten};
-use crate::trouble::{Trouble, Unfit};
-use crate::verifying::put_judgement;
-use crate::words::{ChannelWords, ExtractWords};
 use mig_mem::{Dirty, Place, Table};
 use mig_zero::is_zero;
 use serde_json::{Value, json};
@@ -27,7 +12,14 @@ use std::fs::Files;
 use std::io::{ErrorKind, Read, Write};
 use std::rt::Clock;
 use std::str;
+use zimgasol_files::{
+    BlockFile, BlockNames, ChannelWords, ExtractWords, Folder, LIST_NAME, PARTIAL, Trouble, Unfit,
+    block_value, complete_file, create, is_free, names_in, open, piece_buffer, read_folder, rename,
+    unfit, unwritten, write_at, write_text,
+};
 use zimgasol_names::{path_in, shown, shown_name};
+use zimgasol_output::{put_judgement, put_several_judgement};
+use zimgasol_reading::{PageSink, Survey, fault_of, read_several, read_stream};
 
 /// The most bytes of consecutive pages that are written at once.
 const RUN_LEN: usize = 262_144;
@@ -469,7 +461,7 @@ fn extract_several<H: AllocGlobal + Files + Clock, R: Read, W: Write, E: Write>(
     several.is_laid_over = words.since.is_some();
     extraction.finish(rt, several.fault().is_none())?;
     let name = shown_name(alloc, words.stream.file)?;
-    several.put_judgement(alloc, output, errors, &name, words.stream.talk)
+    put_several_judgement(alloc, output, errors, &name, &several, words.stream.talk)
 }
 
 /// Extracts the memory of a stream, with its channels, and prints the verdict. Returns whether it

@@ -4,23 +4,20 @@ ghost use Rattle.std.specs.Prelude.{◌≤◌};
 
 use crate::comparing::compare;
 use crate::extracting::extract;
-use crate::input::piece_buffer;
-use crate::inspecting::{put_json, put_lines};
-use crate::saving::save;
-use crate::several::read_several;
-use crate::sink::{NoSink, PageSink};
-use crate::survey::Survey;
-use crate::trouble::{Trouble, Unfit};
-use crate::verifying::{put_judgement, put_wrongs};
-use crate::watch::Watch;
-use crate::words::{ChannelWords, Request, StreamWords, asked};
 use clap::Error;
 use clap::error::ErrorKind;
 use std::alloc::{AllocGlobal, Global};
-use std::fs::{File, Files, OpenFile};
+use std::fs::Files;
 use std::io::{self, Read, Write};
 use std::rt::Clock;
+use zimgasol_files::{ChannelWords, Request, StreamWords, Trouble, Unfit, asked};
 use zimgasol_names::shown_name;
+use zimgasol_output::{
+    put_json, put_judgement, put_lines, put_several_json, put_several_judgement, put_several_lines,
+    put_several_wrongs, put_wrongs,
+};
+use zimgasol_reading::{NoSink, read_several, read_stream};
+use zimgasol_saving::save;
 
 /// The status of what ended well.
 const WELL: u8 = 0;
@@ -198,40 +195,6 @@ fn put_unfit<E: Write>(errors: &mut E, name: &str, why: Unfit) -> io::Result<()>
     }
 }
 
-/// Reads a stream to its end, from its file or from `input`, and passes its pages to `sink`. A
-/// fault of the stream is no error: the survey has it.
-///
-/// # Errors
-///
-/// `Trouble::Unread` where the file can't be opened or read, `Trouble::Libvirt` of libvirt's
-/// header, `Trouble::NoMemory`, and those of `sink`.
-pub(crate) fn read_stream<H: AllocGlobal + Files + Clock, R: Read, S: PageSink<H>, E: Write>(
-    rt: &H,
-    words: &StreamWords<'_>,
-    input: &mut R,
-    sink: &mut S,
-    errors: &mut E,
-) -> Result<Survey, Trouble> {
-    let alloc = rt.alloc();
-    let mut buffer = piece_buffer(alloc)?;
-    let watch = Watch::new(rt, alloc, words.talk, words.file)?;
-    let mut survey = Survey::new(alloc, words, watch);
-    if words.file == "-" {
-        survey.read(rt, input, &mut buffer, sink, errors)?;
-        return Ok(survey);
-    }
-    match File::open(rt, words.file) {
-        Ok(mut file) => {
-            if let Ok(metadata) = file.metadata() {
-                survey.expect_file(&metadata);
-            }
-            survey.read(rt, &mut file, &mut buffer, sink, errors)?;
-        }
-        Err(error) => return Err(Trouble::Unread(error)),
-    }
-    Ok(survey)
-}
-
 // Reads a stream, with its channels, and prints whether it is complete. Returns whether it is.
 fn verify<H: AllocGlobal + Files + Clock, R: Read, W: Write, E: Write>(
     rt: &H,
@@ -248,7 +211,7 @@ fn verify<H: AllocGlobal + Files + Clock, R: Read, W: Write, E: Write>(
         return put_judgement(alloc, output, errors, &name, &survey, words.talk);
     }
     let several = read_several(rt, words, channels, input, &mut NoSink, errors)?;
-    several.put_judgement(alloc, output, errors, &name, words.talk)
+    put_several_judgement(alloc, output, errors, &name, &several, words.talk)
 }
 
 // Reads a stream, with its channels, and lists what it has. Returns whether it is complete.
@@ -266,11 +229,11 @@ fn inspect<H: AllocGlobal + Files + Clock, R: Read, W: Write, E: Write>(
     if !channels.is_single(alloc)? {
         let several = read_several(rt, words, channels, input, &mut NoSink, errors)?;
         if json {
-            several.put_json(alloc, output, &name)?;
+            put_several_json(alloc, output, &name, &several)?;
         } else {
-            several.put_lines(alloc, output, &name)?;
+            put_several_lines(alloc, output, &name, &several)?;
         }
-        return several.put_wrongs(alloc, errors, &name);
+        return put_several_wrongs(alloc, errors, &name, &several);
     }
     let survey = read_stream(rt, words, input, &mut NoSink, errors)?;
     if json {

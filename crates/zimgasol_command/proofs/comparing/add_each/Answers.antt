@@ -1,5 +1,5 @@
-use Rattle.zimgasol_command.specs.Differing.{piece_of}
-use Rattle.zimgasol_command.proofs.Sent.{counted_none}
+use Rattle.zimgasol_files.specs.Differing.{piece_of}
+use Rattle.zimgasol_files.proofs.Sent.{counted_none}
 use Rattle.zimgasol_command.proofs.comparing.add_each.Goals as goal
 
 pub loop-page-init : goal.loop-page-init

@@ -1,4 +1,4 @@
-use Rattle.zimgasol_command.specs.Differing.{piece_of, IsCountedTo}
+use Rattle.zimgasol_files.specs.Differing.{piece_of, IsCountedTo}
 use Rattle.zimgasol_command.proofs.comparing.add_each.Given as goal
 
 abbrev pub invariant-loop-page : goal.invariant-loop-page

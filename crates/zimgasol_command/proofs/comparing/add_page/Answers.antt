@@ -1,7 +1,7 @@
 use Rattle.std.proofs.Common.{rules}
 use Rattle.std.proofs.lemmas.Bool.{false≢true}
-use Rattle.zimgasol_command.specs.Differing.{piece_of}
-use Rattle.zimgasol_command.proofs.Sent.{counted_same, counted_more}
+use Rattle.zimgasol_files.specs.Differing.{piece_of}
+use Rattle.zimgasol_files.proofs.Sent.{counted_same, counted_more}
 use Rattle.zimgasol_command.proofs.comparing.add_page.Goals as goal
 
 pub returns-in_default : goal.returns-in_default

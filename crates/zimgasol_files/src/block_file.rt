@@ -1,0 +1,148 @@
+//! Writes the file that a block is extracted into, up to its digest.
+
+ghost use Rattle.std.specs.Prelude.{◌≡◌, ◌++◌, IfOk, codes, string_bytes};
+ghost use Rattle.zimgasol_names.specs.Naming.{name_of};
+
+use crate::input::read_piece;
+use crate::target::{PARTIAL, sync};
+use crate::trouble::Trouble;
+use serde_json::{Value, json};
+use sha2::{Digest, Sha256};
+use std::alloc::{AllocError, Global};
+use std::fs::OpenFile;
+use std::io::{self, Read, Seek, SeekFrom, Write};
+use zimgasol_names::{file_name, id_text, path_in};
+
+/// A file that a block is written into.
+#[derive(Drop)]
+pub struct BlockFile<F: Drop> {
+    /// The block's number in the stream. A block that only the folder of `--since` has gets a
+    /// number that no block of the stream has.
+    pub block: usize,
+    pub id: Vec<u8>,
+    /// Its name in the folder once it is complete.
+    pub name: String,
+    pub partial_path: String,
+    pub path: String,
+    pub len: u64,
+    pub file: F,
+    pub digest: Option<[u8; 32]>,
+}
+
+/// The names of the file of a block.
+#[derive(Drop)]
+pub struct BlockNames {
+    /// Its name in the folder once it is complete.
+    pub name: String,
+    /// Its path once it is complete.
+    pub path: String,
+    /// Its path until then.
+    pub partial_path: String,
+}
+
+/// Returns the names of the file of the block `id`, which has the number `block`, in `folder`.
+///
+/// # Errors
+///
+/// `AllocError`: an allocation was refused.
+pub fn names_in(
+    alloc: Global,
+    folder: &str,
+    id: &[u8],
+    block: usize,
+) -> Result<BlockNames, AllocError>
+    ensures name { IfOk result (λ names. string_bytes names.name ≡ name_of id.now block) }
+    ensures path { IfOk result (λ names. string_bytes names.path ≡ folder.now ++ codes "/" ++ name_of id.now block) }
+    ensures partial { IfOk result (λ names. string_bytes names.partial_path ≡ folder.now ++ codes "/" ++ name_of id.now block ++ codes ".partial") }
+{
+    let name = file_name(alloc, id, block)?;
+    let path = path_in(alloc, folder, &name, "")?;
+    let partial_path = path_in(alloc, folder, &name, PARTIAL)?;
+    Ok(BlockNames {
+        name,
+        path,
+        partial_path,
+    })
+}
+
+/// Writes `bytes` to a file from its byte `at` on.
+pub fn write_at<F: Write + Seek>(file: &mut F, at: u64, bytes: &[u8]) -> io::Result<()> {
+    file.seek(SeekFrom::Start(at))?;
+    file.write_all(bytes)
+}
+
+/// Writes `bytes` and a newline to a file, and waits until they are on its disk.
+pub fn write_text<F: Write + OpenFile>(file: &mut F, bytes: &[u8]) -> io::Result<()> {
+    file.write_all(bytes)?;
+    file.write_all(b"\n")?;
+    sync(file)
+}
+
+/// Returns the entry of `blocks.json` about a block's file.
+pub fn block_value<F: Drop>(alloc: Global, file: &BlockFile<F>) -> Result<Value, Trouble> {
+    let id = id_text(alloc, &file.id)?;
+    let Some(digest) = &file.digest else {
+        return Ok(json!(in alloc; {"id": &id, "file": &file.name, "bytes": file.len})?);
+    };
+    let digest = hex_digest(alloc, digest)?;
+    Ok(json!(in alloc; {
+        "id": &id,
+        "file": &file.name,
+        "bytes": file.len,
+        "sha256": &digest
+    })?)
+}
+
+/// Sets the length of a file. Where `durable`, waits until it is on its disk; where `digest`, reads
+/// it through `buffer` for its SHA-256.
+///
+/// # Errors
+///
+/// `Trouble::Unread` where the file can't be set, synced or read.
+pub fn complete_file<F: Read + Write + Seek + OpenFile + Drop>(
+    file: &mut BlockFile<F>,
+    durable: bool,
+    digest: bool,
+    buffer: &mut [u8],
+) -> Result<(), Trouble> {
+    let len = file.len;
+    if let Err(error) = with_len(&mut file.file, len, durable) {
+        return Err(Trouble::Unread(error));
+    }
+    if digest {
+        file.digest = Some(digest_of(&mut file.file, buffer)?);
+    }
+    Ok(())
+}
+
+// Sets the length of a file, and its position to the first byte.
+fn with_len<F: Write + Seek + OpenFile>(file: &mut F, len: u64, durable: bool) -> io::Result<()> {
+    file.set_len(len)?;
+    if durable {
+        sync(file)?;
+    }
+    file.seek(SeekFrom::Start(0))?;
+    Ok(())
+}
+
+// Returns the SHA-256 of a file's bytes from its position on.
+fn digest_of<F: Read>(file: &mut F, buffer: &mut [u8]) -> Result<[u8; 32], Trouble> {
+    let mut hasher = Sha256::new();
+    for _ in 0..u64::MAX {
+        let len = read_piece(file, buffer)?;
+        if len == 0 {
+            break;
+        }
+        hasher.update(&buffer[..len]);
+    }
+    Ok(hasher.finalize())
+}
+
+// Returns a digest in hexadecimal digits.
+fn hex_digest(alloc: Global, digest: &[u8; 32]) -> Result<String, Trouble> {
+    let mut text = String::new(alloc);
+    for byte in digest {
+        write!(text, "{byte:02x}")?;
+    }
+    Ok(text)
+}

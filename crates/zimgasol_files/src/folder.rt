@@ -1,0 +1,137 @@
+//! Reads `blocks.json`, the list of blocks in a folder that `extract` made.
+
+use crate::opened::{open, unfit};
+use crate::trouble::{Trouble, Unfit};
+use serde_json::Value;
+use std::alloc::{AllocError, AllocGlobal, Global};
+use std::fs::Files;
+use std::str;
+use zimgasol_names::path_in;
+
+/// The name of the list of blocks.
+pub const LIST_NAME: &str = "blocks.json";
+
+/// The most bytes of a list that are read. A list of 256 blocks with the longest ids has fewer.
+const MOST_LIST_LEN: usize = 1_048_576;
+
+/// A block in the folder.
+#[derive(Drop)]
+pub struct FolderBlock {
+    pub id: String,
+    /// The path of its file.
+    pub path: String,
+    /// How many bytes the block has.
+    pub len: u64,
+}
+
+/// What the list of a folder says.
+#[derive(Drop)]
+pub struct Folder {
+    pub page_size: u64,
+    pub blocks: Vec<FolderBlock>,
+}
+
+impl Folder {
+    /// Returns the number of the block with an id.
+    pub fn find(&self, id: &str) -> Option<usize> {
+        self.blocks.iter().position(|block| block.id.as_str() == id)
+    }
+
+    /// Returns the block `id`, which has to have `len` bytes.
+    ///
+    /// # Errors
+    ///
+    /// `Trouble::Unfit`: of `name`, where the block has another length; of `id`, where there is
+    /// none.
+    pub fn block_like(
+        &self,
+        alloc: Global,
+        id: &str,
+        name: &str,
+        len: u64,
+    ) -> Result<&FolderBlock, Trouble> {
+        match self.find(id).and_then(|number| self.blocks.get(number)) {
+            Some(block) if block.len == len => Ok(block),
+            Some(block) => Err(unfit(alloc, name, Unfit::OtherLen(len, block.len))),
+            None => Err(unfit(alloc, id, Unfit::NoBlock)),
+        }
+    }
+
+    /// Returns how many bytes all blocks have together.
+    pub fn total(&self) -> u64 {
+        let mut total = 0u64;
+        for block in &self.blocks {
+            total = total.saturating_add(block.len);
+        }
+        total
+    }
+}
+
+// Returns the block that an entry of the list describes. None where `extract` writes no such entry,
+// and where its file lies outside the folder.
+fn block_in(alloc: Global, folder: &str, entry: &Value) -> Result<Option<FolderBlock>, AllocError> {
+    let Some(id) = entry.get("id").and_then(Value::as_str) else {
+        return Ok(None);
+    };
+    let Some(file) = entry.get("file").and_then(Value::as_str) else {
+        return Ok(None);
+    };
+    let Some(len) = entry.get("bytes").and_then(Value::as_u64) else {
+        return Ok(None);
+    };
+    if file.contains('/') {
+        return Ok(None);
+    }
+    Ok(Some(FolderBlock {
+        id: String::from_str(alloc, id)?,
+        path: path_in(alloc, folder, file, "")?,
+        len,
+    }))
+}
+
+// Returns the folder that a list describes. None where `extract` writes no such list.
+fn folder_in(alloc: Global, folder: &str, list: &Value) -> Result<Option<Folder>, AllocError> {
+    let Some(page_size) = list.get("page_size").and_then(Value::as_u64) else {
+        return Ok(None);
+    };
+    let Some(entries) = list.get("blocks").and_then(Value::as_array) else {
+        return Ok(None);
+    };
+    let mut blocks = Vec::new(alloc);
+    for entry in entries {
+        match block_in(alloc, folder, entry)? {
+            Some(block) => blocks.push(block)?,
+            None => return Ok(None),
+        }
+    }
+    Ok(Some(Folder { page_size, blocks }))
+}
+
+// Returns the folder that the bytes of a list describe. None where `extract` writes no such list.
+fn folder_of(alloc: Global, folder: &str, bytes: &[u8]) -> Result<Option<Folder>, AllocError> {
+    let Ok(text) = str::from_utf8(bytes) else {
+        return Ok(None);
+    };
+    match Value::from_str(alloc, text) {
+        Ok(list) => folder_in(alloc, folder, &list),
+        Err(_) => Ok(None),
+    }
+}
+
+/// Reads the list of the folder `folder`.
+///
+/// # Errors
+///
+/// `Trouble::OfFile` where it can't be opened or read, `Trouble::Unfit` where `extract` writes no
+/// such list, `Trouble::NoMemory`.
+pub fn read_folder<H: AllocGlobal + Files>(rt: &H, folder: &str) -> Result<Folder, Trouble> {
+    let alloc = rt.alloc();
+    let path = path_in(alloc, folder, LIST_NAME, "")?;
+    let mut buffer = vec![in alloc; 0u8; MOST_LIST_LEN]?;
+    let mut file = open(rt, alloc, &path)?;
+    let len = file.read(&mut buffer)?;
+    match folder_of(alloc, folder, &buffer[..len])? {
+        Some(folder) => Ok(folder),
+        None => Err(unfit(alloc, &path, Unfit::NoList)),
+    }
+}

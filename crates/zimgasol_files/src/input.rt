@@ -1,0 +1,55 @@
+//! Reads an input in pieces, through one buffer.
+
+ghost use Rattle.std.specs.Prelude.{◌≡◌, ◌≤◌, length, IfOk};
+
+use crate::trouble::Trouble;
+use std::alloc::Global;
+use std::io::{self, ErrorKind, Read};
+
+/// The most bytes of a piece.
+pub(crate) const PIECE_LEN: usize = 262_144;
+
+/// Returns the buffer that pieces are read into.
+pub fn piece_buffer(alloc: Global) -> Result<Vec<u8>, Trouble> {
+    let buffer = vec![in alloc; 0u8; PIECE_LEN]?;
+    Ok(buffer)
+}
+
+// Reads once, and once more after each signal that interrupts the read.
+fn read_some<R: Read>(input: &mut R, buffer: &mut [u8]) -> io::Result<usize>
+    ensures len { length buffer.new ≡ length buffer.old }
+    ensures count { IfOk result (λ n. n ≤ length buffer.old) }
+{
+    for _ in 0..u64::MAX {
+        match input.read(buffer) {
+            Ok(len) => return Ok(len),
+            Err(error) if error.kind() == ErrorKind::Interrupted => {}
+            Err(error) => return Err(error),
+        }
+    }
+    Ok(0)
+}
+
+/// Reads until `buffer` is full or the input ends. Returns how many bytes it read: where these are
+/// fewer than `buffer` has, the input has ended.
+///
+/// # Errors
+///
+/// `Trouble::Unread` where a read fails. What was read before it is in `buffer`, and is lost.
+pub fn read_piece<R: Read>(input: &mut R, buffer: &mut [u8]) -> Result<usize, Trouble>
+    ensures len { length buffer.new ≡ length buffer.old }
+    ensures count { IfOk result (λ n. n ≤ length buffer.old) }
+{
+    let mut len = 0;
+    'reads: for _ in 0..u64::MAX {
+        if len == buffer.len() {
+            break;
+        }
+        match read_some(input, &mut buffer[len..]) {
+            Ok(0) => break,
+            Ok(more) => len += more,
+            Err(error) => return Err(Trouble::Unread(error)),
+        }
+    }
+    Ok(len)
+}

@@ -1,0 +1,93 @@
+//! Opens a file for reading, and keeps its name for messages.
+
+ghost use Rattle.std.specs.Prelude.{◌≡◌, ◌≤◌, length, IfOk};
+
+use crate::input::read_piece;
+use crate::pieces::Pieces;
+use crate::target::unwritten;
+use crate::trouble::{Trouble, Unfit};
+use std::alloc::Global;
+use std::fs::{File, Files, OpenFile};
+use std::io::Read;
+use zimgasol_names::shown_name;
+
+/// A file that is read.
+#[derive(Drop)]
+pub struct Opened<F: Drop> {
+    alloc: Global,
+    path: String,
+    file: F,
+}
+
+/// Opens the file `path` for reading.
+///
+/// # Errors
+///
+/// `Trouble::OfFile` where it can't be opened, `Trouble::NoMemory`.
+pub fn open<H: Files>(rt: &H, alloc: Global, path: &str) -> Result<Opened<H::File>, Trouble> {
+    match File::open(rt, path) {
+        Ok(file) => Ok(Opened {
+            alloc,
+            path: String::from_str(alloc, path)?,
+            file,
+        }),
+        Err(error) => Err(unwritten(alloc, path, error)),
+    }
+}
+
+/// Returns the trouble of the file or folder `path`, which isn't what is needed.
+pub fn unfit(alloc: Global, path: &str, why: Unfit) -> Trouble {
+    match shown_name(alloc, path) {
+        Ok(path) => Trouble::Unfit(path, why),
+        Err(_) => Trouble::NoMemory,
+    }
+}
+
+impl<F: Read + OpenFile + Drop> Opened<F> {
+    /// Reads until `buffer` is full or the file ends. Returns how many bytes it read.
+    ///
+    /// # Errors
+    ///
+    /// `Trouble::OfFile` where a read fails.
+    pub fn read(&mut self, buffer: &mut [u8]) -> Result<usize, Trouble>
+        ensures len { length buffer.new ≡ length buffer.old }
+        ensures count { IfOk result (λ n. n ≤ length buffer.old) }
+    {
+        match read_piece(&mut self.file, buffer) {
+            Ok(len) => Ok(len),
+            Err(Trouble::Unread(error)) => Err(unwritten(self.alloc, &self.path, error)),
+            Err(trouble) => Err(trouble),
+        }
+    }
+
+    /// Reads the next piece into `pieces`, if no byte of the last one waits. Returns whether bytes
+    /// wait.
+    ///
+    /// # Errors
+    ///
+    /// `Trouble::OfFile` where a read fails.
+    pub fn refill(&mut self, pieces: &mut Pieces) -> Result<bool, Trouble> {
+        match pieces.refill(&mut self.file) {
+            Ok(is_there) => Ok(is_there),
+            Err(Trouble::Unread(error)) => Err(unwritten(self.alloc, &self.path, error)),
+            Err(trouble) => Err(trouble),
+        }
+    }
+
+    /// Returns the length of the file in bytes; 0 of a pipe.
+    ///
+    /// # Errors
+    ///
+    /// `Trouble::OfFile` where the system doesn't report it.
+    pub fn len(&self) -> Result<u64, Trouble> {
+        match self.file.metadata() {
+            Ok(metadata) => Ok(metadata.len()),
+            Err(error) => Err(unwritten(self.alloc, &self.path, error)),
+        }
+    }
+
+    /// Returns the trouble of this file, which isn't what is needed.
+    pub fn unfit(&self, why: Unfit) -> Trouble {
+        unfit(self.alloc, &self.path, why)
+    }
+}

@@ -1,0 +1,120 @@
+//! Writes files under another name until they are complete.
+
+use crate::opened::unfit;
+use crate::trouble::{Trouble, Unfit};
+use std::alloc::Global;
+use std::fs::{File, Files, OpenFile};
+use std::io::{self, Write};
+use zimgasol_names::shown_name;
+
+/// The end of the name of a file that isn't complete.
+pub const PARTIAL: &str = ".partial";
+
+/// Returns the trouble of the file or folder `path`, with which the system reports `error`.
+pub fn unwritten(alloc: Global, path: &str, error: io::Error) -> Trouble {
+    match shown_name(alloc, path) {
+        Ok(path) => Trouble::OfFile(path, error),
+        Err(_) => Trouble::NoMemory,
+    }
+}
+
+/// Refuses `path` where it exists, unless it is a plain file and `replace` is set.
+///
+/// # Errors
+///
+/// `Trouble::Exists` of a plain file, `Trouble::Unfit` of anything else, as a link or a folder.
+pub fn is_free<H: Files>(rt: &H, alloc: Global, path: &str, replace: bool) -> Result<(), Trouble> {
+    let Ok(metadata) = rt.symlink_metadata(path) else {
+        return Ok(());
+    };
+    if !metadata.is_file() {
+        return Err(unfit(alloc, path, Unfit::NoFile));
+    }
+    if replace {
+        return Ok(());
+    }
+    Err(Trouble::Exists(shown_name(alloc, path)?))
+}
+
+/// Makes the file `path` for writing and reading. A file or a link of that name is removed first.
+///
+/// # Errors
+///
+/// `Trouble::OfFile` where it can't be made.
+pub fn create<H: Files>(rt: &H, alloc: Global, path: &str) -> Result<H::File, Trouble> {
+    let _left = rt.remove_file(path);
+    match File::options()
+        .read(true)
+        .write(true)
+        .create_new(true)
+        .open(rt, path)
+    {
+        Ok(file) => Ok(file),
+        Err(error) => Err(unwritten(alloc, path, error)),
+    }
+}
+
+/// Renames the file `from` to `to`, which it replaces.
+///
+/// # Errors
+///
+/// `Trouble::OfFile` of `to`.
+pub fn rename<H: Files>(rt: &H, alloc: Global, from: &str, to: &str) -> Result<(), Trouble> {
+    match rt.rename(from, to) {
+        Ok(()) => Ok(()),
+        Err(error) => Err(unwritten(alloc, to, error)),
+    }
+}
+
+/// Waits until what was written of a file is on its disk.
+pub fn sync<F: Write + OpenFile>(file: &mut F) -> io::Result<()> {
+    file.flush()?;
+    file.sync_all()
+}
+
+/// A file that is being written, with the name that it gets.
+#[derive(Drop)]
+pub struct Outlet<F: Drop> {
+    pub alloc: Global,
+    pub path: String,
+    pub partial: String,
+    pub file: F,
+    /// The bytes that were written.
+    pub written: u64,
+}
+
+impl<F: Write + OpenFile + Drop> Outlet<F> {
+    /// Writes `bytes`.
+    ///
+    /// # Errors
+    ///
+    /// `Trouble::OfFile` where they can't be written.
+    pub fn write(&mut self, bytes: &[u8]) -> Result<(), Trouble> {
+        self.written = self.written.saturating_add(bytes.len() as u64);
+        match self.file.write_all(bytes) {
+            Ok(()) => Ok(()),
+            Err(error) => Err(unwritten(self.alloc, &self.partial, error)),
+        }
+    }
+
+    /// Waits until what was written is on its disk.
+    ///
+    /// # Errors
+    ///
+    /// `Trouble::OfFile` where the system reports a failure.
+    pub fn sync(&mut self) -> Result<(), Trouble> {
+        match sync(&mut self.file) {
+            Ok(()) => Ok(()),
+            Err(error) => Err(unwritten(self.alloc, &self.partial, error)),
+        }
+    }
+
+    /// Gives the file its final name.
+    ///
+    /// # Errors
+    ///
+    /// `Trouble::OfFile` where it can't be renamed.
+    pub fn rename<H: Files>(&self, rt: &H) -> Result<(), Trouble> {
+        rename(rt, self.alloc, &self.partial, &self.path)
+    }
+}

@@ -1,0 +1,449 @@
+//! The command line, declared for `clap`, and what its words ask for.
+
+ghost use Rattle.mig_mem.specs.PageSize.{IsPageSize};
+
+use clap::builder::ValueParser;
+use clap::{Arg, ArgAction, ArgMatches, Command, Error};
+use mig_mem::{PAGE_SIZE_4K, PAGE_SIZE_8K};
+use mig_stream::Frame;
+use std::alloc::{AllocError, Global};
+
+/// The program's version (CHANGELOG.md).
+const VERSION: &str = "0.3.0";
+
+/// The size of the guest's pages.
+#[derive(Clone, Copy, Debug, PartialEq, Eq)]
+pub enum PageSize {
+    Small,
+    Large,
+}
+
+impl PageSize {
+    /// Returns the size in bytes.
+    pub fn bytes(self) -> u64
+        ensures { IsPageSize result }
+    {
+        match self {
+            PageSize::Small => PAGE_SIZE_4K,
+            PageSize::Large => PAGE_SIZE_8K,
+        }
+    }
+}
+
+/// What is printed beside the result.
+#[derive(Clone, Copy)]
+pub struct Talk {
+    /// Whether a line a second has the progress.
+    pub progress: bool,
+    /// Whether the line of success is left out.
+    pub quiet: bool,
+}
+
+/// A stream that is to be read.
+#[derive(Clone, Copy)]
+pub struct StreamWords<'a> {
+    /// The file's name; `-` is the standard input.
+    pub file: &'a str,
+    pub page_size: PageSize,
+    pub frame: Frame,
+    pub talk: Talk,
+}
+
+/// The channels beside a main stream; a single stream has none.
+#[derive(Drop)]
+pub struct ChannelWords<'a> {
+    /// The files' names.
+    pub files: Vec<&'a str>,
+    /// The UUID that each hello has to name.
+    pub uuid: Option<&'a str>,
+}
+
+/// The words of `extract`.
+#[derive(Clone, Copy)]
+pub struct ExtractWords<'a> {
+    pub stream: StreamWords<'a>,
+    /// The folder that the files go into.
+    pub folder: &'a str,
+    /// The one block that is extracted; all where there is none.
+    pub block: Option<&'a str>,
+    /// The folder that `extract` made, over whose memory the stream's pages are laid.
+    pub since: Option<&'a str>,
+    /// Whether files that are there already are replaced.
+    pub replace: bool,
+    /// Whether the list has each file's SHA-256.
+    pub digest: bool,
+    /// Whether a file is on its disk before it gets its name.
+    pub durable: bool,
+}
+
+/// The words of `save`.
+#[derive(Drop)]
+pub struct SaveWords<'a> {
+    /// The words `ID=FILE`.
+    pub blocks: Vec<&'a str>,
+    /// The file that the stream goes into; `-` is the standard output.
+    pub file: &'a str,
+    pub page_size: PageSize,
+    pub frame: Frame,
+    /// The machine's name.
+    pub machine: Option<&'a str>,
+    /// The folder that `extract` made, of which the pages that differ are saved.
+    pub since: Option<&'a str>,
+    /// How many channels the pages go over.
+    pub channels: Option<&'a str>,
+    /// The UUID that each channel's hello names.
+    pub uuid: Option<&'a str>,
+    /// Whether a file that is there already is replaced.
+    pub replace: bool,
+    pub talk: Talk,
+}
+
+/// The words of `compare`.
+#[derive(Clone, Copy)]
+pub struct CompareWords<'a> {
+    /// Each is a stream, or a folder that `extract` made.
+    pub first: StreamWords<'a>,
+    pub second: StreamWords<'a>,
+}
+
+/// What the words ask for.
+#[derive(Drop)]
+pub enum Request<'a> {
+    Verify(StreamWords<'a>, ChannelWords<'a>),
+    /// True for JSON, false for lines.
+    Inspect(StreamWords<'a>, ChannelWords<'a>, bool),
+    Extract(ExtractWords<'a>, ChannelWords<'a>),
+    Save(SaveWords<'a>),
+    Compare(CompareWords<'a>),
+}
+
+// ---- the declaration
+
+fn file_arg<'a>(alloc: Global) -> Arg<'a> {
+    Arg::new(alloc, "FILE").required(true).help(
+        "The file with the stream: of QEMU's `migrate file:`, or of `virsh save`; - for the standard input",
+    )
+}
+
+fn quiet_flag<'a>(alloc: Global) -> Arg<'a> {
+    flag(alloc, "quiet", "Prints no line where all is well")
+}
+
+fn progress_flag<'a>(alloc: Global) -> Arg<'a> {
+    flag(
+        alloc,
+        "progress",
+        "Prints once a second to the error output how far it is",
+    )
+}
+
+fn replace_flag<'a>(alloc: Global) -> Arg<'a> {
+    flag(alloc, "replace", "Replaces files that are there already")
+}
+
+fn page_option<'a>(alloc: Global) -> Arg<'a> {
+    Arg::new(alloc, "page")
+        .long("page")
+        .value_name("BYTES")
+        .value_parser(ValueParser::from(["4096", "8192"].as_slice()))
+        .help("The size of the guest's pages [default: 4096]")
+}
+
+fn frame_option<'a>(alloc: Global) -> Arg<'a> {
+    Arg::new(alloc, "frame")
+        .long("frame")
+        .value_name("FRAME")
+        .value_parser(ValueParser::from(["machine", "ram"].as_slice()))
+        .help(
+            "What the stream is: a machine's, read up to the end of RAM, or RAM's sections alone [default: machine]",
+        )
+}
+
+fn flag<'a>(alloc: Global, name: &'a str, help: &'a str) -> Arg<'a> {
+    Arg::new(alloc, name)
+        .long(name)
+        .action(ArgAction::SetTrue)
+        .help(help)
+}
+
+fn channel_option<'a>(alloc: Global) -> Arg<'a> {
+    Arg::new(alloc, "channel")
+        .long("channel")
+        .value_name("FILE")
+        .action(ArgAction::Append)
+        .help("A channel that the pages went over (multifd); once for each channel")
+}
+
+fn uuid_option<'a>(alloc: Global, help: &'a str) -> Arg<'a> {
+    Arg::new(alloc, "uuid")
+        .long("uuid")
+        .value_name("UUID")
+        .help(help)
+}
+
+// Declares a command that reads a stream.
+fn stream_command<'a>(
+    alloc: Global,
+    name: &'a str,
+    about: &'a str,
+) -> Result<Command<'a>, AllocError> {
+    Command::new(alloc, name)
+        .about(about)
+        .arg(file_arg(alloc))?
+        .arg(channel_option(alloc))?
+        .arg(uuid_option(
+            alloc,
+            "The UUID that each channel has to name [default: that of the first channel]",
+        ))?
+        .arg(page_option(alloc))?
+        .arg(frame_option(alloc))?
+        .arg(progress_flag(alloc))
+}
+
+fn verify_command<'a>(alloc: Global) -> Result<Command<'a>, AllocError> {
+    stream_command(
+        alloc,
+        "verify",
+        "Tells whether a saved guest is whole, or where it has a fault",
+    )?
+    .arg(quiet_flag(alloc))
+}
+
+fn extract_command<'a>(alloc: Global) -> Result<Command<'a>, AllocError> {
+    stream_command(
+        alloc,
+        "extract",
+        "Writes the memory of a stream into a folder, a file for each block, and blocks.json",
+    )?
+    .arg(
+        Arg::new(alloc, "DIR")
+            .required(true)
+            .help("The folder; it is made where there is none"),
+    )?
+    .arg(
+        Arg::new(alloc, "block")
+            .long("block")
+            .value_name("ID")
+            .help("Extracts this block alone"),
+    )?
+    .arg(
+        Arg::new(alloc, "since")
+            .long("since")
+            .value_name("DIR")
+            .help(
+                "Lays the stream over the memory in a folder that `extract` made: what `save --since` saved",
+            ),
+    )?
+    .arg(replace_flag(alloc))?
+    .arg(quiet_flag(alloc))?
+    .arg(flag(
+        alloc,
+        "no-digest",
+        "Leaves each file's SHA-256 out of blocks.json, which takes most of the time",
+    ))
+}
+
+// Declares `save` with the options that name its blocks, and what it leaves out.
+fn save_sources<'a>(alloc: Global) -> Result<Command<'a>, AllocError> {
+    Command::new(alloc, "save")
+        .about("Makes a stream of files with the memory of blocks, as a backup of a guest")
+        .arg(
+            Arg::new(alloc, "block")
+                .long("block")
+                .value_name("ID=FILE")
+                .action(ArgAction::Append)
+                .required(true)
+                .help("A block's id, and the file with its memory; once for each block"),
+        )?
+        .arg(
+            Arg::new(alloc, "since")
+                .long("since")
+                .value_name("DIR")
+                .help("Saves only the pages that differ from a folder that `extract` made"),
+        )?
+        .arg(
+            Arg::new(alloc, "channels")
+                .long("channels")
+                .value_name("N")
+                .help("Sends the pages over N channels (multifd), into the files OUT.0 and so on"),
+        )?
+        .arg(uuid_option(
+            alloc,
+            "The UUID that the channels name, that of the guest [default: zeros]",
+        ))
+}
+
+fn save_command<'a>(alloc: Global) -> Result<Command<'a>, AllocError> {
+    save_sources(alloc)?
+        .arg(
+            Arg::new(alloc, "OUT").required(true).help(
+                "The file that the stream goes into; - for the standard output",
+            ),
+        )?
+        .arg(page_option(alloc))?
+        .arg(
+            Arg::new(alloc, "frame")
+                .long("frame")
+                .value_name("FRAME")
+                .value_parser(ValueParser::from(["ram", "machine"].as_slice()))
+                .help(
+                    "What the stream is: RAM's sections alone, or a machine's, without its devices [default: ram]",
+                ),
+        )?
+        .arg(
+            Arg::new(alloc, "machine")
+                .long("machine")
+                .value_name("NAME")
+                .help("The machine's name, in a machine's stream: QEMU refuses another machine's"),
+        )?
+        .arg(replace_flag(alloc))?
+        .arg(quiet_flag(alloc))?
+        .arg(progress_flag(alloc))
+}
+
+fn compared_arg<'a>(alloc: Global, name: &'a str) -> Arg<'a> {
+    Arg::new(alloc, name).required(true).help(
+        "A file with a stream, - for the standard input, or a folder that `extract` made",
+    )
+}
+
+fn compare_command<'a>(alloc: Global) -> Result<Command<'a>, AllocError> {
+    Command::new(alloc, "compare")
+        .about("Lists the pages in which the memory of two streams or folders differs")
+        .arg(compared_arg(alloc, "A"))?
+        .arg(compared_arg(alloc, "B"))?
+        .arg(page_option(alloc))?
+        .arg(frame_option(alloc))?
+        .arg(quiet_flag(alloc))?
+        .arg(progress_flag(alloc))
+}
+
+fn program<'a>(alloc: Global) -> Result<Command<'a>, AllocError> {
+    let json = flag(alloc, "json", "Prints JSON in place of lines");
+    Command::new(alloc, "zimgasol")
+        .bin_name("zimgasol")?
+        .no_binary_name(true)
+        .version(VERSION)
+        .about(
+            "Looks into guests that QEMU or libvirt saved in a file, verifies them, takes their memory out, and saves it",
+        )
+        .after_help(
+            "Exit status: 0 well; 1 refused, or different; 2 the words are wrong; 3 a file can't be read or written.",
+        )
+        .arg_required_else_help(true)
+        .subcommand_required(true)
+        .subcommand(verify_command(alloc)?)?
+        .subcommand(stream_command(alloc, "inspect", "Lists what a saved guest has")?.arg(json)?)?
+        .subcommand(extract_command(alloc)?)?
+        .subcommand(save_command(alloc)?)?
+        .subcommand(compare_command(alloc)?)
+}
+
+// ---- the words that were read
+
+fn page_size_in<'a>(matches: &ArgMatches<'a>) -> PageSize {
+    match matches.get_str("page") {
+        Some("8192") => PageSize::Large,
+        _ => PageSize::Small,
+    }
+}
+
+fn frame_in<'a>(matches: &ArgMatches<'a>) -> Frame {
+    match matches.get_str("frame") {
+        Some("ram") => Frame::Ram,
+        _ => Frame::Machine,
+    }
+}
+
+fn talk_in(matches: &ArgMatches<'_>) -> Talk {
+    Talk {
+        progress: matches.get_flag("progress"),
+        quiet: matches.get_flag("quiet"),
+    }
+}
+
+// Returns the stream that `argument` names.
+fn stream_in<'a>(matches: &ArgMatches<'a>, argument: &str) -> StreamWords<'a> {
+    StreamWords {
+        file: matches.get_str(argument).unwrap_or("-"),
+        page_size: page_size_in(matches),
+        frame: frame_in(matches),
+        talk: talk_in(matches),
+    }
+}
+
+// Returns the channels that are named.
+fn channels_in<'a>(
+    alloc: Global,
+    matches: &ArgMatches<'a>,
+) -> Result<ChannelWords<'a>, AllocError> {
+    Ok(ChannelWords {
+        files: matches.get_strs("channel").unwrap_or(&[]).to_vec(alloc)?,
+        uuid: matches.get_str("uuid"),
+    })
+}
+
+fn extract_in<'a>(matches: &ArgMatches<'a>) -> ExtractWords<'a> {
+    ExtractWords {
+        stream: stream_in(matches, "FILE"),
+        folder: matches.get_str("DIR").unwrap_or("."),
+        block: matches.get_str("block"),
+        since: matches.get_str("since"),
+        replace: matches.get_flag("replace"),
+        digest: !matches.get_flag("no-digest"),
+        durable: true,
+    }
+}
+
+fn save_in<'a>(alloc: Global, matches: &ArgMatches<'a>) -> Result<SaveWords<'a>, AllocError> {
+    let frame = match matches.get_str("frame") {
+        Some("machine") => Frame::Machine,
+        _ => Frame::Ram,
+    };
+    Ok(SaveWords {
+        blocks: matches.get_strs("block").unwrap_or(&[]).to_vec(alloc)?,
+        file: matches.get_str("OUT").unwrap_or("-"),
+        page_size: page_size_in(matches),
+        frame,
+        machine: matches.get_str("machine"),
+        since: matches.get_str("since"),
+        channels: matches.get_str("channels"),
+        uuid: matches.get_str("uuid"),
+        replace: matches.get_flag("replace"),
+        talk: talk_in(matches),
+    })
+}
+
+fn request_in<'a>(
+    alloc: Global,
+    name: &str,
+    matches: &ArgMatches<'a>,
+) -> Result<Request<'a>, AllocError> {
+    Ok(match name {
+        "extract" => Request::Extract(extract_in(matches), channels_in(alloc, matches)?),
+        "save" => Request::Save(save_in(alloc, matches)?),
+        "compare" => Request::Compare(CompareWords {
+            first: stream_in(matches, "A"),
+            second: stream_in(matches, "B"),
+        }),
+        "inspect" => Request::Inspect(
+            stream_in(matches, "FILE"),
+            channels_in(alloc, matches)?,
+            matches.get_flag("json"),
+        ),
+        _ => Request::Verify(stream_in(matches, "FILE"), channels_in(alloc, matches)?),
+    })
+}
+
+/// Returns what the words ask for.
+///
+/// # Errors
+///
+/// What is printed instead: why the words are wrong, or help or the version, which were asked for.
+pub fn asked<'a>(alloc: Global, words: &'a [String]) -> Result<Request<'a>, Error> {
+    let matches = program(alloc)?.try_get_matches_from(words)?;
+    match matches.subcommand() {
+        Some((name, matches)) => Ok(request_in(alloc, name, matches)?),
+        None => Err(Error::from(AllocError)),
+    }
+}

@@ -1,0 +1,291 @@
+//! `inspect`: lists what a single stream has, in lines or as JSON.
+
+use crate::verifying::end_name;
+use serde_json::{Value, json};
+use std::alloc::{AllocError, Global};
+use std::io::{self, Write};
+use zimgasol_files::Trouble;
+use zimgasol_names::{id_text, shown};
+use zimgasol_reading::{Blocks, Note, Noted, Survey, block_at, fault_of, kind_name};
+
+// ---- lines
+
+/// Returns QEMU's name of the COMMAND `number` (`enum qemu_vm_cmd` in `migration/savevm.c`).
+fn command_name(number: u16) -> &'static str {
+    match number {
+        1 => "OPEN_RETURN_PATH",
+        2 => "PING",
+        3 => "POSTCOPY_ADVISE",
+        4 => "POSTCOPY_LISTEN",
+        5 => "POSTCOPY_RUN",
+        6 => "POSTCOPY_RAM_DISCARD",
+        7 => "PACKAGED",
+        8 => "ENABLE_COLO",
+        9 => "POSTCOPY_RESUME",
+        10 => "RECV_BITMAP",
+        11 => "SWITCHOVER_START",
+        _ => "unknown",
+    }
+}
+
+fn output_failed(error: io::Error) -> Trouble {
+    Trouble::Output(error)
+}
+
+/// Writes the line of an item between the sections.
+pub(crate) fn put_note<W: Write>(
+    alloc: Global,
+    output: &mut W,
+    note: &Note,
+) -> Result<(), Trouble> {
+    let sections = note.sections;
+    match &note.noted {
+        Noted::Machine(name) => {
+            let name = shown(alloc, name)?;
+            writeln!(output, "machine \"{name}\"").map_err(output_failed)
+        }
+        Noted::Subsection(name, content) => {
+            let name = shown(alloc, name)?;
+            let content = hex_of(alloc, content)?;
+            writeln!(output, "subsection \"{name}\" {content}").map_err(output_failed)
+        }
+        Noted::Command(number, _) => {
+            let name = command_name(*number);
+            writeln!(output, "command {number} {name} after section {sections}").map_err(
+                output_failed,
+            )
+        }
+    }
+}
+
+// Returns bytes in hexadecimal digits.
+fn hex_of(alloc: Global, bytes: &[u8]) -> Result<String, AllocError> {
+    let mut text = String::new(alloc);
+    for byte in bytes {
+        write!(text, "{byte:02x}")?;
+    }
+    Ok(text)
+}
+
+/// Writes a line for each block.
+pub(crate) fn put_blocks<W: Write>(
+    alloc: Global,
+    output: &mut W,
+    blocks: &Blocks,
+) -> Result<(), Trouble> {
+    for (block, counts) in blocks.counts.iter().enumerate() {
+        if block < blocks.table.len() {
+            let id = shown(alloc, blocks.table.id(block))?;
+            let len = blocks.len(block);
+            let pages = counts.pages;
+            let zeros = counts.zeros;
+            writeln!(
+                output,
+                "block \"{id}\" {len} bytes, {pages} pages, {zeros} zero pages"
+            )
+            .map_err(output_failed)?;
+        }
+    }
+    Ok(())
+}
+
+// Returns whether an item was read, or has the fault. Items after the fault may be noted, too.
+fn is_read(survey: &Survey, note: &Note) -> bool {
+    note.at <= survey.valid
+}
+
+// Writes the lines before those of the blocks.
+fn put_head<W: Write>(
+    alloc: Global,
+    output: &mut W,
+    name: &str,
+    survey: &Survey,
+) -> Result<(), Trouble> {
+    let len = survey.len;
+    writeln!(output, "file {name}, {len} bytes").map_err(output_failed)?;
+    if let Some(header) = survey.libvirt {
+        let len = header.len;
+        let was = if header.was_running {
+            "running"
+        } else {
+            "paused"
+        };
+        writeln!(output, "libvirt header {len} bytes, the guest was {was}").map_err(output_failed)?;
+    }
+    for note in &survey.between.notes {
+        if is_read(survey, note) {
+            put_note(alloc, output, note)?;
+        }
+    }
+    if survey.between.unnoted != 0 {
+        let more = survey.between.unnoted;
+        writeln!(output, "and {more} more of these").map_err(output_failed)?;
+    }
+    Ok(())
+}
+
+// Writes where the stream ends, or up to where it was read.
+fn put_end<W: Write>(output: &mut W, survey: &Survey) -> io::Result<()> {
+    let sections = survey.sections;
+    let end = survey.before().saturating_add(survey.valid);
+    let after = survey.len.saturating_sub(end);
+    writeln!(output, "sections {sections}")?;
+    if fault_of(survey).is_some() {
+        return writeln!(output, "read up to byte {end}");
+    }
+    let what = end_name(survey.frame);
+    writeln!(output, "{what} ends at byte {end}, {after} bytes follow")?;
+    writeln!(output, "whole")
+}
+
+/// Writes what a stream has, in lines. `name` is the file's, as it is printed.
+///
+/// # Errors
+///
+/// `Trouble::Output` where `output` can't be written, `Trouble::NoMemory`.
+pub fn put_lines<W: Write>(
+    alloc: Global,
+    output: &mut W,
+    name: &str,
+    survey: &Survey,
+) -> Result<(), Trouble> {
+    put_head(alloc, output, name, survey)?;
+    let page_size = survey.page_size;
+    writeln!(output, "page size {page_size}").map_err(output_failed)?;
+    if let Some(blocks) = &survey.blocks {
+        put_blocks(alloc, output, blocks)?;
+    }
+    put_end(output, survey).map_err(output_failed)
+}
+
+// ---- JSON
+
+fn array(alloc: Global) -> Vec<Value> {
+    Vec::new(alloc)
+}
+
+/// Returns the JSON of an item between the sections.
+pub(crate) fn note_value(alloc: Global, note: &Note) -> Result<Value, AllocError> {
+    let at = note.at;
+    let sections = note.sections;
+    match &note.noted {
+        Noted::Machine(name) => {
+            let name = shown(alloc, name)?;
+            json!(in alloc; {"machine": &name, "at": at})
+        }
+        Noted::Subsection(name, content) => {
+            let name = shown(alloc, name)?;
+            let content = hex_of(alloc, content)?;
+            json!(in alloc; {"subsection": &name, "content": &content, "at": at})
+        }
+        Noted::Command(number, len) => {
+            let name = command_name(*number);
+            json!(in alloc; {
+                "command": *number, "name": name, "bytes": *len, "at": at, "after_sections": sections
+            })
+        }
+    }
+}
+
+fn notes_value(alloc: Global, survey: &Survey) -> Result<Value, AllocError> {
+    let mut notes = array(alloc);
+    for note in &survey.between.notes {
+        if is_read(survey, note) {
+            notes.push(note_value(alloc, note)?)?;
+        }
+    }
+    Ok(Value::Array(notes))
+}
+
+/// Returns the JSON of the blocks.
+pub(crate) fn blocks_value(alloc: Global, blocks: &Blocks) -> Result<Value, AllocError> {
+    let mut list = array(alloc);
+    for (block, counts) in blocks.counts.iter().enumerate() {
+        if block < blocks.table.len() {
+            let id = id_text(alloc, blocks.table.id(block))?;
+            list.push(json!(in alloc; {
+                "id": &id,
+                "bytes": blocks.len(block),
+                "pages": counts.pages,
+                "zero_pages": counts.zeros,
+                "pages_without_record": blocks.missing(block)
+            })?)?;
+        }
+    }
+    Ok(Value::Array(list))
+}
+
+fn fault_value(alloc: Global, survey: &Survey) -> Result<Value, AllocError> {
+    let Some(place) = fault_of(survey) else {
+        return Ok(Value::Null);
+    };
+    let fault = place.fault;
+    let name = format!(in alloc; "{fault:?}")?;
+    let text = format!(in alloc; "{fault}")?;
+    let kind = match place.kind {
+        Some(kind) => kind_name(kind),
+        None => "none",
+    };
+    let block = block_value(alloc, survey)?;
+    json!(in alloc; {
+        "number": fault.number(),
+        "name": &name,
+        "text": &text,
+        "byte": place.byte,
+        "whole_sections": place.sections,
+        "section": kind,
+        "block": block
+    })
+}
+
+fn block_value(alloc: Global, survey: &Survey) -> Result<Value, AllocError> {
+    match block_at(alloc, survey)? {
+        Some(id) => json!(in alloc; &id),
+        None => Ok(Value::Null),
+    }
+}
+
+fn libvirt_value(alloc: Global, survey: &Survey) -> Result<Value, AllocError> {
+    match survey.libvirt {
+        Some(header) => json!(in alloc; {"bytes": header.len, "was_running": header.was_running}),
+        None => Ok(Value::Null),
+    }
+}
+
+fn survey_value(alloc: Global, name: &str, survey: &Survey) -> Result<Value, AllocError> {
+    let end = survey.before().saturating_add(survey.valid);
+    let notes = notes_value(alloc, survey)?;
+    let blocks = match &survey.blocks {
+        Some(blocks) => blocks_value(alloc, blocks)?,
+        None => Value::Array(array(alloc)),
+    };
+    let libvirt = libvirt_value(alloc, survey)?;
+    let fault = fault_value(alloc, survey)?;
+    json!(in alloc; {
+        "file": name,
+        "bytes": survey.len,
+        "libvirt": libvirt,
+        "notes": notes,
+        "page_size": survey.page_size,
+        "blocks": blocks,
+        "sections": survey.sections,
+        "end": end,
+        "whole": fault_of(survey).is_none(),
+        "fault": fault
+    })
+}
+
+/// Writes what a stream has, as JSON. `name` is the file's, as it is printed.
+///
+/// # Errors
+///
+/// `Trouble::Output` where `output` can't be written, `Trouble::NoMemory`.
+pub fn put_json<W: Write>(
+    alloc: Global,
+    output: &mut W,
+    name: &str,
+    survey: &Survey,
+) -> Result<(), Trouble> {
+    let text = survey_value(alloc, name, survey)?.to_string_pretty(alloc)?;
+    writeln!(output, "{text}").map_err(output_failed)
+}

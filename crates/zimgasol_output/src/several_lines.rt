@@ -1,0 +1,195 @@
+//! Prints the verdict on a main stream and its channels, and lists what they have, in lines.
+
+ghost use Rattle.std.specs.Prelude.{◌≡◌, ◌↔◌, ◌≤◌, IfOk, IsTrue};
+ghost use Rattle.mig_answer.specs.declared.verdict.Verdict.TheVariants as verdict;
+
+use crate::inspecting::{put_blocks, put_note};
+use crate::missing::put_few;
+use crate::several_fault::put_spotted;
+use crate::verifying::end_name;
+use mig_single_load::{LoadFault, Origin};
+use std::alloc::Global;
+use std::fs::OpenFile;
+use std::io::{self, Read, Write};
+use zimgasol_files::{Talk, Trouble};
+use zimgasol_reading::{Channel, Several};
+
+/// What a complete guest without records of all its pages may be.
+const OTHERS: &str = "it may be the changes since another stream";
+
+fn output_failed(error: io::Error) -> Trouble {
+    Trouble::Output(error)
+}
+
+// Returns the name of the file that a fault is in; `name` is the main stream's.
+fn source_name<'a, F: Drop>(several: &'a Several<F>, name: &'a str, fault: LoadFault) -> &'a str {
+    match fault.source {
+        Origin::Main | Origin::Round => name,
+        Origin::Channel(number) => match several.channels.get(number) {
+            Some(channel) => channel.inlet.name.as_str(),
+            None => name,
+        },
+    }
+}
+
+// Writes the line of complete sources.
+fn put_whole<F: Read + OpenFile + Drop, W: Write>(
+    output: &mut W,
+    name: &str,
+    several: &Several<F>,
+) -> io::Result<()> {
+    let rounds = several.rounds;
+    let channels = several.channels.len();
+    let packets = several.packets();
+    write!(
+        output,
+        "{name}: whole: rounds {rounds}, channels {channels}, packets {packets}, "
+    )?;
+    if let Some(guest) = &several.guest {
+        let count = guest.blocks.table.len();
+        let total = guest.blocks.total();
+        write!(output, "blocks {count}, memory {total} bytes, ")?;
+    }
+    let uuid = several.uuid;
+    write!(output, "UUID {uuid}, ")?;
+    put_end(output, several)
+}
+
+// Writes where RAM ends.
+fn put_end<F: Drop, W: Write>(output: &mut W, several: &Several<F>) -> io::Result<()> {
+    let end = several.main.valid();
+    let after = several.main.len().saturating_sub(end);
+    let what = end_name(several.frame);
+    writeln!(output, "{what} ends at byte {end}, {after} bytes follow")
+}
+
+/// Writes what is wrong to `errors`: the fault, or which blocks lack pages. Returns whether all
+/// sources are complete.
+///
+/// # Errors
+///
+/// `Trouble::NoMemory`.
+pub fn put_several_wrongs<F: Read + OpenFile + Drop, E: Write>(
+    alloc: Global,
+    errors: &mut E,
+    name: &str,
+    several: &Several<F>,
+) -> Result<bool, Trouble>
+    ensures verdict { IfOk result (λ is_complete. IsTrue is_complete ↔ (several.now.verdict ≡ verdict.Done)) }
+{
+    match several.fault() {
+        Some(fault) => {
+            let block = several.fault_block(alloc, fault)?;
+            let source = source_name(several, name, fault);
+            let spot = several.spot(fault);
+            let _ = put_spotted(errors, source, spot, fault, &block);
+            Ok(false)
+        }
+        None => {
+            if let Some(guest) = &several.guest
+                && !several.is_laid_over
+            {
+                put_few(alloc, errors, name, &guest.blocks, OTHERS)?;
+            }
+            Ok(true)
+        }
+    }
+}
+
+/// Writes the verdict: to `output` that all sources are complete, unless `--quiet` is set, and
+/// to `errors` what is wrong. Returns whether they are complete.
+///
+/// # Errors
+///
+/// `Trouble::Output` where `output` can't be written, `Trouble::NoMemory`.
+pub fn put_several_judgement<F: Read + OpenFile + Drop, W: Write, E: Write>(
+    alloc: Global,
+    output: &mut W,
+    errors: &mut E,
+    name: &str,
+    several: &Several<F>,
+    talk: Talk,
+) -> Result<bool, Trouble>
+    ensures verdict { IfOk result (λ is_complete. IsTrue is_complete ↔ (several.now.verdict ≡ verdict.Done)) }
+{
+    if several.fault().is_none() && !talk.quiet {
+        put_whole(output, name, several).map_err(output_failed)?;
+    }
+    put_several_wrongs(alloc, errors, name, several)
+}
+
+// Writes the lines before those of the channels and blocks.
+fn put_head<F: Drop, W: Write>(
+    alloc: Global,
+    output: &mut W,
+    name: &str,
+    several: &Several<F>,
+) -> Result<(), Trouble> {
+    let len = several.main.len();
+    writeln!(output, "file {name}, {len} bytes").map_err(output_failed)?;
+    for note in several.main.read_notes() {
+        put_note(alloc, output, note)?;
+    }
+    let page_size = several.page_size;
+    let uuid = several.uuid;
+    writeln!(output, "page size {page_size}").map_err(output_failed)?;
+    writeln!(output, "UUID {uuid}").map_err(output_failed)
+}
+
+/// Writes what the main stream and the channels have, in lines.
+///
+/// # Errors
+///
+/// `Trouble::Output` where `output` can't be written, `Trouble::NoMemory`.
+pub fn put_several_lines<F: Read + OpenFile + Drop, W: Write>(
+    alloc: Global,
+    output: &mut W,
+    name: &str,
+    several: &Several<F>,
+) -> Result<(), Trouble> {
+    put_head(alloc, output, name, several)?;
+    for channel in &several.channels {
+        put_channel(output, channel).map_err(output_failed)?;
+    }
+    if let Some(guest) = &several.guest {
+        put_blocks(alloc, output, &guest.blocks)?;
+    }
+    put_last(output, several).map_err(output_failed)
+}
+
+// Writes the number of rounds, and where RAM ends or up to where it was read.
+fn put_last<F: Read + OpenFile + Drop, W: Write>(
+    output: &mut W,
+    several: &Several<F>,
+) -> io::Result<()> {
+    let rounds = several.rounds;
+    writeln!(output, "rounds {rounds}")?;
+    if several.fault().is_some() {
+        let end = several.main.valid();
+        return writeln!(output, "read up to byte {end}");
+    }
+    put_end(output, several)?;
+    writeln!(output, "whole")
+}
+
+// Writes the line of a channel.
+fn put_channel<F: Read + OpenFile + Drop, W: Write>(
+    output: &mut W,
+    channel: &Channel<F>,
+) -> io::Result<()> {
+    let name = &channel.inlet.name;
+    let len = channel.inlet.len();
+    write!(output, "channel {name}, {len} bytes")?;
+    let Some(id) = channel.lane.hello() else {
+        return writeln!(output);
+    };
+    let counts = channel.lane.counts;
+    let packets = counts.packets;
+    write!(output, ", id {id}, packets {packets}")?;
+    if let (Some(first), Some(last)) = (counts.first, counts.last) {
+        write!(output, ", numbers {first}-{last}")?;
+    }
+    let pages = counts.pages;
+    let zeros = counts.zeros;
+    writeln!(output, ", {pages} pages, {zeros} zero pages")
+}

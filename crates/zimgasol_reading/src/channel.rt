@@ -1,0 +1,130 @@
+//! Reads the channels of a migration, each from a file.
+
+ghost use Rattle.std.specs.Prelude.{◌≤◌};
+
+use crate::guest::Guest;
+use crate::lane::Lane;
+use crate::sink::PageSink;
+use std::alloc::{AllocGlobal, Global};
+use std::fs::{Files, OpenFile};
+use std::io::Read;
+use uuid::Uuid;
+use zimgasol_files::{Opened, PageSize, Pieces, Trouble, open};
+use zimgasol_names::shown_name;
+
+/// A file that a channel is read from.
+#[derive(Drop)]
+pub struct Inlet<F: Drop> {
+    /// Its name, as it is printed.
+    pub name: String,
+    file: Opened<F>,
+    // the length of the file in bytes; 0 of a pipe
+    len: u64,
+    pieces: Pieces,
+}
+
+impl<F: Read + OpenFile + Drop> Inlet<F> {
+    /// Returns how many bytes were read.
+    pub fn read(&self) -> u64 {
+        self.pieces.read
+    }
+
+    /// Returns the length in bytes; of a pipe, how many bytes were read.
+    pub fn len(&self) -> u64 {
+        self.len.max(self.pieces.read)
+    }
+}
+
+// Opens the file of a channel, and reads its first piece.
+fn open_inlet<H: AllocGlobal + Files>(rt: &H, path: &str) -> Result<Inlet<H::File>, Trouble> {
+    let alloc = rt.alloc();
+    let mut file = open(rt, alloc, path)?;
+    let len = file.len()?;
+    let mut pieces = Pieces::new(alloc)?;
+    file.refill(&mut pieces)?;
+    Ok(Inlet {
+        name: shown_name(alloc, path)?,
+        file,
+        len,
+        pieces,
+    })
+}
+
+/// Opens the files of channels, and reads the first piece of each.
+///
+/// # Errors
+///
+/// `Trouble::OfFile` where one can't be opened or read, `Trouble::NoMemory`.
+pub(crate) fn open_inlets<H: AllocGlobal + Files>(
+    rt: &H,
+    paths: &[&str],
+) -> Result<Vec<Inlet<H::File>>, Trouble> {
+    let mut inlets = Vec::new(rt.alloc());
+    for path in paths {
+        inlets.push(open_inlet(rt, path)?)?;
+    }
+    Ok(inlets)
+}
+
+/// Returns the UUID that the first channel's hello names; zeros where it has none.
+pub(crate) fn hello_uuid<F: Read + OpenFile + Drop>(inlets: &[Inlet<F>]) -> Uuid {
+    let Some(inlet) = inlets.first() else {
+        return Uuid::nil();
+    };
+    let Some(rest) = inlet.pieces.waiting().get(8..) else {
+        return Uuid::nil();
+    };
+    match rest.first_chunk::<16>() {
+        Some(uuid) => Uuid::from_bytes(*uuid),
+        None => Uuid::nil(),
+    }
+}
+
+/// A channel: its file, and the reading of its bytes.
+#[derive(Drop)]
+pub struct Channel<F: Drop> {
+    pub inlet: Inlet<F>,
+    pub lane: Lane,
+}
+
+/// Creates a channel for each file; the hellos have to name `uuid`.
+pub(crate) fn channels_of<F: Read + OpenFile + Drop>(
+    alloc: Global,
+    inlets: Vec<Inlet<F>>,
+    page_size: PageSize,
+    uuid: Uuid,
+) -> Result<Vec<Channel<F>>, Trouble> {
+    let count = inlets.len();
+    let mut channels = Vec::new(alloc);
+    for inlet in inlets {
+        let lane = Lane::new(alloc, page_size, uuid, count)?;
+        channels.push(Channel { inlet, lane })?;
+    }
+    Ok(channels)
+}
+
+impl<F: Read + OpenFile + Drop> Channel<F> {
+    /// Reads up to the end of the current round, and passes the pages to `sink`.
+    ///
+    /// # Errors
+    ///
+    /// `Trouble::OfFile` where a read fails, `Trouble::NoMemory`, and those of `sink`.
+    pub fn read_round<H: Files, S: PageSink<H>>(
+        &mut self,
+        guest: &mut Option<Guest>,
+        sink: &mut S,
+    ) -> Result<(), Trouble> {
+        for _ in 0..u64::MAX {
+            if !self.lane.is_pending() {
+                return Ok(());
+            }
+            let piece = self.inlet.pieces.waiting();
+            let (taken, needs_more) = self.lane.read(piece, guest, sink)?;
+            self.inlet.pieces.take(taken);
+            if needs_more && !self.inlet.file.refill(&mut self.inlet.pieces)? {
+                self.lane.end();
+            }
+        }
+        Ok(())
+    }
+}

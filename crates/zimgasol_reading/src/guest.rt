@@ -1,0 +1,159 @@
+//! Counts the pages of a guest that comes over several channels, and judges its rounds.
+//!
+//! A round is judged by the numbers of its packets and by the places of pages, and keeps no page.
+
+ghost use Rattle.std.specs.Prelude.{◌≡◌, ◌+◌, ◌*◌, ◌<◌, ◌≤◌, ◌^◌, length, IfSome};
+ghost use Rattle.mig_packet.specs.PageSize.{IsPageSize};
+
+use crate::blocks::Blocks;
+use crate::sink::PageSink;
+use mig_assemble::{Arrivals, RoundFault};
+use mig_mem::{Place, Table};
+use mig_packet::{Packet, PacketHead, PacketRead, page_limit, put_packet, read_packet};
+use mig_stream::StreamRound;
+use std::alloc::Global;
+use std::fs::Files;
+use zimgasol_files::Trouble;
+
+// The most packets that are numbered. No channels in files have as many.
+const PACKET_LIMIT: u64 = 1 << 63;
+
+/// The most bytes of an id in a packet.
+const MOST_ID_LEN: usize = 255;
+
+/// A guest whose rounds come over several channels.
+#[derive(Drop)]
+pub struct Guest {
+    /// The blocks, and their records and packets' pages in all rounds so far.
+    pub blocks: Blocks,
+    arrivals: Arrivals,
+    // the offsets of a packet, and the packet of zeros that has them
+    offsets: Vec<u64>,
+    bytes: Vec<u8>,
+}
+
+// Lists the offsets of a packet's pages.
+fn list_offsets(head: &PacketHead<'_>, offsets: &mut Vec<u64>) -> Result<(), Trouble> {
+    offsets.clear();
+    for i in 0..head.normal_len().saturating_add(head.zero_len()) {
+        offsets.push(head.offset(i))?;
+    }
+    Ok(())
+}
+
+// Makes the packet of zeros with the number, flags, id and pages of `head`. None where it can't be
+// written.
+fn zeros_of<'b>(
+    head: &PacketHead<'_>,
+    offsets: &[u64],
+    bytes: &'b mut Vec<u8>,
+) -> Option<Packet<'b>> {
+    let page_size = head.page_size();
+    let id = head.id();
+    if offsets.len() > page_limit(page_size) || id.len() > MOST_ID_LEN {
+        return None;
+    }
+    bytes.clear();
+    let (number, sync) = (head.number(), head.sync());
+    let Ok(()) = put_packet(page_size, bytes, number, sync, id, &[], &[], offsets) else {
+        return None;
+    };
+    match read_packet(page_size, bytes) {
+        PacketRead::Whole(packet, _) => Some(packet),
+        PacketRead::Cut | PacketRead::Bad(_) => None,
+    }
+}
+
+impl Guest {
+    /// Creates a guest of the blocks of `table`, of which nothing came.
+    pub fn new(alloc: Global, table: &Table) -> Result<Guest, Trouble> {
+        Ok(Guest {
+            blocks: Blocks::new(alloc, table.try_copy()?)?,
+            arrivals: Arrivals::new(alloc, table)?,
+            offsets: Vec::new(alloc),
+            bytes: Vec::new(alloc),
+        })
+    }
+
+    /// Adds a packet to the current round, by its head: as the packet of zeros with the same number
+    /// and pages, since a round is judged by these alone.
+    pub fn packet(&mut self, head: &PacketHead<'_>) -> Result<(), Trouble> {
+        list_offsets(head, &mut self.offsets)?;
+        let Some(packet) = zeros_of(head, &self.offsets, &mut self.bytes) else {
+            return Err(Trouble::NoMemory);
+        };
+        if packet.page_size() != self.arrivals.table().page_size() {
+            return Err(Trouble::NoMemory);
+        }
+        self.arrivals.packet(&packet)?;
+        Ok(())
+    }
+
+    /// Adds the main stream's records to the current round, and passes them to `sink`.
+    pub fn records<H: Files, S: PageSink<H>>(
+        &mut self,
+        round: &StreamRound<'_>,
+        sink: &mut S,
+    ) -> Result<(), Trouble> {
+        if !self.arrivals.fits(round) {
+            return Err(Trouble::NoMemory);
+        }
+        self.arrivals.records(round);
+        for i in 0..round.len() {
+            let (place, content) = round.record(i);
+            self.put(place, content, sink)?;
+        }
+        Ok(())
+    }
+
+    /// Counts a page, and passes it to `sink`. Where no block has `place` it does neither: the
+    /// round is refused when it is judged.
+    pub fn put<H: Files, S: PageSink<H>>(
+        &mut self,
+        place: Place,
+        content: Option<&[u8]>,
+        sink: &mut S,
+    ) -> Result<(), Trouble> {
+        if !self.blocks.table.holds(place) {
+            return Ok(());
+        }
+        self.blocks.count(place, content.is_none());
+        sink.put(place, content)
+    }
+
+    /// Returns the place of the page that begins at the byte `offset` of a block; None where none
+    /// does.
+    pub fn place(&self, block: usize, offset: u64) -> Option<Place>
+        ensures { IfSome result (λ place. (place.block ≡ block) × (place.page * self.now.blocks.table.page_size ≡ offset)) }
+    {
+        let size = self.blocks.table.page_size();
+        if size == 0 || offset % size != 0 {
+            return None;
+        }
+        Some(Place {
+            block,
+            page: offset / size,
+        })
+    }
+
+    /// Returns how many packets the current round has.
+    pub fn packets(&self) -> u64
+        ensures { result ≡ length self.now.arrivals.numbers }
+    {
+        self.arrivals.len() as u64
+    }
+
+    /// Judges the current round, whose packets have to be numbered from `base` on. Returns its
+    /// fault; None where it has none.
+    pub fn judge(&mut self, base: u64) -> Result<Option<RoundFault>, Trouble> {
+        if base > PACKET_LIMIT || self.packets() > PACKET_LIMIT - base {
+            return Err(Trouble::NoMemory);
+        }
+        Ok(self.arrivals.judge(base).err())
+    }
+
+    /// Begins the next round.
+    pub fn clear(&mut self) {
+        self.arrivals.clear();
+    }
+}

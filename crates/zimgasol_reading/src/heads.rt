@@ -1,0 +1,76 @@
+//! Keeps the first bytes of the item at which a stream's reading stands, for the block that it
+//! names.
+
+ghost use Rattle.std.specs.Prelude.{◌≡◌};
+
+use std::alloc::{AllocError, Global};
+
+/// The most bytes of an item that are kept: a page record's head, with the longest id.
+const MOST_LEN: usize = 264;
+
+/// The flags of a page record that names its block, with a page's bytes or for a page of zeros
+/// (`RAM_SAVE_FLAG_PAGE` and `RAM_SAVE_FLAG_ZERO` in QEMU's `migration/ram.c`).
+const FLAG_PAGE: u8 = 0x08;
+
+const FLAG_ZERO: u8 = 0x02;
+
+/// The first bytes of an item.
+#[derive(Drop)]
+pub struct Head {
+    bytes: Vec<u8>,
+}
+
+// Returns the bytes of `piece` from the stream's byte `at` on; `piece` begins at the byte `start`.
+// None where `at` is before the piece.
+fn rest_from(piece: &[u8], start: u64, at: u64) -> Option<&[u8]> {
+    let from = at.checked_sub(start)?;
+    if from >= piece.len() as u64 {
+        return Some(&[]);
+    }
+    Some(&piece[from as usize..])
+}
+
+impl Head {
+    /// Creates a head without bytes.
+    pub fn new(alloc: Global) -> Head {
+        Head {
+            bytes: Vec::new(alloc),
+        }
+    }
+
+    /// Keeps what `piece` has of the item, after it was read. The item begins at the stream's byte
+    /// `at`, and `piece` at its byte `start`.
+    pub fn look(&mut self, piece: &[u8], start: u64, at: u64) -> Result<(), AllocError> {
+        match rest_from(piece, start, at) {
+            Some(rest) => {
+                self.bytes.clear();
+                self.take(rest)
+            }
+            None => self.take(piece),
+        }
+    }
+
+    // Keeps as many of `bytes` as there is room for.
+    fn take(&mut self, bytes: &[u8]) -> Result<(), AllocError> {
+        let len = MOST_LEN.saturating_sub(self.bytes.len());
+        let taken = &bytes[..len.min(bytes.len())];
+        self.bytes.extend_from_slice(taken)?;
+        Ok(())
+    }
+
+    /// Returns the id of the block that the item names; None where it is no page record with one.
+    pub fn id(&self) -> Option<&[u8]> {
+        id_in(&self.bytes)
+    }
+}
+
+// Returns the id that a page record names; None where the record is cut or names none.
+fn id_in(item: &[u8]) -> Option<&[u8]> {
+    let flags = *item.get(7)?;
+    let high = *item.get(6)?;
+    if (flags != FLAG_PAGE && flags != FLAG_ZERO) || high % 16 != 0 {
+        return None;
+    }
+    let len = *item.get(8)?;
+    item.get(9..9 + usize::from(len))
+}

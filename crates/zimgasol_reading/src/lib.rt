@@ -1,0 +1,45 @@
+//! Reads a saved guest in pieces, for the program `zimgasol`: a single stream, or a main stream with
+//! its channels.
+//!
+//! Pages are passed to a `PageSink` as they come, so that no guest is kept. The libraries read the
+//! bytes, and define their faults (`mig_stream`, `mig_packet`); here is what a person wants to know
+//! beside: what is between the sections, how many pages each block has, and where a fault is.
+//!
+//! | Modules | What they do |
+//! |---|---|
+//! | `survey`, `libvirt`, `heads`, `place` | read a single stream, and locate its fault |
+//! | `several`, `main_stream`, `channel`, `lane`, `guest`, `several_place` | the same of channels |
+//! | `between`, `sections` | note what is between RAM's sections |
+//! | `blocks` | counts the page records of each block |
+//! | `sink` | takes the pages |
+#![tactic(auto)]
+
+mod between;
+mod blocks;
+mod channel;
+mod guest;
+mod heads;
+mod lane;
+mod libvirt;
+mod main_stream;
+mod place;
+mod sections;
+mod several;
+mod several_place;
+mod sink;
+mod survey;
+
+pub use between::{Between, Note, Noted, SectionKind};
+pub use blocks::{Blocks, PageCounts};
+pub use channel::{Channel, Inlet};
+pub use guest::Guest;
+pub use heads::Head;
+pub use lane::{ChannelCounts, Lane};
+pub use libvirt::LibvirtHeader;
+pub use main_stream::MainStream;
+pub use place::{FaultPlace, block_at, fault_of, kind_name};
+pub use sections::Sections;
+pub use several::{Several, read_several};
+pub use several_place::{Spot, Within};
+pub use sink::{NoSink, PageSink};
+pub use survey::{Survey, read_stream};

@@ -1,0 +1,171 @@
+//! Reads the main stream beside channels, round by round.
+
+ghost use Rattle.std.specs.Prelude.{◌≡◌, ◌+◌, ◌<◌, ◌≤◌, ◌^◌, length};
+
+use crate::between::{Note, SectionKind};
+use crate::guest::Guest;
+use crate::sections::Sections;
+use crate::sink::PageSink;
+use mig_answer::{Status, stream_end};
+use mig_mem::MAX_TOTAL;
+use mig_stream::{Mode, StreamReader, StreamState};
+use std::alloc::{AllocGlobal, Global};
+use std::fs::Files;
+use std::io::Read;
+use zimgasol_files::{Pieces, StreamWords, Trouble};
+
+/// The reading of a main stream.
+#[derive(Drop)]
+pub struct MainStream {
+    reader: StreamReader<'static>,
+    pieces: Pieces,
+    sections: Sections,
+    // whether the current round is complete
+    is_whole: bool,
+}
+
+impl MainStream {
+    /// Creates the reading of a main stream, of which nothing was read.
+    pub fn new(alloc: Global, words: &StreamWords<'_>) -> Result<MainStream, Trouble> {
+        let page_size = words.page_size.bytes();
+        Ok(MainStream {
+            reader: StreamReader::new_in(alloc, words.frame, Mode::Main, page_size, MAX_TOTAL),
+            pieces: Pieces::new(alloc)?,
+            sections: Sections::new(alloc, page_size),
+            is_whole: false,
+        })
+    }
+
+    /// Reads up to the end of the current round. Creates the guest once the table is known, and
+    /// passes the pages to `sink`.
+    ///
+    /// # Errors
+    ///
+    /// `Trouble::Unread` where a read fails, `Trouble::NoMemory`, and those of `sink`.
+    pub fn read_round<H: AllocGlobal + Files, R: Read, S: PageSink<H>>(
+        &mut self,
+        rt: &H,
+        input: &mut R,
+        guest: &mut Option<Guest>,
+        sink: &mut S,
+    ) -> Result<(), Trouble> {
+        for _ in 0..u64::MAX {
+            self.begin(rt, guest, sink)?;
+            if self.take_round(guest, sink)? || !self.is_reading() {
+                return Ok(());
+            }
+            if self.pieces.refill(input)? {
+                self.feed()?;
+            } else {
+                self.reader.end();
+            }
+        }
+        Ok(())
+    }
+
+    // Returns whether the stream goes on.
+    fn is_reading(&self) -> bool {
+        matches!(self.reader.state(), StreamState::Reading)
+    }
+
+    // Feeds the piece that waits.
+    fn feed(&mut self) -> Result<(), Trouble> {
+        let piece = self.pieces.waiting();
+        let fed = self.reader.fed();
+        if self.reader.ended() || piece.len() as u64 > u64::MAX - fed {
+            return Err(Trouble::NoMemory);
+        }
+        self.reader.feed(piece)?;
+        let limit = match self.reader.state() {
+            StreamState::Bad(_) => self.reader.valid_up_to(),
+            StreamState::Reading | StreamState::Closed => u64::MAX,
+        };
+        self.sections.look(piece, fed, limit)?;
+        self.pieces.take_all();
+        Ok(())
+    }
+
+    // Creates the guest, once the table is known.
+    fn begin<H: AllocGlobal + Files, S: PageSink<H>>(
+        &self,
+        rt: &H,
+        guest: &mut Option<Guest>,
+        sink: &mut S,
+    ) -> Result<(), Trouble> {
+        if guest.is_some() {
+            return Ok(());
+        }
+        if let Some(table) = self.reader.table() {
+            sink.begin(rt, table)?;
+            *guest = Some(Guest::new(rt.alloc(), table)?);
+        }
+        Ok(())
+    }
+
+    // Takes the records of the current round, if it is complete. Returns whether it is.
+    fn take_round<H: Files, S: PageSink<H>>(
+        &mut self,
+        guest: &mut Option<Guest>,
+        sink: &mut S,
+    ) -> Result<bool, Trouble> {
+        let Some(guest) = guest else {
+            return Ok(false);
+        };
+        match self.reader.take_round()? {
+            Some(round) => {
+                self.is_whole = true;
+                guest.records(&round, sink)?;
+                Ok(true)
+            }
+            None => Ok(false),
+        }
+    }
+
+    /// Reads the rest of `input`, and counts its bytes.
+    ///
+    /// # Errors
+    ///
+    /// `Trouble::Unread` where a read fails.
+    pub fn read_rest<R: Read>(&mut self, input: &mut R) -> Result<(), Trouble> {
+        for _ in 0..u64::MAX {
+            self.pieces.take_all();
+            if !self.pieces.refill(input)? {
+                break;
+            }
+        }
+        Ok(())
+    }
+
+    /// Returns the main stream's status in the current round.
+    pub fn status(&self) -> Status {
+        if self.is_whole {
+            return Status::Whole;
+        }
+        stream_end(self.reader.state())
+    }
+
+    /// Begins the next round.
+    pub fn advance(&mut self) {
+        self.is_whole = false;
+    }
+
+    /// Returns the items between the sections that were read.
+    pub fn read_notes(&self) -> &[Note] {
+        self.sections.notes(self.valid())
+    }
+
+    /// Returns how many sections are complete, and the kind of the one that is open.
+    pub fn section(&self) -> (u64, Option<SectionKind>) {
+        (self.sections.count, self.sections.kind(self.valid()))
+    }
+
+    /// Returns how many bytes of the stream are complete items without a fault.
+    pub fn valid(&self) -> u64 {
+        self.reader.valid_up_to()
+    }
+
+    /// Returns how many bytes were read of the input.
+    pub fn len(&self) -> u64 {
+        self.pieces.read
+    }
+}

@@ -1,0 +1,17 @@
+//! `save` of the program `zimgasol`: makes a stream of raw memory files, or a main stream with its
+//! channels. Pages are read as they are sent, so that no guest is kept.
+//!
+//! | Modules | What they do |
+//! |---|---|
+//! | `plan` | finds the blocks, their files, and those of `--since` |
+//! | `send`, `saving` | write a single stream |
+//! | `packets`, `saving_channels` | write a main stream and its channels |
+#![tactic(auto)]
+
+mod packets;
+mod plan;
+mod saving;
+mod saving_channels;
+mod send;
+
+pub use saving::save;

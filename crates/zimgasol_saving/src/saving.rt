@@ -1,0 +1,299 @@
+//! `save`: makes a single stream of files with the memory of blocks.
+//!
+//! Each file is read in pieces of 256 pages, and each piece is sent as a section, so that no guest
+//! is kept.
+
+use crate::plan::{Plan, Source, plan_of};
+use crate::saving_channels::{channel_plan, save_channels};
+use crate::send::Sending;
+use std::alloc::{AllocGlobal, Global};
+use std::fs::{Files, OpenFile};
+use std::io::{self, Write};
+use std::rt::Clock;
+use zimgasol_files::{
+    PARTIAL, Pages, Reading, SaveWords, Trouble, Unfit, Watch, create, is_free, open, rename, sync,
+    unwritten,
+};
+use zimgasol_names::shown_name;
+
+/// What was saved.
+#[derive(Clone, Copy)]
+pub(crate) struct Saved {
+    /// The pages that were sent.
+    pub pages: u64,
+    /// The bytes of the stream; of the main stream where there are channels.
+    pub bytes: u64,
+    /// The number of channels, and the bytes of all of them.
+    pub channels: Option<(usize, u64)>,
+}
+
+// Opens the file of a block, and that of `--since`.
+fn reading_of<H: AllocGlobal + Files>(
+    rt: &H,
+    source: &Source<'_>,
+    page_size: u64,
+) -> Result<Reading<H::File>, Trouble> {
+    let alloc = rt.alloc();
+    let file = open(rt, alloc, source.word.file)?;
+    let before = match &source.before {
+        Some(path) => Some(open(rt, alloc, path)?),
+        None => None,
+    };
+    Reading::new(alloc, file, before, page_size.min(8192) as usize)
+}
+
+// A block that is being sent.
+#[derive(Clone, Copy)]
+struct Part<'a> {
+    block: usize,
+    pages: u64,
+    // the bytes of the blocks before it
+    before: u64,
+    source: &'a Source<'a>,
+}
+
+/// Sends the pieces of blocks.
+pub(crate) trait PieceSink: Drop {
+    /// Sends those of `pages` that differ; the first of `pages` is the block's page `first`. Writes
+    /// the stream to `out`. Returns false where the stream's table has no place for one of them.
+    fn send<W: Write>(
+        &mut self,
+        out: &mut W,
+        block: usize,
+        first: u64,
+        pages: &Pages<'_>,
+    ) -> Result<bool, Trouble>;
+}
+
+// Sends pieces as sections of a single stream.
+#[derive(Drop)]
+struct Single {
+    // None after a piece that couldn't be sent
+    sending: Option<Sending>,
+}
+
+impl PieceSink for Single {
+    fn send<W: Write>(
+        &mut self,
+        out: &mut W,
+        block: usize,
+        first: u64,
+        pages: &Pages<'_>,
+    ) -> Result<bool, Trouble> {
+        let Some(sending) = self.sending.take() else {
+            return Ok(false);
+        };
+        self.sending = sending.send(out, block, first, pages)?;
+        Ok(self.sending.is_some())
+    }
+}
+
+// Sends a block, piece after piece.
+fn send_block<H: AllocGlobal + Files + Clock, S: PieceSink, W: Write, E: Write>(
+    rt: &H,
+    part: &Part<'_>,
+    page_size: u64,
+    sink: &mut S,
+    out: &mut W,
+    watch: &mut Watch,
+    errors: &mut E,
+) -> Result<(), Trouble> {
+    let mut reading = reading_of(rt, part.source, page_size)?;
+    let mut first = 0u64;
+    for _ in 0..u64::MAX {
+        if !reading.read_on()? {
+            break;
+        }
+        let pages = reading.pages();
+        if !sink.send(out, part.block, first, &pages)? {
+            return Err(reading.changed());
+        }
+        first = first.saturating_add(pages.count());
+        let done = part.before.saturating_add(first.saturating_mul(page_size));
+        watch.show(rt, errors, done);
+    }
+    if first != part.pages {
+        return Err(reading.changed());
+    }
+    Ok(())
+}
+
+/// Sends all blocks of `plan`, in their order.
+///
+/// # Errors
+///
+/// `Trouble::OfFile` where a file can't be read, `Trouble::Unfit` where its length has changed, and
+/// those of `sink`.
+pub(crate) fn send_blocks<H: AllocGlobal + Files + Clock, S: PieceSink, W: Write, E: Write>(
+    rt: &H,
+    plan: &Plan<'_>,
+    sink: &mut S,
+    out: &mut W,
+    watch: &mut Watch,
+    errors: &mut E,
+) -> Result<(), Trouble> {
+    let page_size = plan.table.page_size();
+    let mut before = 0u64;
+    for (block, source) in plan.sources.iter().enumerate() {
+        let part = Part {
+            block,
+            pages: source.len / page_size.max(1),
+            before,
+            source,
+        };
+        send_block(rt, &part, page_size, sink, out, watch, errors)?;
+        before = before.saturating_add(source.len);
+    }
+    Ok(())
+}
+
+// Writes the whole stream to `out`.
+fn write_stream<H: AllocGlobal + Files + Clock, W: Write, E: Write>(
+    rt: &H,
+    words: &SaveWords<'_>,
+    plan: &Plan<'_>,
+    out: &mut W,
+    errors: &mut E,
+) -> Result<Saved, Trouble> {
+    let alloc = rt.alloc();
+    let mut watch = Watch::new(rt, alloc, words.talk, words.file)?;
+    watch.expect_total(plan.total());
+    let sending = Sending::begin(alloc, out, &plan.table, words.machine)?;
+    let mut single = Single {
+        sending: Some(sending),
+    };
+    send_blocks(rt, plan, &mut single, out, &mut watch, errors)?;
+    let Some(sending) = single.sending.take() else {
+        return Err(Trouble::NoMemory);
+    };
+    let (pages, bytes) = sending.finish(out, words.frame)?;
+    Ok(Saved {
+        pages,
+        bytes,
+        channels: None,
+    })
+}
+
+// Writes the stream into the file `partial`, and waits until it is on its disk.
+fn write_file<H: AllocGlobal + Files + Clock, E: Write>(
+    rt: &H,
+    words: &SaveWords<'_>,
+    plan: &Plan<'_>,
+    partial: &str,
+    errors: &mut E,
+) -> Result<Saved, Trouble> {
+    let alloc = rt.alloc();
+    let mut file = create(rt, alloc, partial)?;
+    let saved = match write_stream(rt, words, plan, &mut file, errors) {
+        Ok(saved) => saved,
+        Err(Trouble::Output(error)) => return Err(unwritten(alloc, partial, error)),
+        Err(trouble) => return Err(trouble),
+    };
+    match sync(&mut file) {
+        Ok(()) => Ok(saved),
+        Err(error) => Err(unwritten(alloc, partial, error)),
+    }
+}
+
+// Saves into a file, which gets its final name when it is complete. After a failure no file stays.
+fn save_file<H: AllocGlobal + Files + Clock, E: Write>(
+    rt: &H,
+    words: &SaveWords<'_>,
+    plan: &Plan<'_>,
+    errors: &mut E,
+) -> Result<Saved, Trouble> {
+    let alloc = rt.alloc();
+    is_free(rt, alloc, words.file, words.replace)?;
+    let partial = format!(in alloc; "{}{PARTIAL}", words.file)?;
+    let saved = match write_file(rt, words, plan, &partial, errors) {
+        Ok(saved) => saved,
+        Err(trouble) => {
+            let _left = rt.remove_file(&partial);
+            return Err(trouble);
+        }
+    };
+    if let Err(trouble) = rename(rt, alloc, &partial, words.file) {
+        let _left = rt.remove_file(&partial);
+        return Err(trouble);
+    }
+    Ok(saved)
+}
+
+// Writes the line of what was saved; `name` is printable.
+fn put_counts<W: Write>(
+    output: &mut W,
+    name: &str,
+    blocks: usize,
+    total: u64,
+    saved: Saved,
+) -> io::Result<()> {
+    let pages = saved.pages;
+    let bytes = saved.bytes;
+    write!(
+        output,
+        "{name}: saved: blocks {blocks}, memory {total} bytes, "
+    )?;
+    match saved.channels {
+        Some((channels, all)) => writeln!(
+            output,
+            "pages {pages}, stream {bytes} bytes, channels {channels} of {all} bytes together"
+        ),
+        None => writeln!(output, "pages {pages}, stream {bytes} bytes"),
+    }
+}
+
+// Writes the line of what was saved.
+fn put_saved<W: Write>(
+    alloc: Global,
+    output: &mut W,
+    words: &SaveWords<'_>,
+    plan: &Plan<'_>,
+    saved: Saved,
+) -> Result<(), Trouble> {
+    let name = shown_name(alloc, words.file)?;
+    let blocks = plan.sources.len();
+    let total = plan.total();
+    match put_counts(output, &name, blocks, total, saved) {
+        Ok(()) => Ok(()),
+        Err(error) => Err(Trouble::Output(error)),
+    }
+}
+
+// Flushes the output.
+fn flush<W: Write>(output: &mut W) -> Result<(), Trouble> {
+    match output.flush() {
+        Ok(()) => Ok(()),
+        Err(error) => Err(Trouble::Output(error)),
+    }
+}
+
+/// Saves the memory of blocks as a stream, with channels where the words ask for them. Returns
+/// true.
+///
+/// # Errors
+///
+/// Those of `channel_plan` and `plan_of`, `Trouble::Exists` and `Trouble::Unfit` of OUT,
+/// `Trouble::OfFile` where a file can't be read or written: then none stays. `Trouble::Output`: of
+/// a stream that went into a file, it stays.
+pub fn save<H: AllocGlobal + Files + Clock, W: Write, E: Write>(
+    rt: &H,
+    words: &SaveWords<'_>,
+    output: &mut W,
+    errors: &mut E,
+) -> Result<bool, Trouble> {
+    let channels = channel_plan(rt.alloc(), words)?;
+    let plan = plan_of(rt, words)?;
+    if words.file == "-" {
+        let _saved = write_stream(rt, words, &plan, output, errors)?;
+        flush(output)?;
+        return Ok(true);
+    }
+    let saved = match channels {
+        Some(channels) => save_channels(rt, words, &plan, channels, errors)?,
+        None => save_file(rt, words, &plan, errors)?,
+    };
+    if !words.talk.quiet {
+        put_saved(rt.alloc(), output, words, &plan, saved)?;
+    }
+    Ok(true)
+}

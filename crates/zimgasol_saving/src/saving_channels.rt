@@ -1,0 +1,201 @@
+//! `save --channels`: makes a main stream and channels, each in a file.
+
+use crate::packets::PacketSending;
+use crate::plan::Plan;
+use crate::saving::{Saved, send_blocks};
+use std::alloc::{AllocError, AllocGlobal, Global};
+use std::fs::Files;
+use std::io::Write;
+use std::rt::Clock;
+use uuid::Uuid;
+use zimgasol_files::{
+    Outlet, PARTIAL, SaveWords, Trouble, Watch, count_word, create, is_free, unwritten, uuid_word,
+    wrong,
+};
+
+/// How many channels are written, and under which UUID.
+#[derive(Clone, Copy)]
+pub(crate) struct ChannelPlan {
+    count: usize,
+    uuid: Uuid,
+}
+
+/// Returns the channels that the words ask for; None where they ask for none.
+///
+/// # Errors
+///
+/// `Trouble::Words` of a UUID without channels, of channels where OUT is the standard output, and
+/// of values that are wrong.
+pub(crate) fn channel_plan(
+    alloc: Global,
+    words: &SaveWords<'_>,
+) -> Result<Option<ChannelPlan>, Trouble> {
+    match (words.channels, words.uuid) {
+        (None, None) => Ok(None),
+        (None, Some(word)) => Err(wrong(alloc, "--uuid", word, "goes with `--channels`")),
+        (Some(word), _) if words.file == "-" => {
+            Err(wrong(alloc, "--channels", word, "OUT has to be a file"))
+        }
+        (Some(word), uuid) => Ok(Some(ChannelPlan {
+            count: count_word(alloc, word)?,
+            uuid: match uuid {
+                Some(word) => uuid_word(alloc, word)?,
+                None => Uuid::nil(),
+            },
+        })),
+    }
+}
+
+// Returns the path of a channel's file: that of the main stream's, a dot, and `number`.
+fn channel_path(alloc: Global, file: &str, number: usize) -> Result<String, AllocError> {
+    format!(in alloc; "{file}.{number}")
+}
+
+// Refuses files that exist, unless `--replace` is set and they are plain files.
+fn check_free<H: AllocGlobal + Files>(
+    rt: &H,
+    words: &SaveWords<'_>,
+    count: usize,
+) -> Result<(), Trouble> {
+    let alloc = rt.alloc();
+    is_free(rt, alloc, words.file, words.replace)?;
+    for number in 0..count {
+        let path = channel_path(alloc, words.file, number)?;
+        is_free(rt, alloc, &path, words.replace)?;
+    }
+    Ok(())
+}
+
+// Makes the file that gets the name `path` when it is complete.
+fn open_outlet<H: AllocGlobal + Files>(rt: &H, path: String) -> Result<Outlet<H::File>, Trouble> {
+    let alloc = rt.alloc();
+    let partial = format!(in alloc; "{path}{PARTIAL}")?;
+    let file = create(rt, alloc, &partial)?;
+    Ok(Outlet {
+        alloc,
+        path,
+        partial,
+        file,
+        written: 0,
+    })
+}
+
+// Makes the files of `count` channels.
+fn open_channels<H: AllocGlobal + Files>(
+    rt: &H,
+    words: &SaveWords<'_>,
+    count: usize,
+) -> Result<Vec<Outlet<H::File>>, Trouble> {
+    let alloc = rt.alloc();
+    let mut outlets = Vec::new(alloc);
+    for number in 0..count {
+        let path = channel_path(alloc, words.file, number)?;
+        outlets.push(open_outlet(rt, path)?)?;
+    }
+    Ok(outlets)
+}
+
+// Writes the main stream and the channels, and waits until they are on their disk. Returns what was
+// saved, and the channels.
+fn write_all<H: AllocGlobal + Files + Clock, E: Write>(
+    rt: &H,
+    words: &SaveWords<'_>,
+    plan: &Plan<'_>,
+    channels: ChannelPlan,
+    main: &mut Outlet<H::File>,
+    outlets: Vec<Outlet<H::File>>,
+    errors: &mut E,
+) -> Result<(Saved, Vec<Outlet<H::File>>), Trouble> {
+    let alloc = rt.alloc();
+    let mut watch = Watch::new(rt, alloc, words.talk, words.file)?;
+    watch.expect_total(plan.total());
+    let name = words.machine;
+    let out = &mut main.file;
+    let mut sending = PacketSending::begin(alloc, out, outlets, &plan.table, name, channels.uuid)?;
+    send_blocks(rt, plan, &mut sending, &mut main.file, &mut watch, errors)?;
+    let (mut outlets, pages, bytes) = sending.finish(&mut main.file, words.frame)?;
+    let mut all = 0u64;
+    for outlet in &mut outlets {
+        outlet.sync()?;
+        all = all.saturating_add(outlet.written);
+    }
+    main.sync()?;
+    let saved = Saved {
+        pages,
+        bytes,
+        channels: Some((outlets.len(), all)),
+    };
+    Ok((saved, outlets))
+}
+
+// Removes the files that have no final name.
+fn remove_all<H: AllocGlobal + Files>(rt: &H, words: &SaveWords<'_>, count: usize) {
+    let alloc = rt.alloc();
+    for number in 0..count {
+        if let Ok(path) = channel_path(alloc, words.file, number)
+            && let Ok(partial) = format!(in alloc; "{path}{PARTIAL}")
+        {
+            let _left = rt.remove_file(&partial);
+        }
+    }
+    if let Ok(path) = format!(in alloc; "{}{PARTIAL}", words.file) {
+        let _left = rt.remove_file(&path);
+    }
+}
+
+// Gives all files their final names, the main stream last. An old main stream is removed first, so
+// that none is beside channels of another one.
+fn rename_all<H: Files>(
+    rt: &H,
+    main: &Outlet<H::File>,
+    outlets: &[Outlet<H::File>],
+) -> Result<(), Trouble> {
+    let _left = rt.remove_file(&main.path);
+    for outlet in outlets {
+        outlet.rename(rt)?;
+    }
+    main.rename(rt)
+}
+
+// Writes all files, and renames them.
+fn save_all<H: AllocGlobal + Files + Clock, E: Write>(
+    rt: &H,
+    words: &SaveWords<'_>,
+    plan: &Plan<'_>,
+    channels: ChannelPlan,
+    errors: &mut E,
+) -> Result<Saved, Trouble> {
+    let alloc = rt.alloc();
+    let mut main = open_outlet(rt, String::from_str(alloc, words.file)?)?;
+    let outlets = open_channels(rt, words, channels.count)?;
+    match write_all(rt, words, plan, channels, &mut main, outlets, errors) {
+        Ok((saved, outlets)) => {
+            rename_all(rt, &main, &outlets)?;
+            Ok(saved)
+        }
+        Err(Trouble::Output(error)) => Err(unwritten(alloc, &main.partial, error)),
+        Err(trouble) => Err(trouble),
+    }
+}
+
+/// Saves into a main stream and channels, which get their final names when all are complete.
+///
+/// # Errors
+///
+/// `Trouble::Exists` and `Trouble::Unfit` of files that exist, `Trouble::OfFile` where one can't be
+/// read or written. No file stays that has no final name.
+pub(crate) fn save_channels<H: AllocGlobal + Files + Clock, E: Write>(
+    rt: &H,
+    words: &SaveWords<'_>,
+    plan: &Plan<'_>,
+    channels: ChannelPlan,
+    errors: &mut E,
+) -> Result<Saved, Trouble> {
+    check_free(rt, words, channels.count)?;
+    let count = channels.count;
+    let saved = save_all(rt, words, plan, channels, errors);
+    if saved.is_err() {
+        remove_all(rt, words, count);
+    }
+    saved
+}

@@ -1,0 +1,242 @@
+//! Writes the single stream of `save`: a section for each piece that has pages to be sent.
+
+ghost use Rattle.std.specs.Prelude.{◌≡◌, ◌+◌, ◌++◌, ◌∷◌, [], ℕ, List, IfOk, IfSome, IsTrue};
+ghost use Rattle.mig_mem.specs.Image.{Page};
+ghost use Rattle.mig_stream.specs.Writer.{HasPut};
+ghost use Rattle.mig_send.specs.Sending.{HasSentDrained};
+ghost use Rattle.zimgasol_files.specs.Differing.{piece_of, AreSent};
+
+use mig_mem::{NoMemory, Place, Table};
+use mig_send::{OpenRound, SingleSender};
+use mig_stream::Frame;
+use std::alloc::Global;
+use std::io::Write;
+use zimgasol_files::{PIECE_PAGES, Pages, Trouble};
+
+/// The most bytes of a machine's name.
+pub(crate) const MOST_NAME_LEN: usize = 1024;
+
+/// A stream that is being written.
+#[derive(Drop)]
+pub(crate) struct Sending {
+    sender: SingleSender,
+    // the bytes of the stream that were drained last
+    bytes: Vec<u8>,
+    /// The page records that were sent.
+    pub pages: u64,
+    /// The bytes that were written.
+    pub written: u64,
+}
+
+// Puts a page into `round`. Returns whether its table has the place.
+fn put(round: &mut OpenRound, place: Place, page: &[u8]) -> Result<bool, NoMemory>
+    ensures before { round.new.before ≡ round.old.before }
+    ensures put { IfOk result (λ has_place. IsTrue has_place → (done : List Page) → HasPut round.old done
+        → HasPut round.new (done ++ record { place = place; content = page.now } ∷ [])) }
+{
+    let table = round.table();
+    if !table.holds(place) || page.len() as u64 != table.page_size() {
+        return Ok(false);
+    }
+    round.put_page(place, page)?;
+    Ok(true)
+}
+
+// Puts the page `page` of `pages`, if it differs. Returns whether it does; None where the stream's
+// table has no place for it.
+fn put_differing(
+    round: &mut OpenRound,
+    block: usize,
+    first: u64,
+    pages: &Pages<'_>,
+    page: usize,
+) -> Result<Option<bool>, NoMemory>
+    ensures before { round.new.before ≡ round.old.before }
+    ensures sent { IfOk result (λ r. IfSome r (λ _. (sent : List Page)
+        → AreSent block first (piece_of pages.now) page sent → HasPut round.old sent
+        → (more : List Page) × AreSent block first (piece_of pages.now) (page + 1) more × HasPut round.new more)) }
+{
+    let Some(bytes) = pages.differing(page) else {
+        return Ok(Some(false));
+    };
+    let Some(number) = first.checked_add(page as u64) else {
+        return Ok(None);
+    };
+    let place = Place {
+        block,
+        page: number,
+    };
+    if !put(round, place, bytes)? {
+        return Ok(None);
+    }
+    Ok(Some(true))
+}
+
+// Puts the pages that differ. Returns how many there are; None where the stream's table has no
+// place for one of them.
+fn put_all_differing(
+    round: &mut OpenRound,
+    block: usize,
+    first: u64,
+    pages: &Pages<'_>,
+) -> Result<Option<u64>, NoMemory>
+    ensures before { round.new.before ≡ round.old.before }
+    ensures sent { IfOk result (λ r. IfSome r (λ _. HasPut round.old []
+        → (sent : List Page) × AreSent block first (piece_of pages.now) 256 sent × HasPut round.new sent)) }
+{
+    let mut count = 0u64;
+    for page in 0..PIECE_PAGES {
+        match put_differing(round, block, first, pages, page)? {
+            Some(true) => count = count.saturating_add(1),
+            Some(false) => {}
+            None => return Ok(None),
+        }
+    }
+    Ok(Some(count))
+}
+
+// Sends the pages that differ as a section. Returns how many there are, and the sender; None where
+// the stream's table has no place for one of them.
+fn send_section(
+    sender: SingleSender,
+    block: usize,
+    first: u64,
+    pages: &Pages<'_>,
+) -> Result<Option<(u64, SingleSender)>, NoMemory>
+    ensures sent { IfOk result (λ r. IfSome r (λ s. (sent : List Page) × AreSent block first (piece_of pages.now) 256 sent
+        × ((drained : List ℕ) (rounds : List (List Page)) → HasSentDrained drained sender rounds
+        → HasSentDrained drained s.1 (rounds ++ sent ∷ [])))) }
+{
+    let Ok(mut round) = sender.begin_round() else {
+        return Err(NoMemory);
+    };
+    let Some(count) = put_all_differing(&mut round, block, first, pages)? else {
+        return Ok(None);
+    };
+    match round.end_round() {
+        Ok(sender) => Ok(Some((count, sender))),
+        Err(_) => Err(NoMemory),
+    }
+}
+
+/// Writes `bytes` of the stream to `out`.
+///
+/// # Errors
+///
+/// `Trouble::Output` where `out` doesn't take them.
+pub(crate) fn write<W: Write>(out: &mut W, bytes: &[u8]) -> Result<(), Trouble> {
+    match out.write_all(bytes) {
+        Ok(()) => Ok(()),
+        Err(error) => Err(Trouble::Output(error)),
+    }
+}
+
+// Writes the first bytes of a machine's stream, with its name. Returns how many they are, and the
+// sender.
+fn begin_named<W: Write>(
+    alloc: Global,
+    out: &mut W,
+    table: &Table,
+    name: &[u8],
+) -> Result<(usize, SingleSender), Trouble> {
+    if name.len() > MOST_NAME_LEN {
+        return Err(Trouble::NoMemory);
+    }
+    let (first, sender) = SingleSender::with_configuration(alloc, table, name)?;
+    write(out, &first)?;
+    Ok((first.len(), sender))
+}
+
+impl Sending {
+    /// Begins a stream of the blocks of `table`. The machine's name has at most 1,024 bytes;
+    /// without one no configuration is written.
+    ///
+    /// # Errors
+    ///
+    /// `Trouble::Output` where `out` can't be written, `Trouble::NoMemory`.
+    pub(crate) fn begin<W: Write>(
+        alloc: Global,
+        out: &mut W,
+        table: &Table,
+        name: Option<&str>,
+    ) -> Result<Sending, Trouble> {
+        let (written, sender) = match name {
+            Some(name) => begin_named(alloc, out, table, name.as_bytes())?,
+            None => (0, SingleSender::new(alloc, table)?),
+        };
+        Ok(Sending {
+            sender,
+            bytes: Vec::new(alloc),
+            pages: 0,
+            written: written as u64,
+        })
+    }
+
+    /// Sends those of `pages` that differ; the first of `pages` is the block's page `first`.
+    /// Returns None where the stream's table has no place for one of them.
+    ///
+    /// # Errors
+    ///
+    /// `Trouble::Output` where `out` can't be written, `Trouble::NoMemory`.
+    pub(crate) fn send<W: Write>(
+        self,
+        out: &mut W,
+        block: usize,
+        first: u64,
+        pages: &Pages<'_>,
+    ) -> Result<Option<Sending>, Trouble> {
+        if pages.are_same() {
+            return Ok(Some(self));
+        }
+        let Sending {
+            sender,
+            mut bytes,
+            pages: sent,
+            written,
+        } = self;
+        let Some((count, mut sender)) = send_section(sender, block, first, pages)? else {
+            return Ok(None);
+        };
+        sender.drain_into(&mut bytes);
+        write(out, &bytes)?;
+        Ok(Some(Sending {
+            sender,
+            pages: sent.saturating_add(count),
+            written: written.saturating_add(bytes.len() as u64),
+            bytes,
+        }))
+    }
+
+    /// Ends the stream: one of RAM with its end byte, a machine's with RAM's END and the byte
+    /// `QEMU_VM_EOF`. Returns how many pages were sent, and how many bytes were written.
+    ///
+    /// # Errors
+    ///
+    /// `Trouble::Output` where `out` can't be written, `Trouble::NoMemory`.
+    pub(crate) fn finish<W: Write>(self, out: &mut W, frame: Frame) -> Result<(u64, u64), Trouble> {
+        let Sending {
+            sender,
+            bytes: _,
+            pages,
+            written,
+        } = self;
+        let mut last = last_bytes(sender, frame)?;
+        if let Frame::Machine = frame {
+            last.push(0)?;
+        }
+        write(out, &last)?;
+        Ok((pages, written.saturating_add(last.len() as u64)))
+    }
+}
+
+// Returns the last bytes of a stream; of a machine's, those up to the end of RAM.
+fn last_bytes(sender: SingleSender, frame: Frame) -> Result<Vec<u8>, NoMemory> {
+    let ended = match frame {
+        Frame::Ram => sender.finish(),
+        Frame::Machine => sender.finish_open(),
+    };
+    match ended {
+        Ok(bytes) => Ok(bytes),
+        Err(_) => Err(NoMemory),
+    }
+}
