@@ -2,7 +2,7 @@
 //! in pieces.
 
 use crate::sending::PIECE;
-use crate::session::longest;
+use crate::session::{longest, piece_at};
 use mig_answer::Verdict;
 use mig_in_place::InPlaceSession;
 use mig_mem::{MAX_TOTAL, Memory, Table};
@@ -100,7 +100,7 @@ fn feed_all(session: &mut InPlaceSession, memory: &mut Memory, texts: &Sent) -> 
     feed(session, memory, Source::Main, &texts.main)?;
     for at in 0..=longest(&texts.channels) / PIECE {
         for (channel, text) in texts.channels.iter().enumerate() {
-            if let Some(piece) = text.chunks(PIECE).nth(at) {
+            if let Some(piece) = piece_at(text, at) {
                 feed(session, memory, Source::Channel(channel), piece)?;
             }
         }

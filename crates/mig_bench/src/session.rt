@@ -67,13 +67,26 @@ impl Feeding {
     }
 }
 
+/// The piece `at` of a text; None after its end. (`chunks(..).nth(..)` goes through all pieces before
+/// it.)
+pub fn piece_at(text: &[u8], at: usize) -> Option<&[u8]> {
+    let rest = text.get(at.saturating_mul(PIECE)..)?;
+    if rest.is_empty() {
+        return None;
+    }
+    match rest.get(..PIECE) {
+        Some(piece) => Some(piece),
+        None => Some(rest),
+    }
+}
+
 /// A session that was fed the main stream and then pieces of the channels in turn, all of which are over; None where an allocation is refused.
 pub fn fed(alloc: Global, texts: &Sent) -> Option<Session> {
     let mut feeding = Feeding::new(alloc, texts.channels.len())?;
     feeding.feed(Source::Main, &texts.main)?;
     for at in 0..=longest(&texts.channels) / PIECE {
         for (channel, text) in texts.channels.iter().enumerate() {
-            if let Some(piece) = text.chunks(PIECE).nth(at) {
+            if let Some(piece) = piece_at(text, at) {
                 feeding.feed(Source::Channel(channel), piece)?;
             }
         }
