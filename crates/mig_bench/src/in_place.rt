@@ -8,7 +8,7 @@ use mig_in_place::InPlaceSession;
 use mig_mem::{MAX_TOTAL, Memory, Table};
 use mig_send::Sent;
 use mig_session::Source;
-use mig_single_load::{EagerState, InPlaceLoader, LoadSettings};
+use mig_single_load::{InPlaceState, LoadSettings};
 use std::alloc::Global;
 use uuid::Uuid;
 
@@ -21,40 +21,8 @@ pub struct Placed {
 
 // ---- a single stream
 
-/// Loads a stream section by section. None where it has a fault, or an allocation is refused.
-pub fn by_sections(
-    alloc: Global,
-    table: &Table,
-    settings: LoadSettings,
-    text: &[u8],
-) -> Option<Placed> {
-    let memory = Memory::zeroed(alloc, table).ok()?;
-    let mut loader = loader(alloc, memory, settings)?;
-    for piece in text.chunks(PIECE) {
-        if loader.ended() || loader.fed() > MAX_TOTAL || piece.len() > PIECE {
-            return None;
-        }
-        loader.feed(piece).ok()?;
-    }
-    loader.end();
-    loader.verdict().ok()?;
-    let rounds = loader.rounds();
-    Some(Placed {
-        memory: loader.into_memory(),
-        rounds,
-    })
-}
-
-// A loader into a memory. None where an allocation is refused.
-fn loader(alloc: Global, memory: Memory, settings: LoadSettings) -> Option<InPlaceLoader> {
-    if settings.limit > MAX_TOTAL {
-        return None;
-    }
-    InPlaceLoader::new_in(alloc, memory, settings).ok()
-}
-
-/// Loads a stream page by page. None where it has a fault, or an allocation is refused.
-pub fn by_pages(
+/// Loads a stream in pieces. None where it has a fault, or an allocation is refused.
+pub fn in_pieces(
     alloc: Global,
     table: &Table,
     settings: LoadSettings,
@@ -64,7 +32,7 @@ pub fn by_pages(
         return None;
     }
     let mut memory = Memory::zeroed(alloc, table).ok()?;
-    let mut state = EagerState::new_in(alloc, table, settings).ok()?;
+    let mut state = InPlaceState::new_in(alloc, table, settings).ok()?;
     for piece in text.chunks(PIECE) {
         if state.ended() || state.fed() > MAX_TOTAL || piece.len() > PIECE {
             return None;

@@ -4,7 +4,7 @@ ghost use Rattle.std.specs.Prelude.{◌≡◌, ◌≤◌, ◌*◌, ◌^◌};
 ghost use Rattle.mig_single_load.specs.Settings.{ram_settings};
 
 use crate::guest::{Guest, ZERO_TENTHS, fill};
-use crate::in_place::{Placed, by_pages, by_sections};
+use crate::in_place::{Placed, in_pieces};
 use crate::yardstick::{PAGE_SIZE, Yardstick, put_title, report};
 use mig_mem::{MAX_TOTAL, Memory, PAGE_SIZE_4K, Place};
 use mig_send::SingleSender;
@@ -73,7 +73,7 @@ fn report_loading(
     let Some(text) = sent(alloc, guest, frame) else {
         return println!(rt; "no memory for the stream");
     };
-    let [whole, sections, pages] = names_of(frame);
+    let [whole, in_place] = names_of(frame);
     let unit = "rounds loaded";
     report(
         rt,
@@ -84,25 +84,18 @@ fn report_loading(
     )?;
     report(
         rt,
-        sections,
+        in_place,
         unit,
         copies,
-        || sections_len(alloc, &text, guest, frame),
-    )?;
-    report(
-        rt,
-        pages,
-        unit,
-        copies,
-        || pages_len(alloc, &text, guest, frame),
+        || placed_len(alloc, &text, guest, frame),
     )
 }
 
-// The names of the three loads of a stream.
-fn names_of(frame: Frame) -> [&'static str; 3] {
+// The names of the two loads of a stream.
+fn names_of(frame: Frame) -> [&'static str; 2] {
     match frame {
-        Frame::Ram => ["  whole", "  in place", "  in place, eager"],
-        Frame::Machine => ["  machine's", "  machine's, in place", "  machine's, eager"],
+        Frame::Ram => ["  whole", "  in place"],
+        Frame::Machine => ["  machine's", "  machine's, in place"],
     }
 }
 
@@ -148,20 +141,11 @@ fn whole_len(alloc: Global, text: &[u8], guest: &Guest, frame: Frame) -> usize {
     }
 }
 
-// How many rounds are in a memory; 0 where there is none, or one page isn't as it was sent.
-fn placed_len(placed: Option<Placed>, guest: &Guest) -> usize {
-    match placed {
-        Some(placed) if is_sent(guest, &placed.memory) => placed.rounds as usize,
+// How many rounds a load in place puts into memory; 0 where it fails, or one page isn't as it was
+// sent.
+fn placed_len(alloc: Global, text: &[u8], guest: &Guest, frame: Frame) -> usize {
+    match in_pieces(alloc, guest.image.table(), settings_of(frame), text) {
+        Some(Placed { memory, rounds }) if is_sent(guest, &memory) => rounds as usize,
         _ => 0,
     }
-}
-
-fn sections_len(alloc: Global, text: &[u8], guest: &Guest, frame: Frame) -> usize {
-    let placed = by_sections(alloc, guest.image.table(), settings_of(frame), text);
-    placed_len(placed, guest)
-}
-
-fn pages_len(alloc: Global, text: &[u8], guest: &Guest, frame: Frame) -> usize {
-    let placed = by_pages(alloc, guest.image.table(), settings_of(frame), text);
-    placed_len(placed, guest)
 }

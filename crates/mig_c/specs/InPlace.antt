@@ -9,7 +9,7 @@ use Rattle.mig_single_load.specs.declared.settings.LoadSettings.{LoadSettings}
 use Rattle.mig_single_load.specs.declared.fault.LoadFault.{LoadFault}
 use Rattle.mig_single_load.specs.SingleLoad.{no_memory_at}
 use Rattle.mig_single_load.specs.InPlace.{HasVerdictOnto}
-use Rattle.mig_single_load.specs.Eager.{EagerLoad, EagerlyLoads, LacksMemory, HasClosedAtOnto}
+use Rattle.mig_single_load.specs.LoadInPlace.{LoadInPlace, LoadsInPlace, LacksMemory, HasClosedAtOnto}
 use Rattle.mig_c.specs.declared.fault.FoundFault.{FoundFault}
 use Rattle.mig_c_calls.specs.Status.{IsOneOf, done, running, no_memory, is_over, too_long, bad_length, bad_frame}
 use Rattle.mig_c.specs.Frames.{frame_of, load_settings}
@@ -24,21 +24,21 @@ settings_into table frame = load_settings table.page_size (2 ^ 40) frame
 
 -- With any blocks that fit this table it was fed nothing yet, of a stream that is read in this
 -- frame.
-pub record Begins (table : RamTable) (frame : Frame) (s : EagerLoad) : Type 0 where
+pub record Begins (table : RamTable) (frame : Frame) (s : LoadInPlace) : Type 0 where
   pub same_table : s.table ≡ table
   pub none_fed : s.fed ≡ 0
   pub goes_on : IsFalse s.ended
   pub loads : (blocks : List (List ℕ)) → FitTable table blocks
-      → EagerlyLoads (lent_image table blocks) (settings_into table frame) (lent_image table blocks) s [] false
+      → LoadsInPlace (lent_image table blocks) (settings_into table frame) (lent_image table blocks) s [] false
 
-abbrev pub Opens : Option RamTable → Option Frame → Option EagerLoad → Type 0
+abbrev pub Opens : Option RamTable → Option Frame → Option LoadInPlace → Type 0
 Opens None frame made = ⊤
 Opens (Some table) None made = ⊥
 Opens (Some table) (Some frame) None = ⊥
 Opens (Some table) (Some frame) (Some s) = Begins table frame s
 
 -- What `new` does, with a table and the number of a frame.
-pub record OpensInPlace (table : Option RamTable) (frame : ℕ) (status : ℕ) (made : Option EagerLoad) : Type 0 where
+pub record OpensInPlace (table : Option RamTable) (frame : ℕ) (status : ℕ) (made : Option LoadInPlace) : Type 0 where
   pub is_named : IsOneOf (done ∷ no_memory ∷ bad_frame ∷ []) status
   pub opens : status ≡ done → Opens table (frame_of frame) made
   pub no_frame : status ≡ bad_frame → frame_of frame ≡ None
@@ -46,7 +46,7 @@ pub record OpensInPlace (table : Option RamTable) (frame : ℕ) (status : ℕ) (
 
 -- Whether a piece of so many bytes may be fed into these blocks: with three of the statuses it may
 -- not, for the first reason that applies.
-pub record MayFeed (len : ℕ) (blocks : List (List ℕ)) (status : ℕ) (s : EagerLoad) : Type 0 where
+pub record MayFeed (len : ℕ) (blocks : List (List ℕ)) (status : ℕ) (s : LoadInPlace) : Type 0 where
   pub over : status ≡ is_over → IsTrue s.ended
   pub goes_on : status ≢ is_over → IsFalse s.ended
   pub long : status ≡ too_long → 2 ^ 63 ≤ s.fed + len
@@ -55,17 +55,17 @@ pub record MayFeed (len : ℕ) (blocks : List (List ℕ)) (status : ℕ) (s : Ea
   pub fits : status ≢ is_over → status ≢ too_long → status ≢ bad_length → FitTable s.table blocks
 
 -- Why a piece isn't fed, or DONE.
-abbrev pub RefusesPiece : ℕ → List (List ℕ) → ℕ → EagerLoad → Type 0
+abbrev pub RefusesPiece : ℕ → List (List ℕ) → ℕ → LoadInPlace → Type 0
 RefusesPiece len blocks status s = IsOneOf (done ∷ is_over ∷ too_long ∷ bad_length ∷ []) status × MayFeed len blocks status s
 
 -- What is so after a piece was fed into a memory: the memory has all page records of the stream so
 -- far; or an allocation was refused, and it has the first of them. A load that failed so before
 -- takes every piece, and only counts its bytes.
-pub record FeedsMemory (piece : List ℕ) (before after : Image) (status : ℕ) (old new : EagerLoad) : Type 0 where
+pub record FeedsMemory (piece : List ℕ) (before after : Image) (status : ℕ) (old new : LoadInPlace) : Type 0 where
   pub is_named : IsOneOf (done ∷ no_memory ∷ []) status
-  pub takes : status ≡ done → (given : LoadSettings) (first : Image) (text : List ℕ) → EagerlyLoads before given first old text false
-      → EagerlyLoads after given first new (text ++ piece) false
-  pub fails : status ≡ no_memory → (given : LoadSettings) (first : Image) (text : List ℕ) → EagerlyLoads before given first old text false
+  pub takes : status ≡ done → (given : LoadSettings) (first : Image) (text : List ℕ) → LoadsInPlace before given first old text false
+      → LoadsInPlace after given first new (text ++ piece) false
+  pub fails : status ≡ no_memory → (given : LoadSettings) (first : Image) (text : List ℕ) → LoadsInPlace before given first old text false
       → LacksMemory after given first new (text ++ piece) false
   pub has_failed : (given : LoadSettings) (first : Image) (text : List ℕ) → LacksMemory before given first old text false
       → LacksMemory after given first new (text ++ piece) false × (status ≡ done)
@@ -75,7 +75,7 @@ pub record FeedsMemory (piece : List ℕ) (before after : Image) (status : ℕ) 
 
 -- What `feed` does with blocks that hold these bytes. A refused allocation leaves all as it was, or
 -- the load has failed for good.
-pub record FeedsInPlace (piece : List ℕ) (before after : List (List ℕ)) (status : ℕ) (old new : EagerLoad) : Type 0 where
+pub record FeedsInPlace (piece : List ℕ) (before after : List (List ℕ)) (status : ℕ) (old new : LoadInPlace) : Type 0 where
   pub is_named : IsOneOf (done ∷ no_memory ∷ is_over ∷ too_long ∷ bad_length ∷ []) status
   pub may_feed : MayFeed (length piece) before status old
   pub feeds : status ≡ done → FeedsMemory piece (lent_image old.table before) (lent_image old.table after) done old new
@@ -86,29 +86,29 @@ pub record FeedsInPlace (piece : List ℕ) (before after : List (List ℕ)) (sta
   pub still_fit : FitTable old.table before → FitTable old.table after
 
 -- What `end` does. A second call changes nothing.
-pub record EndsInPlace (old new : EagerLoad) : Type 0 where
+pub record EndsInPlace (old new : LoadInPlace) : Type 0 where
   pub value : new ≡ record old { ended = true }
-  pub loads : (memory : Image) (given : LoadSettings) (first : Image) (text : List ℕ) (ended : Bool) → EagerlyLoads memory given first old text ended
-      → EagerlyLoads memory given first new text true
+  pub loads : (memory : Image) (given : LoadSettings) (first : Image) (text : List ℕ) (ended : Bool) → LoadsInPlace memory given first old text ended
+      → LoadsInPlace memory given first new text true
   pub has_failed : (memory : Image) (given : LoadSettings) (first : Image) (text : List ℕ) (ended : Bool) → LacksMemory memory given first old text ended
       → LacksMemory memory given first new text true
 
 -- C sees the verdict on the stream so far; where it isn't over and has no fault so far, that more of
 -- it is needed. After a refused allocation that is the verdict.
-pub record TellsVerdict (found : FoundFault) (s : EagerLoad) : Type 0 where
-  pub loads : (memory : Image) (given : LoadSettings) (first : Image) (text : List ℕ) (ended : Bool) → EagerlyLoads memory given first s text ended
+pub record TellsVerdict (found : FoundFault) (s : LoadInPlace) : Type 0 where
+  pub loads : (memory : Image) (given : LoadSettings) (first : Image) (text : List ℕ) (ended : Bool) → LoadsInPlace memory given first s text ended
       → (verdict : Result ⊤ LoadFault) × HasVerdictOnto given first text verdict × (found ≡ seen_so_far ended verdict)
   pub has_failed : (memory : Image) (given : LoadSettings) (first : Image) (text : List ℕ) (ended : Bool) → LacksMemory memory given first s text ended
       → found ≡ seen_so_far ended (no_memory_at s.rounds)
 
 -- C sees how many of the bytes that were fed the stream has, once it is closed; before that the
 -- number stays.
-pub record TellsClosedAt (status before after : ℕ) (s : EagerLoad) : Type 0 where
+pub record TellsClosedAt (status before after : ℕ) (s : LoadInPlace) : Type 0 where
   pub is_named : IsOneOf (done ∷ running ∷ []) status
   pub closed : status ≡ done → (memory : Image) (given : LoadSettings) (first : Image) (text : List ℕ) (ended : Bool)
-      → EagerlyLoads memory given first s text ended → HasClosedAtOnto given first text (Some after)
+      → LoadsInPlace memory given first s text ended → HasClosedAtOnto given first text (Some after)
   pub not_closed : status ≡ running → (memory : Image) (given : LoadSettings) (first : Image) (text : List ℕ) (ended : Bool)
-      → EagerlyLoads memory given first s text ended → HasClosedAtOnto given first text None
+      → LoadsInPlace memory given first s text ended → HasClosedAtOnto given first text None
   pub has_failed : (memory : Image) (given : LoadSettings) (first : Image) (text : List ℕ) (ended : Bool) → LacksMemory memory given first s text ended
       → status ≡ running
   pub same : status ≢ done → after ≡ before

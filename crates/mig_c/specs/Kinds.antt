@@ -2,7 +2,7 @@
 use Rattle.std.specs.Prelude.{Option, None, Some, ⊤}
 use Rattle.mig_mem.specs.RamTable.{RamTable}
 use Rattle.mig_single_load.specs.Loader.{Loader}
-use Rattle.mig_single_load.specs.Eager.{EagerLoad}
+use Rattle.mig_single_load.specs.LoadInPlace.{LoadInPlace}
 use Rattle.mig_session.specs.Session.{LoadSession}
 use Rattle.mig_in_place.specs.Session.{InPlaceLoad}
 use Rattle.mig_c.specs.declared.sender.Sender.{Sender}
@@ -36,7 +36,7 @@ loader_in (Some (object.Multi x)) = None
 loader_in (Some (object.Worker x)) = None
 loader_in (Some object.Empty) = None
 
-abbrev pub in_place_in : Option Object → Option EagerLoad
+abbrev pub in_place_in : Option Object → Option LoadInPlace
 in_place_in None = None
 in_place_in (Some (object.Table x)) = None
 in_place_in (Some (object.Loader x)) = None

@@ -11,7 +11,7 @@ use mig_c_calls::status::{
     BAD_LENGTH, DONE, IS_OVER, MAX_LIMIT, NO_MEMORY, ROOM, RUNNING, TOO_LONG,
 };
 use mig_mem::{NoMemory, Table};
-use mig_single_load::{EagerState, LoadSettings};
+use mig_single_load::{InPlaceState, LoadSettings};
 use mig_stream::Frame;
 use std::alloc::Global;
 use std::marker::Model;
@@ -20,16 +20,16 @@ use std::marker::Model;
 /// of C's blocks.
 #[derive(Drop)]
 pub struct HeldLoad {
-    state: EagerState<Global>,
+    state: InPlaceState<Global>,
     // there between two calls
     table: Option<Table<Global>>,
 }
 
 impl Model for HeldLoad {
     ghost use Rattle.std.specs.Prelude.{◌≡◌, Some};
-    ghost use Rattle.mig_single_load.specs.Eager.{EagerLoad};
+    ghost use Rattle.mig_single_load.specs.LoadInPlace.{LoadInPlace};
 
-    ghost Value = { EagerLoad };
+    ghost Value = { LoadInPlace };
 
     ghost view = { λ h. h.state };
 
@@ -37,7 +37,7 @@ impl Model for HeldLoad {
 }
 
 // Returns why a piece isn't fed into these blocks, or DONE.
-fn refusal(state: &EagerState<Global>, blocks: &[&mut [u8]], piece: &[u8]) -> u32
+fn refusal(state: &InPlaceState<Global>, blocks: &[&mut [u8]], piece: &[u8]) -> u32
     ensures { RefusesPiece (length piece.now) (mut_lent_bytes blocks.now) result state.now }
 {
     if state.ended() {
@@ -53,7 +53,7 @@ fn refusal(state: &EagerState<Global>, blocks: &[&mut [u8]], piece: &[u8]) -> u3
 }
 
 // Feeds a piece into a memory of the load's table.
-fn feed_memory(state: &mut EagerState<Global>, memory: &mut LentBlocks<'_>, piece: &[u8]) -> u32
+fn feed_memory(state: &mut InPlaceState<Global>, memory: &mut LentBlocks<'_>, piece: &[u8]) -> u32
     requires table { memory.old.table ≡ state.old.table }
     requires open { IsFalse state.old.ended }
     requires room { state.old.fed + length piece.now < 2 ^ 63 }
@@ -69,7 +69,7 @@ fn feed_memory(state: &mut EagerState<Global>, memory: &mut LentBlocks<'_>, piec
 // Feeds a piece into C's blocks, with the load's table, which it returns.
 fn feed_blocks(
     alloc: Global,
-    state: &mut EagerState<Global>,
+    state: &mut InPlaceState<Global>,
     table: Table<Global>,
     blocks: &mut [&mut [u8]],
     piece: &[u8],
@@ -113,7 +113,7 @@ impl HeldLoad {
             frame,
             waiting: None,
         };
-        let state = EagerState::new_in(alloc, table, settings)?;
+        let state = InPlaceState::new_in(alloc, table, settings)?;
         let table = Some(table.copy_in(alloc)?);
         Ok(HeldLoad { state, table })
     }

@@ -18,7 +18,7 @@ pub use mig_relay::{
 };
 pub use mig_session::{Counted, PieceReader, PumpFault, ReadFailed, Session, Source, pump};
 pub use mig_single_load::{
-    EagerState, Fault, FeedFault, InPlaceFault, InPlaceLoader, InPlaceState, LoadFault,
-    LoadSettings, Loaded, Origin, SingleLoader, eager_keeps_other_places, eager_ok_is_by_sections,
-    load_single, load_single_in, sent_is_loaded_in_place, single_closed_at, single_valid_up_to,
+    Fault, FeedFault, InPlaceFault, InPlaceLoader, InPlaceState, LoadFault, LoadSettings, Loaded,
+    Origin, SingleLoader, in_place_keeps_other_places, in_place_ok_is_whole, load_single,
+    load_single_in, sent_is_loaded_in_place, single_closed_at, single_valid_up_to,
 };

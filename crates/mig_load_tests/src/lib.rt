@@ -1,11 +1,11 @@
 //! Tests of the relay and of the load on several channels: on one thread and on a thread for each
-//! channel, and with each allocation refused. Beside them those of the eager load of one stream.
+//! channel, and with each allocation refused. Beside them those of the load in place of one stream.
 #![tactic(auto)]
 
 #[cfg(test)]
-mod eager;
-#[cfg(test)]
 mod framed;
+#[cfg(test)]
+mod in_place;
 #[cfg(test)]
 mod load_cut;
 #[cfg(test)]

@@ -1,7 +1,6 @@
 pub mod Sections
 mod Feeding
 pub mod Onto
-pub mod InPlaceStates
 mod LoadedAtOnce
-mod Eager
+pub mod LoadsInPlace
 mod MachineSent

@@ -5,10 +5,8 @@ pub mod SingleLoad
 pub mod LoadFaultNumber
 -- What is loaded of a sender's machine's stream
 pub mod MachineSent
--- Loads that are fed in pieces: into a memory of their own, into one that exists already, and the
--- state of such a load without its memory
+-- Loads that are fed in pieces: into a memory of their own, and into one that exists already, each
+-- page written when its bytes have come
 pub mod Loader
 pub mod InPlace
-pub mod InPlaceState
--- The load in place that writes each page when its bytes have come
-pub mod Eager
+pub mod LoadInPlace

@@ -24,6 +24,10 @@ pub record Loader : Type 0 where
 abbrev pub loader : Reader → Option LoadTarget → Loader
 loader reader target = record { reader = reader; target = target }
 
+-- a memory that has so many sections
+abbrev pub memory_with : Image → ℕ → LoadTarget
+memory_with memory sections = record { memory = memory; rounds = sections; base = 0 }
+
 -- its memory, and how many sections were put into that
 abbrev pub memory_of : Loader → Option Image
 memory_of l = option_map (λ t. t.memory) l.target

@@ -20,7 +20,7 @@ pub(crate) struct Filling<A: Allocator = Global> {
 
 impl<A: Allocator> Model for Filling<A> {
     ghost use Rattle.mig_assemble.specs.Target.{LoadTarget};
-    ghost use Rattle.mig_single_load.specs.InPlaceState.{memory_with};
+    ghost use Rattle.mig_single_load.specs.Loader.{memory_with};
 
     ghost Value = { LoadTarget };
 

@@ -1,13 +1,14 @@
 //! The loader of a single stream that comes in pieces, into memory that is there already: for
 //! hypervisors that lend their blocks.
 
-ghost use Rattle.std.specs.Prelude.{◌≡◌, ◌+◌, ◌<◌, ◌≤◌, ◌^◌, ◌++◌, ℕ, Bool, List, [], length, true, false, IsFalse, IsOk, OnOk, OnErr, IfOk, IfErr};
+ghost use Rattle.std.specs.Prelude.{◌≡◌, ◌≢◌, ◌+◌, ◌<◌, ◌≤◌, ◌^◌, ◌++◌, ℕ, Bool, List, [], length, true, false, IsFalse, IsOk, OnOk, OnErr, IfOk, IfErr};
 ghost use Rattle.mig_mem.specs.Image.{Image};
-ghost use Rattle.mig_stream.specs.Reader.{IsSettled, HasClosedAt, IsValidUpTo};
-ghost use Rattle.mig_assemble.specs.Target.{target_over};
+ghost use Rattle.mig_stream.specs.Reader.{IsSettled};
 ghost use Rattle.mig_single_load.specs.declared.settings.LoadSettings.{LoadSettings};
 ghost use Rattle.mig_single_load.specs.Settings.{ram_settings};
-ghost use Rattle.mig_single_load.specs.InPlace.{settings_of, LoadsOnto, HasVerdictOnto, SentIsLoadedInPlace};
+ghost use Rattle.mig_single_load.specs.SingleLoad.{no_memory_at};
+ghost use Rattle.mig_single_load.specs.InPlace.{settings_of, HasVerdictOnto};
+ghost use Rattle.mig_single_load.specs.LoadInPlace.{LoadsOnto, LacksOnto, HasClosedAtOnto, IsValidUpToOnto, SentIsLoadedInPlace};
 
 use crate::{InPlaceFault, InPlaceState, LoadFault, LoadSettings};
 use mig_mem::{GuestTarget, Memory, NoMemory};
@@ -16,14 +17,13 @@ use std::fmt::{self, Debug, Formatter};
 use std::marker::Model;
 
 /// Loads a guest from the pieces of a single stream into memory that is there already. That may be
-/// the blocks of a machine that is to run it (`LentMemoryMut`).
+/// the blocks of a machine that is to run it (`LentMemoryMut`). It is an `InPlaceState` with its
+/// memory: each page is written once, when its bytes have come, on top of what the memory holds, and
+/// no section is kept.
 ///
-/// Each section is applied by the call that brings its footer, on top of what the memory holds, and
-/// its buffers are freed. So between calls the loader holds the pages of one section, which isn't
-/// complete. In a call it also holds those that the piece brings.
-///
-/// The stream must have the memory's table: the same blocks in the same order. Of a stream of
-/// another table nothing is applied, and the verdict is `OtherTable`.
+/// The records of a section that isn't complete are in the memory, too. They stay there if the
+/// stream turns out to be bad or cut. The stream must have the memory's table: the same blocks in
+/// the same order. Of a stream of another table nothing is written, and the verdict is `OtherTable`.
 #[derive(Drop)]
 pub struct InPlaceLoader<A: Allocator = Global, M: GuestTarget = Memory<A>> {
     state: InPlaceState<A>,
@@ -31,14 +31,14 @@ pub struct InPlaceLoader<A: Allocator = Global, M: GuestTarget = Memory<A>> {
 }
 
 impl<A: Allocator, M: GuestTarget> Model for InPlaceLoader<A, M> {
-    ghost use Rattle.mig_single_load.specs.InPlace.{InPlace};
-    ghost use Rattle.mig_single_load.specs.InPlaceState.{loader_with, LoadsWithMemory};
+    ghost use Rattle.std.specs.Prelude.{◌≡◌};
+    ghost use Rattle.mig_single_load.specs.LoadInPlace.{InPlace, in_place};
 
     ghost Value = { InPlace };
 
-    ghost view = { λ l. loader_with l.state (M.image l.memory) };
+    ghost view = { λ l. in_place l.state (M.image l.memory) };
 
-    ghost invariant = { λ l. LoadsWithMemory l.state (M.image l.memory) };
+    ghost invariant = { λ l. (M.image l.memory).table ≡ l.state.table };
 }
 
 /// Opaque: it holds a guest's bytes.
@@ -59,9 +59,9 @@ impl<A: Allocator + Copy, M: GuestTarget> InPlaceLoader<A, M> {
     pub fn new(alloc: A, memory: M, limit: u64) -> Result<InPlaceLoader<A, M>, M>
         requires { limit ≤ 2 ^ 40 }
         ensures loads { IfOk result (λ l. LoadsOnto (ram_settings (M.image memory).table.page_size limit) (M.image memory) l [] false) }
-        ensures first { IfOk result (λ l. l.target ≡ target_over (M.image memory)) }
-        ensures open { IfOk result (λ l. IsFalse l.reader.ended) }
-        ensures fed { IfOk result (λ l. l.reader.fed ≡ 0) }
+        ensures first { IfOk result (λ l. l.memory ≡ M.image memory) }
+        ensures open { IfOk result (λ l. IsFalse l.load.ended) }
+        ensures fed { IfOk result (λ l. l.load.fed ≡ 0) }
         ensures err { IfErr result (λ m. M.image m ≡ M.image memory) }
     {
         let page_size = memory.table().page_size();
@@ -78,9 +78,9 @@ impl<A: Allocator + Copy, M: GuestTarget> InPlaceLoader<A, M> {
     pub fn new_in(alloc: A, memory: M, settings: LoadSettings) -> Result<InPlaceLoader<A, M>, M>
         requires { settings.limit ≤ 2 ^ 40 }
         ensures loads { IfOk result (λ l. LoadsOnto settings (M.image memory) l [] false) }
-        ensures first { IfOk result (λ l. l.target ≡ target_over (M.image memory)) }
-        ensures open { IfOk result (λ l. IsFalse l.reader.ended) }
-        ensures fed { IfOk result (λ l. l.reader.fed ≡ 0) }
+        ensures first { IfOk result (λ l. l.memory ≡ M.image memory) }
+        ensures open { IfOk result (λ l. IsFalse l.load.ended) }
+        ensures fed { IfOk result (λ l. l.load.fed ≡ 0) }
         ensures err { IfErr result (λ m. M.image m ≡ M.image memory) }
     {
         let Ok(state) = InPlaceState::new_in(alloc, memory.table(), settings) else {
@@ -89,22 +89,27 @@ impl<A: Allocator + Copy, M: GuestTarget> InPlaceLoader<A, M> {
         Ok(InPlaceLoader { state, memory })
     }
 
-    /// Takes the next piece of the stream, and applies the sections that it completes. After the
-    /// end byte, or a fault of the stream's form, the piece's bytes are only counted, and the call
-    /// never fails. A stream of another table is read on.
+    /// Reads the next piece of the stream, and writes its page records. After the end byte, a fault,
+    /// another table or a refused allocation nothing more is read: the bytes are only counted, and
+    /// the call never fails.
     ///
     /// # Errors
     ///
-    /// `NoMemory`: an allocation was refused. Nothing changes.
+    /// `NoMemory`: an allocation was refused. The load has failed for good: the verdict is
+    /// `NoMemory` from now on, and the piece can't be fed again. The memory has the first of the
+    /// stream's page records, in their order.
     pub fn feed(&mut self, piece: &[u8]) -> Result<(), NoMemory>
-        requires open { IsFalse self.old.reader.ended }
-        requires room { self.old.reader.fed + length piece.now < 2 ^ 63 }
+        requires open { IsFalse self.old.load.ended }
+        requires room { self.old.load.fed + length piece.now < 2 ^ 63 }
         ensures ok { OnOk result ((given : LoadSettings) (first : Image) (text : List ℕ) → LoadsOnto given first self.old text false
             → LoadsOnto given first self.new (text ++ piece.now) false) }
         ensures settled { (given : LoadSettings) (first : Image) (text : List ℕ) → LoadsOnto given first self.old text false → IsSettled (settings_of first given) text → IsOk result }
-        ensures err { OnErr result (self.new ≡ self.old) }
-        ensures open { IsFalse self.new.reader.ended }
-        ensures fed { OnOk result (self.new.reader.fed ≡ self.old.reader.fed + length piece.now) }
+        ensures failed { OnErr result ((given : LoadSettings) (first : Image) (text : List ℕ) → LoadsOnto given first self.old text false
+            → LacksOnto given first self.new (text ++ piece.now) false) }
+        ensures lacking { (given : LoadSettings) (first : Image) (text : List ℕ) → LacksOnto given first self.old text false
+            → LacksOnto given first self.new (text ++ piece.now) false × IsOk result }
+        ensures open { IsFalse self.new.load.ended }
+        ensures fed { self.new.load.fed ≡ self.old.load.fed + length piece.now }
     {
         let Err(fault) = self.state.feed(&mut self.memory, piece) else {
             return Ok(());
@@ -117,9 +122,9 @@ impl<A: Allocator + Copy, M: GuestTarget> InPlaceLoader<A, M> {
 }
 
 impl<A: Allocator, M: GuestTarget> InPlaceLoader<A, M> {
-    /// Ends the stream: no piece is fed from now on. A second call changes nothing.
+    /// Marks the end of the stream: no piece may be fed after it. A second call changes nothing.
     pub fn end(&mut self)
-        ensures value { self.new ≡ record self.old { reader = record self.old.reader { ended = true } } }
+        ensures value { self.new ≡ record self.old { load = record self.old.load { ended = true } } }
         ensures loads { (given : LoadSettings) (first : Image) (text : List ℕ) (ended : Bool) → LoadsOnto given first self.old text ended → LoadsOnto given first self.new text true }
     {
         self.state.end();
@@ -127,14 +132,14 @@ impl<A: Allocator, M: GuestTarget> InPlaceLoader<A, M> {
 
     /// Returns whether `end` was called.
     pub fn ended(&self) -> bool
-        ensures { result ≡ self.now.reader.ended }
+        ensures { result ≡ self.now.load.ended }
     {
         self.state.ended()
     }
 
-    /// Returns how many bytes were fed.
+    /// Returns the number of bytes fed.
     pub fn fed(&self) -> u64
-        ensures { result ≡ self.now.reader.fed }
+        ensures { result ≡ self.now.load.fed }
     {
         self.state.fed()
     }
@@ -142,54 +147,60 @@ impl<A: Allocator, M: GuestTarget> InPlaceLoader<A, M> {
     /// Returns how many of the bytes fed the stream has, once it is closed: those up to its end
     /// byte, or in a machine's stream up to the footer of RAM's END. The bytes fed after them are
     /// left to the caller.
+    ///
+    /// None for a stream of another table, which isn't read to its end, and after a refused
+    /// allocation.
     pub fn closed_at(&self) -> Option<u64>
-        ensures { (given : LoadSettings) (first : Image) (text : List ℕ) (ended : Bool) → LoadsOnto given first self.now text ended
-            → HasClosedAt (settings_of first given) text result }
+        ensures loads { (given : LoadSettings) (first : Image) (text : List ℕ) (ended : Bool) → LoadsOnto given first self.now text ended → HasClosedAtOnto given first text result }
+        ensures lacking { (given : LoadSettings) (first : Image) (text : List ℕ) (ended : Bool) → LacksOnto given first self.now text ended → result ≡ None }
     {
         self.state.closed_at()
     }
 
     /// Returns how many of the bytes fed are complete items without a fault, from the first byte
     /// on. If the verdict is a fault of the stream, the item at fault begins after them.
-    /// `OtherTable` is a fault of no item: a stream of another table is read on.
-    pub fn valid_up_to(&self) -> u64
-        ensures { (given : LoadSettings) (first : Image) (text : List ℕ) (ended : Bool) → LoadsOnto given first self.now text ended
-            → IsValidUpTo (settings_of first given) text result }
+    ///
+    /// None for a stream of another table, which isn't read on, and after a refused allocation:
+    /// `OtherTable` and `NoMemory` are faults of no item.
+    pub fn valid_up_to(&self) -> Option<u64>
+        ensures loads { (given : LoadSettings) (first : Image) (text : List ℕ) (ended : Bool) → LoadsOnto given first self.now text ended → IsValidUpToOnto given first text result }
+        ensures lacking { (given : LoadSettings) (first : Image) (text : List ℕ) (ended : Bool) → LacksOnto given first self.now text ended → result ≡ None }
     {
         self.state.valid_up_to()
     }
 
-    /// Returns the memory after the sections so far.
+    /// Returns the memory after the page records so far.
     pub fn memory(&self) -> &M
-        ensures { M.image result.now ≡ self.now.target.memory }
+        ensures { M.image result.now ≡ self.now.memory }
     {
         &self.memory
     }
 
-    /// Returns how many sections are in the memory. START and END count, too.
+    /// Returns the number of complete sections, START and END among them. The memory has all of
+    /// them, and may have records of the section after them.
     pub fn rounds(&self) -> u64
-        ensures { result ≡ self.now.target.rounds }
+        ensures { result ≡ self.now.load.rounds }
     {
         self.state.rounds()
     }
 
-    /// Returns the verdict on the stream so far, as if it ended here: Ok if the end byte was read,
-    /// else its first fault. If it has no fault so far, that is `Truncated`. For another table than
-    /// the memory's the verdict is `OtherTable`, as soon as the size list is complete.
+    /// Returns the verdict on the stream as if it ended here.
     ///
     /// # Errors
     ///
-    /// A fault of the stream (`Fault::Stream`), or `OtherTable`, and no other `Fault`: a refused
-    /// allocation is an `Err` of `feed`, which changes nothing.
+    /// - the stream's first fault; `Truncated` where there is none, and the end byte is missing;
+    /// - `OtherTable` if the size list is complete and names another table than the memory's;
+    /// - `NoMemory` if an allocation was refused in a `feed`.
     pub fn verdict(&self) -> Result<(), LoadFault>
-        ensures { (given : LoadSettings) (first : Image) (text : List ℕ) (ended : Bool) → LoadsOnto given first self.now text ended → HasVerdictOnto given first text result }
+        ensures loads { (given : LoadSettings) (first : Image) (text : List ℕ) (ended : Bool) → LoadsOnto given first self.now text ended → HasVerdictOnto given first text result }
+        ensures lacking { (given : LoadSettings) (first : Image) (text : List ℕ) (ended : Bool) → LacksOnto given first self.now text ended → result ≡ no_memory_at self.now.load.rounds }
     {
         self.state.verdict()
     }
 
     /// Returns the memory.
     pub fn into_memory(self) -> M
-        ensures { M.image result ≡ self.target.memory }
+        ensures { M.image result ≡ self.memory }
     {
         self.memory
     }

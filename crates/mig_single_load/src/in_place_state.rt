@@ -1,60 +1,75 @@
-//! What a load in place keeps between its calls: all but the memory, which is passed to each call.
+//! The load in place of a single stream: it writes each page when its bytes have come, before its
+//! section is judged. What it keeps between two calls is all but the memory.
 
-ghost use Rattle.std.specs.Prelude.{◌≡◌, ◌≢◌, ◌+◌, ◌<◌, ◌≤◌, ◌^◌, ◌++◌, ◌↔◌, ℕ, Bool, List, [], length, true, false, Err, IsFalse, IsOk, IsSome, IfSome, IfNone, OnOk, OnErr, IfOk};
-ghost use Rattle.mig_mem.specs.PageSize.{IsPageSize};
+ghost use Rattle.std.specs.Prelude.{◌≡◌, ◌≢◌, ◌+◌, ◌<◌, ◌≤◌, ◌^◌, ◌++◌, ◌↔◌, ◌⊎◌, ℕ, Bool, List, [], length, true, false, Some, None, Err, IsTrue, IsFalse, IsSome, IsOk, IfSome, IfOk, OnOk, OnErr};
+ghost use Rattle.std.specs.Option.{option_copied};
+ghost use Rattle.mig_mem.specs.RamTable.{RamTable};
 ghost use Rattle.mig_mem.specs.Image.{Image, IsImage};
-ghost use Rattle.mig_mem.specs.Round.{with_round};
-ghost use Rattle.mig_stream.specs.Reader.{IsSettled, HasClosedAt, IsValidUpTo, HasRound, waiting};
-ghost use Rattle.mig_assemble.specs.Target.{FitsTable, pages_of_round};
-ghost use Rattle.mig_single_load.specs.declared.fault.Fault.TheVariants.{OtherTable};
+ghost use Rattle.mig_stream.specs.Progress.{whole_table};
+ghost use Rattle.mig_stream.specs.Reader.{IsSettled};
+ghost use Rattle.mig_stream.specs.Giving.{Giver, GivenSoFar, Gives};
 ghost use Rattle.mig_single_load.specs.declared.fault.InPlaceFault.TheVariants as in_place_fault;
+ghost use Rattle.mig_single_load.specs.declared.in_place_state.LoadState.TheVariants as load_state;
 ghost use Rattle.mig_single_load.specs.declared.settings.LoadSettings.{LoadSettings};
-ghost use Rattle.mig_single_load.specs.Settings.{ram_settings, single_of};
-ghost use Rattle.mig_single_load.specs.SingleLoad.{at_main};
-ghost use Rattle.mig_single_load.specs.InPlace.{settings_of, HasVerdictOnto, HasVerdictBehind, StandsAtSome, StandsAtAll};
-ghost use Rattle.mig_single_load.specs.InPlaceState.{LoadsWith, FedWith, WhereFed, PutsAlike, ArePut, ArePutOf};
+ghost use Rattle.mig_single_load.specs.Settings.{ram_settings};
+ghost use Rattle.mig_single_load.specs.SingleLoad.{no_memory_at};
+ghost use Rattle.mig_single_load.specs.InPlace.{settings_of, HasVerdictOnto};
+ghost use Rattle.mig_single_load.specs.LoadInPlace.{InPlaceKeepsOtherPlaces, InPlaceOkIsWhole, LoadsInPlace, settings_for, GaveNext, PutsNextSome, PutsAll, GivesAll, IsEnd, PausesSome, PausesOnto, StandsOnto, PutsSome, HasSomeOnto, LacksMemory, closed_place, valid_place, HasClosedAtOnto, IsValidUpToOnto};
 
-use crate::settle::verdict_at;
-use crate::{Fault, InPlaceFault, LoadFault, LoadSettings, Origin};
+use crate::settle::{no_memory, other_table, verdict_at};
+use crate::{InPlaceFault, LoadFault, LoadSettings};
 use mig_assemble::put_records;
 use mig_mem::{GuestTarget, NoMemory, Table};
-use mig_stream::{Mode, StreamReader, StreamRound};
+use mig_stream::{Given, Pause, RecordReader, StreamState};
 use std::alloc::{Allocator, Global};
 use std::fmt::{self, Debug, Formatter};
 use std::marker::Model;
 
-/// Loads a guest from the pieces of a single stream into memory that is passed with each piece, and
-/// owns all but that memory. It is for a caller that can't lend its memory for as long as the load
-/// takes, as one in C. Others take an `InPlaceLoader`, which is this with a memory. Each section is
-/// applied by the call that brings its footer, on top of what the memory holds, and its buffers are
-/// freed.
+/// The state of a load in place.
+#[derive(Clone, Copy)]
+pub(crate) enum LoadState {
+    /// That of the stream, and how many of its bytes are complete items without a fault. Only while
+    /// it is `Reading` is more of it read.
+    Stream(StreamState, u64),
+    /// The stream has another table than the memory, and isn't read further.
+    OtherTable,
+    /// An allocation was refused, and the stream isn't read further.
+    NoMemory,
+}
+
+/// Loads a guest from the pieces of a single stream into memory that is passed with each piece. It
+/// writes each page once, when its bytes have come. No section is kept: between two calls the load
+/// holds the beginning of one item of the stream at most.
 ///
-/// Each piece must be fed with the memory as the piece before left it. A memory of another table is
-/// refused. One of the same table with other contents can't be recognised: the sections are applied
-/// to it.
+/// At any time the memory has all page records read so far, on top of what it held at first. Those
+/// of a section that isn't complete are there, too. They stay there if the stream turns out to be
+/// bad or cut. A `SingleLoader` writes complete sections only, into a memory of its own. An
+/// `InPlaceLoader` is this with its memory.
 ///
-/// Memory that no `GuestTarget` stands for is written by its owner. `read_piece` and `take_section`
-/// are the two halves of `feed`, which also applies the sections that wait since a `read_piece`.
-///
-/// The stream must have the memory's table: the same blocks in the same order. Of a stream of
-/// another table nothing is applied, and the verdict is `OtherTable`.
+/// Each piece is fed with the memory as the piece before left it. The stream must have the memory's
+/// table: the same blocks in the same order. Of a stream of another table nothing is written, and
+/// the verdict is `OtherTable`.
 #[derive(Drop)]
 pub struct InPlaceState<A: Allocator = Global> {
-    reader: StreamReader<'static, A>,
-    // that of the memory
+    // where the next piece is read on; None once no more is read
+    pause: Option<Pause<A>>,
+    state: LoadState,
+    // the memory's table
     table: Table<A>,
-    // how many sections were applied
+    // complete sections
     rounds: u64,
+    fed: u64,
+    ended: bool,
 }
 
 impl<A: Allocator> Model for InPlaceState<A> {
-    ghost use Rattle.mig_single_load.specs.InPlaceState.{InPlaceState as State, in_place_state, FedWithSome};
+    ghost use Rattle.mig_single_load.specs.LoadInPlace.{LoadInPlace, load_in_place, IsLoadInPlace};
 
-    ghost Value = { State };
+    ghost Value = { LoadInPlace };
 
-    ghost view = { λ s. in_place_state s.reader s.table s.rounds };
+    ghost view = { λ s. load_in_place s.pause s.state s.table s.rounds s.fed s.ended };
 
-    ghost invariant = { λ s. FedWithSome (in_place_state s.reader s.table s.rounds) };
+    ghost invariant = { λ s. IsLoadInPlace (load_in_place s.pause s.state s.table s.rounds s.fed s.ended) };
 }
 
 /// Opaque: it holds a guest's bytes.
@@ -64,44 +79,115 @@ impl<A: Allocator> Debug for InPlaceState<A> {
     }
 }
 
-// Takes each complete section that waits, and drops it.
-fn drop_sections<A: Allocator>(reader: &mut StreamReader<'_, A>)
-    ensures stands { (given : LoadSettings) (text : List ℕ) (ended : Bool) → IsPageSize given.page_size
-        → StandsAtSome (single_of given) text ended reader.old → StandsAtAll (single_of given) text ended reader.new }
-    ensures fed { reader.new.fed ≡ reader.old.fed }
-    ensures ended { reader.new.ended ≡ reader.old.ended }
+// Reads until the table is known, or to the end of what is there. Returns what the reader gave
+// last.
+fn find_table<A: Allocator + Copy>(reader: &mut RecordReader<'_, A>) -> Result<Given, NoMemory>
+    requires { reader.old.given.records ≡ [] }
+    ensures gave { IfOk result (λ gave. (given : LoadSettings) (table : RamTable) (text : List ℕ) (so_far : GivenSoFar) → Gives (settings_for table given) text so_far reader.old
+        → reader.old.given.page_size ≡ table.page_size → GaveNext given table text so_far gave reader.new) }
+    ensures there { IfOk result (λ gave. IsEnd gave ⊎ (whole_table reader.new.progress ≢ None)) }
 {
-    'sections: while let Ok(Some(_section)) = reader.take_round() {}
+    let mut gave = Given::Records;
+    'items: while reader.table().is_none() {
+        gave = reader.read_on()?;
+        if let Given::End(_) = gave {
+            return Ok(gave);
+        }
+    }
+    Ok(gave)
 }
 
-/// Returns the verdict on a stream of another table.
-pub(crate) fn other_table() -> Result<(), LoadFault>
-    ensures { result ≡ at_main 0 OtherTable }
+// Returns whether the stream has another table than the memory. False while its table isn't known.
+fn is_of_other_table<A: Allocator, M: GuestTarget>(reader: &RecordReader<'_, A>, memory: &M) -> bool
+    ensures other { IsTrue result → (table : RamTable) × (whole_table reader.now.progress ≡ Some table) × (table ≢ (M.image memory.now).table) }
+    ensures own { IsFalse result → (whole_table reader.now.progress ≡ None) ⊎ (whole_table reader.now.progress ≡ Some (M.image memory.now).table) }
 {
-    Err(LoadFault {
-        round: 0,
-        source: Origin::Main,
-        fault: Fault::OtherTable,
-    })
+    match reader.table() {
+        Some(table) => !table.same(memory.table()),
+        None => false,
+    }
 }
 
-// Takes the sections that wait, and applies them to a memory.
-fn put_sections<A: Allocator, M: GuestTarget>(state: &mut InPlaceState<A>, memory: &mut M)
-    requires { (M.image memory.old).table ≡ state.old.table }
-    ensures alike { PutsAlike (M.image memory.old) (M.image memory.new) (ArePut state.old state.new) }
-    ensures table { state.new.table ≡ state.old.table }
-    ensures fed { state.new.reader.fed ≡ state.old.reader.fed }
-    ensures ended { state.new.reader.ended ≡ state.old.reader.ended }
+// Writes the records that the reader gave last, and all that it gives next, into a memory of the
+// stream's table, and counts the sections that they complete. Returns the state of the stream.
+fn put_given<A: Allocator + Copy, M: GuestTarget>(
+    reader: &mut RecordReader<'_, A>,
+    first: Given,
+    memory: &mut M,
+    sections: &mut u64,
+) -> Result<StreamState, NoMemory>
+    requires { PutsNextSome (M.image memory.old).table first reader.old sections.old }
+    ensures ok { IfOk result (λ found. PutsAll first reader.old (M.image memory.old) sections.old found reader.new (M.image memory.new) sections.new) }
+    ensures gives { IfOk result (λ found. GivesAll first reader.old sections.old found reader.new sections.new) }
+    ensures err { OnErr result (PutsSome first reader.old (M.image memory.old) sections.old (M.image memory.new) sections.new) }
+    ensures table { (M.image memory.new).table ≡ (M.image memory.old).table }
 {
-    'sections: while let Some(section) = state.take_section() {
-        put_records(memory, &section);
+    let mut gave = first;
+    'records: loop {
+        match gave {
+            Given::Records => {}
+            Given::Section => *sections += 1,
+            Given::End(found) => return Ok(found),
+        }
+        put_records(memory, reader.given());
+        gave = reader.read_on()?;
+    }
+}
+
+// Reads a piece after a pause, and writes its records. Returns the state of the load, and the next
+// pause if the stream goes on.
+fn load_piece<A: Allocator + Copy, M: GuestTarget>(
+    pause: Pause<A>,
+    piece: &[u8],
+    memory: &mut M,
+    sections: &mut u64,
+) -> Result<(Option<Pause<A>>, LoadState), NoMemory>
+    requires { (given : LoadSettings) × (fed : ℕ) × PausesSome given (M.image memory.old).table pause sections.old fed × (fed + length piece.now < 2 ^ 63) }
+    ensures ok { IfOk result (λ r. (given : LoadSettings) (first : Image) (text : List ℕ) → IsImage first → PausesOnto given first text pause (M.image memory.old) sections.old
+        → length (text ++ piece.now) < 2 ^ 64 → StandsOnto given first (text ++ piece.now) (M.image memory.new) sections.new r.0 r.1) }
+    ensures some { IfOk result (λ r. (given : LoadSettings) (fed : ℕ) → PausesSome given (M.image memory.old).table pause sections.old fed
+        → IfSome r.0 (λ p. PausesSome given (M.image memory.old).table p sections.new (fed + length piece.now))) }
+    ensures err { OnErr result ((given : LoadSettings) (first : Image) (text : List ℕ) → PausesOnto given first text pause (M.image memory.old) sections.old
+        → HasSomeOnto given first (text ++ piece.now) (M.image memory.new) sections.new) }
+    ensures table { (M.image memory.new).table ≡ (M.image memory.old).table }
+{
+    let mut reader = pause.resume(piece);
+    let gave = find_table(&mut reader)?;
+    if is_of_other_table(&reader, memory) {
+        return Ok((None, LoadState::OtherTable));
+    }
+    let found = put_given(&mut reader, gave, memory, sections)?;
+    let state = LoadState::Stream(found, reader.valid_up_to());
+    match found {
+        StreamState::Reading => Ok((Some(reader.pause()?), state)),
+        _ => Ok((None, state)),
+    }
+}
+
+// Returns where the stream is closed.
+fn closed_in(state: LoadState) -> Option<u64>
+    ensures { result ≡ closed_place state }
+{
+    match state {
+        LoadState::Stream(StreamState::Closed, at) => Some(at),
+        _ => None,
+    }
+}
+
+// Returns up to where the stream is valid, as long as it is read as one of the memory's table.
+fn valid_in(state: LoadState) -> Option<u64>
+    ensures { result ≡ valid_place state }
+{
+    match state {
+        LoadState::Stream(_, at) => Some(at),
+        LoadState::OtherTable | LoadState::NoMemory => None,
     }
 }
 
 impl<A: Allocator + Copy> InPlaceState<A> {
-    /// Creates a load that was fed nothing, into a memory of `table`, of which it takes a copy. A
-    /// stream whose blocks have more than `limit` bytes together is refused, so `limit` must be at
-    /// least what the table's blocks have together.
+    /// Creates a load into a memory of `table`, of which it takes a copy. A stream whose blocks
+    /// have more than `limit` bytes together is refused, so `limit` must be at least what the
+    /// table's blocks have together.
     ///
     /// # Errors
     ///
@@ -112,18 +198,17 @@ impl<A: Allocator + Copy> InPlaceState<A> {
         limit: u64,
     ) -> Result<InPlaceState<A>, NoMemory>
         requires { limit ≤ 2 ^ 40 }
-        ensures loads { IfOk result (λ s. (first : Image) → IsImage first → first.table ≡ table.now → LoadsWith first (ram_settings table.now.page_size limit) first s [] false) }
+        ensures loads { IfOk result (λ s. (first : Image) → IsImage first → first.table ≡ table.now → LoadsInPlace first (ram_settings table.now.page_size limit) first s [] false) }
         ensures table { IfOk result (λ s. s.table ≡ table.now) }
-        ensures rounds { IfOk result (λ s. s.rounds ≡ 0) }
-        ensures open { IfOk result (λ s. IsFalse s.reader.ended) }
-        ensures fed { IfOk result (λ s. s.reader.fed ≡ 0) }
+        ensures open { IfOk result (λ s. IsFalse s.ended) }
+        ensures fed { IfOk result (λ s. s.fed ≡ 0) }
     {
         InPlaceState::new_in(alloc, table, LoadSettings::new(table.page_size(), limit))
     }
 
-    /// Creates a load that was fed nothing, into a memory of `table`, of which it takes a copy. Of
-    /// `settings` all but the page size counts: the pages have the size that `table` has. The
-    /// limit must be at least what the table's blocks have together.
+    /// Creates a load into a memory of `table`, of which it takes a copy. Of `settings` all but the
+    /// page size counts: the pages have the size that `table` has. The limit must be at least what
+    /// the table's blocks have together.
     ///
     /// # Errors
     ///
@@ -134,160 +219,129 @@ impl<A: Allocator + Copy> InPlaceState<A> {
         settings: LoadSettings,
     ) -> Result<InPlaceState<A>, NoMemory>
         requires { settings.limit ≤ 2 ^ 40 }
-        ensures loads { IfOk result (λ s. (first : Image) → IsImage first → first.table ≡ table.now → LoadsWith first settings first s [] false) }
+        ensures loads { IfOk result (λ s. (first : Image) → IsImage first → first.table ≡ table.now → LoadsInPlace first settings first s [] false) }
         ensures table { IfOk result (λ s. s.table ≡ table.now) }
-        ensures rounds { IfOk result (λ s. s.rounds ≡ 0) }
-        ensures open { IfOk result (λ s. IsFalse s.reader.ended) }
-        ensures fed { IfOk result (λ s. s.reader.fed ≡ 0) }
+        ensures open { IfOk result (λ s. IsFalse s.ended) }
+        ensures fed { IfOk result (λ s. s.fed ≡ 0) }
     {
         table.keeps_limits();
         let page_size = table.page_size();
         let table = table.copy_in(alloc)?;
-        let reader = StreamReader::new_within(
-            alloc,
-            settings.frame,
-            Mode::Single,
-            page_size,
-            settings.limit,
-            settings.waiting,
-        );
         Ok(InPlaceState {
-            reader,
+            pause: Some(Pause::new_within(
+                alloc,
+                settings.frame,
+                page_size,
+                settings.limit,
+                settings.waiting,
+            )),
+            state: LoadState::Stream(StreamState::Reading, 0),
             table,
             rounds: 0,
+            fed: 0,
+            ended: false,
         })
     }
 
-    /// Takes the next piece of the stream, and applies the sections that it completes. After the
-    /// end byte, or a fault of the stream's form, the piece's bytes are only counted, and
-    /// `NoMemory` doesn't come. A stream of another table is read on.
+    /// Reads the next piece of the stream, and writes its page records into the memory. After the
+    /// end byte, a fault, another table or a refused allocation nothing more is read: the bytes are
+    /// only counted, and the call never fails with `NoMemory`.
     ///
     /// # Errors
     ///
-    /// - `OtherTable`: `memory` has another table than the load.
-    /// - `NoMemory`: an allocation was refused.
-    ///
-    /// Nothing changes.
+    /// - `OtherTable`: `memory` has another table than the load. Nothing has changed.
+    /// - `NoMemory`: an allocation was refused. The load has failed for good: the verdict is
+    ///   `NoMemory` from now on, and the piece can't be fed again. The memory has the first of the
+    ///   stream's page records, in their order.
     pub fn feed<M: GuestTarget>(&mut self, memory: &mut M, piece: &[u8]) -> Result<(), InPlaceFault>
-        requires open { IsFalse self.old.reader.ended }
-        requires room { self.old.reader.fed + length piece.now < 2 ^ 63 }
-        ensures ok { OnOk result ((given : LoadSettings) (first : Image) (text : List ℕ) → FedWith (M.image memory.old) given first self.old text false
-            → LoadsWith (M.image memory.new) given first self.new (text ++ piece.now) false) }
-        ensures alike { OnOk result (PutsAlike (M.image memory.old) (M.image memory.new) (ArePutOf piece.now self.old self.new)) }
+        requires open { IsFalse self.old.ended }
+        requires room { self.old.fed + length piece.now < 2 ^ 63 }
+        ensures ok { OnOk result ((given : LoadSettings) (first : Image) (text : List ℕ) → LoadsInPlace (M.image memory.old) given first self.old text false
+            → LoadsInPlace (M.image memory.new) given first self.new (text ++ piece.now) false) }
         ensures other { (result ≡ Err in_place_fault.OtherTable) ↔ ((M.image memory.old).table ≢ self.old.table) }
-        ensures settled { (kept : Image) (given : LoadSettings) (first : Image) (text : List ℕ) → FedWith kept given first self.old text false
-            → IsSettled (settings_of first given) text → (M.image memory.old).table ≡ self.old.table → IsOk result }
-        ensures err { OnErr result ((self.new ≡ self.old) × (M.image memory.new ≡ M.image memory.old)) }
-        ensures table { self.new.table ≡ self.old.table }
-        ensures open { IsFalse self.new.reader.ended }
-        ensures fed { OnOk result (self.new.reader.fed ≡ self.old.reader.fed + length piece.now) }
+        ensures unchanged { result ≡ Err in_place_fault.OtherTable → (self.new ≡ self.old) × (M.image memory.new ≡ M.image memory.old) }
+        ensures failed { result ≡ Err in_place_fault.NoMemory → (given : LoadSettings) (first : Image) (text : List ℕ) → LoadsInPlace (M.image memory.old) given first self.old text false
+            → LacksMemory (M.image memory.new) given first self.new (text ++ piece.now) false }
+        ensures lacking { result ≢ Err in_place_fault.OtherTable → (given : LoadSettings) (first : Image) (text : List ℕ) → LacksMemory (M.image memory.old) given first self.old text false
+            → LacksMemory (M.image memory.new) given first self.new (text ++ piece.now) false × IsOk result }
+        ensures settled { (given : LoadSettings) (first : Image) (text : List ℕ) → LoadsInPlace (M.image memory.old) given first self.old text false → IsSettled (settings_of first given) text
+            → result ≢ Err in_place_fault.NoMemory }
+        ensures table { (self.new.table ≡ self.old.table) × ((M.image memory.new).table ≡ (M.image memory.old).table) }
+        ensures open { IsFalse self.new.ended }
+        ensures fed { result ≢ Err in_place_fault.OtherTable → self.new.fed ≡ self.old.fed + length piece.now }
     {
         if !self.table.same(memory.table()) {
             return Err(InPlaceFault::OtherTable);
         }
-        let Ok(()) = self.read_piece(piece) else {
-            return Err(InPlaceFault::NoMemory);
+        self.fed += piece.len() as u64;
+        let Some(pause) = self.pause.take() else {
+            return Ok(());
         };
-        put_sections(self, memory);
-        Ok(())
-    }
-
-    /// Takes the next piece of the stream, as `feed` does, but applies nothing: the sections wait
-    /// for `take_section`.
-    ///
-    /// # Errors
-    ///
-    /// `NoMemory`: an allocation was refused. Nothing changes.
-    pub fn read_piece(&mut self, piece: &[u8]) -> Result<(), NoMemory>
-        requires open { IsFalse self.old.reader.ended }
-        requires room { self.old.reader.fed + length piece.now < 2 ^ 63 }
-        ensures ok { OnOk result ((memory : Image) (given : LoadSettings) (first : Image) (text : List ℕ) → FedWith memory given first self.old text false
-            → FedWith memory given first self.new (text ++ piece.now) false) }
-        ensures settled { (memory : Image) (given : LoadSettings) (first : Image) (text : List ℕ) → FedWith memory given first self.old text false
-            → IsSettled (settings_of first given) text → IsOk result }
-        ensures err { OnErr result (self.new ≡ self.old) }
-        ensures rounds { self.new.rounds ≡ self.old.rounds }
-        ensures table { self.new.table ≡ self.old.table }
-        ensures open { IsFalse self.new.reader.ended }
-        ensures fed { OnOk result (self.new.reader.fed ≡ self.old.reader.fed + length piece.now) }
-    {
-        self.reader.feed(piece)?;
-        Ok(())
+        match load_piece(pause, piece, memory, &mut self.rounds) {
+            Ok((pause, state)) => {
+                self.pause = pause;
+                self.state = state;
+                Ok(())
+            }
+            Err(NoMemory) => {
+                self.state = LoadState::NoMemory;
+                Err(InPlaceFault::NoMemory)
+            }
+        }
     }
 }
 
 impl<A: Allocator> InPlaceState<A> {
-    /// Takes the next section that waits, for a caller that writes its pages into the memory
-    /// himself. He does so in the order in which sections are taken, and page after page. None if
-    /// no section waits. Sections of another table are dropped. It allocates nothing.
-    pub fn take_section(&mut self) -> Option<StreamRound<'static, A>>
-        ensures fits { IfSome result (λ section. FitsTable self.old.table section) }
-        ensures round { IfSome result (λ section. WhereFed self.old (λ memory given first text ended.
-            HasRound (settings_of first given) text self.old.rounds section.records)) }
-        ensures rounds { IfSome result (λ section. self.new.rounds ≡ self.old.rounds + 1) }
-        ensures some { IfSome result (λ section. WhereFed self.old (λ memory given first text ended.
-            FedWith (with_round memory (pages_of_round section)) given first self.new text ended)) }
-        ensures none { IfNone result (WhereFed self.old (λ memory given first text ended. LoadsWith memory given first self.new text ended)) }
-        ensures none_more { IfNone result (self.new.rounds ≡ self.old.rounds) }
-        ensures fewer { IsSome result → waiting self.new.reader < waiting self.old.reader }
-        ensures table { self.new.table ≡ self.old.table }
-        ensures fed { self.new.reader.fed ≡ self.old.reader.fed }
-        ensures ended { self.new.reader.ended ≡ self.old.reader.ended }
-    {
-        let Some(streamed) = self.reader.table() else {
-            return None;
-        };
-        if !streamed.same(&self.table) {
-            drop_sections(&mut self.reader);
-            return None;
-        }
-        let Ok(Some(section)) = self.reader.take_round() else {
-            return None;
-        };
-        self.rounds += 1;
-        Some(section)
-    }
-
-    /// Ends the stream: no piece is fed from now on. A second call changes nothing.
+    /// Marks the end of the stream: no piece may be fed after it. A second call changes nothing.
     pub fn end(&mut self)
-        ensures value { self.new ≡ record self.old { reader = record self.old.reader { ended = true } } }
-        ensures loads { (memory : Image) (given : LoadSettings) (first : Image) (text : List ℕ) (ended : Bool) → LoadsWith memory given first self.old text ended
-            → LoadsWith memory given first self.new text true }
-        ensures fed { WhereFed self.old (λ memory given first text ended. FedWith memory given first self.new text true) }
+        ensures value { self.new ≡ record self.old { ended = true } }
+        ensures loads { (memory : Image) (given : LoadSettings) (first : Image) (text : List ℕ) (ended : Bool) → LoadsInPlace memory given first self.old text ended
+            → LoadsInPlace memory given first self.new text true }
     {
-        self.reader.end();
+        self.ended = true;
     }
 
     /// Returns whether `end` was called.
     pub fn ended(&self) -> bool
-        ensures { result ≡ self.now.reader.ended }
+        ensures { result ≡ self.now.ended }
     {
-        self.reader.ended()
+        self.ended
     }
 
-    /// Returns how many bytes were fed.
+    /// Returns the number of bytes fed.
     pub fn fed(&self) -> u64
-        ensures { result ≡ self.now.reader.fed }
+        ensures { result ≡ self.now.fed }
     {
-        self.reader.fed()
+        self.fed
     }
 
     /// Returns how many of the bytes fed the stream has, once it is closed: those up to its end
     /// byte, or in a machine's stream up to the footer of RAM's END. The bytes fed after them are
     /// left to the caller.
+    ///
+    /// None for a stream of another table, which isn't read to its end, and after a refused
+    /// allocation.
     pub fn closed_at(&self) -> Option<u64>
-        ensures { WhereFed self.now (λ memory given first text ended. HasClosedAt (settings_of first given) text result) }
+        ensures loads { (memory : Image) (given : LoadSettings) (first : Image) (text : List ℕ) (ended : Bool) → LoadsInPlace memory given first self.now text ended
+            → HasClosedAtOnto given first text result }
+        ensures lacking { (memory : Image) (given : LoadSettings) (first : Image) (text : List ℕ) (ended : Bool) → LacksMemory memory given first self.now text ended
+            → result ≡ None }
     {
-        self.reader.closed_at()
+        closed_in(self.state)
     }
 
     /// Returns how many of the bytes fed are complete items without a fault, from the first byte
     /// on. If the verdict is a fault of the stream, the item at fault begins after them.
-    /// `OtherTable` is a fault of no item: a stream of another table is read on.
-    pub fn valid_up_to(&self) -> u64
-        ensures { WhereFed self.now (λ memory given first text ended. IsValidUpTo (settings_of first given) text result) }
+    ///
+    /// None for a stream of another table, which isn't read on, and after a refused allocation:
+    /// `OtherTable` and `NoMemory` are faults of no item.
+    pub fn valid_up_to(&self) -> Option<u64>
+        ensures loads { (memory : Image) (given : LoadSettings) (first : Image) (text : List ℕ) (ended : Bool) → LoadsInPlace memory given first self.now text ended
+            → IsValidUpToOnto given first text result }
+        ensures lacking { (memory : Image) (given : LoadSettings) (first : Image) (text : List ℕ) (ended : Bool) → LacksMemory memory given first self.now text ended
+            → result ≡ None }
     {
-        self.reader.valid_up_to()
+        valid_in(self.state)
     }
 
     /// Returns the table of the memory.
@@ -297,35 +351,43 @@ impl<A: Allocator> InPlaceState<A> {
         &self.table
     }
 
-    /// Returns how many sections were applied, or taken. START and END count, too.
+    /// Returns the number of complete sections, START and END among them. The memory has all of
+    /// them, and may have records of the section after them.
     pub fn rounds(&self) -> u64
         ensures { result ≡ self.now.rounds }
     {
         self.rounds
     }
 
-    /// Returns the verdict on the stream so far, as if it ended here: Ok if the end byte was read,
-    /// else its first fault. If it has no fault so far, that is `Truncated`. For another table than
-    /// the memory's the verdict is `OtherTable`, as soon as the size list is complete.
-    ///
-    /// A fault is reported with the number of sections that were applied or taken: sections that
-    /// wait don't count.
+    /// Returns the verdict on the stream as if it ended here.
     ///
     /// # Errors
     ///
-    /// A fault of the stream (`Fault::Stream`), or `OtherTable`, and no other `Fault`: a refused
-    /// allocation is an `Err` of `feed`, which changes nothing.
+    /// - the stream's first fault; `Truncated` where there is none, and the end byte is missing;
+    /// - `OtherTable` if the size list is complete and names another table than the memory's;
+    /// - `NoMemory` if an allocation was refused in a `feed`.
     pub fn verdict(&self) -> Result<(), LoadFault>
-        ensures loads { (memory : Image) (given : LoadSettings) (first : Image) (text : List ℕ) (ended : Bool) → LoadsWith memory given first self.now text ended
+        ensures lacking { (memory : Image) (given : LoadSettings) (first : Image) (text : List ℕ) (ended : Bool) → LacksMemory memory given first self.now text ended
+            → result ≡ no_memory_at self.now.rounds }
+        ensures loads { (memory : Image) (given : LoadSettings) (first : Image) (text : List ℕ) (ended : Bool) → LoadsInPlace memory given first self.now text ended
             → HasVerdictOnto given first text result }
-        ensures fed { WhereFed self.now (λ memory given first text ended. HasVerdictBehind self.now.rounds given first text result) }
     {
-        let Some(table) = self.reader.table() else {
-            return verdict_at(0, self.reader.state());
-        };
-        if !table.same(&self.table) {
-            return other_table();
+        match self.state {
+            LoadState::Stream(found, _) => verdict_at(self.rounds, found),
+            LoadState::OtherTable => other_table(),
+            LoadState::NoMemory => no_memory(self.rounds),
         }
-        verdict_at(self.rounds, self.reader.state())
     }
 }
+
+/// A load in place writes no page but those that the stream has a record of: a place without a record
+/// in the section that isn't complete holds what the complete sections left there.
+pub fn in_place_keeps_other_places()
+    ensures { InPlaceKeepsOtherPlaces }
+{}
+
+/// A load in place whose verdict is Ok gives the complete sections of the stream, on top of what the
+/// memory held first, and nothing else.
+pub fn in_place_ok_is_whole()
+    ensures { InPlaceOkIsWhole }
+{}

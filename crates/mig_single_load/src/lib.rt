@@ -6,20 +6,18 @@
 //! section is applied. No sender is needed here.
 //!
 //! `load_single` loads a complete stream. `SingleLoader` loads one that is fed in pieces. Loads in
-//! place write into memory that exists already: complete sections (`InPlaceState`, and
-//! `InPlaceLoader`, which keeps the memory too), or each page when its bytes have come
-//! (`EagerState`). Each has a constructor for RAM's sections alone, and one for any settings, whose
+//! place write into memory that exists already, each page when its bytes have come: `InPlaceState`, and
+//! `InPlaceLoader`, which keeps the memory too. Each has a constructor for RAM's sections alone, and one for any settings, whose
 //! name ends with `_in`.
 //!
 //! `LoadFault` and `Loaded` are of every load, also on several channels: those crates stand on this
 //! one.
 //!
 //! Definitions, in reading order: `Settings`, `SingleLoad`, `LoadFaultNumber`, `Loader`, `InPlace`,
-//! `InPlaceState`, `Eager` (`specs/`).
+//! `LoadInPlace` (`specs/`).
 #![tactic(auto)]
 
 mod at_once;
-mod eager_state;
 mod fault;
 mod filling;
 mod in_place;
@@ -30,10 +28,9 @@ mod settings;
 mod settle;
 mod single;
 
-pub use eager_state::{EagerState, eager_keeps_other_places, eager_ok_is_by_sections};
 pub use fault::{Fault, FeedFault, InPlaceFault, LoadFault, Origin};
 pub use in_place::{InPlaceLoader, sent_is_loaded_in_place};
-pub use in_place_state::InPlaceState;
+pub use in_place_state::{InPlaceState, in_place_keeps_other_places, in_place_ok_is_whole};
 pub use loaded::Loaded;
 pub use loader::SingleLoader;
 pub use settings::LoadSettings;

@@ -4,7 +4,8 @@
 
 ghost use Rattle.std.specs.Prelude.{◌≡◌, ℕ, Bool, List, None, Some, OnOk, OnErr};
 ghost use Rattle.mig_single_load.specs.declared.settings.LoadSettings.{LoadSettings};
-ghost use Rattle.mig_single_load.specs.SingleLoad.{no_memory_at, verdict_of, unloaded};
+ghost use Rattle.mig_single_load.specs.declared.fault.Fault.TheVariants.{OtherTable};
+ghost use Rattle.mig_single_load.specs.SingleLoad.{at_main, no_memory_at, verdict_of, unloaded};
 ghost use Rattle.mig_mem.specs.Image.{Image};
 ghost use Rattle.mig_single_load.specs.Loader.{loader, HasAllSections, Waits, Loads, Judges, Answers, HasPutSections, HasPutSectionsSome, HasPutAllSections, WasFed, WasFedSome};
 
@@ -69,6 +70,17 @@ pub(crate) fn verdict_at(rounds: u64, state: StreamState) -> Result<(), LoadFaul
         round: rounds,
         source: Origin::Main,
         fault: Fault::Stream(fault),
+    })
+}
+
+/// Returns the verdict on a stream of another table than the memory's.
+pub(crate) fn other_table() -> Result<(), LoadFault>
+    ensures { result ≡ at_main 0 OtherTable }
+{
+    Err(LoadFault {
+        round: 0,
+        source: Origin::Main,
+        fault: Fault::OtherTable,
     })
 }
 

@@ -9,8 +9,8 @@ use crate::refused::assert_two_rounds;
 use mig_fixtures::{TestHeap, at, has_byte, is_full, with_each_allocation_refused, zeroed};
 use mig_mem::{MAX_TOTAL, Memory, PAGE_SIZE_4K, PAGE_SIZE_8K};
 use mig_single_load::{
-    Fault, InPlaceFault, InPlaceLoader, InPlaceState, LoadFault, LoadSettings, Loaded, Origin,
-    SingleLoader, load_single_in, single_closed_at,
+    Fault, InPlaceLoader, InPlaceState, LoadFault, LoadSettings, Loaded, Origin, SingleLoader,
+    load_single_in, single_closed_at,
 };
 use mig_stream::{Frame, StreamFault};
 use std::alloc::{AllocGlobal, Allocator};
@@ -232,35 +232,10 @@ fn fed_in_pieces(rt: HostRuntime) {
     }
 }
 
-// Feeds a piece after refused allocations, each of which changed nothing. Returns how many there
-// were.
-fn feed_refused<A: Allocator + Copy>(
-    rt: &impl Abort,
-    heap: &TestHeap,
-    state: &mut InPlaceState<A>,
-    memory: &mut Memory,
-    piece: &[u8],
-) -> u64 {
-    for nth in 1..100u64 {
-        assert!(rt; !state.ended() && state.fed() <= MAX_TOTAL);
-        assert!(rt; piece.len() as u64 <= MAX_TOTAL);
-        let stood = (state.fed(), state.closed_at());
-        heap.refuse(nth);
-        let run = state.feed(memory, piece);
-        heap.refuse(0);
-        if run.is_ok() {
-            return nth - 1;
-        }
-        assert!(rt; run == Err(InPlaceFault::NoMemory));
-        assert!(rt; (state.fed(), state.closed_at()) == stood);
-    }
-    panic!(rt; "each run had a refusal");
-}
-
-// A load in place, which needs memory for a copy of the table, and for sections. `new_in` takes the
-// page size from the table: that of the settings doesn't count.
+// A load in place, which needs memory for a copy of the table. `new_in` takes the page size from the
+// table: that of the settings doesn't count.
 #[test]
-fn refused_in_place(rt: HostRuntime) {
+fn state_in_place(rt: HostRuntime) {
     for frame in FRAMES {
         let heap = TestHeap::new(rt.alloc());
         let text = followed(&rt, frame);
@@ -271,18 +246,13 @@ fn refused_in_place(rt: HostRuntime) {
         heap.refuse(0);
         let made = InPlaceState::new_in(&heap, memory.table(), given);
         let mut state = made.expect(&rt, "a load");
-        let mut refused = 0u64;
         for piece in text.chunks(100) {
-            refused = refused.saturating_add(feed_refused(
-                &rt,
-                &heap,
-                &mut state,
-                &mut memory,
-                piece,
-            ));
+            assert!(rt; !state.ended() && state.fed() <= MAX_TOTAL);
+            assert!(rt; piece.len() as u64 <= MAX_TOTAL);
+            assert!(rt; state.feed(&mut memory, piece) == Ok(()));
             assert!(rt; is_told(state.closed_at(), state.fed(), closed_at(frame)));
         }
-        assert!(rt; refused > 2 && (state.rounds(), state.verdict()) == (4, Ok(())));
+        assert!(rt; (state.rounds(), state.verdict()) == (4, Ok(())));
         assert_memory(&rt, &memory);
     }
 }

@@ -18,16 +18,16 @@ const BLOCKS: [(&str, u64); 3] = [("a", 3), ("pc.ram", 70), ("vga", 1)];
 // What the caller's bytes hold before a stream comes.
 const OTHER: u8 = 0xEE;
 
-/// What a load came to: the sections that were put, and the verdict.
-pub(crate) type Answer = (u64, Result<(), LoadFault>);
+// What a load came to: the sections that were put, and the verdict.
+type Answer = (u64, Result<(), LoadFault>);
 
 // Returns one value as an array.
 fn alone<T: Drop>(one: T) -> [T; 1] {
     [one]
 }
 
-/// Returns two values as an array.
-pub(crate) fn both<T: Drop>(one: T, other: T) -> [T; 2] {
+// Returns two values as an array.
+fn both<T: Drop>(one: T, other: T) -> [T; 2] {
     [one, other]
 }
 
@@ -63,8 +63,8 @@ fn migrate_all<A: Allocator + Copy, B: Allocator>(
     migrate(alloc, &guest, all_of(alloc, table)?, most, memory)
 }
 
-/// Returns `pages` pages of bytes that are none of the guest's.
-pub(crate) fn others(rt: &(impl AllocGlobal + Abort), page_size: u64, pages: u64) -> Vec<u8> {
+// Returns `pages` pages of bytes that are none of the guest's.
+fn others(rt: &(impl AllocGlobal + Abort), page_size: u64, pages: u64) -> Vec<u8> {
     assert!(rt; page_size <= 8192);
     assert!(rt; pages <= 65_536);
     vec![in rt.alloc(); OTHER; (page_size * pages) as usize].expect(rt, "bytes")
@@ -108,12 +108,11 @@ const TEXT: u64 = PART + 64 * 8 + 128;
 
 // Of a guest of 16 MiB, sent in parts of 64 pages, sender and loader hold at once at most: the
 // stream that is fed and the buffer of the next one, both of which doubled as they grew, so that
-// each has room for two streams; and the pages of a section until it ends, in buffers of at most 64
-// KiB. The last of those may be empty but for one page: that is one piece. The marks, the records
-// and an item that a piece cut in two don't take another piece.
+// each has room for two streams. The marks, the table and a page that a piece cut in two don't take
+// another piece.
 #[test]
 fn migrated_in_little_memory(rt: HostRuntime) {
-    let most = 2 * (2 * TEXT) + PART + 2 * PIECE as u64;
+    let most = 2 * (2 * TEXT) + PIECE as u64;
     let table = table(rt.alloc(), &[("pc.ram", 4096)]).expect(&rt, "a table");
     let bytes = others(&rt, 4096, 4096);
     let mut onto = vec![in rt.alloc(); 0u8; bytes.len()].expect(&rt, "bytes");
@@ -166,8 +165,8 @@ fn load<A: Allocator + Copy, M: GuestTarget + Drop>(
     Some(answer)
 }
 
-/// Two blocks, of two pages and of three.
-pub(crate) const SMALL: [(&str, u64); 2] = [("a", 2), ("b", 3)];
+// Two blocks, of two pages and of three.
+const SMALL: [(&str, u64); 2] = [("a", 2), ("b", 3)];
 
 // Returns the stream of a guest of those blocks, with two rounds: page 1 of each block, and then
 // page 2 of the second one.
@@ -191,15 +190,15 @@ fn load_onto(
     load(rt.alloc(), memory, text, len).expect(rt, "a load")
 }
 
-/// What two blocks are to hold after a load.
+// What two blocks are to hold after a load.
 #[derive(Drop)]
-pub(crate) struct Wanted {
-    /// What it came to.
-    pub(crate) answer: Answer,
-    /// The bytes of the first block.
-    pub(crate) first: Vec<u8>,
-    /// The bytes of the second.
-    pub(crate) second: Vec<u8>,
+struct Wanted {
+    // What it came to.
+    answer: Answer,
+    // The bytes of the first block.
+    first: Vec<u8>,
+    // The bytes of the second.
+    second: Vec<u8>,
 }
 
 // Returns some pages one after another.
@@ -229,8 +228,8 @@ fn assert_left(
     assert!(rt; two.as_slice() == wanted.second.as_slice());
 }
 
-/// Returns a fault of the stream after `round` sections.
-pub(crate) fn fault_at(round: u64, fault: Fault) -> Answer {
+// Returns a fault of the stream after `round` sections.
+fn fault_at(round: u64, fault: Fault) -> Answer {
     let source = Origin::Main;
     (
         round,
@@ -248,8 +247,8 @@ fn small_guest(rt: &(impl AllocGlobal + Abort)) -> [Vec<u8>; 2] {
     both(bytes_of(rt, 4096, 0, 2), bytes_of(rt, 4096, 1, 3))
 }
 
-/// Returns what is left where no page came.
-pub(crate) fn untouched(rt: &(impl AllocGlobal + Abort), answer: Answer) -> Wanted {
+// Returns what is left where no page came.
+fn untouched(rt: &(impl AllocGlobal + Abort), answer: Answer) -> Wanted {
     Wanted {
         answer,
         first: others(rt, 4096, 2),
@@ -257,9 +256,9 @@ pub(crate) fn untouched(rt: &(impl AllocGlobal + Abort), answer: Answer) -> Want
     }
 }
 
-/// Returns what is left where page 1 of each block came, and page 2 of the second block or not.
-/// Page 0 of both stays.
-pub(crate) fn left(rt: &(impl AllocGlobal + Abort), answer: Answer, has_last: bool) -> Wanted {
+// Returns what is left where page 1 of each block came, and page 2 of the second block or not.
+// Page 0 of both stays.
+fn left(rt: &(impl AllocGlobal + Abort), answer: Answer, has_last: bool) -> Wanted {
     let [first, second] = small_guest(rt);
     let other = others(rt, 4096, 1);
     let zeros = [0; 4096];
@@ -273,10 +272,10 @@ pub(crate) fn left(rt: &(impl AllocGlobal + Abort), answer: Answer, has_last: bo
     }
 }
 
-/// Returns the stream of the small guest. Its opening has 66 bytes, of which the size list ends at
-/// the 53rd; the first PART, of a page and of zeros, has 4135; the second, of one page, 4122; and
-/// END with the end byte 19.
-pub(crate) fn text_of_small(rt: &(impl AllocGlobal + Abort)) -> Vec<u8> {
+// Returns the stream of the small guest. Its opening has 66 bytes, of which the size list ends at
+// the 53rd; the first PART, of a page and of zeros, has 4135; the second, of one page, 4122; and
+// END with the end byte 19.
+fn text_of_small(rt: &(impl AllocGlobal + Abort)) -> Vec<u8> {
     let [first, second] = small_guest(rt);
     let text = small_text(rt, &first, &second);
     assert_eq!(rt; text.len(), 66 + 4135 + 4122 + 19);
@@ -293,14 +292,18 @@ fn cut_anywhere(rt: HostRuntime) {
     }
 }
 
-// Of a stream that is cut short the complete sections are there.
+// Of a stream that is cut short the complete sections are there, and the page records after them.
+// That of the second PART ends at its byte 4109: five bytes of the section's head, eight of the
+// record's, and the page.
 #[test]
 fn cut_short(rt: HostRuntime) {
     let text = text_of_small(&rt);
     let fault = Fault::Stream(StreamFault::Truncated);
     for (len, rounds, has_last) in [
         (66 + 4135, 2, false),
-        (66 + 4135 + 4121, 2, false),
+        (66 + 4135 + 4108, 2, false),
+        (66 + 4135 + 4109, 2, true),
+        (66 + 4135 + 4121, 2, true),
         (66 + 4135 + 4122, 3, true),
         (66 + 4135 + 4122 + 18, 4, true),
     ] {

@@ -13,8 +13,6 @@ mod framed;
 #[cfg(test)]
 mod in_place;
 #[cfg(test)]
-mod in_place_state;
-#[cfg(test)]
 mod lent;
 #[cfg(test)]
 mod open_senders;

@@ -1,13 +1,13 @@
 //! Allocations refused in turn on the path of parts: rounds and parts that are put page by page,
-//! and the loader and the target over bytes that the caller keeps. After a refusal all is as it
-//! was, and the end is as if there had been none.
+//! the loader in place, which fails for good; and the target over bytes that the caller keeps. But
+//! for the loader all is as it was after a refusal, and the end is as if there had been none.
 
 use crate::building::{BLOCKS, finished, image_with, text_of, two_rounds};
 use mig_assemble::Target;
-use mig_fixtures::{TestHeap, at, table};
+use mig_fixtures::{TestHeap, at, table, zeroed};
 use mig_mem::{GuestTarget, LentMemoryMut, MAX_TOTAL, Memory, PAGE_SIZE_4K, Place};
 use mig_send::{OpenRound, SingleSender};
-use mig_single_load::InPlaceLoader;
+use mig_single_load::{Fault, InPlaceLoader, LoadFault, Origin};
 use mig_stream::{Mode, OpenPart, StreamReader, StreamWriter};
 use std::alloc::{AllocGlobal, Allocator};
 use std::process::Abort;
@@ -210,52 +210,36 @@ fn new_loader<A: Allocator + Copy, M: GuestTarget + Drop>(
     panic!(rt; "each run had a refusal");
 }
 
-// Feeds a piece after refused allocations, each of which changed nothing. Returns how many there
-// were.
-fn feed<A: Allocator + Copy, M: GuestTarget>(
-    rt: &impl Abort,
-    heap: &TestHeap,
-    loader: &mut InPlaceLoader<A, M>,
-    piece: &[u8],
-) -> u64 {
-    for nth in 1..100u64 {
-        let fed = loader.fed();
-        let stood = (loader.rounds(), loader.verdict());
-        assert!(rt; !loader.ended());
-        assert!(rt; fed <= MAX_TOTAL);
-        assert!(rt; piece.len() as u64 <= MAX_TOTAL);
-        heap.refuse(nth);
-        let run = loader.feed(piece);
-        let is_waiting = heap.is_waiting();
-        heap.refuse(0);
-        if run.is_ok() {
-            return nth - 1;
-        }
-        assert!(rt; !is_waiting);
-        assert!(rt; loader.fed() == fed);
-        assert!(rt; (loader.rounds(), loader.verdict()) == stood);
-    }
-    panic!(rt; "each run had a refusal");
-}
-
-// Loads a stream of two rounds onto a memory, with each allocation refused on the way.
-fn load_after_refusals<A: Allocator + Copy, M: GuestTarget + Drop>(
-    rt: &impl Abort,
-    heap: &TestHeap,
-    alloc: A,
-    memory: M,
-    text: &[u8],
-) {
-    let mut loader = new_loader(rt, heap, alloc, memory);
+// Feeds a stream of two rounds to a loader with allocation `nth` refused. Returns whether one was:
+// then the load has failed for good, and what follows is only counted.
+fn is_refused_at(rt: &(impl AllocGlobal + Abort), heap: &TestHeap, text: &[u8], nth: u64) -> bool {
+    let memory = zeroed(rt.alloc(), &BLOCKS).expect(rt, "a memory");
+    let mut loader = new_loader(rt, heap, heap, memory);
     let mut refused = 0u64;
+    heap.refuse(nth);
     for piece in text.chunks(100) {
-        refused = refused.saturating_add(feed(rt, heap, &mut loader, piece));
+        assert!(rt; !loader.ended() && loader.fed() <= MAX_TOTAL);
+        assert!(rt; piece.len() as u64 <= MAX_TOTAL);
+        if loader.feed(piece).is_err() {
+            refused = refused.saturating_add(1);
+        }
     }
+    let is_waiting = heap.is_waiting();
+    heap.refuse(0);
     loader.end();
-    assert!(rt; refused > 2);
     assert!(rt; loader.fed() == text.len() as u64);
-    assert!(rt; loader.rounds() == 4);
-    assert!(rt; loader.verdict() == Ok(()));
+    if is_waiting {
+        assert!(rt; refused == 0 && (loader.rounds(), loader.verdict()) == (4, Ok(())));
+        return false;
+    }
+    let fault = LoadFault {
+        round: loader.rounds(),
+        source: Origin::Round,
+        fault: Fault::NoMemory,
+    };
+    assert!(rt; refused == 1 && loader.verdict() == Err(fault));
+    assert!(rt; loader.closed_at().is_none() && loader.valid_up_to().is_none());
+    true
 }
 
 // Returns a target over a memory, made after refused allocations, each of which gave the memory
@@ -332,16 +316,14 @@ fn assert_two_rounds(rt: &impl Abort, first: &[u8], second: &[u8]) {
 #[test]
 fn loader(rt: HostRuntime) {
     let heap = TestHeap::new(rt.alloc());
-    let table = table(rt.alloc(), &BLOCKS).expect(&rt, "a table");
     let text = two_rounds(&rt);
-    let mut first = nines(&rt, 2);
-    let mut second = nines(&rt, 65);
-    let mut blocks = both(first.as_mut_slice(), second.as_mut_slice());
-    let memory = LentMemoryMut::new(&table, &mut blocks)
-        .ok()
-        .expect(&rt, "a memory");
-    load_after_refusals(&rt, &heap, &heap, memory, &text);
-    assert_two_rounds(&rt, &first, &second);
+    for nth in 1..1000u64 {
+        if !is_refused_at(&rt, &heap, &text, nth) {
+            assert!(rt; nth > 2);
+            return;
+        }
+    }
+    panic!(rt; "each run had a refusal");
 }
 
 #[test]

@@ -7,7 +7,7 @@ use crate::building::{append, dirty_of, feed, finished, image_with, part, text_o
 use mig_fixtures::{at, has_byte, is_full};
 use mig_mem::{MAX_TOTAL, Memory, PAGE_SIZE_4K, Place};
 use mig_single_load::{
-    EagerState, Fault, LoadFault, LoadSettings, Origin, SingleLoader, load_single_in,
+    Fault, InPlaceState, LoadFault, LoadSettings, Origin, SingleLoader, load_single_in,
 };
 use mig_stream::{Frame, Mode, StreamFault, StreamReader, StreamState, StreamWriter};
 use std::alloc::{AllocGlobal, Allocator};
@@ -164,7 +164,7 @@ fn sections_before_the_one_too_long(rt: HostRuntime) {
 fn records_before_the_one_too_many(rt: HostRuntime) {
     let stream = one_and_three(&rt);
     let mut memory = image_with(&rt, 1, 0);
-    let made = EagerState::new_in(rt.alloc(), memory.table(), settings(2));
+    let made = InPlaceState::new_in(rt.alloc(), memory.table(), settings(2));
     let mut state = made.expect(&rt, "a load");
     assert!(rt; !state.ended() && state.fed() == 0 && stream.len() as u64 <= MAX_TOTAL);
     assert!(rt; state.feed(&mut memory, &stream) == Ok(()));

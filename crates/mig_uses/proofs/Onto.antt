@@ -7,16 +7,17 @@ use Rattle.mig_stream.specs.Text.{total_bytes}
 use Rattle.mig_stream.specs.Written.{single}
 use Rattle.mig_single_load.specs.declared.fault.LoadFault.{LoadFault}
 use Rattle.mig_single_load.specs.Settings.{ram_settings}
-use Rattle.mig_single_load.specs.InPlace.{InPlace, LoadsOnto, HasSectionsOnto, HasVerdictOnto}
-use Rattle.mig_single_load.proofs.Onto.{sent_onto}
+use Rattle.mig_single_load.specs.InPlace.{HasRecordsOnto, HasVerdictOnto}
+use Rattle.mig_single_load.specs.LoadInPlace.{InPlace, LoadsOnto}
+use Rattle.mig_single_load.proofs.LoadsInPlace.{sent_in_place}
 
--- the text of a sender is in the memory, and the verdict is Ok
+-- the stream of a sender is in the memory, and the verdict is Ok
 pub loaded_onto : (limit : ℕ) (first : Image) (l : InPlace) (text : List ℕ) (verdict : Result ⊤ LoadFault) → LoadsOnto (ram_settings first.table.page_size limit) first l text true → HasVerdictOnto (ram_settings first.table.page_size limit) first text verdict
     → (rounds : List (List Page)) → total_bytes first.table ≤ limit → All (IsRound first.table) rounds → text ≡ single first.table rounds
-    → (l.target.memory ≡ with_rounds first rounds) × (verdict ≡ Ok _)
+    → (l.memory ≡ with_rounds first rounds) × (verdict ≡ Ok _)
 loaded_onto limit first l text verdict loads told rounds room are is =
-    let all = sent_onto limit first rounds l.target verdict loads.is_table room are
-    (subst (λ (t : List ℕ). HasSectionsOnto (ram_settings first.table.page_size limit) first t l.target) is loads.has_sections)
+    let all = sent_in_place limit first rounds l.memory l.load.rounds verdict loads.is_table loads.is_image room are
+    (subst (λ (t : List ℕ). HasRecordsOnto (ram_settings first.table.page_size limit) first t l.memory l.load.rounds) is loads.stands.has_records)
     (subst (λ (t : List ℕ). HasVerdictOnto (ram_settings first.table.page_size limit) first t verdict) is told) in
     (all.0, all.2)
 

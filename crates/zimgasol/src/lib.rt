@@ -11,7 +11,6 @@
 //! | one stream, whole | `load_single` |
 //! | one stream, in pieces, and no memory yet | `SingleLoader` |
 //! | one stream, in pieces, and the blocks of the guest | `InPlaceLoader`, `InPlaceState` |
-//! | the same, and blocks that no guest uses after a fault | `EagerState`, which keeps no section |
 //! | a main stream and channels, whole | `load_multi` |
 //! | a main stream and channels, in pieces or from readers | `Session`, `pump` |
 //! | a main stream and channels, and the blocks of the guest | `InPlaceSession` |
@@ -196,10 +195,11 @@
 //! }
 //! ```
 //!
-//! # InPlaceLoader, InPlaceState, EagerState
+//! # InPlaceLoader, InPlaceState
 //!
 //! Take an `InPlaceLoader` for a stream into memory that is there: a `LentMemoryMut` or a `Memory`.
-//! It applies complete sections alone, on top of what the memory held.
+//! It writes each page once, when its bytes have come, on top of what the memory held, and keeps no
+//! section. After a fault the memory also has the pages of a section that isn't complete.
 //!
 //! <!-- quoted from crates/mig_uses/src/in_place.rt -->
 //! ```rust
@@ -214,11 +214,9 @@
 //! Ok(loader.into_memory())
 //! ```
 //!
-//! An `InPlaceState` does so to memory that is passed to each call. An `EagerState` writes each
-//! page when its bytes have come, and keeps no section. After a fault its memory also has the pages
-//! of a section that isn't complete. Both are fed alike:
+//! An `InPlaceState` does so to memory that is passed to each call:
 //!
-//! <!-- quoted from crates/mig_load_tests/src/eager.rt -->
+//! <!-- quoted from crates/mig_load_tests/src/in_place.rt -->
 //! ```rust
 //! assert!(rt; !state.ended() && state.fed() <= LIMIT && piece.len() as u64 <= LIMIT);
 //! state.feed(memory, piece)
@@ -310,10 +308,10 @@ pub use mig_in_place::{
     InPlaceSession, RoundRobin, SourceReader, Turn, TurnFault, TurnOrder, pump_by_turns,
 };
 pub use mig_load::{
-    Counted, EagerState, Fault, FeedFault, InPlaceFault, InPlaceLoader, InPlaceState, LoadFault,
-    LoadSettings, Loaded, Origin, PieceReader, PumpFault, ReadFailed, Session, SingleLoader,
-    Source, Verdict, load_multi, load_multi_in, load_single, load_single_in, multi_valid_up_to,
-    pump, single_closed_at, single_valid_up_to,
+    Counted, Fault, FeedFault, InPlaceFault, InPlaceLoader, InPlaceState, LoadFault, LoadSettings,
+    Loaded, Origin, PieceReader, PumpFault, ReadFailed, Session, SingleLoader, Source, Verdict,
+    load_multi, load_multi_in, load_single, load_single_in, multi_valid_up_to, pump,
+    single_closed_at, single_valid_up_to,
 };
 pub use mig_mem::{
     Dirty, GuestPages, GuestTarget, LentMemory, LentMemoryMut, MAX_TOTAL, Memory, NoMemory,

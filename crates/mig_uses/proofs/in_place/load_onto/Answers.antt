@@ -1,6 +1,6 @@
 use Rattle.std.proofs.Common.{◌∙◌, [], true, false}
 use Rattle.mig_single_load.specs.Settings.{ram_settings}
-use Rattle.mig_single_load.specs.InPlace.{LoadsOnto}
+use Rattle.mig_single_load.specs.LoadInPlace.{LoadsOnto}
 use Rattle.mig_uses.proofs.Onto.{loaded_onto, never_err}
 use Rattle.mig_uses.proofs.in_place.load_onto.Goals as goal
 
@@ -11,7 +11,7 @@ returns-in_err-verdict g c = λ rounds room are is.
     let given = ram_settings first.table.page_size c.args.limit in
     let loads : LoadsOnto given first c.end.new.self text true =
     c.end.ensures.loads given first text false (c.in-Ok-feed.ensures.ok given first [] c.in-Ok.ensures.loads) in
-    let all = loaded_onto c.args.limit first c.end.new.self text c.verdict.result loads (c.verdict.ensures given first text true loads) rounds room are is in
+    let all = loaded_onto c.args.limit first c.end.new.self text c.verdict.result loads (c.verdict.ensures.loads given first text true loads) rounds room are is in
     absurd (never_err c.verdict.result _ c.in_err-verdict.was all.1)
 
 pub returns : goal.returns
@@ -21,5 +21,5 @@ returns g c = λ rounds room are is.
     let given = ram_settings first.table.page_size c.args.limit in
     let loads : LoadsOnto given first c.end.new.self text true =
     c.end.ensures.loads given first text false (c.in-Ok-feed.ensures.ok given first [] c.in-Ok.ensures.loads) in
-    let all = loaded_onto c.args.limit first c.end.new.self text c.verdict.result loads (c.verdict.ensures given first text true loads) rounds room are is in
+    let all = loaded_onto c.args.limit first c.end.new.self text c.verdict.result loads (c.verdict.ensures.loads given first text true loads) rounds room are is in
     c.into_memory.ensures ∙ all.0

@@ -2,7 +2,7 @@ use Rattle.std.proofs.Common.{◌^◌, ℕ, [], false, refl, subst}
 use Rattle.mig_mem.specs.Image.{Image}
 use Rattle.mig_mem.specs.Lent.{lent_image}
 use Rattle.mig_mem.proofs.Lents.{lent_is_image}
-use Rattle.mig_single_load.specs.Eager.{EagerlyLoads}
+use Rattle.mig_single_load.specs.LoadInPlace.{LoadsInPlace}
 use Rattle.mig_c.specs.Frames.{load_settings}
 use Rattle.mig_c.proofs.held_load.HeldLoad.new.Goals as goal
 
@@ -15,6 +15,6 @@ returns c =
       goes_on = c.in_ok-state.ensures.open;
       loads = λ blocks fit.
           let first : Image = lent_image c.args.table.now blocks in
-          subst (λ (n : ℕ). EagerlyLoads first (load_settings n (2 ^ 40) c.args.frame) first state [] false) c.page_size.ensures
+          subst (λ (n : ℕ). LoadsInPlace first (load_settings n (2 ^ 40) c.args.frame) first state [] false) c.page_size.ensures
           (c.in_ok-state.ensures.loads first (lent_is_image c.args.table.now blocks fit) refl);
     }

@@ -1,11 +1,11 @@
 use Rattle.std.proofs.Common.{subst, sym}
-use Rattle.mig_mem.specs.Image.{Image}
-use Rattle.mig_single_load.specs.InPlace.{InPlace, LoadsOnto}
-use Rattle.mig_single_load.proofs.InPlaceStates.{fed_with, with_memory}
+use Rattle.mig_single_load.specs.LoadInPlace.{InPlace, LoadsOnto, LacksOnto}
 use Rattle.mig_single_load.proofs.in_place.InPlaceLoader.closed_at.Goals as goal
 
-pub returns : goal.returns
-returns g c = λ given first text ended before.
-    let memory : Image = g.M.GuestTarget.image c.self.inside.memory in
-    let loads = subst (λ (l : InPlace). LoadsOnto given first l text ended) (sym c.self.view_is) before in
-    c.closed_at.ensures memory given first text ended (fed_with memory given first c.self.inside.state text ended (with_memory memory given first c.self.inside.state text ended c.self.invariant loads))
+pub returns-clause-loads : goal.returns-clause-loads
+returns-clause-loads g c = λ given first text ended before.
+    c.closed_at.ensures.loads (g.M.GuestTarget.image c.self.inside.memory) given first text ended (subst (λ (l : InPlace). LoadsOnto given first l text ended) (sym c.self.view_is) before)
+
+pub returns-clause-lacking : goal.returns-clause-lacking
+returns-clause-lacking g c = λ given first text ended before.
+    c.closed_at.ensures.lacking (g.M.GuestTarget.image c.self.inside.memory) given first text ended (subst (λ (l : InPlace). LacksOnto given first l text ended) (sym c.self.view_is) before)

@@ -1,10 +1,14 @@
-use Rattle.std.proofs.Common.{subst, sym}
-use Rattle.mig_single_load.specs.Loader.{put_so_far}
-use Rattle.mig_single_load.specs.InPlace.{settings_of}
-use Rattle.mig_single_load.specs.InPlaceState.{InPlaceState, FedWith}
+use Rattle.std.proofs.Common.{◌∙◌, ℕ, Option, ap, subst, sym}
+use Rattle.mig_single_load.specs.LoadInPlace.{LoadInPlace, valid_place, IsValidUpToOnto}
+use Rattle.mig_single_load.proofs.LoadsInPlace.{valid_told}
 use Rattle.mig_single_load.proofs.in_place_state.InPlaceState.valid_up_to.Goals as goal
 
-pub returns : goal.returns
-returns g c = λ memory given first text ended before.
-    let stood = subst (λ (s : InPlaceState). FedWith memory given first s text ended) (sym c.self.view_is) before in
-    c.valid_up_to.ensures (settings_of first given) (put_so_far text ended stood.fed.taken) stood.fed.stands
+pub returns-clause-loads : goal.returns-clause-loads
+returns-clause-loads g c = λ memory given first text ended loads.
+    let s : LoadInPlace = c.args.self.now in
+    subst (λ (o : Option ℕ). IsValidUpToOnto given first text o) (sym (c.valid_in.ensures ∙ ap (λ (x : LoadInPlace). valid_place x.state) c.self.view_is))
+    (valid_told given first text memory s.rounds s.pause s.state loads.stands)
+
+pub returns-clause-lacking : goal.returns-clause-lacking
+returns-clause-lacking g c = λ memory given first text ended lacks.
+    c.valid_in.ensures ∙ ap (λ (x : LoadInPlace). valid_place x.state) c.self.view_is ∙ ap valid_place lacks.has_failed

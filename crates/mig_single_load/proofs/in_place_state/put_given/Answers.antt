@@ -5,10 +5,10 @@ use Rattle.mig_stream.specs.declared.giving.Given.{Given}
 use Rattle.mig_stream.specs.Round.{RoundOfRecords}
 use Rattle.mig_assemble.specs.Target.{pages_of_round, FitsTable}
 use Rattle.mig_mem.specs.RamTable.{RamTable}
-use Rattle.mig_single_load.specs.Eager.{IsEnd}
-use Rattle.mig_single_load.proofs.Eager.{Step, one_more, put_fits, few_more, some_on, puts_on, gives_on, puts_all, puts_none, gives_none, puts_some, any_err, no_end_records, no_end_section}
-use Rattle.mig_single_load.proofs.eager_state.put_given.Goals as goal
-use Rattle.mig_single_load.proofs.eager_state.put_given.Goals.{in-Records, in-Section}
+use Rattle.mig_single_load.specs.LoadInPlace.{IsEnd}
+use Rattle.mig_single_load.proofs.LoadsInPlace.{Step, one_more, put_fits, few_more, some_on, puts_on, gives_on, puts_all, puts_none, gives_none, puts_some, any_err, no_end_records, no_end_section}
+use Rattle.mig_single_load.proofs.in_place_state.put_given.Goals as goal
+use Rattle.mig_single_load.proofs.in_place_state.put_given.Goals.{in-Records, in-Section}
 
 pub records-init : goal.records-init
 records-init g c = record { some = c.requires; same = refl; put = puts_none _ _ _ _; given = gives_none _ _ _ }

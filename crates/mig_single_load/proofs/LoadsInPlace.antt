@@ -24,10 +24,11 @@ use Rattle.mig_stream.specs.declared.giving.Given.TheVariants.{Records, Section,
 use Rattle.mig_stream.specs.PageRecord.{PageRecord, page_of}
 use Rattle.mig_stream.specs.Progress.{StreamProgress, start, whole_table}
 use Rattle.mig_stream.specs.Reading.{Settings, StreamReading, IsReading, Ends, Reads}
-use Rattle.mig_stream.specs.Reader.{HasTable, IsValidUpTo}
+use Rattle.mig_stream.specs.Reader.{HasTable, IsSettled, IsValidUpTo}
 use Rattle.mig_stream.specs.Round.{RoundOfRecords}
 use Rattle.mig_stream.specs.Giving.{Giver, GivenSoFar, none_given, with_more, with_last, with_given, Gives, GivesOn, GiverTells, EndsSo, LeavesNone, HasNoneLeft, HasReading, LeavesLess, all_read, Paused, giver_at, PausesAt}
 use Rattle.mig_stream.specs.Law.{StaysRead}
+use Rattle.mig_stream.specs.Written.{single}
 use Rattle.mig_stream.proofs.Between.{closed_is_empty}
 use Rattle.mig_stream.proofs.Exists.{one_reading_law}
 use Rattle.mig_stream.proofs.Feeding.{reads_short}
@@ -35,16 +36,16 @@ use Rattle.mig_stream.proofs.Longer.{longer_law}
 use Rattle.mig_stream.proofs.Valid.{closed_is_valid}
 use Rattle.mig_stream.proofs.Giver.{none_before_table, few_sections, table_each, paused_table, same_page_size}
 use Rattle.mig_assemble.specs.Target.{FitsTable, pages_of_round}
-use Rattle.mig_single_load.specs.Settings.{for_table}
+use Rattle.mig_single_load.specs.Settings.{for_table, ram_settings}
 use Rattle.mig_single_load.specs.declared.settings.LoadSettings.{LoadSettings}
-use Rattle.mig_single_load.specs.declared.eager_state.LoadState.{LoadState}
-use Rattle.mig_single_load.specs.declared.eager_state.LoadState.TheVariants as load_state
+use Rattle.mig_single_load.specs.declared.in_place_state.LoadState.{LoadState}
+use Rattle.mig_single_load.specs.declared.in_place_state.LoadState.TheVariants as load_state
 use Rattle.mig_single_load.specs.declared.fault.LoadFault.{LoadFault}
 use Rattle.mig_single_load.specs.SingleLoad.{verdict_of}
-use Rattle.mig_single_load.specs.InPlace.{settings_of, IsOfOwnTable, IsOfOtherTable, HasVerdictOnto}
-use Rattle.mig_single_load.specs.Eager.{EagerKeepsOtherPlaces, EagerOkIsBySections, pages_on, given_pages, settings_for, IsOfTable, HasRecordsOnto, IsEnd, GaveNext, PutsNext, PutsNextSome, GaveAll, GivesAll, PutsAll, PausesOnto, PausesSome, IsInState, StandsOnto, EagerLoad, eager_load, EagerlyLoads, HasSomeOnto, PutsSome, LacksMemory, closed_place, valid_place, HasClosedAtOnto, IsValidUpToOnto}
+use Rattle.mig_single_load.specs.InPlace.{settings_of, IsOfOwnTable, IsOfOtherTable, pages_on, HasRecordsOnto, HasVerdictOnto}
+use Rattle.mig_single_load.specs.LoadInPlace.{InPlaceKeepsOtherPlaces, InPlaceOkIsWhole, SentIsLoadedInPlace, given_pages, settings_for, IsOfTable, IsEnd, GaveNext, PutsNext, PutsNextSome, GaveAll, GivesAll, PutsAll, PausesOnto, PausesSome, IsInState, StandsOnto, LoadInPlace, load_in_place, LoadsInPlace, HasSomeOnto, PutsSome, LacksMemory, closed_place, valid_place, HasClosedAtOnto, IsValidUpToOnto}
 use Rattle.mig_single_load.proofs.Sections.{same_reading}
-use Rattle.mig_single_load.proofs.Onto.{apart}
+use Rattle.mig_single_load.proofs.Onto.{apart, sent_verdict, sent_sections}
 use Rattle.mig_single_load.proofs.LoadedAtOnce.{given_more, given_last, put_behind, few_first, calls}
 
 -- ---- what a call of a reader gives
@@ -366,9 +367,9 @@ stands_other given first text piece p m n so_far r t image at g whole differ =
 
 -- ---- before the first byte
 
-pub eager_first : (given : LoadSettings) (first : Image) (p : Paused) (table : RamTable) → IsTable first.table → IsImage first → first.table ≡ table → PausesAt (settings_for first.table given) [] none_given p
-    → EagerlyLoads first given first (eager_load (Some p) (load_state.Stream Reading 0) table 0 0 false) [] false
-eager_first given first p table is image same at =
+pub in_place_first : (given : LoadSettings) (first : Image) (p : Paused) (table : RamTable) → IsTable first.table → IsImage first → first.table ≡ table → PausesAt (settings_for first.table given) [] none_given p
+    → LoadsInPlace first given first (load_in_place (Some p) (load_state.Stream Reading 0) table 0 0 false) [] false
+in_place_first given first p table is image same at =
     let begin : StreamProgress = start given.frame Single first.table.page_size given.limit given.waiting in
     let reading : StreamReading = record { table = None; rounds = []; state = Reading } in
     let reads : Reads begin [] begin [] Reading = reads_short begin [] (omega arith) in
@@ -393,6 +394,20 @@ eager_first given first p table is image same at =
         is_read_to = record { to = begin; rest = []; state = Reading; reads = reads; has_length = omega (arith, ap (λ (l : List ℕ). length l) reads.has_text, length-append reads.front []) };
       };
     }
+
+-- ---- as long as it is read on
+
+-- where the stream is read on its reading hasn't come to an end
+reads_on : (first : Image) (reading : StreamReading) (p : Paused) (found : LoadState) → IsInState first reading (Some p) found → reading.state ≡ Reading
+reads_on first reading p (load_state.Stream found at) s = s.2 ∙ s.1
+reads_on first reading p load_state.OtherTable s = absurd s
+reads_on first reading p load_state.NoMemory s = absurd s
+
+pub settled_ends : (given : LoadSettings) (first : Image) (text : List ℕ) (m : Image) (n : ℕ) (p : Paused) (found : LoadState) → IsTable first.table
+    → StandsOnto given first text m n (Some p) found → IsSettled (settings_of first given) text → ⊥
+settled_ends given first text m n p found is st settled =
+    let same : settled.0 ≡ st.has_records.reading = same_reading (for_table first.table given) text settled.0 st.has_records.reading is.has_page_size settled.1 st.has_records.is_reading in
+    settled.2 (ap (λ (x : StreamReading). x.state) same ∙ reads_on first st.has_records.reading p found st.is_in_state)
 
 -- ---- the verdict
 
@@ -676,9 +691,9 @@ pub some_each : (given : LoadSettings) (fed : ℕ) (t table : RamTable) (n : ℕ
 some_each given fed t table n None same h = tt
 some_each given fed t table n (Some p) same h = (given, subst (λ (x : RamTable). PausesSome given x p n fed) same h)
 
-pub eager_on : (memory new : Image) (given : LoadSettings) (first : Image) (s : EagerLoad) (text piece : List ℕ) (pause : Option Paused) (found : LoadState) (n : ℕ) → EagerlyLoads memory given first s text false
-    → StandsOnto given first (text ++ piece) new n pause found → EagerlyLoads new given first (eager_load pause found s.table n (s.fed + length piece) s.ended) (text ++ piece) false
-eager_on memory new given first s text piece pause found n loads stands = record {
+pub in_place_on : (memory new : Image) (given : LoadSettings) (first : Image) (s : LoadInPlace) (text piece : List ℕ) (pause : Option Paused) (found : LoadState) (n : ℕ) → LoadsInPlace memory given first s text false
+    → StandsOnto given first (text ++ piece) new n pause found → LoadsInPlace new given first (load_in_place pause found s.table n (s.fed + length piece) s.ended) (text ++ piece) false
+in_place_on memory new given first s text piece pause found n loads stands = record {
   is_table = loads.is_table;
   is_image = loads.is_image;
   same_table = loads.same_table;
@@ -687,10 +702,10 @@ eager_on memory new given first s text piece pause found n loads stands = record
   stands = stands;
 }
 
-pub eager_past : (memory : Image) (given : LoadSettings) (first : Image) (s : EagerLoad) (text piece : List ℕ) → s.pause ≡ None → EagerlyLoads memory given first s text false
-    → EagerlyLoads memory given first (eager_load None s.state s.table s.rounds (s.fed + length piece) s.ended) (text ++ piece) false
-eager_past memory given first s text piece none loads =
-    eager_on memory memory given first s text piece None s.state s.rounds loads
+pub in_place_past : (memory : Image) (given : LoadSettings) (first : Image) (s : LoadInPlace) (text piece : List ℕ) → s.pause ≡ None → LoadsInPlace memory given first s text false
+    → LoadsInPlace memory given first (load_in_place None s.state s.table s.rounds (s.fed + length piece) s.ended) (text ++ piece) false
+in_place_past memory given first s text piece none loads =
+    in_place_on memory memory given first s text piece None s.state s.rounds loads
     (stands_more given first text piece memory s.rounds s.state loads.is_table.has_page_size (subst (λ (o : Option Paused). StandsOnto given first text memory s.rounds o s.state) none loads.stands))
 
 -- ---- where memory was refused
@@ -751,8 +766,8 @@ some_longer given first text piece m n has =
       has_sections = has.has_sections;
     }
 
-pub lacks_now : (memory new : Image) (given : LoadSettings) (first : Image) (s : EagerLoad) (text piece : List ℕ) (n : ℕ) → EagerlyLoads memory given first s text false → HasSomeOnto given first (text ++ piece) new n
-    → LacksMemory new given first (eager_load None load_state.NoMemory s.table n (s.fed + length piece) s.ended) (text ++ piece) false
+pub lacks_now : (memory new : Image) (given : LoadSettings) (first : Image) (s : LoadInPlace) (text piece : List ℕ) (n : ℕ) → LoadsInPlace memory given first s text false → HasSomeOnto given first (text ++ piece) new n
+    → LacksMemory new given first (load_in_place None load_state.NoMemory s.table n (s.fed + length piece) s.ended) (text ++ piece) false
 lacks_now memory new given first s text piece n loads some = record {
   is_table = loads.is_table;
   is_image = loads.is_image;
@@ -764,8 +779,8 @@ lacks_now memory new given first s text piece n loads some = record {
   has_failed = refl;
 }
 
-pub lacks_more : (memory : Image) (given : LoadSettings) (first : Image) (s : EagerLoad) (text piece : List ℕ) → LacksMemory memory given first s text false
-    → LacksMemory memory given first (eager_load None s.state s.table s.rounds (s.fed + length piece) s.ended) (text ++ piece) false
+pub lacks_more : (memory : Image) (given : LoadSettings) (first : Image) (s : LoadInPlace) (text piece : List ℕ) → LacksMemory memory given first s text false
+    → LacksMemory memory given first (load_in_place None s.state s.table s.rounds (s.fed + length piece) s.ended) (text ++ piece) false
 lacks_more memory given first s text piece lacks = record {
   is_table = lacks.is_table;
   is_image = lacks.is_image;
@@ -792,7 +807,7 @@ last_none first p (r ∷ records) all =
       | inr f ↦ cond-false (place_eq r.place p) (Some (page_of first.table.page_size r)) None f
     ]
 
-pub other_places : EagerKeepsOtherPlaces
+pub other_places : InPlaceKeepsOtherPlaces
 other_places given first text memory sections has p own is none =
     let whole : Image = with_rounds first (map (pages_on first) has.reading.rounds) in
     let records : List PageRecord = has.is_reading.to.records in
@@ -800,7 +815,7 @@ other_places given first text memory sections has p own is none =
     ∙ content_at-image_of first.table (λ (q : Place). option_map_or (λ (x : Page). x.content) (last_at q (pages_on first records)) (content_at whole q)) p is
     ∙ ap (λ (o : Option Page). option_map_or (λ (x : Page). x.content) o (content_at whole p)) (last_none first p records none)
 
-pub closed_by_sections : EagerOkIsBySections
+pub closed_by_sections : InPlaceOkIsWhole
 closed_by_sections given first text memory sections table image has v =
     let size : IsPageSize first.table.page_size = table.has_page_size in
     let same : v.reading ≡ has.reading = same_reading (for_table first.table given) text v.reading has.reading size v.is_reading has.is_reading in
@@ -827,3 +842,12 @@ closed_by_sections given first text memory sections table image has v =
     ok_closed n Closed e = refl
     ok_closed n Reading e = absurd cc
     ok_closed n (Bad f) e = absurd cc
+
+pub sent_in_place : SentIsLoadedInPlace
+sent_in_place limit first rounds memory sections verdict is image room all has v =
+    let load : LoadSettings = ram_settings first.table.page_size limit in
+    let text : List ℕ = single first.table rounds in
+    let ok : verdict ≡ Ok _ = sent_verdict limit first rounds verdict is room all v in
+    let both = sent_sections limit first rounds memory sections is room all
+    (closed_by_sections load first text memory sections is image has (subst (λ (r : Result ⊤ LoadFault). HasVerdictOnto load first text r) ok v)) in
+    (both.0, both.1, ok)

@@ -1,13 +1,11 @@
-//! The eager load in place: pieces of any length, a cut stream, another table, and each allocation
+//! The load in place of one stream: pieces of any length, a cut stream, another table, and each allocation
 //! refused.
 
 use crate::load_texts::LIMIT;
 use mig_fixtures::{TestHeap, at, places_of, set, table, zeroed};
 use mig_mem::{Memory, Place};
 use mig_send::SingleSender;
-use mig_single_load::{
-    EagerState, Fault, InPlaceFault, InPlaceState, LoadFault, Origin, SingleLoader,
-};
+use mig_single_load::{Fault, InPlaceFault, InPlaceState, LoadFault, Origin, SingleLoader};
 use mig_stream::StreamFault;
 use std::alloc::{AllocGlobal, Allocator};
 use std::process::Abort;
@@ -95,10 +93,10 @@ fn bytes_of<A: Allocator>(rt: &impl Abort, memory: &Memory<A>) -> (u8, u8) {
     )
 }
 
-// Feeds a piece of a short stream to an eager load.
+// Feeds a piece of a short stream to a load.
 fn feed<A: Allocator + Copy, B: Allocator>(
     rt: &impl Abort,
-    state: &mut EagerState<A>,
+    state: &mut InPlaceState<A>,
     memory: &mut Memory<B>,
     piece: &[u8],
 ) -> Result<(), InPlaceFault> {
@@ -106,20 +104,14 @@ fn feed<A: Allocator + Copy, B: Allocator>(
     state.feed(memory, piece)
 }
 
-// Feeds such a piece to a load by complete sections.
-fn feed_sections(rt: &impl Abort, state: &mut InPlaceState, memory: &mut Memory, piece: &[u8]) {
-    assert!(rt; !state.ended() && state.fed() <= LIMIT && piece.len() as u64 <= LIMIT);
-    assert!(rt; state.feed(memory, piece) == Ok(()));
-}
-
 // What a load gave: the sections counted, and the first bytes of both pages.
 type Left = (u64, (u8, u8));
 
-// Loads the stream eagerly, in pieces of `len` bytes. After each piece the memory has the records
+// Loads the stream in place, in pieces of `len` bytes. After each piece the memory has the records
 // so far, and the count and the verdict are those of the bytes so far.
-fn load_eagerly(rt: &(impl AllocGlobal + Abort), text: &[u8], len: usize) -> Left {
+fn load_pieces(rt: &(impl AllocGlobal + Abort), text: &[u8], len: usize) -> Left {
     let mut memory = fives(rt, rt.alloc(), "a");
-    let mut state = EagerState::new(rt.alloc(), memory.table(), LIMIT).expect(rt, "a load");
+    let mut state = InPlaceState::new(rt.alloc(), memory.table(), LIMIT).expect(rt, "a load");
     for piece in text.chunks(len.max(1)) {
         assert!(rt; feed(rt, &mut state, &mut memory, piece) == Ok(()));
         let fed = state.fed();
@@ -127,19 +119,6 @@ fn load_eagerly(rt: &(impl AllocGlobal + Abort), text: &[u8], len: usize) -> Lef
         assert!(rt; (state.rounds(), state.verdict()) == (sections_after(fed), verdict_after(fed)));
     }
     assert!(rt; state.fed() == LEN && state.verdict() == Ok(()));
-    (state.rounds(), bytes_of(rt, &memory))
-}
-
-// Loads it by complete sections, in these pieces. After each piece the count and the verdict are
-// those of the bytes so far.
-fn load_sections(rt: &(impl AllocGlobal + Abort), text: &[u8], len: usize) -> Left {
-    let mut memory = fives(rt, rt.alloc(), "a");
-    let mut state = InPlaceState::new(rt.alloc(), memory.table(), LIMIT).expect(rt, "a load");
-    for piece in text.chunks(len.max(1)) {
-        feed_sections(rt, &mut state, &mut memory, piece);
-        let fed = state.fed();
-        assert!(rt; (state.rounds(), state.verdict()) == (sections_after(fed), verdict_after(fed)));
-    }
     (state.rounds(), bytes_of(rt, &memory))
 }
 
@@ -159,8 +138,7 @@ fn pieces_of_any_length(rt: HostRuntime) {
     let text = stream(&rt);
     let whole = load_whole(&rt, &text);
     for len in [1, 7, 4096, text.len()] {
-        assert!(rt; load_eagerly(&rt, &text, len) == whole);
-        assert!(rt; load_sections(&rt, &text, len) == whole);
+        assert!(rt; load_pieces(&rt, &text, len) == whole);
     }
 }
 
@@ -171,7 +149,7 @@ fn stream_that_is_cut(rt: HostRuntime) {
     let text = stream(&rt);
     for len in [0, 55, 56, 4166, 4167, 4175, 4176, 4189, 8297, 8298, 8329] {
         let mut memory = fives(&rt, rt.alloc(), "a");
-        let mut state = EagerState::new(rt.alloc(), memory.table(), LIMIT).expect(&rt, "a load");
+        let mut state = InPlaceState::new(rt.alloc(), memory.table(), LIMIT).expect(&rt, "a load");
         let front = text.get(..len).expect(&rt, "a front");
         assert!(rt; feed(&rt, &mut state, &mut memory, front) == Ok(()));
         state.end();
@@ -187,7 +165,7 @@ fn stream_that_is_cut(rt: HostRuntime) {
 fn stream_of_another_table(rt: HostRuntime) {
     let text = stream(&rt);
     let mut memory = fives(&rt, rt.alloc(), "b");
-    let mut state = EagerState::new(rt.alloc(), memory.table(), LIMIT).expect(&rt, "a load");
+    let mut state = InPlaceState::new(rt.alloc(), memory.table(), LIMIT).expect(&rt, "a load");
     assert!(rt; feed(&rt, &mut state, &mut memory, &text) == Ok(()));
     assert!(rt; state.fed() == LEN && state.rounds() == 0);
     assert!(rt; bytes_of(&rt, &memory) == (5, 5));
@@ -206,7 +184,7 @@ fn memory_of_another_table(rt: HostRuntime) {
     let text = stream(&rt);
     let mut memory = fives(&rt, rt.alloc(), "a");
     let mut other = fives(&rt, rt.alloc(), "b");
-    let mut state = EagerState::new(rt.alloc(), memory.table(), LIMIT).expect(&rt, "a load");
+    let mut state = InPlaceState::new(rt.alloc(), memory.table(), LIMIT).expect(&rt, "a load");
     assert!(rt; state.table().same(memory.table()));
     assert!(rt; feed(&rt, &mut state, &mut other, &text) == Err(InPlaceFault::OtherTable));
     assert!(rt; state.fed() == 0 && bytes_of(&rt, &other) == (5, 5));
@@ -217,7 +195,7 @@ fn memory_of_another_table(rt: HostRuntime) {
 // ---- allocations refused
 
 // Asserts that the load has failed with `NoMemory`.
-fn assert_lacking<A: Allocator>(rt: &impl Abort, state: &EagerState<A>) {
+fn assert_lacking<A: Allocator>(rt: &impl Abort, state: &InPlaceState<A>) {
     let fault = LoadFault {
         round: state.rounds(),
         source: Origin::Round,
@@ -237,7 +215,7 @@ fn assert_between<A: Allocator>(rt: &impl Abort, memory: &Memory<A>, from: u64, 
 // Returns the number of bytes fed.
 fn feed_until_refused<A: Allocator + Copy>(
     rt: &impl Abort,
-    state: &mut EagerState<A>,
+    state: &mut InPlaceState<A>,
     memory: &mut Memory,
     text: &[u8],
 ) -> usize {
@@ -258,7 +236,7 @@ fn feed_until_refused<A: Allocator + Copy>(
 fn feed_rest(
     rt: &impl Abort,
     heap: &TestHeap,
-    state: &mut EagerState<&TestHeap>,
+    state: &mut InPlaceState<&TestHeap>,
     memory: &mut Memory,
     rest: &[u8],
 ) {
@@ -278,7 +256,7 @@ fn feed_rest(
 fn load_refused(rt: &(impl AllocGlobal + Abort), heap: &TestHeap, text: &[u8], nth: u64) -> bool {
     let mut memory = fives(rt, rt.alloc(), "a");
     heap.refuse(nth);
-    let Ok(mut state) = EagerState::new(heap, memory.table(), LIMIT) else {
+    let Ok(mut state) = InPlaceState::new(heap, memory.table(), LIMIT) else {
         assert!(rt; !heap.is_waiting());
         return false;
     };

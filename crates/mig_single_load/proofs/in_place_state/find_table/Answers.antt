@@ -1,7 +1,7 @@
 use Rattle.std.proofs.Common.{◌≡◌, None, rules}
 use Rattle.mig_stream.specs.Progress.{whole_table}
-use Rattle.mig_single_load.proofs.Eager.{Step, gave_on, gave_before}
-use Rattle.mig_single_load.proofs.eager_state.find_table.Goals as goal
+use Rattle.mig_single_load.proofs.LoadsInPlace.{Step, gave_on, gave_before}
+use Rattle.mig_single_load.proofs.in_place_state.find_table.Goals as goal
 
 pub items-preserved : goal.items-preserved
 items-preserved g c = λ given table text so_far gives size.

@@ -1,8 +1,8 @@
 use Rattle.std.proofs.Common.{◌≡◌}
-use Rattle.mig_single_load.specs.Eager.{PutsNextSome}
-use Rattle.mig_single_load.proofs.Eager.{PutsSoFar, GivesSoFar}
+use Rattle.mig_single_load.specs.LoadInPlace.{PutsNextSome}
+use Rattle.mig_single_load.proofs.LoadsInPlace.{PutsSoFar, GivesSoFar}
 use Rattle.mig_single_load.proofs.LoadedAtOnce.{calls}
-use Rattle.mig_single_load.proofs.eager_state.put_given.Given as goal
+use Rattle.mig_single_load.proofs.in_place_state.put_given.Given as goal
 
 abbrev pub invariant-records : goal.invariant-records
 invariant-records g l = record {

@@ -4,8 +4,8 @@ use Rattle.mig_mem.specs.Image.{Image}
 use Rattle.mig_stream.specs.Progress.{whole_table}
 use Rattle.mig_stream.specs.declared.item.StreamState.{StreamState}
 use Rattle.mig_stream.specs.Giving.{HasNoneLeft}
-use Rattle.mig_single_load.proofs.Eager.{Found, found_some, found_other, found_off, found_on, found_on_some, found_none_left, any_err, some_first, some_put, some_all}
-use Rattle.mig_single_load.proofs.eager_state.load_piece.Goals as goal
+use Rattle.mig_single_load.proofs.LoadsInPlace.{Found, found_some, found_other, found_off, found_on, found_on_some, found_none_left, any_err, some_first, some_put, some_all}
+use Rattle.mig_single_load.proofs.in_place_state.load_piece.Goals as goal
 
 pub returns-then-is_of_other_table-clause-ok : goal.returns-then-is_of_other_table-clause-ok
 returns-then-is_of_other_table-clause-ok g c = λ given first text image at few.

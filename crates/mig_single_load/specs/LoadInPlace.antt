@@ -1,59 +1,53 @@
--- The eager load in place: it writes each page when its bytes have come, before its section is
--- judged.
-use Rattle.std.specs.Prelude.{◌≡◌, ◌≢◌, ◌⊎◌, ◌<◌, ◌+◌, ◌^◌, ◌++◌, ℕ, Bool, List, length, map, Option, Some, None, IfSome, Ok, ⊤, All}
+-- The load in place of a single stream: it writes each page when its bytes have come, before its
+-- section is judged.
+use Rattle.std.specs.Prelude.{◌≡◌, ◌≢◌, ◌⊎◌, ◌≤◌, ◌<◌, ◌+◌, ◌^◌, ◌++◌, ℕ, Bool, List, length, map, Option, Some, None, IfSome, Result, Ok, ⊤, All}
 use Rattle.mig_mem.specs.RamTable.{RamTable, IsTable}
 use Rattle.mig_mem.specs.Place.{IsPlace}
 use Rattle.mig_mem.specs.declared.place.Place.{Place}
 use Rattle.mig_mem.specs.Image.{Image, Page, IsImage, content_at}
-use Rattle.mig_mem.specs.Round.{with_round, with_rounds, all_pages}
+use Rattle.mig_mem.specs.Round.{IsRound, with_round, with_rounds, all_pages}
 use Rattle.mig_stream.specs.declared.item.StreamState.{StreamState}
 use Rattle.mig_stream.specs.declared.item.StreamState.TheVariants as state
 use Rattle.mig_stream.specs.declared.giving.Given.{Given}
 use Rattle.mig_stream.specs.declared.giving.Given.TheVariants as gave
-use Rattle.mig_stream.specs.PageRecord.{PageRecord, page_of}
 use Rattle.mig_stream.specs.Reading.{Settings, StreamReading, IsReading}
 use Rattle.mig_stream.specs.Reader.{HasTable, IsValidUpTo, HasClosedAt}
+use Rattle.mig_stream.specs.Text.{total_bytes}
+use Rattle.mig_stream.specs.Written.{single}
 use Rattle.mig_stream.specs.Giving.{Giver, GivenSoFar, with_given, Gives, EndsSo, LeavesNone, HasNoneLeft, HasReading, Paused, PausesAt}
-use Rattle.mig_single_load.specs.Settings.{single_of, for_table}
+use Rattle.mig_single_load.specs.Settings.{single_of, for_table, ram_settings}
 use Rattle.mig_single_load.specs.declared.settings.LoadSettings.{LoadSettings}
-use Rattle.mig_single_load.specs.declared.eager_state.LoadState.{LoadState}
-use Rattle.mig_single_load.specs.declared.eager_state.LoadState.TheVariants as load_state
-use Rattle.mig_single_load.specs.InPlace.{settings_of, IsOfOwnTable, IsOfOtherTable, HasVerdictOnto, HasSectionsOnto}
-use Rattle.mig_single_load.specs.InPlaceState.{memory_with}
+use Rattle.mig_single_load.specs.declared.fault.LoadFault.{LoadFault}
+use Rattle.mig_single_load.specs.declared.in_place_state.LoadState.{LoadState}
+use Rattle.mig_single_load.specs.declared.in_place_state.LoadState.TheVariants as load_state
+use Rattle.mig_single_load.specs.InPlace.{settings_of, IsOfOwnTable, IsOfOtherTable, pages_on, HasRecordsOnto, HasSectionsOnto, HasVerdictOnto}
 
 -- ---- what the memory holds
 
--- the pages that records write, by the page size of a memory
-abbrev pub pages_on : Image → List PageRecord → List Page
-pages_on first records = map (page_of first.table.page_size) records
-
--- The memory has all page records of the stream so far, on top of what it held first: those of its
--- complete sections, `sections` of them, and then those of the section that isn't complete. Of a
--- stream of another table it has none.
-pub record HasRecordsOnto (given : LoadSettings) (first : Image) (text : List ℕ) (memory : Image) (sections : ℕ) : Type 0 where
-  pub reading : StreamReading
-  pub is_reading : IsReading (settings_of first given) text reading
-  pub same_table : memory.table ≡ first.table
-  pub own : IsOfOwnTable first reading
-      → (memory ≡ with_round (with_rounds first (map (pages_on first) reading.rounds)) (pages_on first is_reading.to.records)) × (sections ≡ length reading.rounds)
-  pub other : IsOfOtherTable first reading → (memory ≡ first) × (sections ≡ 0)
-
 -- A place without a record in the section that isn't complete holds what the complete sections
 -- left.
-abbrev pub EagerKeepsOtherPlaces : Type 0
-EagerKeepsOtherPlaces = (given : LoadSettings) (first : Image) (text : List ℕ) (memory : Image) (sections : ℕ) (has : HasRecordsOnto given first text memory sections) (p : Place)
+abbrev pub InPlaceKeepsOtherPlaces : Type 0
+InPlaceKeepsOtherPlaces = (given : LoadSettings) (first : Image) (text : List ℕ) (memory : Image) (sections : ℕ) (has : HasRecordsOnto given first text memory sections) (p : Place)
     → IsOfOwnTable first has.reading → IsPlace first.table p → All (λ r. r.place ≢ p) has.is_reading.to.records
     → content_at memory p ≡ content_at (with_rounds first (map (pages_on first) has.reading.rounds)) p
 
--- Where the verdict is Ok the memory has the complete sections and nothing else: what a load that
--- writes complete sections gives.
-abbrev pub EagerOkIsBySections : Type 0
-EagerOkIsBySections = (given : LoadSettings) (first : Image) (text : List ℕ) (memory : Image) (sections : ℕ) → IsTable first.table → IsImage first
-    → HasRecordsOnto given first text memory sections → HasVerdictOnto given first text (Ok _) → HasSectionsOnto given first text (memory_with memory sections)
+-- Where the verdict is Ok the memory has the complete sections and nothing else.
+abbrev pub InPlaceOkIsWhole : Type 0
+InPlaceOkIsWhole = (given : LoadSettings) (first : Image) (text : List ℕ) (memory : Image) (sections : ℕ) → IsTable first.table → IsImage first
+    → HasRecordsOnto given first text memory sections → HasVerdictOnto given first text (Ok _) → HasSectionsOnto given first text memory sections
+
+-- The stream that a sender made of the memory's table and of rounds is loaded: these rounds are in
+-- the memory, and the verdict is Ok. START and END count as a section each.
+abbrev pub SentIsLoadedInPlace : Type 0
+SentIsLoadedInPlace = (limit : ℕ) (first : Image) (rounds : List (List Page)) (memory : Image) (sections : ℕ) (verdict : Result ⊤ LoadFault) → IsTable first.table → IsImage first
+    → total_bytes first.table ≤ limit → All (IsRound first.table) rounds
+    → HasRecordsOnto (ram_settings first.table.page_size limit) first (single first.table rounds) memory sections
+    → HasVerdictOnto (ram_settings first.table.page_size limit) first (single first.table rounds) verdict
+    → (memory ≡ with_rounds first rounds) × (sections ≡ length rounds + 2) × (verdict ≡ Ok _)
 
 -- ---- what such a load keeps
 
-pub record EagerLoad : Type 0 where
+pub record LoadInPlace : Type 0 where
   -- where the stream is read on, as long as it is
   pub pause : Option Paused
   pub state : LoadState
@@ -63,8 +57,8 @@ pub record EagerLoad : Type 0 where
   pub fed : ℕ
   pub ended : Bool
 
-abbrev pub eager_load : Option Paused → LoadState → RamTable → ℕ → ℕ → Bool → EagerLoad
-eager_load pause state table rounds fed ended = record { pause = pause; state = state; table = table; rounds = rounds; fed = fed; ended = ended }
+abbrev pub load_in_place : Option Paused → LoadState → RamTable → ℕ → ℕ → Bool → LoadInPlace
+load_in_place pause state table rounds fed ended = record { pause = pause; state = state; table = table; rounds = rounds; fed = fed; ended = ended }
 
 -- the settings of the reader of a single stream of this table
 abbrev pub settings_for : RamTable → LoadSettings → Settings
@@ -110,13 +104,26 @@ pub record StandsOnto (given : LoadSettings) (first : Image) (text : List ℕ) (
 
 -- A load that was made for the memory `first` with these settings, and fed this stream, which may
 -- have ended. The memory is now what all page records of the stream make of `first`.
-pub record EagerlyLoads (memory : Image) (given : LoadSettings) (first : Image) (s : EagerLoad) (text : List ℕ) (ended : Bool) : Type 0 where
+pub record LoadsInPlace (memory : Image) (given : LoadSettings) (first : Image) (s : LoadInPlace) (text : List ℕ) (ended : Bool) : Type 0 where
   pub is_table : IsTable first.table
   pub is_image : IsImage first
   pub same_table : first.table ≡ s.table
   pub has_fed : s.fed ≡ length text
   pub has_ended : s.ended ≡ ended
   pub stands : StandsOnto given first text memory s.rounds s.pause s.state
+
+-- A load that keeps its memory, too.
+pub record InPlace : Type 0 where
+  pub load : LoadInPlace
+  pub memory : Image
+
+abbrev pub in_place : LoadInPlace → Image → InPlace
+in_place load memory = record { load = load; memory = memory }
+
+-- It was made with the memory `first` and these settings, and fed this stream, which may have
+-- ended.
+abbrev pub LoadsOnto : LoadSettings → Image → InPlace → List ℕ → Bool → Type 0
+LoadsOnto given first l text ended = LoadsInPlace l.memory given first l.load text ended
 
 -- ---- where the stream is closed, and up to where it is valid
 
@@ -160,7 +167,7 @@ pub record HasSomeOnto (given : LoadSettings) (first : Image) (text : List ℕ) 
 
 -- A load as above in which an allocation was refused. It has failed for good, and the memory has
 -- the first of the records.
-pub record LacksMemory (memory : Image) (given : LoadSettings) (first : Image) (s : EagerLoad) (text : List ℕ) (ended : Bool) : Type 0 where
+pub record LacksMemory (memory : Image) (given : LoadSettings) (first : Image) (s : LoadInPlace) (text : List ℕ) (ended : Bool) : Type 0 where
   pub is_table : IsTable first.table
   pub is_image : IsImage first
   pub same_table : first.table ≡ s.table
@@ -169,6 +176,10 @@ pub record LacksMemory (memory : Image) (given : LoadSettings) (first : Image) (
   pub has_some : HasSomeOnto given first text memory s.rounds
   pub has_no_pause : s.pause ≡ None
   pub has_failed : s.state ≡ load_state.NoMemory
+
+-- such a load, with its memory
+abbrev pub LacksOnto : LoadSettings → Image → InPlace → List ℕ → Bool → Type 0
+LacksOnto given first l text ended = LacksMemory l.memory given first l.load text ended
 
 -- ---- in the midst of a call
 
@@ -232,7 +243,7 @@ pub record PausesSome (given : LoadSettings) (table : RamTable) (p : Paused) (se
   pub pauses : PausesAt (settings_for table given) text so_far p
   pub has_sections : sections ≡ length so_far.sections
 
--- the invariant of what an eager load keeps
-pub record IsEager (s : EagerLoad) : Type 0 where
+-- the invariant of what a load in place keeps
+pub record IsLoadInPlace (s : LoadInPlace) : Type 0 where
   pub is_table : IsTable s.table
   pub pauses : IfSome s.pause (λ p. (given : LoadSettings) × PausesSome given s.table p s.rounds s.fed)
