@@ -166,22 +166,6 @@ fn cleared(rt: HostRuntime) {
     assert!(rt; judge(&rt, &mut arrivals, 0) == Ok(()));
 }
 
-#[test]
-fn new_with_each_allocation_refused(rt: HostRuntime) {
-    let heap = TestHeap::new(rt.alloc());
-    let table = table(rt.alloc(), &BLOCKS).expect(&rt, "a table");
-    for nth in 1..100u64 {
-        heap.refuse(nth);
-        let run = Arrivals::new(&heap, &table);
-        assert!(rt; heap.is_waiting() == run.is_ok());
-        if run.is_ok() {
-            assert!(rt; nth > 1);
-            return;
-        }
-    }
-    panic!(rt; "each run had a refusal");
-}
-
 // A refused packet has not arrived. Given again with memory it has. Nothing else allocates.
 #[test]
 fn packet_refused(rt: HostRuntime) {

@@ -113,11 +113,6 @@ fn assert_refused<R: AllocGlobal + Abort + Threads + Sync>(
     });
 }
 
-#[test]
-fn allocations_refused(rt: HostRuntime) -> Result<(), Fail> {
-    assert_refused(&rt, &SMALL, at(2, 64))
-}
-
 // The schedule decides whose allocation is refused.
 #[test]
 fn allocations_of_threads_refused(rt: HostRuntime) -> Result<(), Fail> {

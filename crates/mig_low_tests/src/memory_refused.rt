@@ -1,12 +1,11 @@
-//! Each call on guest memory that allocates, with its first allocation refused, then its second,
-//! until a run has no refusal. A refused run answers `NoMemory` and leaves what it was passed as it
-//! was; the run with memory answers as ever.
+//! Copies of a table and of guest memory, with the first allocation refused, then the second, until
+//! a run has no refusal; and calls that allocate nothing. Tables, memories and sets that are made
+//! with each allocation refused are in the runs of the tool.
 
 use mig_fixtures::{
-    TestHeap, at, has_byte, is_full, list, places_of, set, table, with_each_allocation_refused,
-    zeroed,
+    TestHeap, at, has_byte, is_full, set, table, with_each_allocation_refused, zeroed,
 };
-use mig_mem::{Dirty, Memory, PAGE_SIZE_4K, Place, Table, TableFault, first_difference};
+use mig_mem::{Dirty, Memory, Place, first_difference};
 use std::alloc::{AllocGlobal, Allocator};
 use std::process::Abort;
 use std::test::Fail;
@@ -16,50 +15,12 @@ const BLOCKS: [(&str, u64); 2] = [("a", 2), ("pc.ram", 65)];
 // The content of a page.
 const NINES: [u8; 4096] = [9; 4096];
 
-fn has_blocks<A: Allocator>(table: &Table<A>) -> bool {
-    table.len() == 2
-        && table.find(b"pc.ram") == Some(1)
-        && table.holds(at(1, 64))
-        && !table.holds(at(1, 65))
-}
-
-// Returns a table in memory of one allocator, of a list in memory of another.
-fn new_table<'a>(
-    others: &'a TestHeap,
-    heap: &'a TestHeap,
-) -> Result<Table<&'a TestHeap>, TableFault> {
-    match list(others, &BLOCKS) {
-        Ok(list) => Table::new(heap, PAGE_SIZE_4K, list),
-        Err(_) => Err(TableFault::NoMemory),
-    }
-}
-
-#[test]
-fn table_new(rt: HostRuntime) -> Result<(), Fail> {
-    let heap = TestHeap::new(rt.alloc());
-    let others = TestHeap::new(rt.alloc());
-    with_each_allocation_refused!(rt, heap, new_table(&others, &heap), made => {
-        assert!(rt; has_blocks(&made));
-    });
-}
-
 #[test]
 fn table_copy(rt: HostRuntime) -> Result<(), Fail> {
     let heap = TestHeap::new(rt.alloc());
     let made = table(&heap, &BLOCKS).expect(&rt, "a table");
     with_each_allocation_refused!(rt, heap, made.try_copy(), copy => {
-        assert!(rt; has_blocks(&made));
         assert!(rt; copy.same(&made));
-    });
-}
-
-#[test]
-fn memory_zeroed(rt: HostRuntime) -> Result<(), Fail> {
-    let heap = TestHeap::new(rt.alloc());
-    let table = table(&heap, &BLOCKS).expect(&rt, "a table");
-    with_each_allocation_refused!(rt, heap, Memory::zeroed(&heap, &table), memory => {
-        assert!(rt; memory.table().same(&table));
-        assert!(rt; is_full(&memory, at(1, 64), 0));
     });
 }
 
@@ -145,28 +106,6 @@ fn memory_writes_in_a_copy(rt: HostRuntime) {
     let mut copy = memory.try_copy().ok().expect(&rt, "a copy");
     assert_writes_take_none(&rt, &heap, &mut copy);
     assert_written(&rt, &memory);
-}
-
-#[test]
-fn dirty_none(rt: HostRuntime) -> Result<(), Fail> {
-    let heap = TestHeap::new(rt.alloc());
-    let table = table(&heap, &BLOCKS).expect(&rt, "a table");
-    with_each_allocation_refused!(rt, heap, Dirty::none(&heap, &table), dirty => {
-        assert!(rt; dirty.table().same(&table));
-        assert!(rt; dirty.count() == 0);
-    });
-}
-
-#[test]
-fn dirty_pages(rt: HostRuntime) -> Result<(), Fail> {
-    let heap = TestHeap::new(rt.alloc());
-    let table = table(&heap, &BLOCKS).expect(&rt, "a table");
-    let places = [at(1, 64), at(0, 1), at(1, 0)];
-    let dirty = places_of(&heap, &table, &places).expect(&rt, "a set");
-    with_each_allocation_refused!(rt, heap, dirty.pages(), pages => {
-        assert!(rt; pages.as_slice() == [at(0, 1), at(1, 0), at(1, 64)].as_slice());
-        assert!(rt; dirty.count() == 3);
-    });
 }
 
 // It allocates nothing: the allocation that is to be refused doesn't come.

@@ -133,27 +133,6 @@ fn pieces(rt: HostRuntime) {
     }
 }
 
-// A round's packets are lent, in a list that is the only allocation; to take a round takes none.
-#[test]
-fn rounds(rt: HostRuntime) {
-    let heap = TestHeap::new(rt.alloc());
-    let text = two_page_channel(&rt);
-    let mut reader = ChannelReader::new(&heap, 4096, Uuid::nil(), 1);
-    assert!(rt; feed(&rt, &mut reader, &text) == Ok(()));
-    heap.refuse(1);
-    let Ok(Some(round)) = reader.take_round() else {
-        panic!(rt; "no round")
-    };
-    assert!(rt; heap.is_waiting());
-    assert!(rt; round.packets().is_err());
-    assert!(rt; !heap.is_waiting());
-    heap.refuse(2);
-    let packets = round.packets().ok().expect(&rt, "its packets");
-    assert!(rt; heap.is_waiting());
-    assert!(rt; packets.len() == 2);
-    assert!(rt; packets[0].number() == 0 && packets[1].sync());
-}
-
 // It returns, and does nothing that can be seen.
 #[test]
 fn the_open_gate(rt: HostRuntime) {

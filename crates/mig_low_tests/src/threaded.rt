@@ -137,6 +137,18 @@ fn pages_that_threads_share(rt: HostRuntime) {
     }
 }
 
+// Returns what the round of `assert_last_one_counts` leaves of blocks of nines.
+fn left_of_nines(rt: &(impl AllocGlobal + Abort), page: &[u8]) -> [Vec<u8>; 2]
+    requires { IsPageSize (length page.now) }
+{
+    let nine = nines(rt, page.len());
+    let zero = vec![in rt.alloc(); 0u8; page.len()].expect(rt, "zeros");
+    [
+        joined(rt, &[&nine, &zero]),
+        joined(rt, &[&nine, &nine, page]),
+    ]
+}
+
 // Asserts what a round leaves in which two pages come twice, the last of them with another content,
 // and that a round of no page leaves all as it was.
 fn assert_last_one_counts<R: AllocGlobal + Abort + Threads + Sync>(
@@ -177,18 +189,9 @@ fn assert_last_one_counts<R: AllocGlobal + Abort + Threads + Sync>(
             content,
         },
     ];
-    let nine = nines(rt, size);
-    let zero = vec![in rt.alloc(); 0u8; size].expect(rt, "zeros");
-    let first = joined(rt, &[&nine, &zero]);
-    let second = joined(rt, &[&nine, &nine, page]);
-    assert_put(rt, &table, threads, &pages, &[first, second]);
-    assert_put(
-        rt,
-        &table,
-        threads,
-        &[],
-        &[nines(rt, 2 * size), nines(rt, 3 * size)],
-    );
+    assert_put(rt, &table, threads, &pages, &left_of_nines(rt, page));
+    let all = [nines(rt, 2 * size), nines(rt, 3 * size)];
+    assert_put(rt, &table, threads, &[], &all);
 }
 
 // Asserts it of each number of threads.
