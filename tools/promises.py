@@ -7,8 +7,8 @@
 A page has the public types and functions of one crate of the product: of each function its
 signature, its sentence and its clauses as they stand, but for line breaks, and below all the
 definitions that these cite. The sentence is the function's comment, and what tools/promises.md says
-of it beside that, which stands before the errors. The page of a crate that only gives on names has
-its comment, and where each name stands.
+of it beside that, which stands before the errors. The page of a crate that only re-exports names
+has its comment, and where each name stands.
 
 It fails where a public function with a contract has no sentence, where tools/promises.md names a
 function or a definition that is gone, and where it read other numbers of public functions and
@@ -44,7 +44,7 @@ class Crate:
     doc: list
     types: list  # those that callers see
     functions: list  # those that callers can call
-    gives: list  # the names that it gives on of other crates: pairs of a crate and a name
+    gives: list  # the names that it re-exports of other crates: pairs of a crate and a name
     hidden: list  # public functions that can't be named outside the crate
 
 
@@ -170,9 +170,17 @@ def code(text):
     return "```rust\n" + "\n".join(map(folded, text.splitlines())) + "\n```\n"
 
 
+QUOTED = re.compile(r"<!-- quoted from crates/(\S+) -->")
+
+
+def with_links(lines):
+    """A comment's lines, with a link to the file in place of each mark of a quotation."""
+    return [QUOTED.sub(r"([`\1`](../../crates/\1))\n", line) for line in lines]
+
+
 def type_part(it):
     """A type: its comment, what it shows to contracts alone, and the traits that it has."""
-    parts = [f"## {it.name}\n"] + [filled(it.doc) + "\n"] * bool(it.doc)
+    parts = [f"## {it.name}\n"] + [filled(with_links(it.doc)) + "\n"] * bool(it.doc)
     if it.kind == "trait":
         parts.append(code("\n\n".join([it.head + " { .. }", *it.ghosts])))
     elif it.shown or it.ghosts:
@@ -255,14 +263,13 @@ def place_of(name, crates):
 
 
 def facade_page(crate, crates):
-    """The page of a crate that only gives on names."""
-    quoted = re.compile(r"<!-- quoted from crates/(\S+) -->")
-    doc = [quoted.sub(r"([`\1`](../../crates/\1))\n", line) for line in crate.doc]
+    """The page of a crate that only re-exports names."""
+    doc = with_links(crate.doc)
     link = lambda match: place_of(match[1], crates)[1]
     doc = [re.sub(r"`(\w+)`", link, line) if line.startswith("|") else line
            for line in filled(doc, has_headings=True).splitlines()]
     parts = [MADE, f"# The crate {crate.name}\n", *doc, ""]
-    parts.append("## What it gives on\n")
+    parts.append("## What it re-exports\n")
     groups = {}
     for name in sorted((name for _, name in crate.gives), key=str.lower):
         group, line = place_of(name, crates)
@@ -279,8 +286,8 @@ def index(crates, says):
              for it in crates if it.functions]
     rows.append(row("all", map(sum, zip(*map(numbers, crates)))))
     paths = lambda it: ", ".join(dict.fromkeys(f"`{path}`" for path, _ in it.gives))
-    gives = [fill(f"[{it.name}](contracts/{it.name}.md) has none of its own. It gives on names of "
-                  f"{paths(it)}.") for it in crates if it.gives and not it.functions]
+    gives = [fill(f"[{it.name}](contracts/{it.name}.md) has none of its own. It re-exports names "
+                  f"of {paths(it)}.") for it in crates if it.gives and not it.functions]
     parts = [MADE.strip(), "# Contracts", says["Contracts"], "\n".join(rows), *gives]
     return "\n\n".join(parts) + "\n"
 

@@ -3,8 +3,8 @@
 
 A block of code that follows a line `<!-- quoted from FILE -->` has to stand in that file word for
 word, line after line, up to how far it is indented, but for its imports. That is so in the pages
-below, and in documentation comments (`//!`, `///`) of `crates/*/src`. All examples at the head of
-`crates/zimgasol/src/lib.rt` have such a mark.
+below, and in documentation comments (`//!`, `///`) of `crates/*/src`. There each block of Rattle
+has such a mark, and so has at least one block of each type in `TYPES`.
 """
 import re
 import sys
@@ -16,6 +16,11 @@ QUOTE = re.compile(rf"^{MARK}(\S+) -->\n+```(?:rust|c)\n(.*?)^```$", re.MULTILIN
 IMPORT = re.compile(r"use [\w:]+(::\{.*\})?;$")
 PAGES = ("README.md", "docs/EMBEDDING.md")
 FACADE = "crates/zimgasol/src/lib.rt"
+# the main types, each with an example
+TYPES = """Table Memory LentMemory LentMemoryMut Dirty SingleSender MultiSender LoadSettings
+    SingleLoader InPlaceLoader InPlaceState Session InPlaceSession StreamReader
+    StreamWriter""".split()
+EXAMPLE = re.compile(r"^/// ```\n(?:#\[.*\]\n)*pub struct (\w+)", re.MULTILINE)
 
 
 def lines(text):
@@ -46,18 +51,22 @@ def quotes_of(name, text):
 
 def main():
     texts = {page: (TOP / page).read_text() for page in PAGES}
+    have = set()
     for file in sorted(TOP.glob("crates/*/src/**/*.rt")):
-        if MARK in file.read_text():
-            texts[str(file.relative_to(TOP))] = comments(file)
+        said = comments(file)
+        if said.count("\n```rust\n") != said.count(MARK):
+            sys.exit(f"{file.relative_to(TOP)} has an example that names no file that it is from")
+        if MARK in said:
+            texts[str(file.relative_to(TOP))] = said
+            have |= set(EXAMPLE.findall(file.read_text()))
     quotes = [it for name, text in texts.items() for it in quotes_of(name, text)]
-    examples = [it for it in quotes if it[0] == FACADE]
-    if not examples or len(examples) != texts[FACADE].count("\n```rust\n"):
-        sys.exit(f"{FACADE} has no example, or one that names no file that it is quoted from")
+    if lacking := [it for it in [*TYPES, FACADE] if it not in have | texts.keys()]:
+        sys.exit(f"without an example: {', '.join(lacking)}")
     wrong = [f"{name}: {file}: {' '.join(quote[:1])}" for name, file, quote in quotes
              if not stands_in(quote, lines((TOP / file).read_text()))]
     if wrong:
         sys.exit("\n".join(["quoted, but doesn't stand there any more:", *wrong]))
-    print(f"{len(quotes)} quotations of {', '.join(texts)} stand in the code")
+    print(f"{len(quotes)} quotations of {len(texts)} pages and sources stand in the code")
 
 
 main()

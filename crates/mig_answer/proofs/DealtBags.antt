@@ -24,7 +24,7 @@ bag_same {X} xs ys e = record {
   sums = λ f. ap (λ (l : List X). sum_by f l) e;
 }
 
--- two lists one after the other
+-- two lists one after another
 pub bag_append : {X : Type 0} (xs ys us vs : List X) → SameBag xs ys → SameBag us vs → SameBag (xs ++ us) (ys ++ vs)
 bag_append xs ys us vs first second = record {
   there = λ x h. elim (Contains-append_cases xs us x h) [

@@ -1,5 +1,5 @@
--- To read first, in this order: how a source stands at a round; the streams and their readings; the
--- rounds that they have together; the answer of a load on several channels.
+-- To read first, in this order: the status of a source at a round; the streams and their readings;
+-- the rounds that they have together; the answer of a load on several channels.
 pub mod Status
 pub mod Texts
 pub mod Rounds
@@ -11,6 +11,6 @@ pub mod Dealt
 pub mod Sent
 pub mod Law
 pub mod Growing
--- Words of the calls that relays and sessions share
+-- Definitions of the calls that relays and sessions share
 pub mod Told
 pub mod Putting

@@ -1,4 +1,4 @@
--- What a load on several channels answers: one function of its streams as far as they have come.
+-- The answer of a load on several channels: one function of its streams so far.
 use Rattle.std.specs.Prelude.{ℕ, ◌≡◌, ◌⊎◌, ◌<◌, Bool, false, ◌&&◌, ◌==◌, if◌then◌else◌, List, [], ◌∷◌, ◌++◌, length, map, take, get_or, find, Option, Some, None, is_none, IsTrue, IsFalse, Result, Ok, Err, ⊤, Vec}
 use Rattle.std.specs.Bool.{then_some}
 use Rattle.std.specs.List.{list_any, list_all, range_with_len, enumerate_from}
@@ -21,7 +21,7 @@ use Rattle.mig_answer.specs.Rounds.{refusal_at, memory_at}
 
 -- ---- the sources at a round
 
--- a source, and its status there
+-- a source, and its status at a round
 pub record Standing : Type 0 where
   pub source : Origin
   pub status : Status
@@ -32,7 +32,7 @@ main_standing status = record { source = origin.Main; status = status }
 abbrev pub main_at : ℕ → Readings → Standing
 main_at k readings = main_standing (main_status k readings.main)
 
--- the channels, each by its place
+-- the channels, each by its index
 abbrev pub channels_at : ℕ → Readings → List Standing
 channels_at k readings = map (λ c. record { source = origin.Channel c.0; status = channel_status k c.1 }) (enumerate_from 0 readings.channels)
 
@@ -42,7 +42,7 @@ sources_at k readings = main_at k readings ∷ channels_at k readings
 
 -- ---- the hellos
 
--- the ids that the hellos name, None where none was read, or it has a fault
+-- the ids in the hellos; None if the hello wasn't read, or has a fault
 abbrev pub hello_ids : Readings → List (Option ℕ)
 hello_ids readings = map (λ c. c.hello) readings.channels
 
@@ -52,7 +52,7 @@ is_same_id None other = false
 is_same_id (Some id) None = false
 is_same_id (Some id) (Some other) = id == other
 
--- a hello before number j names the id of that one
+-- a hello before number j has the id of hello j
 abbrev pub comes_again : List (Option ℕ) → ℕ → Bool
 comes_again ids j = list_any (is_same_id (get_or ids j None)) (take j ids)
 
@@ -76,7 +76,7 @@ pub record IsFirstStop (readings : Readings) (k : ℕ) : Type 0 where
 abbrev pub failed : ℕ → Origin → Fault → Verdict
 failed k source fault = Failed (record { round = k; source = source; fault = fault })
 
--- failed with a fault, at the first of some sources whose status is such
+-- failed with a fault, at the first of some sources whose status passes a test
 abbrev pub failed_at_first : ℕ → (Status → Bool) → Fault → List Standing → Option Verdict
 failed_at_first k is_such fault sources = option_map (λ s. failed k s.source fault) (find (λ s. is_such s.status) sources)
 
@@ -84,13 +84,13 @@ failed_at_first k is_such fault sources = option_map (λ s. failed k s.source fa
 abbrev pub failed_with_own : ℕ → Standing → Option Verdict
 failed_with_own k s = option_map (failed k s.source) (fault_of s.status)
 
--- The verdicts that the sources' statuses and hellos may give at round k, in the order of judging:
---   running, where a source is pending;
+-- The verdicts that the sources' statuses and hellos may give at round k, in the order of the tests:
+--   running, if a source is pending;
 --   the first source's fault, the main stream's before the channels';
 --   HelloTwice, at the least channel whose hello names an earlier one's id;
---   done, where all sources are clean;
---   Extra, at the least channel that has the round, where the main stream is clean;
---   Short, at the least channel that is clean, where the main stream has the round.
+--   done, if all sources are clean;
+--   Extra, at the least channel that has the round, if the main stream is clean;
+--   Short, at the least channel that is clean, if the main stream has the round.
 abbrev pub verdicts_told : ℕ → Standing → List Standing → Option ℕ → List (Option Verdict)
 verdicts_told k main channels repeated =
     then_some (list_any (λ s. is_pending s.status) (main ∷ channels)) Running ∷
@@ -100,8 +100,8 @@ verdicts_told k main channels repeated =
     (if is_clean main.status then failed_at_first k is_whole fault.Extra channels else None) ∷
     (if is_whole main.status then failed_at_first k is_clean fault.Short channels else None) ∷ []
 
--- All verdicts that there may be at round k, in the order of judging: those, and then why the round
--- isn't lawful.
+-- All verdicts that there may be at round k, in the order of the tests: those of the sources, and
+-- then why the round isn't lawful.
 abbrev pub verdicts_at : ℕ → Readings → List (Option Verdict)
 verdicts_at k readings =
     verdicts_told k (main_at k readings) (channels_at k readings) (repeated_hello (hello_ids readings))
@@ -113,7 +113,7 @@ verdict_at k readings = unwrap_or (first_some (verdicts_at k readings)) Running
 
 -- ---- the answer
 
--- what a load returns: the guest's memory, how many rounds are in it, and how the load stands
+-- what a load returns: the guest's memory, how many rounds are in it, and the verdict
 pub record Answer : Type 0 where
   pub memory : Option Image
   pub rounds : ℕ
@@ -129,8 +129,8 @@ pub record IsAnswer (given : LoadSettings) (uuid : List ℕ) (texts : Texts) (an
   pub has_memory : answer.memory ≡ memory_at answer.rounds readings
   pub has_verdict : answer.verdict ≡ verdict_at answer.rounds readings
 
--- The answer where an allocation was refused: the memory is that after the rounds counted, each of
--- which passes, or None where none was counted.
+-- The answer after a refused allocation: the memory is that after the rounds counted, each of which
+-- passes, or None if none was counted.
 pub record IsWithoutMemory (given : LoadSettings) (uuid : List ℕ) (texts : Texts) (answer : Answer) : Type 0 where
   pub readings : Readings
   pub are_readings : AreReadings given uuid texts readings
@@ -138,13 +138,13 @@ pub record IsWithoutMemory (given : LoadSettings) (uuid : List ℕ) (texts : Tex
   pub has_memory : (answer.memory ≡ memory_at answer.rounds readings) ⊎ ((answer.memory ≡ None) × (answer.rounds ≡ 0))
   pub has_verdict : answer.verdict ≡ failed answer.rounds origin.Round fault.NoMemory
 
--- What a load may answer: the answer on its streams, or, where an allocation was refused, one
+-- The answer that a load may return: that on its streams, or, after a refused allocation, one
 -- without memory.
 abbrev pub IsAnswerOrWithoutMemory : LoadSettings → List ℕ → Texts → Answer → Type 0
 IsAnswerOrWithoutMemory given uuid texts answer =
     IsAnswer given uuid texts answer ⊎ IsWithoutMemory given uuid texts answer
 
--- the answer that a load gave
+-- the answer that a load returned
 abbrev pub as_verdict : Result ⊤ LoadFault → Verdict
 as_verdict (Ok x) = Done
 as_verdict (Err fault) = Failed fault

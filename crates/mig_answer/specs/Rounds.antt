@@ -12,16 +12,16 @@ use Rattle.mig_assemble.specs.declared.fault.RoundFault.{RoundFault}
 use Rattle.mig_assemble.specs.Judging.{refusal, all_round_pages}
 use Rattle.mig_answer.specs.Texts.{Readings}
 
--- the pages that the main stream's records of round k stand for; none, where it hasn't that round
--- (a round is judged only where all have it)
+-- the pages of the main stream's records of round k; none, if it doesn't have that round (a round
+-- is judged only if all sources have it)
 abbrev pub record_pages_at : ℕ → ℕ → Readings → List Page
 record_pages_at page_size k readings = map (page_of page_size) (get_or readings.main.rounds k [])
 
--- what a channel's packets of round k say
+-- the fields of a channel's packets of round k
 abbrev pub channel_packets_at : ℕ → ℕ → ChannelReading → List Fields
 channel_packets_at page_size k reading = map (fields_of page_size) (get_or reading.rounds k [])
 
--- what the packets of all channels' round k say
+-- the fields of the packets of all channels' round k
 abbrev pub packets_at : ℕ → ℕ → Readings → List Fields
 packets_at page_size k readings = flat_map (channel_packets_at page_size k) readings.channels
 
@@ -29,23 +29,22 @@ packets_at page_size k readings = flat_map (channel_packets_at page_size k) read
 abbrev pub packet_count_at : ℕ → Readings → ℕ
 packet_count_at k readings = sum_by (λ reading. length (get_or reading.rounds k [])) readings.channels
 
--- the least number that a packet of round k is to have: how many packets there are of the rounds
--- before
+-- the least number of a packet of round k: how many packets there are of the rounds before
 abbrev pub base_at : ℕ → Readings → ℕ
 base_at k readings = sum_by (λ i. packet_count_at i readings) (range_with_len 0 k)
 
--- why round k of a table is refused, None where it is lawful
+-- why round k of a table is refused, None if it is lawful
 abbrev pub refusal_of : RamTable → ℕ → Readings → Option RoundFault
 refusal_of table k readings = refusal table (base_at k readings) (record_pages_at table.page_size k readings) (packets_at table.page_size k readings)
 
--- the same of the main stream's table; no round is refused where there is none
+-- why round k of the main stream's table is refused; no round is, if there is no table
 abbrev pub refusal_at : ℕ → Readings → Option RoundFault
 refusal_at k readings = option_and_then (λ table. refusal_of table k readings) readings.main.table
 
--- the pages that round k of a table brings
+-- the pages of round k of a table
 abbrev pub pages_at : RamTable → ℕ → Readings → List Page
 pages_at table k readings = all_round_pages table (record_pages_at table.page_size k readings) (packets_at table.page_size k readings)
 
--- the memory after the first k rounds, None where the size list isn't whole
+-- the memory after the first k rounds, None if the size list isn't complete
 abbrev pub memory_at : ℕ → Readings → Option Image
 memory_at k readings = option_map (λ table. after table (map (λ i. pages_at table i readings) (range_with_len 0 k))) readings.main.table

@@ -1,4 +1,4 @@
--- How a source of a load stands at a round, as its reading says: the main stream or a channel.
+-- The status of a source of a load, the main stream or a channel, at a round, by its reading.
 use Rattle.std.specs.Prelude.{ℕ, Bool, true, false, nat_lt, ◌==◌, if◌then◌else◌, length, Option, Some, None}
 use Rattle.mig_stream.specs.declared.item.StreamState.{StreamState}
 use Rattle.mig_stream.specs.declared.item.StreamState.TheVariants as stream_state
@@ -11,7 +11,7 @@ use Rattle.mig_single_load.specs.declared.fault.Fault.TheVariants as fault
 use Rattle.mig_answer.specs.declared.status.Status.{Status}
 use Rattle.mig_answer.specs.declared.status.Status.TheVariants.{Whole, Clean, Bad, Pending}
 
--- how a stream stands after its complete rounds
+-- the status of a stream after its complete rounds
 abbrev pub stream_end : StreamState → Status
 stream_end stream_state.Reading = Pending
 stream_end stream_state.Closed = Clean
@@ -22,9 +22,9 @@ channel_end channel_state.Reading = Pending
 channel_end channel_state.Closed = Clean
 channel_end (channel_state.Bad f) = Bad (fault.Channel f)
 
--- The status at round k, from 0, of a source with so many complete rounds, after which it stands
--- so: it has round k, or it has exactly the k rounds before. One with fewer rounds counts as
--- pending; at the first round that doesn't pass no source stands so.
+-- The status at round k, from 0, of a source with `count` complete rounds, and its status after
+-- them: it has round k, or it has exactly the k rounds before. A source with fewer rounds counts as
+-- pending; at the first round that doesn't pass there is none.
 abbrev pub status_at : ℕ → ℕ → Status → Status
 status_at k rounds end = if nat_lt k rounds then Whole else if k == rounds then end else Pending
 

@@ -1,5 +1,5 @@
--- The streams of a load on several channels as far as they have come, and what they say: the main
--- stream and the channels.
+-- The streams of a load on several channels so far, the main stream and the channels, and their
+-- readings.
 use Rattle.std.specs.Prelude.{ℕ, ◌≡◌, Bool, true, false, List, [], ◌++◌, length, map, replicate}
 use Rattle.std.specs.List.{AllZip}
 use Rattle.mig_stream.specs.Reading as stream
@@ -9,7 +9,7 @@ use Rattle.mig_single_load.specs.declared.settings.LoadSettings.{LoadSettings}
 
 -- ---- streams
 
--- a source's bytes as far as they have come, and whether it has ended
+-- a source's bytes so far, and whether it has ended
 pub record Text : Type 0 where
   pub bytes : List ℕ
   pub ended : Bool
@@ -18,18 +18,18 @@ pub record Texts : Type 0 where
   pub main : Text
   pub channels : List Text
 
--- of which nothing has come
+-- a stream without bytes yet
 abbrev pub no_text : Text
 no_text = record { bytes = []; ended = false }
 
 abbrev pub no_texts : ℕ → Texts
 no_texts channels = record { main = no_text; channels = replicate channels no_text }
 
--- with a piece more
+-- the stream with one more piece
 abbrev pub with_piece : List ℕ → Text → Text
 with_piece piece text = record text { bytes = text.bytes ++ piece }
 
--- which has ended
+-- the stream, ended
 abbrev pub over : Text → Text
 over text = record text { ended = true }
 
@@ -41,7 +41,7 @@ ended_texts main channels = record { main = ended_text main; channels = map ende
 
 -- ---- their readings
 
--- what the main stream and the channels say
+-- the readings of the main stream and the channels
 pub record Readings : Type 0 where
   pub main : stream.StreamReading
   pub channels : List channel.ChannelReading
@@ -52,8 +52,8 @@ pub record IsMainReading (given : LoadSettings) (text : Text) (reading : stream.
   pub is_reading : stream.IsReading (main_of given) text.bytes found
   pub has_end : reading ≡ record found { state = stream.state_at text.ended found.state }
 
--- These are the readings of the streams, with these settings and under this UUID. As many channels
--- are expected as there are streams of channels.
+-- These are the readings of the streams, with these settings and this UUID. As many channels are
+-- expected as there are streams of channels.
 pub record AreReadings (given : LoadSettings) (uuid : List ℕ) (texts : Texts) (readings : Readings) : Type 0 where
   pub has_main : IsMainReading given texts.main readings.main
   pub has_channels : AllZip (λ (text : Text) (reading : channel.ChannelReading). channel.IsReading (channel.settings given.page_size uuid (length texts.channels)) text.bytes text.ended reading)

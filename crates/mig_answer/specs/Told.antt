@@ -5,6 +5,6 @@ use Rattle.mig_single_load.specs.declared.fault.Origin.TheVariants as origin
 use Rattle.mig_answer.specs.declared.status.Status.{Status}
 use Rattle.mig_answer.specs.MultiLoad.{Standing}
 
--- these statuses as those of channels, each by its place
+-- these statuses as those of channels, each by its index
 abbrev pub standings : List Status → List Standing
 standings statuses = map (λ s. record { source = origin.Channel s.0; status = s.1 }) (enumerate_from 0 statuses)

@@ -1,8 +1,8 @@
 //! Laws of the definitions alone: what holds of the answers of loads on several channels, whatever
-//! code gives them.
+//! code returns them.
 //!
-//! Each law is the clause of a function whose body at most names the law that it rests on. So it is
-//! proved with the crate, and callers can have it.
+//! Each law is the clause of a function whose body at most names another law that its proof uses.
+//! So it is proved with the crate, and a caller who calls the function may use it.
 
 ghost use Rattle.mig_answer.specs.Law.{HasOneAnswer, EndedTextsAreJudged};
 ghost use Rattle.mig_answer.specs.Growing.{AnswersStay, WithoutMemoryStays, RoundsStay};
@@ -12,7 +12,7 @@ ghost use Rattle.mig_answer.specs.Sent.{SendingsAreLoaded, MachineSendingsAreLoa
 
 use std::alloc::Allocator;
 
-/// Any streams, as far as they have come, have exactly one answer. So the answer doesn't depend on
+/// The bytes of any streams that have come have exactly one answer. So the answer doesn't depend on
 /// how the streams are cut into pieces, in which order these come, or who reads them. If all
 /// streams have ended, it isn't `Running`.
 pub fn texts_have_one_answer()
@@ -22,14 +22,14 @@ pub fn texts_have_one_answer()
 
 /// An answer that isn't `Running` stays, whatever bytes follow in the streams, and whichever of
 /// them end: the memory, the rounds and the verdict. So does an answer without memory. A round that
-/// was counted stays counted, whatever comes. So a load can answer before its streams have ended.
+/// was counted stays counted. So a load can return its answer before its streams have ended.
 pub fn answers_stay()
     ensures settled { AnswersStay }
     ensures wanting { WithoutMemoryStays }
     ensures rounds { RoundsStay }
 {}
 
-/// Some first items of a channel say of a round what the complete channel says, once they have the
+/// The first items of a channel say of a round what the complete channel says, once they have the
 /// round's SYNC packet, or the stop: the hello, the channel's status at the round, and its packets
 /// of each round up to it. So a load can judge a round by what it has received of each channel,
 /// before the channels have ended. The stop is the last item. There are as many complete rounds as
@@ -42,15 +42,15 @@ pub fn received_tells_status()
 {}
 
 /// However a round was dealt, its packets are a lawful round from its base on, as many as it
-/// counts. They bring the round's pages.
+/// counts. They have the round's pages.
 pub fn dealt_rounds_are_lawful()
     ensures { DealtRoundsAreLawful }
 {}
 
 /// What a sender on several channels has sent is loaded: done, with all its rounds and the memory
 /// after them. That holds for any table, rounds, batch limit and number of channels, whichever
-/// worker sent what, and in whatever order the channels are passed. So it agrees with the load of
-/// the single stream of the same rounds.
+/// worker sent what, and in any order of the channels. So it agrees with the load of the single
+/// stream of these rounds.
 pub fn sendings_are_loaded<A: Allocator>()
     ensures done { SendingsAreLoaded }
     ensures same { ChannelsLoadAsOneStream A }
@@ -58,9 +58,10 @@ pub fn sendings_are_loaded<A: Allocator>()
     mig_send::sendings_are_read_back();
 }
 
-/// What a sender on several channels has sent with a machine's main stream (`MultiSender::finish_open`)
-/// is loaded in a machine's frame: done, with all its rounds and the memory after them, whatever
-/// follows RAM's END. So a load of it and one of what was sent alone give the same answer.
+/// What a sender on several channels has sent with a machine's main stream
+/// (`MultiSender::finish_open`) is loaded in a machine's frame: done, with all its rounds and the
+/// memory after them, whatever follows RAM's END. So it has the answer of a load of what was sent
+/// without a machine.
 pub fn machine_sendings_are_loaded()
     ensures { MachineSendingsAreLoaded }
 {

@@ -1,4 +1,4 @@
-//! Defines what a load on several channels answers, without threads, queues or pieces.
+//! Defines the answer of a load on several channels, without threads, queues or pieces.
 //!
 //! The answer is one function of the bytes that have come so far of the main stream and of each
 //! channel. It has the memory after the rounds that all of them have and that are lawful, the
@@ -6,7 +6,7 @@
 //!
 //! The laws are clauses of functions that do nothing. Any bytes have exactly one answer. An answer
 //! other than `Running` stays when more bytes come. What a sender has sent is loaded. They hold of
-//! each load that answers by `IsAnswer`, as those of `mig_relay` and `mig_session` do.
+//! each load whose answer is `IsAnswer`, as those of `mig_relay` and `mig_session`.
 //!
 //! Relays and sessions share the calls beside the laws: `verdict_told` returns the verdict of the
 //! sources at a round, and `put` applies a round to memory.

@@ -1,5 +1,5 @@
-//! The status of a source at a round, the main stream or a channel. Relays and sessions find it,
-//! and `told` makes a verdict of it.
+//! The status of a source, the main stream or a channel, at a round. Relays and sessions find it,
+//! and the module `told` turns the statuses into a verdict.
 
 ghost use Rattle.std.specs.Prelude.{◌≡◌};
 ghost use Rattle.mig_answer.specs.Status.{stream_end, channel_end};
@@ -8,7 +8,7 @@ use mig_packet::ChannelState;
 use mig_single_load::Fault;
 use mig_stream::StreamState;
 
-/// How a source stands at a round, after the rounds before.
+/// The status of a source at a round, after the rounds before.
 #[derive(Clone, Copy, Debug)]
 pub enum Status {
     /// It has the complete round.

@@ -77,7 +77,7 @@ fn channel_fault_told(round: u64, channels: &[Status]) -> Option<Verdict>
     }
 }
 
-// Returns the failure at the first channel that has the round where the main stream is closed, or
+// Returns the failure at the first channel that has the round while the main stream is closed, or
 // the other way round.
 fn unequal_told(round: u64, main: Status, channels: &[Status]) -> Option<Verdict>
     ensures { result ≡ first_some ((if is_clean main then failed_at_first round is_whole fault.Extra (standings channels.now) else None)

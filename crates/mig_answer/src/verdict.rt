@@ -1,15 +1,16 @@
-//! How a load on several channels stands, as far as its streams have come: what `Session::verdict`
+//! The verdict on a load on several channels, on the bytes that have come: what `Session::verdict`
 //! returns.
 
 use mig_single_load::LoadFault;
 
-/// How a load stands on several channels, as far as its streams have come.
+/// The verdict on a load on several channels, on the bytes that have come.
 #[derive(Clone, Copy, Debug, PartialEq, Eq)]
 pub enum Verdict {
     /// More bytes of a source are needed.
     Running,
     /// All sources ended after the same number of rounds. The memory holds them.
     Done,
-    /// The fault of the first round that doesn't pass, or `NoMemory` after so many rounds.
+    /// The fault of the first round that doesn't pass, or `NoMemory`, with the number of rounds
+    /// before it.
     Failed(LoadFault),
 }

@@ -60,7 +60,7 @@ came_in_order table (OnePacket packet ∷ came) all =
     (IsPermutation-append_right (packet_pages table packet) (pages_that_came table came) (all_round_pages table (records_in came) (packets_in came)) (came_in_order table came tail))
     (swapped (packet_pages table packet) (records_in came) (flat_map (packet_pages table) (packets_in came))))
 
--- ---- what is known of packets whose pages lie wrong
+-- ---- what is known of packets whose pages are misplaced
 
 pub knows_kept : (table : RamTable) (ps : List Fields) (q : Fields) (m : Option WrongPacket) → place_fault table q ≡ None → KnowsMisplaced table ps m → KnowsMisplaced table (ps ++ q ∷ []) m
 knows_kept table ps q m none knows =

@@ -74,7 +74,7 @@ same_double table records ps qs same = ap (λ (l : List Place). least place_lt (
     ∙ ap (λ (l : List Place). places_of records ++ l) (same_page_places table ps qs same)
     ∙ sym (map-append (λ (x : Page). x.place) records (flat_map (packet_pages table) qs)))
 
--- ---- the one whose pages lie wrong
+-- ---- the one whose pages are misplaced
 
 abbrev lt : Fields → Fields → Bool
 lt p q = nat_lt p.number q.number

@@ -1,4 +1,4 @@
--- A round is refused for no reason exactly where it is lawful.
+-- A round has no refusal exactly if it is lawful.
 use Rattle.std.proofs.Common.{ℕ, ◌≡◌, ◌<◌, ◌/◌, ◌%◌, List, [], ◌∷◌, length, get_or, refl, sym, ap, ◌∙◌}
 use Rattle.std.proofs.Common.{inl, inr, arith, subst, suc, zero, Option, Some, None, Bool, true, false}
 use Rattle.std.specs.Prelude.{◌==◌, ◌↔◌, not, nat_lt, nat_le, nat_eq, position, All, filter, bytes_eq}

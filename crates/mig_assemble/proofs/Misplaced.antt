@@ -1,4 +1,4 @@
--- One walk finds the packet of least number among those whose pages lie wrong.
+-- One walk finds the packet of least number among those whose pages are misplaced.
 use Rattle.std.proofs.Common.{◌≡◌, ◌<◌, ◌≤◌, List, [], ◌∷◌, ◌++◌, refl, sym, ap, ◌∙◌, Option, Some, None, Bool, true, false, subst}
 use Rattle.std.specs.Prelude.{filter, nat_lt, Contains}
 use Rattle.std.specs.List.{All}

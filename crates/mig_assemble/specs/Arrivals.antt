@@ -17,7 +17,7 @@ use Rattle.mig_assemble.specs.Seen.{HasSeen}
 
 -- ---- what arrived
 
--- some page records of the main stream, or one packet of a channel
+-- page records of the main stream, or one packet of a channel
 pub data Arrival : Type 0 where
   Records : List Page → Arrival
   OnePacket : Fields → Arrival
@@ -28,17 +28,17 @@ records_in [] = []
 records_in (Records pages ∷ came) = pages ++ records_in came
 records_in (OnePacket packet ∷ came) = records_in came
 
--- and all packets
+-- all packets that came, in the order in which they came
 abbrev pub packets_in : List Arrival → List Fields
 packets_in [] = []
 packets_in (Records pages ∷ came) = packets_in came
 packets_in (OnePacket packet ∷ came) = packet ∷ packets_in came
 
--- why a round is refused of which all of this came, and no more; None where it is lawful
+-- why a round is refused, if all of this came of it, and no more; None if it is lawful
 abbrev pub refusal_of : RamTable → ℕ → List Arrival → Option RoundFault
 refusal_of table base came = refusal table base (records_in came) (packets_in came)
 
--- the pages that may be written of an arrival: none of a packet whose pages lie wrong
+-- the pages that may be written of an arrival: none of a packet whose pages are misplaced
 abbrev pub arrival_pages : RamTable → Arrival → List Page
 arrival_pages table (Records pages) = pages
 arrival_pages table (OnePacket packet) = if is_none (place_fault table packet) then packet_pages table packet else []
@@ -48,7 +48,7 @@ pages_that_came table came = flat_map (arrival_pages table) came
 
 -- ---- what is kept of it
 
--- the packets' numbers; of the packets whose pages lie wrong the one of least number; the least
+-- the packets' numbers; of the packets whose pages are misplaced the one of least number; the least
 -- place that came twice; the places
 pub record RoundSoFar : Type 0 where
   pub numbers : List ℕ
@@ -61,8 +61,8 @@ abbrev pub lesser_misplaced : Option WrongPacket → WrongPacket → Option Wron
 lesser_misplaced None new = Some new
 lesser_misplaced (Some old) new = if nat_lt new.number old.number then Some new else Some old
 
--- number and fault are those of the packet of least number among those whose pages lie wrong, if
--- there is one
+-- number and fault are those of the packet of least number among those whose pages are misplaced,
+-- if there is one
 pub record KnowsMisplaced (table : RamTable) (packets : List Fields) (misplaced : Option WrongPacket) : Type 0 where
   pub has_number : option_map (λ m. m.number) misplaced ≡ option_map (λ p. p.number) (least_misplaced table packets)
   pub has_fault : option_map (λ m. m.fault) misplaced ≡ least_place_fault table packets
@@ -74,22 +74,22 @@ pub record HasCome (table : RamTable) (came : List Arrival) (r : RoundSoFar) : T
   pub has_misplaced : KnowsMisplaced table (packets_in came) r.misplaced
   pub has_seen : HasSeen table (places_of (pages_that_came table came)) r.seen r.double
 
--- whatever had come before, this has come too now
+-- this has come too, after what had come before
 abbrev pub AlsoHas : Arrival → RoundSoFar → RoundSoFar → Type 0
 AlsoHas more old new = (table : RamTable) (came : List Arrival) → HasCome table came old → HasCome table (came ++ more ∷ []) new
 
--- whatever had come before has come still, and nothing more
+-- what had come before has come, and nothing more
 abbrev pub HasSame : RoundSoFar → RoundSoFar → Type 0
 HasSame old new = (table : RamTable) (came : List Arrival) → HasCome table came old → HasCome table came new
 
--- whatever has come, this is why a round of all of it is refused
+-- this is why a round of all that has come is refused
 abbrev pub IsJudged : ℕ → RoundSoFar → Option RoundFault → Type 0
 IsJudged base r why = (table : RamTable) (came : List Arrival) → HasCome table came r → refusal_of table base came ≡ why
 
 -- ---- laws
 
--- The pages of a lawful round make the same of a memory in the order in which they came as in that
--- of the round.
+-- The pages of a lawful round, applied in the order in which they came, give the memory that the
+-- round gives.
 abbrev pub ArrivalsMakeTheRound : Type 0
 ArrivalsMakeTheRound = (table : RamTable) (base : ℕ) (came : List Arrival) (m : Image) → refusal_of table base came ≡ None
     → with_round m (pages_that_came table came) ≡ with_round m (all_round_pages table (records_in came) (packets_in came))

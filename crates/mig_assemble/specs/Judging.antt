@@ -1,5 +1,5 @@
--- Which rounds are lawful, and why others are refused. All of it is said of the list of page
--- records and of the packets in any order.
+-- Which rounds are lawful, and why others are refused, for a list of page records and packets in
+-- any order.
 use Rattle.std.specs.Prelude.{ℕ, ◌/◌, ◌%◌, Bool, not, nat_eq, nat_lt, nat_le, ◌==◌, ◌||◌, if◌then◌else◌, List, []}
 use Rattle.std.specs.Prelude.{◌∷◌, ◌++◌, length, map, flat_map, count_by, position, Option, Some, None}
 use Rattle.std.specs.List.{filter, list_any, range_with_len}
@@ -13,9 +13,9 @@ use Rattle.mig_packet.specs.Packet.{Fields}
 use Rattle.mig_assemble.specs.declared.fault.RoundFault.{RoundFault}
 use Rattle.mig_assemble.specs.declared.fault.RoundFault.TheVariants.{Foreign, Doubled, Missing, UnknownBlock, Offset, DoublePage}
 
--- ---- the least of a list, and what comes twice in it
+-- ---- the least of a list, and the elements that come twice
 
--- the lesser of an element and the one beside it, if there is one
+-- the lesser of an element and another, if there is another
 abbrev pub lesser : {X : Type 0} → (X → X → Bool) → X → Option X → X
 lesser lt x None = x
 lesser lt x (Some y) = if lt y x then y else x
@@ -34,7 +34,7 @@ twice eq xs = filter (λ x. nat_le 2 (count_by (λ y. eq y x) xs)) xs
 abbrev pub offsets : Fields → List ℕ
 offsets packet = map (λ page. page.offset) packet.normal ++ packet.zero
 
--- no page of a block of so many pages begins at the offset
+-- no page of a block of this many pages begins at the offset
 abbrev pub is_outside : ℕ → ℕ → ℕ → Bool
 is_outside page_size pages offset = not (offset % page_size == 0) || nat_le pages (offset / page_size)
 
@@ -44,8 +44,8 @@ abbrev pub offset_fault : RamTable → Fields → Option ℕ → Option RoundFau
 offset_fault table packet None = Some (UnknownBlock packet.number)
 offset_fault table packet (Some b) = option_map (Offset packet.number) (position (is_outside table.page_size (block table.blocks b).pages) (offsets packet))
 
--- What is wrong with where a packet's pages lie: its id is no block's, or one of its offsets is no
--- page's. The id of a packet without pages isn't looked at.
+-- What is wrong with the places of a packet's pages: its id is no block's, or one of its offsets is
+-- no page's. The id of a packet without pages isn't tested.
 abbrev pub place_fault : RamTable → Fields → Option RoundFault
 place_fault table packet = if length (offsets packet) == 0 then None else offset_fault table packet (block_of table.blocks packet.id)
 
@@ -53,14 +53,14 @@ place_fault table packet = if length (offsets packet) == 0 then None else offset
 abbrev pub page_in : RamTable → ℕ → ℕ → List ℕ → Page
 page_in table b offset content = record { place = place_at b (offset / table.page_size); content = content }
 
--- the pages that a packet brings into a block: the normal ones with their contents, and then the
--- others as zeros
+-- the pages of a packet in a block: the normal ones with their contents, and then the others as
+-- zeros
 abbrev pub pages_in : RamTable → Fields → ℕ → List Page
 pages_in table packet b =
     map (λ page. page_in table b page.offset page.content) packet.normal
     ++ map (λ offset. page_in table b offset (zero_page table.page_size)) packet.zero
 
--- the pages that a packet brings, into the block that it names
+-- the pages of a packet, in the block that it names
 abbrev pub packet_pages : RamTable → Fields → List Page
 packet_pages table packet = pages_in table packet (unwrap_or (block_of table.blocks packet.id) 0)
 
@@ -69,31 +69,31 @@ packet_pages table packet = pages_in table packet (unwrap_or (block_of table.blo
 abbrev pub numbers : List Fields → List ℕ
 numbers packets = map (λ packet. packet.number) packets
 
--- the numbers from the base on that the packets should have, as many as they are, and don't
+-- the missing numbers, of as many from the base on as there are packets
 abbrev pub absent : ℕ → List ℕ → List ℕ
 absent base ns = filter (λ n. not (list_any (λ m. m == n) ns)) (range_with_len base (length ns))
 
--- the packet of least number among those whose pages lie wrong, and its fault
+-- the packet of least number among those whose pages are misplaced, and its fault
 abbrev pub least_misplaced : RamTable → List Fields → Option Fields
 least_misplaced table packets = least (λ p q. nat_lt p.number q.number) (filter (λ packet. is_some (place_fault table packet)) packets)
 
 abbrev pub least_place_fault : RamTable → List Fields → Option RoundFault
 least_place_fault table packets = option_and_then (place_fault table) (least_misplaced table packets)
 
--- the pages that a round brings: those of its records, in their order, and those of its packets
+-- the pages of a round: those of its records, in their order, and those of its packets
 abbrev pub all_round_pages : RamTable → List Page → List Fields → List Page
 all_round_pages table records packets = records ++ flat_map (packet_pages table) packets
 
 abbrev pub places_of : List Page → List Place
 places_of pages = map (λ page. page.place) pages
 
--- Why a round is refused whose packets are to be numbered from the base on: the first that applies.
+-- Why a round is refused whose packets must be numbered from the base on: the first that applies.
 --   the least number below the base,
 --   the least number that comes twice,
---   the least number of the run that is missing,
---   the packet of least number whose pages lie wrong,
+--   the least of the consecutive numbers that is missing,
+--   the packet of least number with a misplaced page,
 --   the least place that comes twice, among the records and the packets together.
--- None where the round is lawful.
+-- None if the round is lawful.
 abbrev pub refusal : RamTable → ℕ → List Page → List Fields → Option RoundFault
 refusal table base records packets = first_some (
     option_map Foreign (least nat_lt (filter (λ n. nat_lt n base) (numbers packets))) ∷

@@ -8,7 +8,7 @@ use Rattle.mig_packet.specs.Packet.{Fields}
 use Rattle.mig_assemble.specs.Judging.{refusal, all_round_pages, places_of}
 use Rattle.mig_assemble.specs.Lawful.{IsLawful}
 
--- A round is refused for no reason exactly where it is lawful.
+-- A round has no refusal exactly if it is lawful.
 abbrev pub RoundIsLawful : Type 0
 RoundIsLawful = (table : RamTable) (base : ℕ) (records : List Page) (packets : List Fields)
     → (refusal table base records packets ≡ None) ↔ IsLawful table base records packets
@@ -24,7 +24,7 @@ abbrev pub PacketsComeInAnyOrder : Type 0
 PacketsComeInAnyOrder = (table : RamTable) (base : ℕ) (records : List Page) (packets others : List Fields) → IsPermutation packets others
     → IsOrderFree table base records packets others
 
--- The pages of a lawful round lie in the table, where its records do.
+-- The pages of a lawful round are in the table, if its records are.
 abbrev pub LawfulRoundsLieInTheTable : Type 0
 LawfulRoundsLieInTheTable = (table : RamTable) (base : ℕ) (records : List Page) (packets : List Fields)
     → All (IsPlace table) (places_of records) → refusal table base records packets ≡ None

@@ -5,7 +5,7 @@ pub mod Lawful
 pub mod Target
 pub mod Law
 pub mod RoundFaultNumber
--- Of the inside: only contracts of private functions name these.
+-- Private: only contracts of private functions name these.
 pub mod Sorted
 pub mod Seen
 pub mod PacketPages

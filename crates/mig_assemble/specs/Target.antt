@@ -1,4 +1,4 @@
--- The memory that a load builds, and the rounds that go into it.
+-- The memory that a load builds, and the rounds that are applied to it.
 use Rattle.std.specs.Prelude.{ℕ, ◌≡◌, ◌+◌, List, [], length, map, All}
 use Rattle.mig_mem.specs.RamTable.{RamTable}
 use Rattle.mig_mem.specs.Place.{IsPlace}
@@ -16,7 +16,7 @@ pub record LoadTarget : Type 0 where
   pub rounds : ℕ
   pub base : ℕ
 
--- a memory with what it holds, without a round
+-- a memory with its contents, without a round
 abbrev pub target_over : Image → LoadTarget
 target_over memory = record { memory = memory; rounds = 0; base = 0 }
 
@@ -33,7 +33,7 @@ pub record FitsTable (table : RamTable) (round : RoundOfRecords) : Type 0 where
   pub has_page_size : round.page_size ≡ table.page_size
   pub has_places : All (λ r. IsPlace table r.place) round.records
 
--- what a lawful round of records and packets leaves
+-- the target after a lawful round of records and packets
 abbrev pub after_round : LoadTarget → RoundOfRecords → List Fields → LoadTarget
 after_round target round packets = record {
   memory = with_round target.memory (all_round_pages target.memory.table (pages_of_round round) packets);
@@ -41,6 +41,6 @@ after_round target round packets = record {
   base = target.base + length packets;
 }
 
--- what a target has beside, to mark the places of a round in: the set of no place of its table
+-- the set in which a target marks the places of a round: it has no place of its table
 abbrev pub IsUnmarked : Image → PlaceSet → Type 0
 IsUnmarked memory seen = seen ≡ record { table = memory.table; marked = [] }

@@ -1,9 +1,9 @@
-//! Judging a round from what arrives of it, part by part, for a load that writes each page as it
-//! arrives and keeps none.
+//! Judges a round as its parts arrive, for a load that writes each page as it arrives and keeps
+//! none.
 //!
 //! `Target::round` takes a complete round and writes it only after judging it. `Arrivals` takes
-//! each group of page records and each packet, in any order, and gives the verdict of
-//! `Target::round` once the last one is there. Its caller writes the pages himself.
+//! each group of page records and each packet, in any order, and returns the verdict of
+//! `Target::round` once the last one is there. Its caller writes the pages.
 
 ghost use Rattle.std.specs.Prelude.{◌≡◌, ◌+◌, ◌≤◌, ◌^◌, ◌↔◌, [], ◌∷◌, length, None, Some, IsTrue, OnOk, OnErr, IfOk, IfErr};
 ghost use Rattle.std.specs.Option.{option_map};
@@ -26,7 +26,7 @@ use std::alloc::{Allocator, Global};
 use std::fmt;
 use std::marker::Model;
 
-// A packet whose pages lie wrong: its number, and what is wrong.
+// A packet with a misplaced page: its number, and what is wrong.
 #[derive(Clone, Copy)]
 pub(crate) struct WrongPacket {
     pub(crate) number: u64,
@@ -38,7 +38,7 @@ pub(crate) struct WrongPacket {
 #[derive(Drop)]
 pub struct Arrivals<A: Allocator = Global> {
     numbers: Vec<u64, A>,
-    // the packet of least number whose pages lie wrong
+    // the packet of least number with a misplaced page
     misplaced: Option<WrongPacket>,
     // the least place that arrived twice
     double: Option<Place>,
@@ -64,7 +64,8 @@ impl<A: Allocator + Copy> Arrivals<A> {
     /// the table.
     ///
     /// # Errors
-    /// `NoMemory` where there is no room for these bits.
+    ///
+    /// `NoMemory`: an allocation was refused.
     pub fn new<B: Allocator>(alloc: A, table: &Table<B>) -> Result<Arrivals<A>, NoMemory>
         ensures { IfOk result (λ a. HasCome table.now [] a) }
     {
@@ -93,14 +94,14 @@ impl<A: Allocator> Arrivals<A> {
         self.numbers.len()
     }
 
-    /// Returns whether records are of the table: its page size, and places that it has.
+    /// Returns whether the records of `round` have the table's page size and places of the table.
     pub fn fits<B: Allocator>(&self, round: &StreamRound<B>) -> bool
         ensures { IsTrue result ↔ FitsTable self.now.seen.table round.now }
     {
         fits(self.seen.table(), round)
     }
 
-    /// Adds the page records of `round`. Their caller has tested them with `fits`.
+    /// Adds the page records of `round`. A caller tests them by `fits`.
     pub fn records<B: Allocator>(&mut self, round: &StreamRound<B>)
         requires fits { FitsTable self.old.seen.table round.now }
         ensures come { AlsoHas (Records (pages_of_round round.now)) self.old self.new }
@@ -108,10 +109,11 @@ impl<A: Allocator> Arrivals<A> {
         self.double = mark_records(&mut self.seen, self.double, round);
     }
 
-    /// Adds a packet, whatever its number and wherever its pages lie.
+    /// Adds a packet, whatever its number and the places of its pages.
     ///
     /// # Errors
-    /// `NoMemory` where there is no room for its number. Nothing has changed then.
+    ///
+    /// `NoMemory`: an allocation was refused. Nothing changes.
     pub fn packet(&mut self, packet: &Packet<'_>) -> Result<(), NoMemory>
         requires page_size { packet.now.page_size ≡ self.old.seen.table.page_size }
         ensures come { OnOk result (AlsoHas (OnePacket (fields packet.now)) self.old self.new) }
@@ -131,13 +133,14 @@ impl<A: Allocator> Arrivals<A> {
         Ok(())
     }
 
-    /// Judges all that arrived as one whole round, whose packets have to be numbered from `base`
-    /// on. It may be called again, also after more has arrived: judging forgets nothing. It
+    /// Judges all that arrived as one complete round, whose packets must be numbered from `base`
+    /// on. It may be called again, also after more has arrived: judging keeps what arrived. It
     /// allocates nothing.
     ///
     /// # Errors
+    ///
     /// The first that applies of `Foreign`, `Doubled` and `Missing`, each with the least such
-    /// number; `UnknownBlock` or `Offset` of the packet of least number whose pages lie wrong;
+    /// number; `UnknownBlock` or `Offset` of the packet of least number with a misplaced page;
     /// `DoublePage` with the least place that arrived twice. It is never `NoMemory`.
     pub fn judge(&mut self, base: u64) -> Result<(), RoundFault>
         requires room { base + length self.old.numbers ≤ 2 ^ 63 }
@@ -152,7 +155,7 @@ impl<A: Allocator> Arrivals<A> {
         }
     }
 
-    /// Forgets all that arrived, for the next round. It walks the marks of the whole table.
+    /// Clears all that arrived, for the next round. It walks the marks of the complete table.
     pub fn clear(&mut self)
         ensures { HasCome self.old.seen.table [] self.new }
     {
@@ -163,8 +166,8 @@ impl<A: Allocator> Arrivals<A> {
     }
 }
 
-// Returns the first of what is wrong with a round: with its numbers, with where a packet's pages
-// lie, or with what arrived twice.
+// Returns the first fault of a round: of its numbers, of the places of a packet's pages, or of what
+// arrived twice.
 fn first_fault(
     wrong_number: Option<RoundFault>,
     misplaced: Option<WrongPacket>,
@@ -181,7 +184,7 @@ fn first_fault(
     }
 }
 
-// Returns the packet of lesser number.
+// Returns the packet with the lesser number.
 fn lesser_misplaced(found: Option<WrongPacket>, new: WrongPacket) -> Option<WrongPacket>
     ensures { result ≡ lesser_misplaced found new }
 {
@@ -209,7 +212,7 @@ pub fn other_places_stay()
     ensures { OtherPlacesStay }
 {}
 
-/// A round is judged by the heads of its packets alone: what their pages hold makes no difference.
+/// A round is judged by the heads of its packets alone: the contents of their pages don't matter.
 pub fn heads_are_judged()
     ensures { HeadsAreJudged }
 {}

@@ -1,4 +1,4 @@
-//! Looks for places that a round brings twice, for `judge`, by marking each that it brings. The
+//! Finds places that come twice in a round, for `judge`, by marking each place of the round. The
 //! marks are removed one by one, so a small round costs little, however large the table is.
 
 ghost use Rattle.std.specs.Prelude.{◌≡◌, ◌<◌, ◌∷◌, [], map, length, All, None, false};
@@ -185,7 +185,7 @@ fn mark<A: Allocator>(seen: &mut Dirty<A>, double: Option<Place>, place: Place) 
     }
 }
 
-// Returns the lesser of a place and the one beside it, if there is one.
+// Returns the lesser of a place and `beside`, if there is one.
 fn lesser(place: Place, beside: Option<Place>) -> Place
     ensures { result ≡ lesser place_lt place beside }
 {

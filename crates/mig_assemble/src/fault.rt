@@ -14,15 +14,15 @@ pub enum RoundFault {
     Foreign(u64),
     /// The least packet number that comes twice.
     Doubled(u64),
-    /// The least packet number that is missing: as many numbers as packets, from the base on, are
-    /// each to come once.
+    /// The least packet number that is missing: there must be each of as many numbers as packets,
+    /// from the base on, once.
     Missing(u64),
-    /// Of the packets whose pages lie wrong, the one of this number, which is the least, names no
-    /// block of the table.
+    /// The packet with this number names no block of the table. It is the least number of a packet
+    /// with a misplaced page.
     UnknownBlock(u64),
-    /// Of the packets whose pages lie wrong, the one of this number, which is the least, names a
-    /// block. Its offset of this index, the first such one, is not of a page of that block. The
-    /// normal pages count first.
+    /// The packet with this number names a block, and its offset with this index is not of a page
+    /// of that block. They are the least number of a packet with a misplaced page, and the first
+    /// such index. The normal pages count first.
     Offset(u64, usize),
     /// The least place that comes twice, among the page records and the packets' pages together.
     DoublePage(Place),
@@ -57,7 +57,7 @@ impl From<NoMemory> for RoundFault {
     }
 }
 
-/// Writes the fault's number and its words.
+/// Writes the fault's number and its message.
 impl Display for RoundFault {
     fn fmt<W: fmt::Write>(&self, f: &mut Formatter<W>) -> fmt::Result {
         if let RoundFault::NoMemory = self {

@@ -9,8 +9,8 @@ use std::alloc::{Allocator, Global};
 use std::fmt;
 use std::marker::Model;
 
-/// The packets of one round, from whatever channels, in the order in which they were pushed. It
-/// borrows them.
+/// The packets of one round, from any channels, in the order in which they were pushed. It borrows
+/// them.
 #[derive(Drop)]
 pub struct Gathered<'a, A: Allocator = Global> {
     packets: Vec<Packet<'a>, A>,

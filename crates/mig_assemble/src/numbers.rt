@@ -10,7 +10,7 @@ use mig_mem::NoMemory;
 use mig_packet::Packet;
 use std::alloc::Allocator;
 
-/// Returns why the numbers of packets, in any order, aren't a run from `base` on.
+/// Returns why the numbers of packets, in any order, aren't consecutive from `base` on.
 pub(crate) fn number_fault<A: Allocator>(
     alloc: A,
     base: u64,
@@ -34,7 +34,7 @@ fn numbers_of<A: Allocator>(alloc: A, packets: &[Packet<'_>]) -> Result<Vec<u64,
     Ok(numbers)
 }
 
-// Returns why numbers in any order aren't a run from `base` on. It sorts them.
+// Returns why numbers in any order aren't consecutive from `base` on. It sorts them.
 #[tactic(auto, using(crate::proofs::Rising::judged_sorted))]
 pub(crate) fn unsorted_fault(numbers: &mut [u64], base: u64) -> Option<RoundFault>
     requires { base + length numbers.old ≤ 2 ^ 63 }
@@ -45,7 +45,7 @@ pub(crate) fn unsorted_fault(numbers: &mut [u64], base: u64) -> Option<RoundFaul
     sorted_fault(numbers, base)
 }
 
-// Returns why numbers in ascending order aren't a run from `base` on.
+// Returns why numbers in ascending order aren't consecutive from `base` on.
 fn sorted_fault(numbers: &[u64], base: u64) -> Option<RoundFault>
     requires { base + length numbers.now ≤ 2 ^ 63 }
     ensures { result ≡ sorted_refusal base numbers.now }
@@ -79,7 +79,7 @@ fn first_pair(numbers: &[u64]) -> Option<u64>
     None
 }
 
-// Returns the number that should stand where the numbers first leave the run from `base` on.
+// Returns the number that was expected where the numbers first aren't consecutive from `base` on.
 #[tactic(auto, using(crate::proofs::Rising::gap_step))]
 fn first_gap(base: u64, numbers: &[u64]) -> Option<u64>
     requires { base + length numbers.now ≤ 2 ^ 63 }

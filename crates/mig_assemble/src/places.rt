@@ -1,5 +1,5 @@
-//! Judges where the pages of a round's packets lie, for `judge`. `doubles` takes from it where a
-//! page lies.
+//! Tests the places of the pages of a round's packets, for `judge`. `doubles` takes a page's place
+//! from it.
 
 ghost use Rattle.std.specs.Prelude.{◌≡◌, ◌<◌, ◌++◌, ◌∷◌, [], List, map, length, slice_index, position, All, IfSome};
 ghost use Rattle.std.specs.Option.{option_map};
@@ -12,7 +12,7 @@ use mig_mem::Table;
 use mig_packet::Packet;
 use std::alloc::Allocator;
 
-/// Returns the fault of the packet of least number among those whose pages lie wrong.
+/// Returns the fault of the packet of least number with a misplaced page.
 pub(crate) fn least_place_fault<A: Allocator>(
     table: &Table<A>,
     packets: &[Packet<'_>],
@@ -27,8 +27,8 @@ pub(crate) fn least_place_fault<A: Allocator>(
     place_fault(table, &found?)
 }
 
-// Returns the packet of least number among those whose pages lie wrong: the one that was found so
-// far, or this one.
+// Returns the packet of least number with a misplaced page: the one that was found so far, or this
+// one.
 fn lesser_misplaced<'a, A: Allocator>(
     table: &Table<A>,
     found: Option<Packet<'a>>,
@@ -52,8 +52,8 @@ fn lesser_misplaced<'a, A: Allocator>(
     }
 }
 
-// Returns what is wrong with where a packet's pages lie. The id of a packet without pages isn't
-// looked at.
+// Returns the fault of the places of a packet's pages. The id of a packet without pages isn't
+// tested.
 #[tactic(auto, using(crate::proofs::PacketPlaces::faults))]
 pub(crate) fn place_fault<A: Allocator>(table: &Table<A>, packet: &Packet<'_>) -> Option<RoundFault>
     requires { packet.now.page_size ≡ table.now.page_size }
@@ -80,7 +80,7 @@ pub(crate) fn page_count(packet: &Packet<'_>) -> usize
     packet.normal_len() + packet.zero_len()
 }
 
-/// Returns an offset of a packet, the normal pages' first.
+/// Returns offset `i` of a packet; those of the normal pages come first.
 #[tactic(auto, using(crate::proofs::PacketPlaces::offsets_len, crate::proofs::PacketPlaces::offset_is))]
 pub(crate) fn offset(packet: &Packet<'_>, i: usize) -> u64
     requires { i < length (offsets (fields packet.now)) }
@@ -89,7 +89,7 @@ pub(crate) fn offset(packet: &Packet<'_>, i: usize) -> u64
     packet.offset(i)
 }
 
-// Returns the first offset of a packet at which a block of `pages` pages has none.
+// Returns the index of the first offset of a packet at which a block of `pages` pages has no page.
 #[tactic(auto, using(mig_mem::proofs::Lists::position_at, mig_mem::proofs::Lists::position_past))]
 fn first_outside(pages: u64, packet: &Packet<'_>) -> Option<usize>
     ensures { result ≡ position (is_outside packet.now.page_size pages) (offsets (fields packet.now)) }

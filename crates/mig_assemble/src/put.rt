@@ -1,5 +1,5 @@
 //! Writes pages into a memory, each over what was there, for `Target` and for loads that write
-//! pages themselves. It allocates nothing and can't fail: whoever calls has judged.
+//! pages themselves. It allocates nothing and can't fail: its callers have judged the pages.
 
 ghost use Rattle.std.specs.Prelude.{◌≡◌, None, All, map, length, IfSome};
 ghost use Rattle.std.specs.Option.{option_copied, unwrap_or};
@@ -18,14 +18,13 @@ use mig_stream::StreamRound;
 use std::alloc::Allocator;
 
 /// Writes a round of page records into a memory, in the order of the stream, as `Target::section`
-/// does. It counts nothing: it is for a load whose memory is passed to each call. The round is of
-/// that memory, as `Target::fits` tests it.
+/// does. It counts nothing: it is for a load whose memory is passed to each call. The round must be
+/// of that memory, as `Target::fits` tests.
 pub fn put_records<M: GuestTarget, B: Allocator>(memory: &mut M, round: &StreamRound<B>)
     requires { FitsTable (M.image memory.old).table round.now }
     ensures { M.image memory.new ≡ with_round (M.image memory.old) (pages_of_round round.now) }
 {
-    // for what the contract of `table` says of the memory (`IsImage`): each content has the page
-    // size
+    // shows that each content of the memory has the page size (`IsImage`)
     let _table = memory.table();
     let count = round.len();
     for i in 0..count {
@@ -34,7 +33,7 @@ pub fn put_records<M: GuestTarget, B: Allocator>(memory: &mut M, round: &StreamR
     }
 }
 
-// Writes the page of a record: what it holds, or zeros.
+// Writes the page of a record: its content, or zeros.
 fn put_record<M: GuestTarget>(memory: &mut M, place: Place, content: Option<&[u8]>)
     requires place { IsPlace (M.image memory.old).table place }
     requires size { IfSome content (λ bytes. length bytes.now ≡ (M.image memory.old).table.page_size) }
@@ -52,8 +51,7 @@ pub(crate) fn put_packets<M: GuestTarget>(memory: &mut M, packets: &[Packet<'_>]
     requires lawful { All (λ p. place_fault (M.image memory.old).table (fields p) ≡ None) packets.now }
     ensures { M.image memory.new ≡ with_round (M.image memory.old) (flat_map (packet_pages (M.image memory.old).table) (map fields packets.now)) }
 {
-    // for what the contract of `table` says of the memory (`IsImage`): each content has the page
-    // size
+    // shows that each content of the memory has the page size (`IsImage`)
     let _table = memory.table();
     for packet in packets {
         put_packet(memory, packet);
@@ -74,7 +72,7 @@ fn put_packet<M: GuestTarget>(memory: &mut M, packet: &Packet<'_>)
     put_zeros(memory, block, packet);
 }
 
-// Writes the pages that a packet brings with their contents.
+// Writes the normal pages of a packet.
 fn put_normal<M: GuestTarget>(memory: &mut M, block: usize, packet: &Packet<'_>)
     requires page_size { packet.now.page_size ≡ (M.image memory.old).table.page_size }
     requires lies { LiesIn (M.image memory.old).table block packet.now.bytes.now }
@@ -91,7 +89,7 @@ fn put_normal<M: GuestTarget>(memory: &mut M, block: usize, packet: &Packet<'_>)
     }
 }
 
-// Writes the pages that a packet says to be zeros.
+// Writes the zero pages of a packet.
 fn put_zeros<M: GuestTarget>(memory: &mut M, block: usize, packet: &Packet<'_>)
     requires page_size { packet.now.page_size ≡ (M.image memory.old).table.page_size }
     requires lies { LiesIn (M.image memory.old).table block packet.now.bytes.now }

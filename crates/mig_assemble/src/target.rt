@@ -17,8 +17,8 @@ use std::alloc::{Allocator, Global};
 use std::fmt;
 use std::marker::Model;
 
-/// The memory of a guest as far as it is loaded: what it holds at first, which is zeros where `new`
-/// makes it, and then what each round leaves.
+/// The memory of a guest that is being loaded: its first contents, which are zeros if `new` creates
+/// it, with the rounds so far applied.
 #[derive(Drop)]
 pub struct Target<A: Allocator = Global, M: GuestTarget = Memory<A>> {
     memory: M,
@@ -65,8 +65,7 @@ impl<A: Allocator + Copy> Target<A> {
 }
 
 impl<A: Allocator + Copy, M: GuestTarget> Target<A, M> {
-    /// Takes a memory that is there already, with what it holds, without a round. It allocates a
-    /// bit for each page.
+    /// Takes existing memory, with its contents, without a round. It allocates a bit for each page.
     ///
     /// # Errors
     ///
@@ -88,12 +87,12 @@ impl<A: Allocator + Copy, M: GuestTarget> Target<A, M> {
     }
 
     /// Judges a round of page records and packets, and applies it. The packets may have been
-    /// gathered in any order. `fits` is the test of the records.
+    /// gathered in any order. A caller tests the records by `fits`.
     ///
     /// # Errors
     ///
-    /// The first refusal that applies, in the order of `RoundFault`, or in place of any `NoMemory`:
-    /// an allocation was refused. Nothing changes.
+    /// The first refusal that applies, in the order of `RoundFault`. `NoMemory` may take the place
+    /// of any: an allocation was refused. Nothing changes.
     pub fn round<B: Allocator, C: Allocator>(
         &mut self,
         round: &StreamRound<B>,
@@ -133,7 +132,7 @@ impl<A: Allocator, M: GuestTarget> Target<A, M> {
         self.rounds
     }
 
-    /// Returns the number that the first packet of the next round is to have: how many packets all
+    /// Returns the number that the first packet of the next round must have: how many packets all
     /// rounds so far had together.
     pub fn base(&self) -> u64
         ensures { result ≡ self.now.base }
@@ -148,7 +147,7 @@ impl<A: Allocator, M: GuestTarget> Target<A, M> {
         self.memory
     }
 
-    /// Returns whether a round is of this memory: its pages have the table's page size, and lie in
+    /// Returns whether a round is of this memory: its pages have the table's page size, and are in
     /// the table.
     pub fn fits<B: Allocator>(&self, round: &StreamRound<B>) -> bool
         ensures { IsTrue result ↔ FitsTable self.now.memory.table round.now }
@@ -156,8 +155,8 @@ impl<A: Allocator, M: GuestTarget> Target<A, M> {
         fits(self.memory.table(), round)
     }
 
-    /// Applies a round of page records, in the order of the stream: of a page that comes more than
-    /// once the last one counts. `fits` is the test of the round.
+    /// Applies a round of page records, in the order of the stream. If a page comes more than once
+    /// the last one counts. A caller tests the round by `fits`.
     pub fn section<B: Allocator>(&mut self, round: &StreamRound<B>)
         requires fits { FitsTable self.old.memory.table round.now }
         requires room { self.old.rounds < 2 ^ 63 }

@@ -1,4 +1,4 @@
-//! The guest that the works of all words send and load.
+//! The guest that the benchmarks send and load.
 
 use crate::yardstick::PAGE_SIZE;
 use mig_mem::{Dirty, Memory, PAGE_SIZE_4K, Place, Table};
@@ -12,7 +12,7 @@ pub struct Guest {
 }
 
 impl Guest {
-    /// None where an allocation is refused, or the guest has no page.
+    /// Creates a guest. Returns None if an allocation is refused, or if `pages` is 0.
     pub fn new(alloc: Global, pages: u64) -> Option<Guest> {
         let table = table(alloc, pages)?;
         let image = Memory::zeroed(alloc, &table).ok()?;
@@ -21,7 +21,7 @@ impl Guest {
     }
 }
 
-// The table of one block.
+// Creates the table of one block.
 fn table(alloc: Global, pages: u64) -> Option<Table> {
     let mut list = Vec::new(alloc);
     let id = Vec::from_slice(alloc, b"pc.ram").ok()?;
@@ -29,7 +29,7 @@ fn table(alloc: Global, pages: u64) -> Option<Table> {
     Table::new(alloc, PAGE_SIZE_4K, list).ok()
 }
 
-// The set of so many pages of the first block.
+// Returns the set of the first `pages` pages of the first block.
 fn all_pages(alloc: Global, table: &Table, pages: u64) -> Option<Dirty> {
     let mut dirty = Dirty::none(alloc, table).ok()?;
     for page in 0..pages {
@@ -41,14 +41,14 @@ fn all_pages(alloc: Global, table: &Table, pages: u64) -> Option<Dirty> {
     Some(dirty)
 }
 
-/// How many of each ten pages are zeros, in the order in which works are measured, with a name for each.
+/// How many of ten pages are zeros, in the order in which they are measured, each with a name.
 pub const ZERO_TENTHS: [(u64, &str); 3] = [
     (0, "no zeros"),
     (5, "half zeros"),
     (9, "nine tenths zeros"),
 ];
 
-/// Of each ten pages some are zeros and the others full of ones.
+/// Fills `zero_tenths` of ten pages with zeros, and the others with ones.
 pub fn fill(image: &mut Memory, pages: u64, zero_tenths: u64) {
     for page in 0..pages {
         let place = Place { block: 0, page };

@@ -1,8 +1,9 @@
-//! What hostile and dear texts cost the reader and the loader: the time and the memory that each byte of a text takes, so
-//! that a limit on either can be said beside the limits of the formats.
+//! Measures what hostile and costly streams take of the reader and the loader: time and memory for
+//! each byte. So a caller knows what a limit on the stream bounds.
 //!
-//! Some texts are small and claim a large guest. Others have records of a few bytes, each of which takes more memory than
-//! it has bytes, or a search of the table. A plain guest is there to compare them with.
+//! Some streams are small and declare a large guest. Others have records of a few bytes, each of
+//! which takes more memory than it has bytes, or a search of the table. A plain guest is there to
+//! compare them with.
 
 use crate::guest::{Guest, fill};
 use crate::measure::{Measured, Ratio, best_of_five, peak, reset_peak};
@@ -21,10 +22,10 @@ const PAGES: u64 = 1 << 16;
 /// How many bytes the reader is fed at once.
 const PIECE_LEN: usize = 1 << 16;
 
-/// How many blocks a table may have.
+/// The most blocks of a table.
 const BLOCKS: usize = 256;
 
-/// How many records the texts have that are made by hand.
+/// How many records the streams made by hand have.
 const NAMING_RECORDS: usize = 1 << 18;
 
 const FLUSH_RECORDS: usize = 1 << 19;
@@ -34,7 +35,8 @@ const SMALL_ROUNDS: usize = 1 << 18;
 /// How often the guest of zeros is sent.
 const ZERO_ROUNDS: usize = 8;
 
-/// What stands before the records of a PART, and after them: the head with the section id, and EOS with the footer.
+/// The bytes before the records of a PART and after them: the head with the section id; EOS and
+/// footer.
 pub(crate) const PART_HEAD: [u8; 5] = [0x02, 0, 0, 0, 1];
 
 const SECTION_END: [u8; 13] = [0, 0, 0, 0, 0, 0, 0, 0x10, 0x7E, 0, 0, 0, 1];
@@ -51,26 +53,27 @@ const CONTINUED_ZEROS: [u8; 9] = [0, 0, 0, 0, 0, 0, 0, 0x22, 0];
 /// The last letters of a block's id.
 const DIGITS: [u8; 16] = *b"0123456789abcdef";
 
-/// The ids of as many blocks as there may be.
+/// The ids of a table with the most blocks.
 #[derive(Clone, Copy)]
 enum Ids {
-    /// Of three bytes.
+    /// Ids of three bytes.
     Short,
-    /// They differ in the first two bytes alone, and in the last two, which mirror them. If a
-    /// table's key of an id lets its last bytes cancel the first ones, all of them share a key.
+    /// Ids that differ in the first two bytes, and in the last two, which mirror them. If a table's
+    /// key of an id lets its last bytes cancel the first ones, all of them share a key.
     Mirrored,
-    /// They share the first sixteen bytes, by which a table looks for an id first.
+    /// Ids that share the first sixteen bytes, by which a table looks for an id first.
     SharedFront,
 }
 
-/// Where the works allocate, and how many bytes were resident before the first text; None where the system doesn't tell.
+/// Where the benchmarks allocate, and how many bytes were resident before the first stream (None if
+/// the system doesn't report it).
 #[derive(Clone, Copy)]
 pub(crate) struct Meter {
     pub alloc: Global,
     start: Option<u64>,
 }
 
-/// Reads and loads all texts, those that take little memory first.
+/// Reads and loads all streams, those that take little memory first.
 pub fn run<R: Clock + Print + Files + AllocGlobal>(rt: &R, alloc: Global) -> io::Result<()> {
     println!(rt;
         "hostile texts: the least time of five runs, and the peak of the memory that they take beside the text"
@@ -81,7 +84,7 @@ pub fn run<R: Clock + Print + Files + AllocGlobal>(rt: &R, alloc: Global) -> io:
     waiting::run(rt, meter)
 }
 
-// What is resident once the program's own pages are there, which a small text brings in.
+// Creates the meter once the program's own pages are resident, which reading a small stream does.
 fn warmed<R: Files + AllocGlobal>(rt: &R, alloc: Global) -> Meter {
     let text = small_text(alloc).unwrap_or_else(|| Vec::new(alloc));
     let _items = items_read(alloc, Mode::Single, &text);
@@ -93,7 +96,7 @@ fn warmed<R: Files + AllocGlobal>(rt: &R, alloc: Global) -> Meter {
     }
 }
 
-// The texts that take little memory.
+// Measures the streams that take little memory.
 fn report_small<R: Clock + Print + Files + AllocGlobal>(rt: &R, meter: Meter) -> io::Result<()> {
     report_load_of(rt, meter, "2 GiB claimed", claim_text(meter.alloc))?;
     report_naming(rt, meter, "zeros that name blocks", Ids::Short)?;
@@ -102,8 +105,8 @@ fn report_small<R: Clock + Print + Files + AllocGlobal>(rt: &R, meter: Meter) ->
     report_both(rt, meter, "zeros with CONTINUE", zeros_text(meter.alloc))
 }
 
-// The texts of zero records that name their blocks: whole, without the last byte, and with a PART
-// for each record.
+// Measures the streams of zero records that name their blocks: complete, without the last byte, and
+// with a PART for each record.
 fn report_naming<R: Clock + Print + Files + AllocGlobal>(
     rt: &R,
     meter: Meter,
@@ -121,7 +124,7 @@ fn report_naming<R: Clock + Print + Files + AllocGlobal>(
     report_both(rt, meter, "  a PART for each", parts_text(alloc, ids))
 }
 
-// The texts that take more.
+// Measures the streams that take more memory.
 fn report_large<R: Clock + Print + Files + AllocGlobal>(rt: &R, meter: Meter) -> io::Result<()> {
     report_load_of(rt, meter, "256 * 4 GiB claimed", claims_text(meter.alloc))?;
     report_main(rt, meter, "FLUSH records", flushes_text(meter.alloc))?;
@@ -140,7 +143,7 @@ fn report_large<R: Clock + Print + Files + AllocGlobal>(rt: &R, meter: Meter) ->
     )
 }
 
-// Reads a main text, if there is one.
+// Reads a main stream, if there is one.
 fn report_main<R: Clock + Print + Files + AllocGlobal>(
     rt: &R,
     meter: Meter,
@@ -153,7 +156,7 @@ fn report_main<R: Clock + Print + Files + AllocGlobal>(
     report_reading(rt, meter, name, Mode::Main, &text)
 }
 
-// Loads a text, if there is one.
+// Loads a stream, if there is one.
 fn report_load_of<R: Clock + Print + Files + AllocGlobal>(
     rt: &R,
     meter: Meter,
@@ -166,7 +169,7 @@ fn report_load_of<R: Clock + Print + Files + AllocGlobal>(
     report_loading(rt, meter, name, &text)
 }
 
-// Reads the text of a single stream, if there is one, and loads it.
+// Reads a single stream, if there is one, and loads it.
 fn report_both<R: Clock + Print + Files + AllocGlobal>(
     rt: &R,
     meter: Meter,
@@ -219,7 +222,8 @@ fn report_loading<R: Clock + Print + Files + AllocGlobal>(
     )
 }
 
-// How many rounds and records a text has that is fed in pieces, its rounds taken at the end; 0 where it isn't read.
+// Returns how many rounds and records a stream has that is fed in pieces, its rounds taken at the
+// end. Returns 0 if it isn't read.
 fn items_read(alloc: Global, mode: Mode, text: &[u8]) -> usize {
     let mut reader = StreamReader::new(alloc, mode, PAGE_SIZE_4K, MAX_TOTAL);
     if !feed_pieces(&mut reader, text) {
@@ -228,7 +232,7 @@ fn items_read(alloc: Global, mode: Mode, text: &[u8]) -> usize {
     take_items(&mut reader, text.len())
 }
 
-// Feeds a text in pieces. Returns whether the reader took them all.
+// Feeds a stream in pieces. Returns whether the reader took them all.
 fn feed_pieces(reader: &mut StreamReader, text: &[u8]) -> bool {
     for piece in text.chunks(PIECE_LEN) {
         let has_room = reader.fed().checked_add(piece.len() as u64).is_some();
@@ -239,7 +243,7 @@ fn feed_pieces(reader: &mut StreamReader, text: &[u8]) -> bool {
     true
 }
 
-// Takes the rounds that were read, at most so many, and counts them and their records.
+// Takes at most `most` rounds that were read. Returns the number of rounds and records.
 fn take_items(reader: &mut StreamReader, most: usize) -> usize {
     let mut items = 0usize;
     for _ in 0..most {
@@ -251,18 +255,20 @@ fn take_items(reader: &mut StreamReader, most: usize) -> usize {
     items
 }
 
-// How many rounds a load of a text puts into memory, whether or not the text has a fault behind them.
+// Returns how many rounds a load of a stream applies, also if it finds a fault after them.
 fn rounds_loaded(alloc: Global, text: &[u8]) -> usize {
     load_single(alloc, PAGE_SIZE_4K, text, MAX_TOTAL).rounds as usize
 }
 
-// Measures a work on a text of `len` bytes, of which `held` are resident, and prints what a byte costs.
+// Measures a work on a stream of `len` bytes, of which `held` are resident, and prints what a byte
+// costs.
 //
-// The memory is the most that was resident during the five runs (Linux tells it as `VmHWM` in `/proc/self/status`, and a 5
-// written to `/proc/self/clear_refs` begins it anew), less what was resident before the first text, and less this text,
-// which is resident too. What the allocator keeps of the memory of an earlier text is counted where this one doesn't take it,
-// so the texts stand in the order of their peaks. With `MALLOC_MMAP_THRESHOLD_` and `MALLOC_TRIM_THRESHOLD_` set to 131072
-// in the environment glibc keeps hardly any.
+// The memory is the most that was resident during the five runs, less what was resident before the
+// first stream, and less this stream. Linux reports it as `VmHWM` in `/proc/self/status`; writing 5
+// to `/proc/self/clear_refs` resets it. Memory of an earlier stream that the allocator keeps is
+// counted unless this one takes it. So the streams are measured in the order of their peaks. With
+// `MALLOC_MMAP_THRESHOLD_` and `MALLOC_TRIM_THRESHOLD_` set to 131072 in the environment glibc
+// keeps hardly any.
 pub(crate) fn report_cost<R: Clock + Print + Files + AllocGlobal, F: FnMut() -> usize>(
     rt: &R,
     meter: Meter,
@@ -297,7 +303,7 @@ fn put_time(
     )
 }
 
-// What a text of `len` bytes took, of that peak, beside the `held` bytes of it that are resident.
+// Prints what a stream of `len` bytes took of that peak, beside its `held` bytes that are resident.
 fn put_memory(rt: &impl Print, meter: Meter, len: u64, held: u64, peak: u64) -> io::Result<()> {
     let Some(start) = meter.start else {
         return println!(rt; "memory: unknown");
@@ -310,7 +316,7 @@ fn put_memory(rt: &impl Print, meter: Meter, len: u64, held: u64, peak: u64) -> 
     )
 }
 
-// A text without its last byte: a fault that shows when all else was read.
+// Returns a stream without its last byte: a fault that shows after all else was read.
 fn cut(text: Option<Vec<u8>>) -> Option<Vec<u8>> {
     let mut text = text?;
     text.truncate(text.len().saturating_sub(1));
@@ -330,7 +336,7 @@ fn zeros_text(alloc: Global) -> Option<Vec<u8>> {
     sent(alloc, &guest, ZERO_ROUNDS)
 }
 
-// The stream of so many rounds of all pages of a guest.
+// Returns the stream of `rounds` rounds of all pages of a guest.
 fn sent(alloc: Global, guest: &Guest, rounds: usize) -> Option<Vec<u8>> {
     let mut sender = SingleSender::new(alloc, guest.image.table()).ok()?;
     for _ in 0..rounds {
@@ -349,7 +355,7 @@ fn claim_text(alloc: Global) -> Option<Vec<u8>> {
     without_rounds(alloc, &table_of_one(alloc, 1 << 19)?)
 }
 
-// The stream of as many blocks as there may be, 1 TiB in all, and no round.
+// The stream of a table with the most blocks, 1 TiB in all, and no round.
 fn claims_text(alloc: Global) -> Option<Vec<u8>> {
     without_rounds(alloc, &table_of_blocks(alloc, Ids::Short, 1 << 20)?)
 }
@@ -382,7 +388,7 @@ fn small_rounds_text(alloc: Global) -> Option<Vec<u8>> {
     with_part(alloc, &table, &records)
 }
 
-// The table of one block of so many pages.
+// Creates the table of one block of `pages` pages.
 pub(crate) fn table_of_one(alloc: Global, pages: u64) -> Option<Table> {
     let mut list = Vec::new(alloc);
     let id = Vec::from_slice(alloc, b"a").ok()?;
@@ -390,7 +396,7 @@ pub(crate) fn table_of_one(alloc: Global, pages: u64) -> Option<Table> {
     Table::new(alloc, PAGE_SIZE_4K, list).ok()
 }
 
-// The table of as many blocks as there may be, of so many pages each.
+// Creates the table with the most blocks, each of `pages` pages.
 fn table_of_blocks(alloc: Global, ids: Ids, pages: u64) -> Option<Table> {
     let mut list = Vec::new(alloc);
     for block in 0..BLOCKS {
@@ -418,7 +424,7 @@ fn put_id(text: &mut Vec<u8>, ids: Ids, block: usize) -> Option<()> {
     Some(())
 }
 
-// How many bytes such an id has.
+// Returns how many bytes such an id has.
 fn id_len(ids: Ids) -> u8 {
     match ids {
         Ids::Short => 3,
@@ -493,7 +499,7 @@ fn with_sections(alloc: Global, table: &Table, sections: &[u8]) -> Option<Vec<u8
     joined(alloc, &[opening, sections, closing])
 }
 
-// These bytes, one after another.
+// Returns the pieces joined.
 fn joined(alloc: Global, pieces: &[&[u8]]) -> Option<Vec<u8>> {
     let mut text = Vec::new(alloc);
     for piece in pieces {

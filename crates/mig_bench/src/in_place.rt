@@ -1,5 +1,4 @@
-//! Loads into memory that is there already: of a single stream, and of several channels, each fed
-//! in pieces.
+//! Loads into existing memory, fed in pieces: a single stream, and several channels.
 
 use crate::sending::PIECE;
 use crate::session::{longest, piece_at};
@@ -47,7 +46,7 @@ pub fn in_pieces(
 
 // ---- several channels
 
-// Feeds a piece, all of which is to be taken.
+// Feeds a piece. Returns None unless all of it is taken.
 fn feed(
     session: &mut InPlaceSession,
     memory: &mut Memory,
@@ -87,7 +86,7 @@ fn end_all(session: &mut InPlaceSession) {
     }
 }
 
-/// Loads the texts of one round. None where they have a fault, or an allocation is refused.
+/// Loads the streams of one round. Returns None if they have a fault, or an allocation is refused.
 pub fn from_channels(alloc: Global, table: &Table, texts: &Sent) -> Option<Placed> {
     let channels = texts.channels.len();
     if channels == 0 || channels > 255 {

@@ -1,5 +1,5 @@
-//! The sending of a guest as a single stream, and the loading of that stream: whole, and in pieces
-//! into memory that is there, as a stream of RAM's sections alone and as a machine's.
+//! Sends a guest as a single stream, and loads the stream: whole, and in pieces into existing
+//! memory, as a stream of RAM's sections alone and as a machine's.
 ghost use Rattle.std.specs.Prelude.{◌≡◌, ◌≤◌, ◌*◌, ◌^◌};
 ghost use Rattle.mig_single_load.specs.Settings.{ram_settings};
 
@@ -14,7 +14,8 @@ use std::alloc::Global;
 use std::io;
 use std::rt::Clock;
 
-/// Sends all pages of a guest in one round and loads what was sent, with none, half and nine tenths of them zeros.
+/// Sends all pages of a guest in one round and loads the stream: with none, half and nine tenths of
+/// the pages zeros.
 pub fn run(rt: &(impl Clock + Print), alloc: Global, pages: u64) -> io::Result<()>
     requires { pages * PAGE_SIZE ≤ 2 ^ 40 }
 {
@@ -24,7 +25,7 @@ pub fn run(rt: &(impl Clock + Print), alloc: Global, pages: u64) -> io::Result<(
     report_guest(rt, alloc, &mut guest, pages)
 }
 
-// Sends and loads a guest as often as there are amounts of zeros.
+// Sends and loads a guest with each amount of zeros.
 fn report_guest(
     rt: &(impl Clock + Print),
     alloc: Global,
@@ -55,7 +56,7 @@ fn report_sending(
     report(rt, name, "bytes sent", copies, || sent_len(alloc, guest))
 }
 
-// The length of the stream of one round; 0 where an allocation is refused.
+// Returns the length of the stream of one round, or 0 if an allocation is refused.
 fn sent_len(alloc: Global, guest: &Guest) -> usize {
     match sent(alloc, guest, Frame::Ram) {
         Some(text) => text.len(),
@@ -99,7 +100,8 @@ fn names_of(frame: Frame) -> [&'static str; 2] {
     }
 }
 
-// The stream of one round; None where an allocation is refused. A machine's ends after RAM's END.
+// Returns the stream of one round, or None if an allocation is refused. A machine's ends after
+// RAM's END.
 fn sent(alloc: Global, guest: &Guest, frame: Frame) -> Option<Vec<u8>> {
     let mut sender = SingleSender::new(alloc, guest.image.table()).ok()?;
     sender.round(&guest.image, &guest.dirty).ok()?;
@@ -109,14 +111,14 @@ fn sent(alloc: Global, guest: &Guest, frame: Frame) -> Option<Vec<u8>> {
     }
 }
 
-// How a stream of a frame is loaded.
+// Returns the settings for a stream of a frame.
 fn settings_of(frame: Frame) -> LoadSettings
     ensures { result ≡ record (ram_settings 4096 (2 ^ 40)) { frame = frame } }
 {
     LoadSettings::new(PAGE_SIZE_4K, MAX_TOTAL).with_frame(frame)
 }
 
-// Whether a memory's last page is as it was sent.
+// Returns whether a memory's last page is as it was sent.
 fn is_sent(guest: &Guest, memory: &Memory) -> bool {
     let last = Place {
         block: 0,
@@ -128,7 +130,8 @@ fn is_sent(guest: &Guest, memory: &Memory) -> bool {
     }
 }
 
-// How many rounds a load of the whole stream puts into memory; 0 where it fails, or one page isn't as it was sent.
+// Returns how many rounds a load of the whole stream applies, or 0 if it fails, or if one page
+// isn't as it was sent.
 fn whole_len(alloc: Global, text: &[u8], guest: &Guest, frame: Frame) -> usize {
     let Loaded {
         memory,

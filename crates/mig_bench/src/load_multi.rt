@@ -1,5 +1,5 @@
-//! The load of a round on several channels: of whole texts, by a worker on a thread of its own for each, and by a session that is fed
-//! pieces, with memory of its own or into memory that is there.
+//! Loads a round on several channels: complete streams by a worker on a thread of its own for each,
+//! and in pieces by a session, with memory of its own or into existing memory.
 ghost use Rattle.std.specs.Prelude.{◌≤◌, ◌*◌, ◌^◌};
 
 use crate::guest::{Guest, ZERO_TENTHS, fill};
@@ -20,11 +20,12 @@ use std::sync::Wait;
 use std::thread::Threads;
 use uuid::Uuid;
 
-// On how many channels the round was sent.
+// On how many channels the round is sent.
 const CHANNELS: [usize; 3] = [1, 2, 4];
 
-/// Loads a round of all pages of a guest on one channel, on two and on four, with none, half and nine tenths of them zeros: the whole texts,
-/// and by sessions that are fed the main stream and then pieces of the channels in turn.
+/// Loads a round of all pages of a guest on one channel, on two and on four, with none, half and
+/// nine tenths of the pages zeros: complete streams, and by sessions that are fed the main stream
+/// and then pieces of the channels in turn.
 pub fn run<R: Clock + Print + Threads + Wait + Sync>(
     rt: &R,
     alloc: Global,
@@ -68,7 +69,7 @@ fn report<R: Clock + Print + Threads + Wait + Sync>(
     put(rt, copies, &whole, &placed)
 }
 
-// Prints a time as a ratio to the copies and to that of the whole texts.
+// Prints a time as a ratio to the copies and to that of the complete streams.
 fn put(
     rt: &impl Print,
     copies: &Yardstick,
@@ -84,7 +85,7 @@ fn put(
     )
 }
 
-// Whether a memory's last page is as it was sent.
+// Returns whether a memory's last page is as it was sent.
 fn is_loaded(guest: &Guest, memory: Option<&Memory>) -> bool {
     let last = Place {
         block: 0,
@@ -96,7 +97,8 @@ fn is_loaded(guest: &Guest, memory: Option<&Memory>) -> bool {
     }
 }
 
-// How many rounds a load of the whole texts puts into memory; 0 where it fails, or one page isn't as it was sent.
+// Returns how many rounds a load of the complete streams applies, or 0 if it fails, or if one page
+// isn't as it was sent.
 fn whole_len<R: Threads + Wait + Sync>(
     rt: &R,
     alloc: Global,
@@ -124,7 +126,7 @@ fn whole_len<R: Threads + Wait + Sync>(
     }
 }
 
-// The same of a session that is fed them.
+// Returns how many rounds a session that is fed the streams applies, or 0 as above.
 fn fed_len(alloc: Global, guest: &Guest, texts: &Sent) -> usize {
     let Some(session) = fed(alloc, texts) else {
         return 0;
@@ -135,7 +137,8 @@ fn fed_len(alloc: Global, guest: &Guest, texts: &Sent) -> usize {
     }
 }
 
-// How many rounds a session puts into memory that is there; 0 where it fails, or one page isn't as it was sent.
+// Returns how many rounds a session applies to existing memory, or 0 if it fails, or if one page
+// isn't as it was sent.
 fn placed_len(alloc: Global, guest: &Guest, texts: &Sent) -> usize {
     match from_channels(alloc, guest.image.table(), texts) {
         Some(placed) if is_loaded(guest, Some(&placed.memory)) => placed.rounds as usize,

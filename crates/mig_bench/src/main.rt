@@ -1,9 +1,10 @@
-//! Benchmarks of the migration crates. Each figure is the time of a work as a ratio to that of a copy of the same bytes
-//! in the same run, since times alone say nothing from one machine to another. `hostile` alone prints nanoseconds as they are,
-//! and the memory beside them.
+//! Benchmarks of the migration crates. Each figure is the time of a work as a ratio to that of a
+//! copy of the same bytes in the same run, since times alone don't compare from one machine to
+//! another. `hostile` alone prints nanoseconds as they are, and the memory beside them.
 //!
-//! The first argument names the benchmark, and each is a module: what is measured stands there, how in `measure`, and
-//! the copies in `yardstick`. Nothing here is part of the library, and no test compares a figure.
+//! The first argument names the benchmark. Each is a module, which says what is measured; `measure`
+//! says how, and `yardstick` has the copies. Nothing here is part of the library, and no test
+//! compares a figure.
 #![tactic(auto)]
 
 mod guest;
@@ -30,7 +31,7 @@ fn main(rt: HostRuntime) -> io::Result<()> {
     run(&rt, rt.alloc(), word.as_deref())
 }
 
-// Runs the benchmark that a word names.
+// Runs the benchmark with the name `word`.
 fn run<R: Clock + Print + Files + AllocGlobal + Threads + Wait + Sync>(
     rt: &R,
     alloc: Global,

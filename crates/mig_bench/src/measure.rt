@@ -1,4 +1,5 @@
-//! How long a work takes, how that compares with another, and how much memory is resident meanwhile.
+//! Measures how long a work takes, compares that with another, and reports how much memory is
+//! resident.
 ghost use Rattle.std.specs.Prelude.{◌≡◌, ◌+◌, ◌*◌, ◌/◌, ◌%◌, ◌<◌, ◌++◌, Some, codes};
 ghost use Rattle.std.specs.Fmt.{decimal};
 
@@ -16,8 +17,9 @@ pub struct Measured {
     ghost positive: { 0 < nanos },
 }
 
-/// Runs a work five times. The least time counts, since whatever else the machine does only adds to it. The work
-/// returns a number that depends on all that it did, so that no compiler leaves a part of it out.
+/// Runs a work five times, and takes the least time, since other load on the machine only adds to
+/// it. The work returns a number that depends on all that it did, so that no compiler leaves out a
+/// part.
 pub fn best_of_five<F: FnMut() -> usize>(rt: &impl Clock, mut work: F) -> io::Result<Measured>
     requires { F.IsAlwaysCallable work }
 {
@@ -71,19 +73,19 @@ impl fmt::Display for Ratio {
     }
 }
 
-/// Makes what is resident now the peak, and gives it in bytes; None where the system doesn't do so.
+/// Resets the peak to what is resident now, and returns that in bytes, or None if the system can't.
 pub fn reset_peak<R: Files + AllocGlobal>(rt: &R) -> Option<u64> {
     fs::write(rt, "/proc/self/clear_refs", "5").ok()?;
     peak(rt)
 }
 
-/// The most bytes that were resident; None where the system doesn't tell.
+/// Returns the most bytes that were resident, or None if the system doesn't report it.
 pub fn peak<R: Files + AllocGlobal>(rt: &R) -> Option<u64> {
     let status = fs::read_to_string(rt, "/proc/self/status").ok()?;
     peak_in(&status)
 }
 
-// The same in the text of that file, which has it in KiB.
+// Returns the peak in `status`, the contents of that file, which has it in KiB.
 fn peak_in(status: &str) -> Option<u64> {
     let line = status.lines().find(|line| line.starts_with("VmHWM:"))?;
     let word = line.split_whitespace().nth(1)?;

@@ -1,4 +1,4 @@
-//! A round sent on several channels, each with a worker on a thread of its own.
+//! Sends a round on several channels, each with a worker on a thread of its own.
 ghost use Rattle.std.specs.Prelude.{◌≤◌, ◌*◌, ◌^◌};
 
 use crate::guest::{Guest, ZERO_TENTHS, fill};
@@ -17,8 +17,9 @@ use std::time::Instant;
 // On how many channels each round is sent.
 const CHANNELS: [usize; 3] = [1, 2, 4];
 
-/// Sends all pages of a guest in one round on one channel, on two and on four, with none, half and nine tenths of them zeros: by a
-/// sender of its own, to its end, and by one that is kept and drained after each round.
+/// Sends all pages of a guest in one round on one channel, on two and on four, with none, half and
+/// nine tenths of the pages zeros: by a new sender, to the end of its stream, and by one that is
+/// kept and drained after each round.
 pub fn run<R: Clock + Print + Threads + Sync>(rt: &R, alloc: Global, pages: u64) -> io::Result<()>
     requires { pages * PAGE_SIZE ≤ 2 ^ 40 }
 {
@@ -75,7 +76,8 @@ fn report_drained<R: Clock + Print + Threads + Sync>(
     Ok(())
 }
 
-// Prints a time as a ratio to the copies and to that on one channel, how long the packets took of it, and how many bytes were sent.
+// Prints a time as a ratio to the copies and to that on one channel, how much of it the packets
+// took, and how many bytes were sent.
 fn put(
     rt: &impl Print,
     copies: &Yardstick,
@@ -93,7 +95,7 @@ fn put(
     )
 }
 
-// A gate that keeps when a worker drew last: then all packets are made.
+// A gate that keeps the time of a worker's last draw: then all packets are made.
 #[derive(Drop)]
 struct Watch<'a, R> {
     rt: &'a R,
@@ -110,7 +112,8 @@ impl<R: Clock> Gate for Watch<'_, R> {
     }
 }
 
-// Sends a round of all pages. Gives after how many nanoseconds all packets were made; None where an allocation is refused.
+// Sends a round of all pages. Returns after how many nanoseconds all packets were made, or None if
+// an allocation is refused.
 fn packing<R: Clock + Threads + Sync>(
     rt: &R,
     sender: &mut MultiSender,
@@ -125,7 +128,8 @@ fn packing<R: Clock + Threads + Sync>(
     Some(watch.nanos.load(Ordering::SeqCst))
 }
 
-// The length of the channels' texts of one round; 0 where an allocation is refused. Lowers the time of its packets to this one's.
+// Returns the length of the channels' bytes of one round, or 0 if an allocation is refused. Lowers
+// the time of its packets to this one's.
 fn sent_len<R: Clock + Threads + Sync>(
     rt: &R,
     alloc: Global,
@@ -154,7 +158,8 @@ fn len_of(texts: &[Vec<u8>]) -> usize {
     len
 }
 
-// A sender that is kept from round to round, the buffers that it is drained into, and the least time of a round's packets.
+// A sender that is kept from round to round, the buffers that it is drained into, and the least
+// time of a round's packets.
 #[derive(Drop)]
 struct Kept {
     sender: MultiSender,
@@ -164,7 +169,7 @@ struct Kept {
 }
 
 impl Kept {
-    // None where an allocation is refused.
+    // Returns None if an allocation is refused.
     fn new(alloc: Global, guest: &Guest, channels: usize) -> Option<Kept> {
         let mut texts = Vec::new(alloc);
         for _ in 0..channels {
@@ -178,7 +183,8 @@ impl Kept {
         })
     }
 
-    // Sends a round, and drains all of it. Gives the length of the channels' texts; 0 where an allocation is refused.
+    // Sends a round, and drains all of it. Returns the length of the channels' bytes, or 0 if an
+    // allocation is refused.
     fn drained_len<R: Clock + Threads + Sync>(&mut self, rt: &R, guest: &Guest) -> usize {
         let Some(nanos) = packing(rt, &mut self.sender, guest) else {
             return 0;

@@ -1,4 +1,4 @@
-//! A guest's sender on several channels, and a round of all pages as it sends it.
+//! A guest's sender on several channels, and a round of all its pages.
 
 use crate::guest::Guest;
 use crate::yardstick::PAGE_SIZE;
@@ -14,12 +14,12 @@ pub const PIECE: usize = 65_536;
 // How many pages a packet may have, at this page size.
 const LIMIT: usize = 524_288 / PAGE_SIZE;
 
-/// A sender of no round yet; None where an allocation is refused.
+/// Creates a sender that sent no round yet. Returns None if an allocation is refused.
 pub fn sender(alloc: Global, guest: &Guest, channels: usize) -> Option<MultiSender> {
     MultiSender::new(alloc, guest.image.table(), Uuid::nil(), channels, LIMIT).ok()
 }
 
-/// Sends a round of all pages; None where an allocation is refused.
+/// Sends a round of all pages. Returns None if an allocation is refused.
 pub fn send<R: Threads + Sync, G: Gate + Sync>(
     rt: &R,
     sender: &mut MultiSender,
@@ -29,7 +29,7 @@ pub fn send<R: Threads + Sync, G: Gate + Sync>(
     sender.round(rt, &guest.image, &guest.dirty, gate).ok()
 }
 
-/// The texts of one round of all pages; None where an allocation is refused.
+/// Returns the bytes of one round of all pages, or None if an allocation is refused.
 pub fn sent<R: Threads + Sync>(
     rt: &R,
     alloc: Global,

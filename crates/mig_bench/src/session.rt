@@ -1,4 +1,4 @@
-//! A session that is fed the texts of a sender on several channels.
+//! A session that is fed the bytes of a sender on several channels.
 ghost use Rattle.std.specs.Prelude.{◌≡◌, IsTrue, length};
 ghost use Rattle.mig_session.specs.Sources.{Counts};
 ghost use Rattle.mig_session.specs.Session.{HasSource};
@@ -28,7 +28,7 @@ impl Model for Feeding {
     ghost invariant = { λ f. length f.session.counts.channels ≡ f.channels };
 }
 
-// Whether a session of so many channels has a source.
+// Returns whether a session of `channels` channels has a source.
 fn has_source(channels: usize, source: Source) -> bool
     ensures { IsTrue result → (counts : Counts) → length counts.channels ≡ channels → HasSource counts source }
 {
@@ -39,7 +39,8 @@ fn has_source(channels: usize, source: Source) -> bool
 }
 
 impl Feeding {
-    // None where an allocation is refused, or no session has so many channels.
+    // Creates a session. Returns None if an allocation is refused, or if no session has so many
+    // channels.
     fn new(alloc: Global, channels: usize) -> Option<Feeding> {
         if channels == 0 || channels > 255 {
             return None;
@@ -48,7 +49,7 @@ impl Feeding {
         Some(Feeding { session, channels })
     }
 
-    // Feeds a piece; None where an allocation is refused, or the source is over.
+    // Feeds a piece. Returns None if an allocation is refused, or if the source has ended.
     fn feed(&mut self, source: Source, piece: &[u8]) -> Option<()> {
         if !has_source(self.channels, source)
             || self.session.ended(source)
@@ -98,7 +99,7 @@ pub fn fed(alloc: Global, texts: &Sent) -> Option<Session> {
     Some(feeding.session)
 }
 
-/// Returns the length of the longest text.
+/// Returns the length of the longest channel.
 pub fn longest(texts: &[Vec<u8>]) -> usize {
     let mut longest = 0usize;
     for text in texts {

@@ -1,7 +1,7 @@
-//! What an open section takes that repeats one page and never ends: with no limit on the page records
-//! that wait it grows with the bytes fed, and with one it doesn't.
+//! Measures what an open section takes that repeats one page and never ends. With no limit on the
+//! page records that wait, it grows with the bytes fed; with a limit it doesn't.
 //!
-//! The stream is fed as it is made, so that nothing of it is resident but one piece.
+//! The stream is fed as it is made, so that only one piece of it is resident.
 
 ghost use Rattle.std.specs.Prelude.{◌≡◌, ◌≤◌, ◌^◌, IsFalse, Some, None};
 
@@ -33,7 +33,7 @@ const NAMED_PAGE: [u8; 10] = [0, 0, 0, 0, 0, 0, 0, 0x08, 1, b'a'];
 /// The bytes of the page.
 const CONTENT: [u8; 4096] = [7; 4096];
 
-// What is fed: the bytes up to the section's first record, with it, and a piece of others.
+// What is fed: the bytes up to the section's first record and that record, and a piece of others.
 #[derive(Drop)]
 struct Section {
     opening: Vec<u8>,
@@ -62,13 +62,13 @@ fn settings(waiting: Option<u64>) -> LoadSettings
     LoadSettings::new(PAGE_SIZE_4K, PAGES * PAGE_SIZE_4K).with_waiting(waiting)
 }
 
-// Feeds a piece, where the loader takes it.
+// Feeds a piece, if the loader takes it.
 fn feed(loader: &mut SingleLoader, piece: &[u8]) -> bool {
     let has_room = piece.len() as u64 <= 1 << 40 && loader.fed() <= 1 << 40;
     !loader.ended() && has_room && loader.feed(piece).is_ok()
 }
 
-// Feeds a loader the section with so many pieces. Returns how many pieces it took.
+// Feeds a loader the section, in `pieces` pieces. Returns how many pieces it took.
 fn pieces_taken(alloc: Global, section: &Section, waiting: Option<u64>, pieces: u64) -> usize {
     let mut loader = SingleLoader::new_in(alloc, settings(waiting));
     if !feed(&mut loader, &section.opening) {
@@ -84,7 +84,7 @@ fn pieces_taken(alloc: Global, section: &Section, waiting: Option<u64>, pieces: 
     taken
 }
 
-// Measures the section with so many pieces.
+// Measures the section, fed in `pieces` pieces.
 fn report<R: Clock + Print + Files + AllocGlobal>(
     rt: &R,
     meter: Meter,

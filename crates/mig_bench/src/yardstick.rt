@@ -1,4 +1,4 @@
-//! What the works are measured against: copies of memory into other memory that is in use.
+//! What the works are compared with: copies of memory into other memory that is in use.
 use crate::measure::{Measured, best_of_five};
 use std::alloc::Global;
 use std::io;
@@ -6,7 +6,8 @@ use std::rt::Clock;
 
 pub const PAGE_SIZE: usize = 4096;
 
-/// The times of copies of the same bytes: page by page, as a guest's pages are handled, and all at once.
+/// The times of copies of the same bytes: page by page, as a guest's pages are handled, and at
+/// once.
 #[derive(Clone, Copy)]
 pub struct Yardstick {
     pub by_pages: Measured,
@@ -22,7 +23,7 @@ impl Yardstick {
         })
     }
 
-    /// Copies so many bytes once in each run, in memory that it gives back.
+    /// Copies `len` bytes once in each run, in memory that it frees.
     pub fn in_buffers(rt: &impl Clock, alloc: Global, len: usize) -> io::Result<Yardstick> {
         let from = vec![in alloc; 1u8; len]?;
         let mut to = vec![in alloc; 1u8; len]?;

@@ -7,8 +7,8 @@ use std::alloc::Global;
 use std::io;
 use std::rt::Clock;
 
-/// Tests `len` bytes of memory that no cache holds, and then, as many in all, a part of `cached_len` bytes that a
-/// cache does.
+/// Tests `len` bytes of memory that no cache holds. Then tests as many bytes by a part of
+/// `cached_len` bytes that a cache holds.
 pub fn run(
     rt: &(impl Clock + Print),
     alloc: Global,
@@ -54,7 +54,7 @@ fn report_set(
     Ok(())
 }
 
-// Tests a part that a cache holds, so many times in each run.
+// Tests a part that a cache holds, `times` times in each run.
 fn report_in_cache(
     rt: &(impl Clock + Print),
     part: &[u8],

@@ -16,7 +16,7 @@ use Rattle.mig_c.specs.contracts.object.Object as object
 use Rattle.mig_c.specs.contracts.handle.Handle as handle
 use Rattle.mig_c.proofs.object.Object.TheSendSync as sent
 
--- the memory behind a handle, with its object, isn't tied to a thread
+-- the memory of a handle, with its object, isn't tied to a thread
 owned_keyless : (p : Ptr) (x : Option Object) → Keyless (owned p x)
 owned_keyless p None = tt
 owned_keyless p (Some x) = (lies object.the_row sent.the_send p x, frees.frees heap (raw (lone (object.the_row).mir)) p)

@@ -52,11 +52,11 @@ ends_round part w same sends = record {
   in_turn = λ _. tt;
 }
 
--- no byte waits behind all
+-- no byte waits after all of them
 none_waits : (given : List ℕ) (s : Sender) → length s.drained.items ≤ s.given → given ++ waiting s ≡ given
 none_waits given s le = ap (λ (l : List ℕ). given ++ l) (drop_all s.given s.drained.items le) ∙ append-nil given
 
--- bytes that wait are handed out first
+-- bytes that wait are copied out first
 pub refills_same : (s : Sender) → s.given < length s.drained.items → Refills s s
 refills_same s some =
     let not_none : waiting s ≡ [] → ⊥ = λ none. absurd (omega (arith, length-drop s.given s.drained.items, ap (λ (l : List ℕ). length l) none, some)) in
@@ -106,7 +106,7 @@ rest_waits : (plain : List ℕ) (old new : Sender) (t v : Vec ℕ Global) → v.
 rest_waits plain old new t v none waits =
     ap (λ (l : List ℕ). plain ++ l) (sym waits) ∙ sym (append-nil (plain ++ waiting new)) ∙ ap (λ (l : List ℕ). (plain ++ waiting new) ++ l) (sym none)
 
--- where none of it is there, all was handed out
+-- if none of it waits, all was copied out
 none_left : (plain : List ℕ) (new : Sender) (t : Vec ℕ Global) → waiting new ≡ t.items → waiting new ≡ [] → plain ≡ plain ++ t.items
 none_left plain new t waits none = sym (append-nil plain) ∙ ap (λ (l : List ℕ). plain ++ l) (sym none ∙ waits)
 
@@ -160,7 +160,7 @@ refills_open old new t v was is le none waits =
           (given_is name given sent.0 sent.1));
     }
 
--- those that are handed out stand before those that still wait
+-- the bytes that are copied out come before those that still wait
 pub hands_front : (count : ℕ) (out : List ℕ) (old new : Sender) → count ≤ length out → take count out ≡ take count (waiting old)
     → new.state ≡ old.state → new.drained.items ≡ old.drained.items → new.given ≡ old.given + count → (count ≡ 0 → 0 < length out → length (waiting old) ≡ 0)
     → Hands count out old new
@@ -176,7 +176,7 @@ hands_front count out old new fits front state drained given none = record {
   none = λ zero room. nil_from_length (waiting old) (none zero room);
 }
 
--- both steps, one after the other
+-- both steps, one after another
 pub drains : (count : ℕ) (out : List ℕ) (old mid new : Sender) → Refills old mid → Hands count out mid new → Drains count out old new
 drains count out old mid new refills hands = record {
   fits = hands.fits;

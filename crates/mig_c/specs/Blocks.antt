@@ -1,4 +1,4 @@
--- Tables as C hands them over.
+-- Tables as C passes them.
 use Rattle.std.specs.Prelude.{ℕ, ◌==◌, ◌-◌, List, ◌++◌, map, length, replicate}
 use Rattle.std.specs.List.{before_first}
 use Rattle.mig_mem.specs.RamTable.{Block, RamTable}
@@ -11,7 +11,7 @@ id_in bytes = before_first (λ byte. byte == 0) bytes
 abbrev pub block_in : NamedBlock → Block
 block_in b = record { id = id_in b.id; pages = b.pages }
 
--- and so a block is handed to C, with zeros behind its id
+-- the id as C gets it, with zeros after it
 abbrev pub named_id : List ℕ → List ℕ
 named_id id = id ++ replicate (256 - length id) 0
 

@@ -16,13 +16,15 @@ use Rattle.mig_answer.specs.declared.verdict.Verdict.TheVariants as verdict
 use Rattle.mig_c.specs.declared.fault.FoundFault.{FoundFault}
 use Rattle.mig_c_calls.specs.Status.{done, running, stream_truncated}
 
--- where it was found: 0 is the main stream, 1 + j channel j, and the largest number the round, which is in no one text
+-- The source of a fault: 0 is the main stream, 1 + j is channel j. The largest number is the round
+-- itself, which is in no one source.
 abbrev pub source_number : Origin → ℕ
 source_number origin.Main = 0
 source_number (origin.Channel j) = min (j + 1) (2 ^ 64 - 1)
 source_number origin.Round = 2 ^ 64 - 1
 
--- what a fault carries: flags, a byte, a packet's number or a block's, and beside it an offset's number or a page's; zeros where it carries none
+-- What a fault carries: flags, a byte, the number of a packet or of a block; and beside it the
+-- number of an offset or of a page. Zeros, if it carries none.
 abbrev pub carried_of_stream : StreamFault → ℕ × ℕ
 carried_of_stream (stream.Flags flags) = (flags, 0)
 carried_of_stream (stream.Fill byte) = (byte, 0)
@@ -43,11 +45,11 @@ carried (fault.Channel (channel.PacketFlags flags)) = (flags, 0)
 carried (fault.Round f) = carried_of_round f
 carried _ = (0, 0)
 
--- room in a fault for what may come
+-- the words of a fault that are reserved for later versions
 abbrev pub no_words : List ℕ
 no_words = 0 ∷ 0 ∷ 0 ∷ []
 
--- C sees this of a fault,
+-- a fault as C sees it
 abbrev pub found_of : LoadFault → FoundFault
 found_of f = record {
   round = f.round;
@@ -58,15 +60,16 @@ found_of f = record {
   reserved = no_words;
 }
 
--- this where there is none,
+-- the value for no fault
 abbrev pub no_fault : FoundFault
 no_fault = record { round = 0; source = 0; number = done; first = 0; second = 0; reserved = no_words }
 
--- and this where the load goes on, after so many rounds.
+-- the value for a load that goes on after some rounds
 abbrev pub goes_on : ℕ → FoundFault
 goes_on rounds = record { round = rounds; source = 0; number = running; first = 0; second = 0; reserved = no_words }
 
--- What C sees of the verdict on one stream, which may be over: where it isn't and is whole so far, more of it is needed.
+-- The verdict on one stream as C sees it. If the stream hasn't ended and has no fault so far, more
+-- of it is needed.
 abbrev pub so_far : Bool → FoundFault → FoundFault
 so_far ended f = if ended then f else if f.number == stream_truncated then goes_on f.round else f
 
@@ -74,7 +77,7 @@ abbrev pub seen_so_far : Bool → Result ⊤ LoadFault → FoundFault
 seen_so_far ended (Ok x) = no_fault
 seen_so_far ended (Err f) = so_far ended (found_of f)
 
--- what C sees of the verdict on several channels
+-- the verdict on several channels as C sees it
 abbrev pub seen_of_verdict : ℕ → Verdict → FoundFault
 seen_of_verdict rounds verdict.Done = no_fault
 seen_of_verdict rounds verdict.Running = goes_on rounds

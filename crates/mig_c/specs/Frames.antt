@@ -1,4 +1,4 @@
--- What a stream is read as, by its number for C.
+-- The frame of a stream, by its number for C.
 use Rattle.std.specs.Prelude.{ℕ, ◌==◌, Option, None, Some, if◌then◌else◌}
 use Rattle.std.specs.Option.{option_map}
 use Rattle.mig_stream.specs.declared.item.Frame.{Frame}
@@ -12,6 +12,6 @@ frame_of number = if number == 0 then Some Ram else if number == 1 then Some Mac
 abbrev pub load_settings : ℕ → ℕ → Frame → LoadSettings
 load_settings page_size limit frame = record { page_size = page_size; limit = limit; frame = frame; waiting = None }
 
--- the settings that C asks for, where there is such a frame
+-- the settings that C asks for, if there is such a frame
 abbrev pub asked_settings : ℕ → ℕ → ℕ → Option LoadSettings
 asked_settings page_size limit frame = option_map (load_settings page_size limit) (frame_of frame)

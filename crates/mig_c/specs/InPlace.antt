@@ -1,5 +1,5 @@
 -- A load of one stream into blocks of C: what each call does, by its status. The blocks are passed
--- to the call that feeds it, which finds them as the call before left them.
+-- to the call that feeds it, as the call before left them.
 use Rattle.std.specs.Prelude.{◌≡◌, ◌≢◌, ◌⊎◌, ◌<◌, ◌≤◌, ◌+◌, ◌*◌, ◌^◌, ◌++◌, ℕ, Bool, true, false, List, [], ◌∷◌, length, take, drop, Option, None, Some, IsTrue, IsFalse, Result, ⊤}
 use Rattle.mig_mem.specs.RamTable.{RamTable}
 use Rattle.mig_mem.specs.Image.{Image}
@@ -17,12 +17,12 @@ use Rattle.mig_c.specs.Found.{seen_so_far}
 
 -- ---- the calls
 
--- The settings of a load into blocks of this table. The limit of its stream is the largest one: what
--- the table has is known, and another table is refused.
+-- The settings of a load into blocks of this table. The limit is the largest one: the table is
+-- known, and a stream with another one is refused.
 abbrev pub settings_into : RamTable → Frame → LoadSettings
 settings_into table frame = load_settings table.page_size (2 ^ 40) frame
 
--- With any blocks that fit this table it was fed nothing yet, of a stream that is read in this
+-- For any blocks that fit this table the load was fed nothing yet. Its stream is read in this
 -- frame.
 pub record Begins (table : RamTable) (frame : Frame) (s : LoadInPlace) : Type 0 where
   pub same_table : s.table ≡ table
@@ -44,7 +44,7 @@ pub record OpensInPlace (table : Option RamTable) (frame : ℕ) (status : ℕ) (
   pub no_frame : status ≡ bad_frame → frame_of frame ≡ None
   pub has_frame : status ≢ bad_frame → frame_of frame ≢ None
 
--- Whether a piece of so many bytes may be fed into these blocks: with three of the statuses it may
+-- Whether a piece of `len` bytes may be fed into these blocks. With three of the statuses it may
 -- not, for the first reason that applies.
 pub record MayFeed (len : ℕ) (blocks : List (List ℕ)) (status : ℕ) (s : LoadInPlace) : Type 0 where
   pub over : status ≡ is_over → IsTrue s.ended
@@ -58,7 +58,7 @@ pub record MayFeed (len : ℕ) (blocks : List (List ℕ)) (status : ℕ) (s : Lo
 abbrev pub RefusesPiece : ℕ → List (List ℕ) → ℕ → LoadInPlace → Type 0
 RefusesPiece len blocks status s = IsOneOf (done ∷ is_over ∷ too_long ∷ bad_length ∷ []) status × MayFeed len blocks status s
 
--- What is so after a piece was fed into a memory: the memory has all page records of the stream so
+-- The state after a piece was fed into a memory. The memory has all page records of the stream so
 -- far; or an allocation was refused, and it has the first of them. A load that failed so before
 -- takes every piece, and only counts its bytes.
 pub record FeedsMemory (piece : List ℕ) (before after : Image) (status : ℕ) (old new : LoadInPlace) : Type 0 where
@@ -113,7 +113,7 @@ pub record TellsClosedAt (status before after : ℕ) (s : LoadInPlace) : Type 0 
       → status ≡ running
   pub same : status ≢ done → after ≡ before
 
--- ---- the inside: a page in the bytes of its block
+-- ---- private: a page in the bytes of its block
 
 -- the bytes of a block with other content at one of its pages
 abbrev pub with_content : ℕ → List ℕ → ℕ → List ℕ → List ℕ

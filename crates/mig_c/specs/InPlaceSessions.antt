@@ -1,5 +1,5 @@
 -- A load of several channels into blocks of C: what each call does, by its status. The blocks are
--- passed to the call that feeds it, which finds them as the call before left them.
+-- passed to the call that feeds it, as the call before left them.
 use Rattle.std.specs.Prelude.{◌≡◌, ◌≢◌, ◌⊎◌, ◌≤◌, ◌<◌, ◌+◌, ◌^◌, ℕ, List, [], ◌∷◌, length, take, IsTrue, IsFalse, ◌↔◌, Bool, Option, None, Some, ⊤}
 use Rattle.mig_mem.specs.RamTable.{RamTable}
 use Rattle.mig_mem.specs.Image.{Image}
@@ -22,8 +22,8 @@ use Rattle.mig_c.specs.InPlace.{settings_into}
 
 -- ---- the calls
 
--- With any blocks that fit this table it took nothing yet: of a main stream that is read in this
--- frame, and of so many channels under this UUID.
+-- For any blocks that fit this table the load took nothing yet. Its main stream is read in this
+-- frame, and it has `channels` channels under this UUID.
 pub record BeginsInto (table : RamTable) (uuid : List ℕ) (channels : ℕ) (frame : Frame) (s : InPlaceLoad) : Type 0 where
   pub same_table : s.table ≡ table
   pub as_many : length (counts_of s.sources).channels ≡ channels
@@ -36,7 +36,7 @@ Opens (Some table) uuid channels None made = ⊥
 Opens (Some table) uuid channels (Some frame) None = ⊥
 Opens (Some table) uuid channels (Some frame) (Some s) = BeginsInto table uuid channels frame s
 
--- What `new` does, with a table: the first thing that is wrong with what it is given is returned.
+-- What `new` does, given a table. It returns the first thing that is wrong.
 pub record OpensInto (table : Option RamTable) (uuid : List ℕ) (channels frame : ℕ) (status : ℕ) (made : Option InPlaceLoad) : Type 0 where
   pub is_named : IsOneOf (done ∷ no_memory ∷ bad_channels ∷ bad_length ∷ bad_frame ∷ []) status
   pub opens : status ≡ done → Opens table uuid channels (frame_of frame) made
@@ -47,7 +47,8 @@ pub record OpensInto (table : Option RamTable) (uuid : List ℕ) (channels frame
   pub no_frame : status ≡ bad_frame → frame_of frame ≡ None
   pub has_frame : status ≢ bad_channels → status ≢ bad_length → status ≢ bad_frame → frame_of frame ≢ None
 
--- Why a piece of so many bytes isn't taken of a source into these blocks: the first thing that applies.
+-- Why a piece of `len` bytes of a source isn't taken into these blocks: the first reason that
+-- applies.
 pub record RefusesPiece (from : Source) (len : ℕ) (blocks : List (List ℕ)) (status : ℕ) (s : InPlaceLoad) : Type 0 where
   pub is_named : IsOneOf (done ∷ bad_source ∷ is_over ∷ too_long ∷ bad_length ∷ []) status
   pub unfit : status ≡ bad_length → FitTable s.table blocks → ⊥
@@ -59,7 +60,8 @@ pub record RefusesPiece (from : Source) (len : ℕ) (blocks : List (List ℕ)) (
   pub long : status ≡ too_long → 2 ^ 64 ≤ (count_of (counts_of s.sources) from).fed + len
   pub short : status ≢ bad_source → status ≢ is_over → status ≢ too_long → (count_of (counts_of s.sources) from).fed + len < 2 ^ 64
 
--- What is so after a piece was fed into a memory: so many bytes of it were taken, or memory ran out.
+-- The state after a piece was fed into a memory: `taken` bytes of it were taken, or an allocation
+-- was refused.
 pub record FeedsMemory (from : Source) (piece : List ℕ) (before after : Image) (taken status : ℕ) (old new : InPlaceLoad) : Type 0 where
   pub is_named : IsOneOf (done ∷ no_memory ∷ []) status
   pub within : status ≡ done → taken ≤ length piece
@@ -73,8 +75,8 @@ pub record FeedsMemory (from : Source) (piece : List ℕ) (before after : Image)
   pub same_table : new.table ≡ old.table
   pub rounds : old.rounds ≤ new.rounds
 
--- What `feed` does with blocks that hold these bytes. `taken` is how many bytes of the piece it took.
--- A refused allocation leaves all as it was, or the load has failed for good.
+-- What `feed` does with blocks that hold these bytes. `taken` is how many bytes of the piece it
+-- took. If an allocation was refused, nothing has changed, or the load has failed for good.
 pub record FeedsBlocks (from : Source) (piece : List ℕ) (before after : List (List ℕ)) (taken status : ℕ) (old new : InPlaceLoad) : Type 0 where
   pub is_named : IsOneOf (done ∷ no_memory ∷ bad_source ∷ is_over ∷ too_long ∷ bad_length ∷ []) status
   pub feeds : status ≡ done → FeedsMemory from piece (lent_image old.table before) (lent_image old.table after) taken done old new
@@ -94,7 +96,7 @@ pub record FeedsBlocks (from : Source) (piece : List ℕ) (before after : List (
   pub unfit : status ≡ bad_length → FitTable old.table before → ⊥
   pub fits : status ≡ done → FitTable old.table before
 
--- What `end` does to a source, whatever the memory holds: once the verdict is there it stays.
+-- What `end` does to a source, whatever the memory holds. A verdict that is there stays.
 pub record EndsSource (from : Source) (status : ℕ) (old new : InPlaceLoad) : Type 0 where
   pub is_named : IsOneOf (done ∷ bad_source ∷ []) status
   pub steps : status ≡ done → old.verdict ≡ Running → (memory : Image) → StepsOn (end_step from) memory old memory new
@@ -105,12 +107,13 @@ pub record EndsSource (from : Source) (status : ℕ) (old new : InPlaceLoad) : T
   pub foreign : status ≡ bad_source → HasSource (counts_of old.sources) from → ⊥
   pub has_source : status ≢ bad_source → HasSource (counts_of old.sources) from
 
--- how many bytes of a source were taken: 0 where there is no such source
+-- how many bytes of a source were taken, or 0 if there is no such source
 pub record TellsTaken (from : Source) (taken : ℕ) (s : InPlaceLoad) : Type 0 where
   pub counted : HasSource (counts_of s.sources) from → taken ≡ (count_of (counts_of s.sources) from).fed
   pub foreign : (HasSource (counts_of s.sources) from → ⊥) → taken ≡ 0
 
--- whether bytes of a source are taken now: not of one that there isn't, nor once the verdict is there
+-- whether bytes of a source are taken now: no, if there is no such source, or once the verdict is
+-- there
 pub record TellsTakes (from : Source) (told : Bool) (s : InPlaceLoad) : Type 0 where
   pub takes : HasSource (counts_of s.sources) from → s.verdict ≡ Running → (memory : Image)
       → Tells memory s (λ given uuid first texts. IsTrue told ↔ TakesBytes (for_table first.table given) uuid s.rounds texts from)

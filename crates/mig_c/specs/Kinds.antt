@@ -1,4 +1,4 @@
--- What stands behind a handle, by its kind, and what a call makes of it.
+-- The object of a handle, by its kind, and what a call makes of it.
 use Rattle.std.specs.Prelude.{Option, None, Some, ⊤}
 use Rattle.mig_mem.specs.RamTable.{RamTable}
 use Rattle.mig_single_load.specs.Loader.{Loader}
@@ -11,7 +11,7 @@ use Rattle.mig_c_calls.specs.declared.sending.HeldWorker.{HeldWorker}
 use Rattle.mig_c.specs.declared.object.Object.{Object}
 use Rattle.mig_c.specs.declared.object.Object.TheVariants as object
 
--- the table, the loader and so on that an object is
+-- the table, loader or other value of an object
 abbrev pub table_in : Option Object → Option RamTable
 table_in None = None
 table_in (Some (object.Table x)) = Some x
@@ -108,13 +108,13 @@ worker_in (Some (object.Multi x)) = None
 worker_in (Some (object.Worker x)) = Some x
 worker_in (Some object.Empty) = None
 
--- The call is handed an object of its kind and leaves one, and this holds between the two.
+-- The call is passed an object of its kind and leaves one, and this holds between the two.
 abbrev pub Turns : {A : Type 0} → (A → A → Type 0) → Option A → Option A → Type 0
 Turns step None new = ⊤
 Turns step (Some old) None = ⊥
 Turns step (Some old) (Some new) = step old new
 
--- The call is handed an object of its kind, and this holds of it.
+-- The call is passed an object of its kind, and this holds of it.
 abbrev pub Tells : {A : Type 0} → (A → Type 0) → Option A → Type 0
 Tells fact None = ⊤
 Tells fact (Some x) = fact x

@@ -1,5 +1,5 @@
--- To read first: what stands behind a handle, and what a call makes of it; then table, loader, load
--- in place, session and sender, and the load in place of several channels. The statuses, and the
+-- To read first: the object of a handle, and what a call makes of it; then table, loader, load in
+-- place, session and sender, and the load in place of several channels. The statuses, and the
 -- sender on several channels, are those of `mig_c_calls`.
 pub mod Kinds
 pub mod Blocks
@@ -14,5 +14,5 @@ pub mod Sessions
 pub mod Sending
 pub mod Packets
 pub mod InPlaceSessions
--- the inside: what a handle owns
+-- private: what a handle owns
 pub mod Owned

@@ -11,7 +11,7 @@ use Rattle.mig_c_calls.specs.Status.{IsOneOf, done, running, waits, no_memory, i
 use Rattle.mig_c.specs.Frames.{frame_of, asked_settings}
 use Rattle.mig_c.specs.Found.{seen_so_far}
 
--- fed nothing yet
+-- a loader that was fed nothing yet
 pub record IsFresh (given : LoadSettings) (l : Loader) : Type 0 where
   pub loads : Loads given l [] false
   pub has_sections : HasAllSections given l []
@@ -21,7 +21,7 @@ Opens None made = ⊥
 Opens (Some given) None = ⊥
 Opens (Some given) (Some l) = IsFresh given l
 
--- What `new` does: the first thing that is wrong with what it is given is told.
+-- What `new` does. It returns the first thing that is wrong.
 pub record OpensLoader (page_size limit frame : ℕ) (status : ℕ) (made : Option Loader) : Type 0 where
   pub is_named : IsOneOf (done ∷ no_memory ∷ bad_page_size ∷ bad_limit ∷ bad_frame ∷ []) status
   pub opens : status ≡ done → Opens (asked_settings page_size limit frame) made
@@ -37,12 +37,13 @@ abbrev pub TakesPiece : List ℕ → Loader → Loader → Type 0
 TakesPiece piece old new = (given : LoadSettings) (text : List ℕ) → Loads given old text false
     → Loads given new (text ++ piece) false × HasAllSections given new (text ++ piece)
 
--- the piece was taken, and no memory was found for the guest
+-- the piece was taken, and an allocation for the guest's memory was refused
 abbrev pub TakesAndWaits : List ℕ → Loader → Loader → Type 0
 TakesAndWaits piece old new = (given : LoadSettings) (text : List ℕ) → Loads given old text false
     → Loads given new (text ++ piece) false × Waits given new (text ++ piece)
 
--- What `feed` does. Behind the end byte, or a fault of the stream's form, no memory is wanted for the text.
+-- What `feed` does. After the end byte, or after a fault of the stream's form, it never returns
+-- `no_memory`.
 pub record Feeds (piece : List ℕ) (status : ℕ) (old new : Loader) : Type 0 where
   pub is_named : IsOneOf (done ∷ waits ∷ no_memory ∷ is_over ∷ too_long ∷ []) status
   pub takes : status ≡ done → TakesPiece piece old new
@@ -68,12 +69,14 @@ pub record Settles (status : ℕ) (old new : Loader) : Type 0 where
 abbrev pub Ends : Loader → Loader → Type 0
 Ends old new = new ≡ record old { reader = record old.reader { ended = true } }
 
--- C sees the verdict on the text so far; where it isn't over and is whole so far, that more of it is needed
+-- C sees the verdict on the stream so far. If the stream hasn't ended and has no fault so far, more
+-- of it is needed.
 abbrev pub TellsVerdict : FoundFault → Loader → Type 0
 TellsVerdict found l = (given : LoadSettings) (text : List ℕ) (ended : Bool) → Loads given l text ended
     → (verdict : Result ⊤ LoadFault) × Judges given l text verdict × (found ≡ seen_so_far l.reader.ended verdict)
 
--- C sees how many of the bytes that were fed the stream has, once it is closed; before that the number stays.
+-- C sees how many of the bytes fed belong to the stream, once it is closed. Before that the number
+-- is unchanged.
 pub record TellsClosedAt (status before after : ℕ) (l : Loader) : Type 0 where
   pub is_named : IsOneOf (done ∷ running ∷ []) status
   pub closed : status ≡ done → (given : LoadSettings) (text : List ℕ) (ended : Bool) → Loads given l text ended → HasClosedAt (single_of given) text (Some after)

@@ -12,7 +12,8 @@ use Rattle.mig_c.specs.contracts.object.Object.{the_row}
 abbrev pub heap : Global
 heap = record { memory = record { seal = tt } }
 
--- the block at the pointer with the object in it, and the right to free it; nothing of a handle without an object
+-- The block at the pointer with the object in it, and the right to free it. A handle without an
+-- object owns nothing.
 abbrev pub owned : Ptr → Option Object → Fml
 owned at None = ftrue
 owned at (Some x) = box_owns (ghosts.dealloc_token heap) the_row at x

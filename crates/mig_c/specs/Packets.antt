@@ -1,4 +1,4 @@
--- What the writing of hellos and packets does, by its status.
+-- What the calls that write hellos and packets do, by status.
 use Rattle.std.specs.Prelude.{◌≡◌, ◌≢◌, ◌≤◌, ◌<◌, ◌+◌, ◌*◌, ℕ, Bool, List, ◌∷◌, [], length, take}
 use Rattle.mig_packet.specs.PageSize.{IsPageSize, page_limit}
 use Rattle.mig_packet.specs.Hello.{written_hello}
@@ -13,12 +13,12 @@ pub record Greets (uuid : List ℕ) (id : ℕ) (status : ℕ) (old new : List �
   pub wrong : status ≡ bad_length → length uuid ≡ 16 → length old ≡ 64 → ⊥
   pub fits : status ≡ done → (length uuid ≡ 16) × (length old ≡ 64)
 
--- The contents are of so many pages, and the id is one of a block.
+-- The contents have a page for each offset in `normal`, and the id has at most 255 bytes.
 abbrev pub IsPacketOf : ℕ → List ℕ → List ℕ → List ℕ → Type 0
 IsPacketOf page_size id normal contents = (length contents ≡ length normal * page_size) × (length id ≤ 255)
 
--- A packet, at the front of a buffer, and how many bytes it has: the first thing that is wrong is told. Where it is the buffer alone, that count is
--- told too; else it stays as it was before.
+-- A packet at the front of a buffer, and its length. The status is the first thing that is wrong.
+-- If only the buffer is too short, the length is reported too. Otherwise it is unchanged.
 pub record PutsPacket (page_size number : ℕ) (sync : Bool) (id normal contents zero : List ℕ) (status : ℕ) (old new : List ℕ) (before len : ℕ) : Type 0 where
   pub is_named : IsOneOf (done ∷ no_memory ∷ bad_page_size ∷ bad_length ∷ too_many_pages ∷ []) status
   pub puts : status ≡ done → take len new ≡ written_packet page_size number sync id normal contents zero
@@ -32,7 +32,7 @@ pub record PutsPacket (page_size number : ℕ) (sync : Bool) (id normal contents
   pub stays : status ≢ done → (status ≡ bad_length → IsPacketOf page_size id normal contents → ⊥) → len ≡ before
   pub whole : status ≡ done → (len ≡ length (written_packet page_size number sync id normal contents zero)) × (len ≤ length old)
 
--- Bytes at the front of a buffer, and how many they are.
+-- Bytes at the front of a buffer, and their number.
 pub record CopiesOut (bytes : List ℕ) (status : ℕ) (old new : List ℕ) (len : ℕ) : Type 0 where
   pub is_named : IsOneOf (done ∷ bad_length ∷ []) status
   pub copies : status ≡ done → take len new ≡ bytes

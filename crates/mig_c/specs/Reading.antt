@@ -1,4 +1,4 @@
--- What is read of a memory that was loaded, by status.
+-- What the calls that read a loaded memory do, by status.
 use Rattle.std.specs.Prelude.{◌≡◌, ◌≢◌, ◌≤◌, ◌<◌, ◌+◌, ◌*◌, ◌%◌, ℕ, List, ◌∷◌, [], length, Option, Some, IfSome, IsSome}
 use Rattle.std.specs.Option.{option_map_or}
 use Rattle.mig_mem.specs.declared.place.Place.{Place}
@@ -18,7 +18,8 @@ place_at block page = record { block = block; page = page }
 abbrev pub block_count : Option Image → ℕ
 block_count memory = option_map_or (λ m. length m.table.blocks) memory 0
 
--- What is read of a page: its content, in a buffer of its length. That there is no such page is told first.
+-- A page is read: its content, into a buffer of its length. It is tested first that there is such a
+-- page.
 pub record GivesPage (p : Place) (status : ℕ) (old new : List ℕ) (memory : Option Image) : Type 0 where
   pub is_named : IsOneOf (done ∷ no_page ∷ bad_length ∷ []) status
   pub gives : status ≡ done → IfSome memory (λ m. content m p ≡ Some new)
@@ -28,7 +29,7 @@ pub record GivesPage (p : Place) (status : ℕ) (old new : List ℕ) (memory : O
   pub has_other_length : status ≡ bad_length → IfSome memory (λ m. length old ≢ m.table.page_size)
   pub same : status ≢ done → new ≡ old
 
--- What is read of a block: its id with zeros behind it, and its pages.
+-- A block is read: its id, then zeros, and its number of pages.
 pub record GivesBlock (i status : ℕ) (old new : NamedBlock) (memory : Option Image) : Type 0 where
   pub is_named : IsOneOf (done ∷ no_page ∷ []) status
   pub gives : status ≡ done → IfSome memory (λ m. new ≡ named (block m.table.blocks i))
@@ -36,18 +37,18 @@ pub record GivesBlock (i status : ℕ) (old new : NamedBlock) (memory : Option I
   pub missing : status ≡ no_page → block_count memory ≤ i
   pub same : status ≢ done → new ≡ old
 
--- A table has the pages of a block from a page on that so many bytes are.
+-- The table has pages of `len` bytes together in a block, from a page on.
 pub record HasPages (table : RamTable) (b page len : ℕ) : Type 0 where
   pub has_block : b < length table.blocks
   pub has_room : page * table.page_size + len ≤ (block table.blocks b).pages * table.page_size
 
--- Bytes are the contents of the pages of a block from a page on, one after another.
+-- The bytes are the contents of the pages of a block from a page on, one after another.
 abbrev pub ArePages : Image → ℕ → ℕ → List ℕ → Type 0
 ArePages m b page bytes = (k : ℕ) → k * m.table.page_size + m.table.page_size ≤ length bytes
     → content m (place_at b (page + k)) ≡ Some (part_at m.table.page_size bytes k)
 
--- What is read of several pages: their contents, in a buffer that is as long as some pages are. That
--- the pages aren't all there is told first.
+-- Several pages are read: their contents, into a buffer as long as some pages. It is tested first
+-- that all these pages are there.
 pub record GivesPages (b page status : ℕ) (old new : List ℕ) (memory : Option Image) : Type 0 where
   pub is_named : IsOneOf (done ∷ no_page ∷ bad_length ∷ []) status
   pub gives : status ≡ done → IfSome memory (λ m. ArePages m b page new)
@@ -66,12 +67,12 @@ pub record IsFirstFilled (m : Image) (b page at : ℕ) : Type 0 where
   pub is_filled : IsZero (content_at m (place_at b at)) → ⊥
   pub before : (q : ℕ) → page ≤ q → q < at → IsZero (content_at m (place_at b q))
 
--- Each page of a block from a page on is zeros.
+-- Every page of a block from a page on is zeros.
 abbrev pub AreZeros : Image → ℕ → ℕ → Type 0
 AreZeros m b page = (q : ℕ) → page ≤ q → IsPlace m.table (place_at b q) → IsZero (content_at m (place_at b q))
 
--- What is told of the next page that isn't zeros: its number, or that there is none, as where there
--- is no memory or no such block.
+-- The next page that isn't zeros is found: its number, or that there is none. The latter also holds
+-- if there is no memory or no such block.
 pub record FindsFilled (b page status before after : ℕ) (memory : Option Image) : Type 0 where
   pub is_named : IsOneOf (done ∷ no_page ∷ []) status
   pub there : status ≡ done → IsSome memory

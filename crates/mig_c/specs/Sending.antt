@@ -1,4 +1,4 @@
--- A sender of C: the stream that it writes, and the bytes that were handed out.
+-- A sender of C: the stream that it writes, and the bytes that were copied out.
 use Rattle.std.specs.Prelude.{◌≡◌, ◌≢◌, ◌≤◌, ◌<◌, ◌++◌, ℕ, List, [], ◌∷◌, drop, map, min, take, length, Option, None, Some, ⊤}
 use Rattle.mig_mem.specs.RamTable.{RamTable}
 use Rattle.mig_mem.specs.declared.place.Place.{Place}
@@ -15,13 +15,13 @@ use Rattle.mig_c.specs.declared.sender.Sending.{Sending}
 use Rattle.mig_c.specs.declared.sender.Sending.TheVariants.{Idle, Round, Over, LeftOpen}
 use Rattle.mig_c_calls.specs.Status.{IsOneOf, done, no_memory, no_page, bad_length, out_of_turn}
 
--- the bytes that were drained of the stream's writer and wait to be handed out
+-- the bytes that were drained of the stream's writer and wait to be copied out
 abbrev pub waiting : Sender → List ℕ
 waiting s = drop s.given s.drained.items
 
 -- The writer has sent these rounds of a table, and these bytes of their stream were drained of it.
--- In a round it has sent those before. Where the stream is ended, with its end byte or without, the
--- rest of it is there.
+-- In an open round it has sent the rounds before. If the stream was ended, with its end byte or
+-- without, the rest of the stream is there.
 abbrev pub HasSentRounds : RamTable → List ℕ → List (List Page) → Sending → Type 0
 HasSentRounds table drained rounds (Idle w) = (w.table ≡ table) × HasSentDrained drained w rounds
 HasSentRounds table drained rounds (Round part) = (part.before.table ≡ table) × HasSentDrained drained part.before rounds
@@ -29,12 +29,12 @@ HasSentRounds table drained rounds (Over text) = drained ++ text.items ≡ singl
 HasSentRounds table drained rounds (LeftOpen text) = drained ++ text.items ≡ machine_written None table (map RoundPart rounds)
 
 -- The first bytes of a stream with a machine's name, in a configuration after the file header; and
--- what they are without it. With no name they are one.
+-- the bytes without it. If there is no name, the two are equal.
 abbrev pub IsNamed : Option (List ℕ) → List ℕ → List ℕ → Type 0
 IsNamed None bytes plain = bytes ≡ plain
 IsNamed (Some name) bytes plain = (rest : List ℕ) × (bytes ≡ file_header ++ configuration (Some name) ++ rest) × (plain ≡ file_header ++ rest)
 
--- The sender has sent these rounds of a table, and these bytes of their stream were handed out. The
+-- The sender has sent these rounds of a table, and these bytes of their stream were copied out. The
 -- stream has the name of a machine, or none.
 abbrev pub Sends : RamTable → Option (List ℕ) → List ℕ → List (List Page) → Sender → Type 0
 Sends table name given rounds s = (plain : List ℕ) × IsNamed name (given ++ waiting s) plain × HasSentRounds table plain rounds s.state
@@ -53,7 +53,7 @@ IsEnded (Round part) = ⊥
 IsEnded (Over text) = ⊤
 IsEnded (LeftOpen text) = ⊥
 
--- the stream is ended without it: others write on after RAM's END
+-- the stream is ended without it: others write after RAM's END
 abbrev pub IsLeftOpen : Sending → Type 0
 IsLeftOpen (Idle w) = ⊥
 IsLeftOpen (Round part) = ⊥
@@ -81,11 +81,11 @@ IsIdle (Round part) = ⊥
 IsIdle (Over text) = ⊥
 IsIdle (LeftOpen text) = ⊥
 
--- whatever it had sent and handed out, it still has
+-- what it had sent and copied out is unchanged
 abbrev pub KeepsSent : Sending → Sending → Type 0
 KeepsSent old new = (table : RamTable) (drained : List ℕ) (rounds : List (List Page)) → HasSentRounds table drained rounds old → HasSentRounds table drained rounds new
 
--- a call changes how far the sender is, and nothing of the bytes that wait
+-- a call changes the state of the sender, and no bytes that wait
 abbrev pub Changes : (Sending → Sending → Type 0) → Sender → Sender → Type 0
 Changes step old new = step old.state new.state × (waiting new ≡ waiting old)
 
@@ -111,7 +111,7 @@ pub record Begins (status : ℕ) (old new : Sending) : Type 0 where
   pub wrong : status ≡ out_of_turn → IsIdle old → ⊥
   pub in_turn : status ≢ out_of_turn → IsIdle old
 
--- What `put_page` does: the first thing that is wrong is told.
+-- What `put_page` does. It returns the first thing that is wrong.
 pub record Puts (p : Place) (bytes : List ℕ) (status : ℕ) (old new : Sending) : Type 0 where
   pub is_named : IsOneOf (done ∷ no_memory ∷ no_page ∷ bad_length ∷ out_of_turn ∷ []) status
   pub puts : status ≡ done → (pages : List Page) → HasPutPages pages old → HasPutPages (pages ++ record { place = p; content = bytes } ∷ []) new
@@ -124,7 +124,7 @@ pub record Puts (p : Place) (bytes : List ℕ) (status : ℕ) (old new : Sending
   pub unfit : status ≡ bad_length → InRoundOf (λ table. length bytes ≢ table.page_size) old
   pub fits : status ≢ out_of_turn → status ≢ no_page → status ≢ bad_length → InRoundOf (λ table. length bytes ≡ table.page_size) old
 
--- what it does to the round that is open
+-- what `put_page` does to the open round
 pub record Adds (p : Place) (bytes : List ℕ) (status : ℕ) (old new : PartSoFar) : Type 0 where
   pub is_named : IsOneOf (done ∷ no_memory ∷ no_page ∷ bad_length ∷ []) status
   pub adds : status ≡ done → (pages : List Page) → HasPut old pages → HasPut new (pages ++ record { place = p; content = bytes } ∷ [])
@@ -181,12 +181,13 @@ whole_stream (Some name) table rounds = machine_closed (Some name) table (map Ro
 abbrev pub open_stream : Option (List ℕ) → RamTable → List (List Page) → List ℕ
 open_stream name table rounds = machine_written name table (map RoundPart rounds)
 
--- all that is written of these rounds, behind the opening section
+-- all that is written of these rounds, after the opening section
 abbrev pub text_so_far : RamTable → List (List Page) → List ℕ
 text_so_far table rounds = written_so_far table (map RoundPart rounds)
 
--- What `drain` does: it hands out the next bytes, as many as it says, at the front of a buffer. Where it has none between two rounds, all that
--- was written so far was handed out; of a stream that is ended, all of it. A round that is open stays open, with its pages.
+-- What `drain` does: it copies the next `count` bytes to the front of a buffer. If it has none
+-- between two rounds, all that was written so far was copied out; of a stream that is ended, all of
+-- it. An open round stays open, with its pages.
 pub record Drains (count : ℕ) (out : List ℕ) (old new : Sender) : Type 0 where
   pub fits : count ≤ length out
   pub hands : (table : RamTable) (name : Option (List ℕ)) (given : List ℕ) (rounds : List (List Page)) → Sends table name given rounds old
@@ -202,9 +203,9 @@ pub record Drains (count : ℕ) (out : List ℕ) (old new : Sender) : Type 0 whe
   pub all_open : IsLeftOpen old.state → count ≡ 0 → 0 < length out → (table : RamTable) (name : Option (List ℕ)) (given : List ℕ) (rounds : List (List Page))
       → Sends table name given rounds old → given ≡ open_stream name table rounds
 
--- ---- the two steps of it
+-- ---- the two steps of `drain`
 
--- Where no byte waits, those that were written since are drained.
+-- If no byte waits, the bytes that were written since are drained of the writer.
 pub record Refills (old new : Sender) : Type 0 where
   pub keeps : (table : RamTable) (name : Option (List ℕ)) (given : List ℕ) (rounds : List (List Page)) → Sends table name given rounds old
       → Sends table name given rounds new
@@ -219,16 +220,17 @@ pub record Refills (old new : Sender) : Type 0 where
   pub all_open : IsLeftOpen old.state → waiting new ≡ [] → (table : RamTable) (name : Option (List ℕ)) (given : List ℕ) (rounds : List (List Page))
       → Sends table name given rounds old → given ≡ open_stream name table rounds
 
--- The first bytes that wait are handed out, as many as there is room for.
+-- The first bytes that wait are copied out, as many as there is room for.
 pub record Hands (count : ℕ) (out : List ℕ) (old new : Sender) : Type 0 where
   pub fits : count ≤ length out
   pub has_front : take count out ++ waiting new ≡ waiting old
   pub same_state : new.state ≡ old.state
   pub none : count ≡ 0 → 0 < length out → waiting old ≡ []
 
--- ---- the same in two calls, for a caller whose output may take fewer bytes than it is offered
+-- ---- `drain` in two calls, for a caller whose output may take fewer bytes than it is offered
 
--- The first bytes that wait are copied to the front of a buffer, as many as there is room for. They still wait.
+-- The first bytes that wait are copied to the front of a buffer, as many as there is room for. They
+-- still wait.
 pub record Shows (count : ℕ) (out : List ℕ) (s : Sender) : Type 0 where
   pub fits : count ≤ length out
   pub within : count ≤ length (waiting s)
@@ -238,11 +240,11 @@ pub record Shows (count : ℕ) (out : List ℕ) (s : Sender) : Type 0 where
 abbrev pub Peeks : ℕ → List ℕ → Sender → Sender → Type 0
 Peeks count out old new = Refills old new × Shows count out new
 
--- What `waiting` tells: how many bytes there are to hand out, until more is written.
+-- What `waiting` reports: how many bytes can be copied out, until more is written.
 abbrev pub Counts : ℕ → Sender → Sender → Type 0
 Counts count old new = Refills old new × (count ≡ length (waiting new))
 
--- The first bytes that wait count as handed out, so many of them, or all.
+-- The first `len` bytes that wait count as copied out, or all of them.
 pub record Skips (len count : ℕ) (old new : Sender) : Type 0 where
   pub counts : count ≡ min len (length (waiting old))
   pub still : waiting new ≡ drop count (waiting old)

@@ -1,4 +1,4 @@
--- What the calls of a session do, by their status.
+-- What the calls of a session do, by status.
 use Rattle.std.specs.Prelude.{◌≡◌, ◌≢◌, ◌⊎◌, ◌≤◌, ◌<◌, ◌+◌, ◌-◌, ◌^◌, ℕ, List, [], ◌∷◌, length, IsTrue, IsFalse, if◌then◌else◌, ◌==◌, Option, None, Some}
 use Rattle.mig_session.specs.declared.source.Source.{Source}
 use Rattle.mig_session.specs.declared.source.Source.TheVariants as source
@@ -17,7 +17,7 @@ Opens None uuid channels made = ⊥
 Opens (Some given) uuid channels None = ⊥
 Opens (Some given) uuid channels (Some s) = StandsFor given uuid (no_texts channels) s
 
--- What `new` does: the first thing that is wrong with what it is given is told.
+-- What `new` does. It returns the first thing that is wrong.
 pub record OpensSession (page_size : ℕ) (uuid : List ℕ) (channels limit frame : ℕ) (status : ℕ) (made : Option LoadSession) : Type 0 where
   pub is_named : IsOneOf (done ∷ no_memory ∷ bad_page_size ∷ bad_limit ∷ bad_channels ∷ bad_length ∷ bad_frame ∷ []) status
   pub opens : status ≡ done → Opens (asked_settings page_size limit frame) uuid channels made
@@ -56,11 +56,11 @@ pub record EndsSource (from : Source) (status : ℕ) (old new : LoadSession) : T
   pub foreign : status ≡ bad_source → HasSource old.counts from → ⊥
   pub has_source : status ≢ bad_source → HasSource old.counts from
 
--- how many bytes of a source were fed: 0 where there is no such source
+-- how many bytes of a source were fed, or 0 if there is no such source
 pub record TellsFed (from : Source) (fed : ℕ) (s : LoadSession) : Type 0 where
   pub counted : HasSource s.counts from → fed ≡ (count_of s.counts from).fed
   pub foreign : (HasSource s.counts from → ⊥) → fed ≡ 0
 
--- the source of a number: 0 is the main stream, 1 + j channel j
+-- the source with a number: 0 is the main stream, 1 + j is channel j
 abbrev pub source_of : ℕ → Source
 source_of n = if n == 0 then source.Main else source.Channel (n - 1)

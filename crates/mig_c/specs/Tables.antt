@@ -1,4 +1,4 @@
--- What the making of a table does, by its status.
+-- What the call that creates a table does, by status.
 use Rattle.std.specs.Prelude.{◌≡◌, ◌≢◌, ℕ, List, Option, None, Some}
 use Rattle.mig_mem.specs.RamTable.{RamTable}
 use Rattle.mig_mem.specs.PageSize.{IsPageSize}
@@ -9,14 +9,15 @@ use Rattle.mig_c.specs.declared.block.NamedBlock.{NamedBlock}
 use Rattle.mig_c.specs.Blocks.{table_of}
 use Rattle.mig_c_calls.specs.Status.{done, no_memory, bad_page_size}
 
--- The fault is that of the block of this number, where it is one block's, and else the number is 0.
+-- The fault is that of the block with this number. If it isn't one block's, the number is 0.
 abbrev pub IsAt : TableFault → ℕ → Type 0
 IsAt (fault.Id i) entry = entry ≡ i
 IsAt (fault.IdTwice i) entry = entry ≡ i
 IsAt (fault.NoPages i) entry = entry ≡ i
 IsAt _ entry = entry ≡ 0
 
--- It is made where nothing is wrong with its blocks, and else the first thing that is wrong is told, or `NoMemory`.
+-- The table is created if nothing is wrong with its blocks. Otherwise the status is the first thing
+-- that is wrong, or `NoMemory`.
 pub record Makes (page_size : ℕ) (blocks : List NamedBlock) (status entry : ℕ) (made : Option RamTable) : Type 0 where
   pub makes : status ≡ done → made ≡ Some (table_of page_size blocks)
   pub is_lawful : status ≡ done → refusal (table_of page_size blocks) ≡ None

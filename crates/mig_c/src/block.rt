@@ -1,4 +1,4 @@
-//! A RAM block as C hands it over: its id in 256 bytes, as QEMU's `idstr`, and its number of pages.
+//! A RAM block as C passes it: its id in 256 bytes, as QEMU's `idstr`, and its number of pages.
 
 ghost use Rattle.std.specs.Prelude.{◌≡◌, ◌++◌, ◌-◌, ◌==◌, ◌≤◌, IfOk, IsSome, map, length, replicate, take, drop};
 ghost use Rattle.std.specs.List.{before_first, position};
@@ -8,17 +8,17 @@ ghost use Rattle.mig_c.specs.Blocks.{id_in, block_in};
 use mig_mem::NoMemory;
 use std::alloc::Global;
 
-/// A RAM block: its id, which a byte 0 ends, and how many pages it has.
+/// A RAM block: its id, which ends with a byte 0, and its number of pages.
 #[repr(C)]
 #[derive(Clone, Copy)]
 pub struct NamedBlock {
-    /// The id, and zeros.
+    /// The id, then zeros.
     pub id: [u8; 256],
-    /// How many pages it has.
+    /// The number of pages.
     pub pages: u64,
 }
 
-// The bytes before the first byte 0, or all.
+// Returns the bytes before the first byte 0, or all bytes.
 fn up_to_zero(name: &[u8]) -> &[u8]
     ensures { result.now ≡ id_in name.now }
 {
@@ -34,7 +34,7 @@ fn zero_at(name: &[u8]) -> Option<usize>
     name.iter().position(|byte| *byte == 0)
 }
 
-// A block's id in memory of its own, with its pages.
+// Copies a block's id, and returns it with its number of pages.
 fn entry(alloc: Global, named: &NamedBlock) -> Result<(Vec<u8>, u64), NoMemory>
     ensures { IfOk result (λ e. entry_block e ≡ block_in named.now) }
 {
@@ -42,7 +42,7 @@ fn entry(alloc: Global, named: &NamedBlock) -> Result<(Vec<u8>, u64), NoMemory>
     Ok((id, named.pages))
 }
 
-/// The ids and pages of blocks, as a table is made of them.
+/// Returns the ids and pages of blocks, from which a table is created.
 pub(crate) fn entries(alloc: Global, blocks: &[NamedBlock]) -> Result<Vec<(Vec<u8>, u64)>, NoMemory>
     ensures { IfOk result (λ list. map entry_block list.items ≡ map block_in blocks.now) }
 {

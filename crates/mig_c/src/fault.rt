@@ -13,21 +13,22 @@ use mig_stream::StreamFault;
 #[repr(C)]
 #[derive(Clone, Copy)]
 pub struct FoundFault {
-    /// How many rounds were counted before it.
+    /// How many rounds were counted before the fault.
     pub round: u64,
-    /// Where it is: 0 is the main stream, 1 + j channel j, and the largest number no one text.
+    /// The source: 0 is the main stream, 1 + j is channel j. The largest number is the round
+    /// itself.
     pub source: u64,
     /// The fault's number.
     pub number: u32,
-    /// What the fault carries: flags, a byte, a packet's number, or the number of a block.
+    /// What the fault carries: flags, a byte, the number of a packet or of a block.
     pub first: u64,
-    /// And beside it: the number of an offset, or of a page.
+    /// What it carries beside that: the number of an offset, or of a page.
     pub second: u64,
-    /// Zeros, as room for what may come.
+    /// Zeros, reserved for later versions.
     pub reserved: [u64; 3],
 }
 
-// What stands where there is no fault.
+// The value for no fault.
 const NONE: FoundFault = FoundFault {
     round: 0,
     source: 0,
@@ -47,7 +48,7 @@ fn source_number(origin: Origin) -> u64
     }
 }
 
-// What a fault of a stream carries.
+// Returns what a fault of a stream carries.
 fn of_stream(fault: StreamFault) -> (u64, u64)
     ensures { result ≡ carried_of_stream fault }
 {
@@ -58,7 +59,7 @@ fn of_stream(fault: StreamFault) -> (u64, u64)
     }
 }
 
-// What a fault of a round carries.
+// Returns what a fault of a round carries.
 fn of_round(fault: RoundFault) -> (u64, u64)
     ensures { result ≡ carried_of_round fault }
 {
@@ -73,7 +74,7 @@ fn of_round(fault: RoundFault) -> (u64, u64)
     }
 }
 
-// What a fault carries.
+// Returns what a fault carries.
 fn carried(fault: Fault) -> (u64, u64)
     ensures { result ≡ carried fault }
 {
@@ -85,7 +86,7 @@ fn carried(fault: Fault) -> (u64, u64)
     }
 }
 
-/// The fault as C sees it.
+/// Returns the fault as C sees it.
 pub(crate) fn found(fault: LoadFault) -> FoundFault
     ensures { result ≡ found_of fault }
 {
@@ -100,14 +101,14 @@ pub(crate) fn found(fault: LoadFault) -> FoundFault
     }
 }
 
-/// No fault.
+/// Returns the value for no fault.
 pub(crate) fn none() -> FoundFault
     ensures { result ≡ no_fault }
 {
     NONE
 }
 
-// A fault of a stream that may go on: where it is whole so far there is none.
+// Returns the fault of a stream so far. If the stream hasn't ended, missing bytes aren't a fault.
 fn so_far(fault: FoundFault, ended: bool) -> FoundFault
     ensures { result ≡ so_far ended fault }
 {
@@ -117,7 +118,7 @@ fn so_far(fault: FoundFault, ended: bool) -> FoundFault
     fault
 }
 
-/// The verdict on one stream as C sees it, and whether the stream is over.
+/// Returns the verdict on one stream as C sees it. `ended` says whether the stream has ended.
 pub(crate) fn of_verdict(verdict: Result<(), LoadFault>, ended: bool) -> FoundFault
     ensures { result ≡ seen_so_far ended verdict }
 {
@@ -127,7 +128,7 @@ pub(crate) fn of_verdict(verdict: Result<(), LoadFault>, ended: bool) -> FoundFa
     }
 }
 
-/// No fault: the load goes on behind so many rounds.
+/// Returns the value for a load that goes on after `rounds` rounds.
 pub(crate) fn running(rounds: u64) -> FoundFault
     ensures { result ≡ goes_on rounds }
 {

@@ -1,4 +1,4 @@
-//! What a stream is read as, by its number for C.
+//! The frame of a stream, by its number for C.
 
 ghost use Rattle.std.specs.Prelude.{◌≡◌};
 ghost use Rattle.mig_c.specs.Frames.{frame_of};
@@ -11,7 +11,7 @@ pub(crate) const FRAME_RAM: u32 = 0;
 /// A machine's stream.
 pub(crate) const FRAME_MACHINE: u32 = 1;
 
-/// Returns the frame of a number, if it is one.
+/// Returns the frame with this number, if there is one.
 pub(crate) fn frame_of(number: u32) -> Option<Frame>
     ensures { result ≡ frame_of number }
 {

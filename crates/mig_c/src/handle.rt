@@ -1,7 +1,8 @@
 //! An object in a box, as a handle that C may hold.
 //!
-//! A pointer to a type that owns memory doesn't cross to C, and neither does a type parameter. So all kinds of objects are one type
-//! (`object`), and a handle is a pointer to bytes of which its ghost field knows what they are.
+//! C can't hold a pointer to a type that owns memory, nor a type with parameters. So all kinds of
+//! objects are one type (`object`), and a handle is a pointer to bytes. Its ghost field says what
+//! they are.
 
 ghost use Rattle.std.specs.Prelude.{◌≡◌, ◌↔◌, Option, None, Some, IsSome};
 ghost use Rattle.mig_c.specs.declared.object.Object.{Object};
@@ -17,7 +18,7 @@ use std::ptr::null_mut;
 #[derive(Drop)]
 pub struct Handle {
     at: *mut u8,
-    /// The object that stands behind it.
+    /// The object of the handle.
     pub ghost value: { Option Object },
 }
 
@@ -32,14 +33,14 @@ impl Model for Handle {
 // `proofs/Crosses.antt`.
 unsafe impl Send for Handle {}
 
-// A handle without an object.
+// Creates a handle without an object.
 fn none() -> Handle
     ensures { result.value ≡ None }
 {
     Handle { at: null_mut() }
 }
 
-// The handle of a pointer that owns an object.
+// Creates the handle of a pointer that owns an object.
 fn packed(loose: Loose<Object, Global>) -> Handle
     ensures { result.value ≡ Some loose.value }
 {
@@ -47,7 +48,7 @@ fn packed(loose: Loose<Object, Global>) -> Handle
     Handle { at: at as *mut u8 }
 }
 
-// Back again.
+// Returns the pointer of a handle.
 fn unpacked(handle: Handle, alloc: Global) -> Loose<Object, Global>
     requires { IsSome handle.value }
     ensures { handle.value ≡ Some result.value }
@@ -60,14 +61,14 @@ fn unpacked(handle: Handle, alloc: Global) -> Loose<Object, Global>
 }
 
 impl Handle {
-    /// No object.
+    /// Creates a handle without an object.
     pub(crate) fn none() -> Handle
         ensures { result.value ≡ None }
     {
         none()
     }
 
-    /// Takes the object away, and leaves none.
+    /// Takes the object out of the handle, and leaves none.
     pub(crate) fn take(&mut self) -> Handle
         ensures taken { result.value ≡ self.old.value }
         ensures none { self.new.value ≡ None }
@@ -75,14 +76,14 @@ impl Handle {
         std::mem::replace(self, none())
     }
 
-    /// An object's handle.
+    /// Creates an object's handle.
     pub(crate) fn of(object: Box<Object>) -> Handle
         ensures { result.value ≡ Some object.value }
     {
         packed(Loose::of(object))
     }
 
-    /// The object back again.
+    /// Returns the object of the handle.
     pub(crate) fn into_box(self, alloc: Global) -> Box<Object>
         requires { IsSome self.value }
         ensures { self.value ≡ Some result.value }
@@ -95,9 +96,9 @@ impl Handle {
 #[repr(C)]
 #[derive(Drop)]
 pub struct TableHandle {
-    /// What is behind it.
+    /// The handle of the object.
     pub handle: Handle,
-    /// 0 where nothing is behind it, else 1.
+    /// 0 if there is no object, else 1.
     pub full: u64,
     ghost says: { full ≡ 0 ↔ handle.value ≡ None },
 }
@@ -106,9 +107,9 @@ pub struct TableHandle {
 #[repr(C)]
 #[derive(Drop)]
 pub struct LoaderHandle {
-    /// What is behind it.
+    /// The handle of the object.
     pub handle: Handle,
-    /// 0 where nothing is behind it, else 1.
+    /// 0 if there is no object, else 1.
     pub full: u64,
     ghost says: { full ≡ 0 ↔ handle.value ≡ None },
 }
@@ -117,9 +118,9 @@ pub struct LoaderHandle {
 #[repr(C)]
 #[derive(Drop)]
 pub struct InPlaceHandle {
-    /// What is behind it.
+    /// The handle of the object.
     pub handle: Handle,
-    /// 0 where nothing is behind it, else 1.
+    /// 0 if there is no object, else 1.
     pub full: u64,
     ghost says: { full ≡ 0 ↔ handle.value ≡ None },
 }
@@ -128,9 +129,9 @@ pub struct InPlaceHandle {
 #[repr(C)]
 #[derive(Drop)]
 pub struct SessionHandle {
-    /// What is behind it.
+    /// The handle of the object.
     pub handle: Handle,
-    /// 0 where nothing is behind it, else 1.
+    /// 0 if there is no object, else 1.
     pub full: u64,
     ghost says: { full ≡ 0 ↔ handle.value ≡ None },
 }
@@ -139,9 +140,9 @@ pub struct SessionHandle {
 #[repr(C)]
 #[derive(Drop)]
 pub struct SenderHandle {
-    /// What is behind it.
+    /// The handle of the object.
     pub handle: Handle,
-    /// 0 where nothing is behind it, else 1.
+    /// 0 if there is no object, else 1.
     pub full: u64,
     ghost says: { full ≡ 0 ↔ handle.value ≡ None },
 }
@@ -150,9 +151,9 @@ pub struct SenderHandle {
 #[repr(C)]
 #[derive(Drop)]
 pub struct InPlaceSessionHandle {
-    /// What is behind it.
+    /// The handle of the object.
     pub handle: Handle,
-    /// 0 where nothing is behind it, else 1.
+    /// 0 if there is no object, else 1.
     pub full: u64,
     ghost says: { full ≡ 0 ↔ handle.value ≡ None },
 }
@@ -161,9 +162,9 @@ pub struct InPlaceSessionHandle {
 #[repr(C)]
 #[derive(Drop)]
 pub struct MultiHandle {
-    /// What is behind it.
+    /// The handle of the object.
     pub handle: Handle,
-    /// 0 where nothing is behind it, else 1.
+    /// 0 if there is no object, else 1.
     pub full: u64,
     ghost says: { full ≡ 0 ↔ handle.value ≡ None },
 }
@@ -172,20 +173,20 @@ pub struct MultiHandle {
 #[repr(C)]
 #[derive(Drop)]
 pub struct WorkerHandle {
-    /// What is behind it.
+    /// The handle of the object.
     pub handle: Handle,
-    /// 0 where nothing is behind it, else 1.
+    /// 0 if there is no object, else 1.
     pub full: u64,
     ghost says: { full ≡ 0 ↔ handle.value ≡ None },
 }
 
-// Asks the prover, wherever it is called, for the proof that values of the type may go to another
-// thread. The line `unsafe impl Send` asks for none.
+// Asks the prover for the proof that values of the type may go to another thread. The line `unsafe
+// impl Send` doesn't ask for one.
 fn crosses<T: Send>(_: &T) {}
 
-/// Shows that each kind of handle may go to another thread, by the proof for `Handle`. Nothing calls
-/// it. So C may pass a handle to another thread: it orders the calls on the handle by a lock, a
-/// thread's start or join, or a sequentially consistent atomic, and makes one call on it at a time.
+/// Shows that each kind of handle may go to another thread, by the proof for `Handle`. Nothing
+/// calls it. So C may pass a handle to another thread. It makes one call on the handle at a time,
+/// and orders the calls by a lock, a thread's start or join, or a sequentially consistent atomic.
 pub(crate) fn all_cross(
     table: &TableHandle,
     loader: &LoaderHandle,

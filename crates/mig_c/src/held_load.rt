@@ -1,4 +1,4 @@
-//! A load of one stream into blocks of C: all of it but the blocks, which are passed to the call
+//! A load of one stream into blocks of C. The blocks aren't part of it: they are passed to the call
 //! that feeds it.
 
 ghost use Rattle.std.specs.Prelude.{◌≡◌, ◌<◌, ◌+◌, ◌^◌, IsFalse, IfOk, length};
@@ -16,8 +16,8 @@ use mig_stream::Frame;
 use std::alloc::Global;
 use std::marker::Model;
 
-/// What a load keeps between its calls. Its table stands beside it, for the memory that a call makes
-/// of C's blocks.
+/// What a load keeps between its calls. The table is kept beside the state, for the memory that a
+/// call makes of C's blocks.
 #[derive(Drop)]
 pub struct HeldLoad {
     state: InPlaceState<Global>,
@@ -99,7 +99,7 @@ fn feed_blocks(
 }
 
 impl HeldLoad {
-    /// Creates a load that was fed nothing, into blocks of `table`, of which it keeps copies.
+    /// Creates a load into blocks of `table`, which it copies. No bytes were fed.
     pub(crate) fn new(
         alloc: Global,
         table: &Table<Global>,

@@ -1,5 +1,5 @@
-//! A load of several channels into blocks of C: all of it but the blocks, which are passed to the
-//! call that feeds it.
+//! A load of several channels into blocks of C. The blocks aren't part of it: they are passed to
+//! the call that feeds it.
 
 ghost use Rattle.std.specs.Prelude.{◌≡◌, ◌≤◌, ◌<◌, ◌+◌, ◌^◌, IsFalse, IfOk, length};
 ghost use Rattle.mig_mem.specs.Lent.{mut_lent_bytes};
@@ -21,12 +21,12 @@ use std::alloc::Global;
 use std::marker::Model;
 use uuid::Uuid;
 
-/// What a load keeps between its calls. Its table stands beside it, for the memory that a call makes
-/// of C's blocks.
+/// What a load keeps between its calls. The table is kept beside the state, for the memory that a
+/// call makes of C's blocks.
 #[derive(Drop)]
 pub struct HeldSession {
     session: InPlaceSession<Global>,
-    // there between two calls
+    // Some between two calls
     table: Option<Table<Global>>,
 }
 
@@ -41,7 +41,7 @@ impl Model for HeldSession {
     ghost invariant = { λ h. h.table ≡ Some h.session.table };
 }
 
-// Returns why a piece of a source isn't taken into these blocks, or DONE.
+// Returns why a piece of a source can't be taken into these blocks, or DONE.
 fn refusal(
     session: &InPlaceSession<Global>,
     blocks: &[&mut [u8]],
@@ -126,7 +126,7 @@ fn feed_blocks(
 }
 
 impl HeldSession {
-    /// Creates a load that took nothing, into blocks of `table`, of which it keeps copies.
+    /// Creates a load into blocks of `table`, which it copies. No bytes were taken.
     pub(crate) fn new(
         alloc: Global,
         table: &Table<Global>,

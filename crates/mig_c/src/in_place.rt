@@ -1,5 +1,5 @@
-//! The calls of a load of one stream into blocks of C, which are passed to the call that feeds it.
-//! Each page is written as soon as its bytes have come.
+//! The calls of a load of one stream into blocks of C. The blocks are passed to the call that feeds
+//! it. Each page is written as soon as its bytes have come.
 
 ghost use Rattle.std.specs.Prelude.{◌≡◌, ◌≢◌, IsSome, IfOk, None, Some};
 ghost use Rattle.mig_mem.specs.Lent.{mut_lent_bytes};
@@ -17,7 +17,7 @@ use mig_mem::{NoMemory, Table};
 use mig_stream::Frame;
 use std::alloc::Global;
 
-// A load in a box.
+// Creates a load in a box.
 fn made(alloc: Global, table: &Table<Global>, frame: Frame) -> Result<Box<Object>, NoMemory>
     ensures { IfOk result (λ object. Opens (Some table.now) (Some frame) (in_place_in (Some object.value))) }
 {
@@ -35,8 +35,8 @@ fn made_of(alloc: Global, table: &Object, frame: Frame) -> Result<Box<Object>, N
     }
 }
 
-/// Makes a load that was fed nothing, into blocks of a table, of which it keeps copies. Its stream
-/// is read in a frame.
+/// Creates a load into blocks of a table, which it copies. Its stream is read in `frame`. No bytes
+/// were fed.
 #[unsafe(no_mangle)]
 pub extern "C" fn zimgasol_in_place_new(
     alloc: Global,
@@ -76,7 +76,7 @@ fn feed(alloc: Global, object: &mut Object, blocks: &mut [&mut [u8]], piece: &[u
     }
 }
 
-/// Takes the next piece of the stream, and writes its pages into the blocks.
+/// Feeds the next piece of the stream, and writes its pages into the blocks.
 #[unsafe(no_mangle)]
 pub extern "C" fn zimgasol_in_place_feed(
     alloc: Global,
@@ -154,7 +154,7 @@ fn rounds(object: &Object) -> u64
     }
 }
 
-/// Returns how many sections are complete in the blocks. START and END count, too.
+/// Returns how many sections the blocks have, complete. START and END count too.
 #[unsafe(no_mangle)]
 pub extern "C" fn zimgasol_in_place_rounds(alloc: Global, in_place: &mut InPlaceHandle) -> u64
     requires in_place { IsSome (in_place_in in_place.old.handle.value) }
@@ -200,7 +200,7 @@ fn closed_at(object: &Object, at: &mut u64) -> u32
     }
 }
 
-/// Reports how many of the bytes fed the stream has, once it is closed.
+/// Reports how many of the bytes fed belong to the stream, once it is closed.
 #[unsafe(no_mangle)]
 pub extern "C" fn zimgasol_in_place_closed_at(
     alloc: Global,
@@ -217,7 +217,7 @@ pub extern "C" fn zimgasol_in_place_closed_at(
     status
 }
 
-/// Frees a load. The blocks stay the caller's. A handle without one stays as it is.
+/// Frees a load. The blocks stay the caller's. An empty handle stays as it is.
 #[unsafe(no_mangle)]
 pub extern "C" fn zimgasol_in_place_free(alloc: Global, in_place: &mut InPlaceHandle)
     ensures none { in_place.new.handle.value ≡ None }

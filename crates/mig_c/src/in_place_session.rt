@@ -22,7 +22,7 @@ use mig_stream::Frame;
 use std::alloc::Global;
 use uuid::Uuid;
 
-// A load in a box.
+// Creates a load in a box.
 fn made(
     alloc: Global,
     table: &Table<Global>,
@@ -54,8 +54,8 @@ fn made_of(
     }
 }
 
-/// Makes a load that took nothing, into blocks of a table, of which it keeps copies, from so many
-/// channels under a UUID of 16 bytes. Its main stream is read in a frame.
+/// Creates a load into blocks of a table, which it copies, from `channels` channels under a UUID of
+/// 16 bytes. Its main stream is read in `frame`. No bytes were taken.
 #[unsafe(no_mangle)]
 pub extern "C" fn zimgasol_in_place_session_new(
     alloc: Global,
@@ -111,8 +111,8 @@ fn feed(
     }
 }
 
-/// Takes the first bytes of a piece of a source, as far as they belong to the round in hand, and
-/// writes their pages into the blocks. Reports how many bytes it took.
+/// Takes the first bytes of a piece of a source, up to the end of the current round, and writes
+/// their pages into the blocks. Reports how many bytes it took.
 #[unsafe(no_mangle)]
 pub extern "C" fn zimgasol_in_place_session_feed(
     alloc: Global,
@@ -195,7 +195,7 @@ fn fed(object: &Object, source: Source) -> u64
     }
 }
 
-/// Returns how many bytes of a source were taken: 0 where there is no such source.
+/// Returns how many bytes of a source were taken, or 0 if there is no such source.
 #[unsafe(no_mangle)]
 pub extern "C" fn zimgasol_in_place_session_fed(
     alloc: Global,
@@ -251,7 +251,7 @@ fn rounds(object: &Object) -> u64
     }
 }
 
-/// Returns how many rounds were judged lawful. The blocks have all of them.
+/// Returns how many rounds were found lawful. The blocks have all of them.
 #[unsafe(no_mangle)]
 pub extern "C" fn zimgasol_in_place_session_rounds(
     alloc: Global,
@@ -267,7 +267,7 @@ pub extern "C" fn zimgasol_in_place_session_rounds(
     number
 }
 
-/// Frees a load. The blocks stay the caller's. A handle without one stays as it is.
+/// Frees a load. The blocks stay the caller's. An empty handle stays as it is.
 #[unsafe(no_mangle)]
 pub extern "C" fn zimgasol_in_place_session_free(alloc: Global, session: &mut InPlaceSessionHandle)
     ensures none { session.new.handle.value ≡ None }

@@ -1,8 +1,8 @@
 //! Blocks of C that are lent for writing, as the memory that a load of several channels is passed.
 //!
-//! A contract of a load says what the memory that it was passed holds then, and not which slices
-//! that memory is made of. So the slices are taken out of C's array for the call, into a memory of
-//! the call's own, and go back from there.
+//! A load's contract says what the memory holds after the call, and not which slices the memory is
+//! made of. So the call takes the slices out of C's array into a memory of its own, and puts them
+//! back from there.
 
 ghost use Rattle.std.specs.Prelude.{◌≡◌, ◌↔◌, [], IsTrue, IfOk, OnErr, length};
 ghost use Rattle.mig_mem.specs.Lent.{mut_lent_bytes, FitTable};
@@ -52,7 +52,7 @@ impl<'b> GuestTarget for LentBlocks<'b> {
     }
 }
 
-/// Whether there is a slice for each block of a table, as long as its pages.
+/// Returns whether there is a slice for each block of a table, as long as its pages.
 pub(crate) fn fit(table: &Table<Global>, blocks: &[&mut [u8]]) -> bool
     ensures { IsTrue result ↔ FitTable table.now (mut_lent_bytes blocks.now) }
 {
@@ -67,7 +67,7 @@ pub(crate) fn fit(table: &Table<Global>, blocks: &[&mut [u8]]) -> bool
     true
 }
 
-/// Takes the slices of blocks out of C's array. They are to be put back.
+/// Takes the slices of blocks out of C's array, until `put_back`.
 pub(crate) fn taken_out<'b>(
     alloc: Global,
     blocks: &mut [&'b mut [u8]],

@@ -1,10 +1,13 @@
-//! The library for callers in C: senders and loaders of one stream and of several channels, also into blocks of C; hellos and packets.
-//! Its header is `include/zimgasol.h`, which tells the calls one by one.
+//! The library for callers in C: senders and loaders of one stream and of several channels, also
+//! into blocks of C; hellos and packets. Its header is `include/zimgasol.h`, which describes each
+//! call.
 //!
-//! C holds what it works on by a handle (`handle`), which owns an object in a box (`object`), and hands it to each call. A call asks of
-//! its handle that it holds an object of the call's kind, or none; every other condition it tests, and answers a status (`status`). What it
-//! then does is what the call of the library below does, and its contract says so of the object (`specs/`): in each module the exported
-//! functions take the object out of its handle, hand it to a function of the same name, and put it back.
+//! C has a handle (`handle`) for each object that it works on, and passes it to each call. The
+//! handle owns the object in a box (`object`). A call requires of its handle that it has an object
+//! of the call's kind, or none. It tests every other condition, and returns a status (`status`).
+//! Beyond that it does what the call of the library below does, and its contract says so of the
+//! object (`specs/`). In each module the exported functions take the object out of its handle, pass
+//! it to a function of the same name, and put it back.
 #![tactic(auto)]
 
 mod block;

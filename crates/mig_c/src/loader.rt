@@ -1,4 +1,4 @@
-//! A loader of one stream, which is fed in pieces.
+//! The calls of a loader of one stream, which is fed in pieces.
 
 ghost use Rattle.std.specs.Prelude.{◌≡◌, ◌≢◌, ◌≤◌, ◌^◌, IsSome, IfOk, None, Some, IsTrue, length};
 ghost use Rattle.mig_mem.specs.PageSize.{IsPageSize};
@@ -22,7 +22,7 @@ use mig_mem::{NoMemory, is_page_size};
 use mig_single_load::{FeedFault, LoadSettings, SingleLoader};
 use std::alloc::Global;
 
-// A loader in a box.
+// Creates a loader in a box.
 fn made(alloc: Global, settings: LoadSettings) -> Result<Box<Object>, NoMemory>
     requires page_size { IsPageSize settings.page_size }
     requires limit { settings.limit ≤ 2 ^ 40 }
@@ -32,7 +32,7 @@ fn made(alloc: Global, settings: LoadSettings) -> Result<Box<Object>, NoMemory>
     Ok(Box::new(alloc, Object::Loader(loader))?)
 }
 
-/// Makes a loader that was fed nothing, of a stream that is read in a frame.
+/// Creates a loader of a stream that is read in `frame`. No bytes were fed.
 #[unsafe(no_mangle)]
 pub extern "C" fn zimgasol_loader_new(
     alloc: Global,
@@ -96,7 +96,7 @@ fn feed(object: &mut Object, piece: &[u8]) -> u32
     }
 }
 
-/// Takes the next piece of the text, and puts the sections that it makes whole into the memory.
+/// Feeds the next piece of the stream, and applies the sections that it completes.
 #[unsafe(no_mangle)]
 pub extern "C" fn zimgasol_loader_feed(
     alloc: Global,
@@ -131,7 +131,7 @@ fn settle(object: &mut Object) -> u32
     }
 }
 
-/// Puts the sections that wait into the memory, where that couldn't be had before.
+/// Applies the sections that wait since an allocation was refused.
 #[unsafe(no_mangle)]
 pub extern "C" fn zimgasol_loader_settle(alloc: Global, loader: &mut LoaderHandle) -> u32
     requires loader { IsSome (loader_in loader.old.handle.value) }
@@ -153,7 +153,7 @@ fn end(object: &mut Object)
     }
 }
 
-/// The text is over: no piece is fed from now on.
+/// Marks the end of the stream: no piece is fed after it.
 #[unsafe(no_mangle)]
 pub extern "C" fn zimgasol_loader_end(alloc: Global, loader: &mut LoaderHandle)
     requires loader { IsSome (loader_in loader.old.handle.value) }
@@ -180,7 +180,7 @@ fn fault(object: &Object) -> FoundFault
     }
 }
 
-/// The verdict on the text so far; where it isn't over and is whole so far, that more is needed.
+/// Reports the verdict on the stream so far, or that more of it is needed.
 #[unsafe(no_mangle)]
 pub extern "C" fn zimgasol_loader_verdict(
     alloc: Global,
@@ -209,7 +209,7 @@ fn rounds(object: &Object) -> u64
     }
 }
 
-/// How many sections are in the memory. START and END count, too.
+/// Returns how many sections were applied to the memory. START and END count too.
 #[unsafe(no_mangle)]
 pub extern "C" fn zimgasol_loader_rounds(alloc: Global, loader: &mut LoaderHandle) -> u64
     requires loader { IsSome (loader_in loader.old.handle.value) }
@@ -267,7 +267,7 @@ fn closed_at(object: &Object, at: &mut u64) -> u32
     }
 }
 
-/// Reports how many of the bytes fed the stream has, once it is closed.
+/// Reports how many of the bytes fed belong to the stream, once it is closed.
 #[unsafe(no_mangle)]
 pub extern "C" fn zimgasol_loader_closed_at(
     alloc: Global,
@@ -294,7 +294,7 @@ fn page(object: &Object, block: usize, page: u64, out: &mut [u8]) -> u32
     }
 }
 
-/// Copies a page of the memory out, into a buffer of its length.
+/// Copies a page of the memory into a buffer of its length.
 #[unsafe(no_mangle)]
 pub extern "C" fn zimgasol_loader_page(
     alloc: Global,
@@ -323,7 +323,7 @@ fn read(object: &Object, block: usize, page: u64, out: &mut [u8]) -> u32
     }
 }
 
-/// Copies several pages of a block out, into a buffer as long as they are.
+/// Copies several pages of a block into a buffer as long as they are.
 #[unsafe(no_mangle)]
 pub extern "C" fn zimgasol_loader_read(
     alloc: Global,
@@ -352,7 +352,7 @@ fn next_nonzero(object: &Object, block: usize, page: u64, found: &mut u64) -> u3
     }
 }
 
-/// Reports the next page of a block, from a page on, that isn't zeros.
+/// Reports the first page of a block, from page `number` on, that isn't zeros.
 #[unsafe(no_mangle)]
 pub extern "C" fn zimgasol_loader_next_nonzero(
     alloc: Global,
@@ -381,7 +381,7 @@ fn blocks(object: &Object) -> usize
     }
 }
 
-/// How many blocks the guest has: 0 where its memory isn't there yet.
+/// Returns how many blocks the guest has, or 0 if its memory isn't there yet.
 #[unsafe(no_mangle)]
 pub extern "C" fn zimgasol_loader_blocks(alloc: Global, loader: &mut LoaderHandle) -> usize
     requires loader { IsSome (loader_in loader.old.handle.value) }
@@ -404,7 +404,7 @@ fn block(object: &Object, i: usize, out: &mut NamedBlock) -> u32
     }
 }
 
-/// Tells a block's id and its number of pages.
+/// Reports a block's id and its number of pages.
 #[unsafe(no_mangle)]
 pub extern "C" fn zimgasol_loader_block(
     alloc: Global,
@@ -422,7 +422,7 @@ pub extern "C" fn zimgasol_loader_block(
     status
 }
 
-/// Frees a loader. A handle without one stays as it is.
+/// Frees a loader. An empty handle stays as it is.
 #[unsafe(no_mangle)]
 pub extern "C" fn zimgasol_loader_free(alloc: Global, loader: &mut LoaderHandle)
     ensures none { loader.new.handle.value ≡ None }

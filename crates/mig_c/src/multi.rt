@@ -1,6 +1,6 @@
-//! The calls of a sender on several channels. A round is packed by workers on threads of the
-//! caller's: each has a handle of its own (`worker`), and shares with the others what the round's
-//! deal is. No handle is shared.
+//! The calls of a sender on several channels. Workers pack a round, on threads of the caller's.
+//! Each worker has a handle of its own (`worker`), and shares the round's deal with the others. No
+//! two threads share a handle.
 
 ghost use Rattle.std.specs.Prelude.{◌≡◌, ◌≢◌, ◌≤◌, ◌<◌, ◌∷◌, [], IsSome, IfOk, IfErr, IfSome, OnOk, None, Some, map, IsTrue, ◌↔◌};
 ghost use Rattle.mig_packet.specs.PageSize.{page_limit as most_pages};
@@ -17,7 +17,7 @@ use mig_packet::page_limit;
 use std::alloc::Global;
 use uuid::Uuid;
 
-// A sender in a box.
+// Creates a sender in a box.
 fn made(
     alloc: Global,
     table: &Table<Global>,
@@ -31,7 +31,7 @@ fn made(
     Ok(Box::new(alloc, Object::Multi(multi))?)
 }
 
-// Whether a batch may have so many pages.
+// Returns whether a batch may have `limit` pages.
 fn is_batch_limit(table: &Table<Global>, limit: usize) -> bool
     ensures { IsTrue result ↔ ((0 < limit) × (limit ≤ most_pages table.now.page_size)) }
 {
@@ -39,7 +39,7 @@ fn is_batch_limit(table: &Table<Global>, limit: usize) -> bool
     limit > 0 && limit <= page_limit(table.page_size())
 }
 
-// Makes a sender of a table, or says why there is none.
+// Creates a sender of a table, or returns why it can't.
 fn made_of(
     alloc: Global,
     table: &Object,
@@ -66,8 +66,8 @@ fn made_of(
     }
 }
 
-/// Makes a sender on so many channels that has sent nothing, with at most `limit` pages to a packet.
-/// It keeps a copy of the table.
+/// Creates a sender on `channels` channels, with at most `limit` pages in a packet. It copies the
+/// table, and has sent nothing.
 #[unsafe(no_mangle)]
 pub extern "C" fn zimgasol_multi_new(
     alloc: Global,
@@ -112,7 +112,7 @@ fn begin_round(alloc: Global, object: &mut Object, places: &[NamedPlace]) -> u32
     }
 }
 
-/// Begins a round of these dirty pages: cuts them into batches, which its workers are to pack.
+/// Begins a round of these dirty pages: cuts them into batches, which its workers pack.
 #[unsafe(no_mangle)]
 pub extern "C" fn zimgasol_multi_begin_round(
     alloc: Global,
@@ -155,7 +155,7 @@ fn room(alloc: Global) -> Option<Box<Object>>
     }
 }
 
-// Returns why no worker is handed out where its handle gets no memory.
+// Returns why there is no worker, if its handle got no memory.
 fn refused(object: &Object) -> u32
     requires { IsSome (multi_in (Some object.now)) }
     ensures { Turns (λ old new. ChangesMulti (λ was is. HandsOutWorker result was is None) old new) (multi_in (Some object.now)) (multi_in (Some object.now)) }
@@ -166,7 +166,7 @@ fn refused(object: &Object) -> u32
     }
 }
 
-/// Hands out the worker of the next channel, beginning with channel 0, into a handle of its own.
+/// Puts the worker of the next channel, from channel 0 on, into a handle of its own.
 #[unsafe(no_mangle)]
 pub extern "C" fn zimgasol_multi_worker(
     alloc: Global,
@@ -194,8 +194,8 @@ pub extern "C" fn zimgasol_multi_worker(
     status
 }
 
-// Takes a worker out of its object, gives it back, and puts it into its object again where it isn't
-// taken.
+// Takes a worker out of its object and gives it back to the round. If the round doesn't take it,
+// the object has it again.
 fn give(object: &mut Object, worker: &mut Object) -> u32
     requires multi { IsSome (multi_in (Some object.old)) }
     requires worker { IsSome (worker_in (Some worker.old)) }
@@ -217,7 +217,7 @@ fn give(object: &mut Object, worker: &mut Object) -> u32
     }
 }
 
-/// Takes back a worker of the round that has ended: workers come back in the order of their
+/// Gives back a worker of the round that has ended. Workers are given back in the order of their
 /// channels. Its handle is empty then.
 #[unsafe(no_mangle)]
 pub extern "C" fn zimgasol_multi_give_back(
@@ -253,7 +253,7 @@ fn end_round(alloc: Global, object: &mut Object) -> u32
     }
 }
 
-/// Ends the round that is open, all of whose workers are back, with a FLUSH on the main stream.
+/// Ends the open round, all of whose workers were given back, with a FLUSH on the main stream.
 #[unsafe(no_mangle)]
 pub extern "C" fn zimgasol_multi_end_round(alloc: Global, multi: &mut MultiHandle) -> u32
     requires multi { IsSome (multi_in multi.old.handle.value) }
@@ -275,7 +275,7 @@ fn finish(alloc: Global, object: &mut Object) -> u32
     }
 }
 
-/// Ends the streams: what of them waits is still to be drained.
+/// Ends the streams. The bytes that wait are still to be drained.
 #[unsafe(no_mangle)]
 pub extern "C" fn zimgasol_multi_finish(alloc: Global, multi: &mut MultiHandle) -> u32
     requires multi { IsSome (multi_in multi.old.handle.value) }
@@ -297,7 +297,7 @@ fn drain(object: &mut Object, out: &mut [u8]) -> usize
     }
 }
 
-/// Hands out the next bytes of the main stream, and returns how many: 0 where none waits.
+/// Copies out the next bytes of the main stream, and returns how many, or 0 if none waits.
 #[unsafe(no_mangle)]
 pub extern "C" fn zimgasol_multi_drain(
     alloc: Global,
@@ -323,8 +323,8 @@ fn drain_left(object: &mut Object, channel: usize, out: &mut [u8]) -> usize
     }
 }
 
-/// Hands out the next bytes of a channel that were left when the streams were ended, and returns how
-/// many: 0 where none is left, and before the end.
+/// Copies out the next bytes of a channel that were left when the streams were ended, and returns
+/// how many. Returns 0 if none is left, and before the end.
 #[unsafe(no_mangle)]
 pub extern "C" fn zimgasol_multi_drain_channel(
     alloc: Global,
@@ -341,7 +341,7 @@ pub extern "C" fn zimgasol_multi_drain_channel(
     count
 }
 
-/// Frees a sender, with what wasn't drained. A handle without one stays as it is.
+/// Frees a sender, with the bytes that weren't drained. An empty handle stays as it is.
 #[unsafe(no_mangle)]
 pub extern "C" fn zimgasol_multi_free(alloc: Global, multi: &mut MultiHandle)
     ensures none { multi.new.handle.value ≡ None }

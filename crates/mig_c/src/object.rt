@@ -1,4 +1,4 @@
-//! What stands behind a handle.
+//! The objects of handles.
 
 use crate::held_load::HeldLoad;
 use crate::held_session::HeldSession;
@@ -9,7 +9,7 @@ use mig_session::Session;
 use mig_single_load::SingleLoader;
 use std::alloc::Global;
 
-/// What stands behind a handle, of each kind that C works on.
+/// The object of a handle, of each kind that C works on.
 #[derive(Drop)]
 pub enum Object {
     /// A guest's table.
@@ -28,6 +28,6 @@ pub enum Object {
     Multi(Multi),
     /// A worker of a round on several channels.
     Worker(HeldWorker),
-    /// Nothing: room for a worker.
+    /// No worker yet: room for one.
     Empty,
 }

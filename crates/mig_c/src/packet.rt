@@ -11,7 +11,7 @@ use mig_packet::{NoMemory, hello, page_limit, put_packet};
 use std::alloc::Global;
 use uuid::Uuid;
 
-/// Writes the hello of a channel, of a UUID of 16 bytes, into a buffer of 64.
+/// Writes the hello of a channel, with a UUID of 16 bytes, into a buffer of 64.
 #[unsafe(no_mangle)]
 pub extern "C" fn zimgasol_hello(uuid: &[u8], id: u8, out: &mut [u8]) -> u32
     ensures greets { Greets uuid.now id result out.old out.new }
@@ -26,7 +26,7 @@ pub extern "C" fn zimgasol_hello(uuid: &[u8], id: u8, out: &mut [u8]) -> u32
     DONE
 }
 
-// A packet in memory of its own.
+// Creates a packet in memory of its own.
 fn packet(
     alloc: Global,
     page_size: u64,
@@ -62,7 +62,8 @@ fn copy_out(bytes: &[u8], out: &mut [u8], written: &mut usize) -> u32
     DONE
 }
 
-/// Writes one packet to the front of a buffer, and tells how many bytes it has; where the buffer is too short, how many it has to have.
+/// Writes one packet to the front of a buffer, and reports its length. If the buffer is too short,
+/// it reports the length that is needed.
 #[unsafe(no_mangle)]
 pub extern "C" fn zimgasol_put_packet(
     alloc: Global,

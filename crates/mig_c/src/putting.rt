@@ -1,4 +1,4 @@
-//! A page that is written into the bytes of its block.
+//! Writes a page into the bytes of its block.
 
 ghost use Rattle.std.specs.Prelude.{◌≡◌, ◌+◌, ◌*◌, ◌≤◌, length, replicate};
 ghost use Rattle.mig_mem.specs.PageSize.{IsPageSize};
@@ -6,10 +6,10 @@ ghost use Rattle.mig_mem.specs.Image.{zero_page};
 ghost use Rattle.mig_mem.specs.Parts.{part_at};
 ghost use Rattle.mig_c.specs.InPlace.{with_content};
 
-// A page of zeros, of the larger size.
+// A page of zeros, of the larger page size.
 static ZEROS: [u8; 8192] = [0; 8192];
 
-// The first bytes of some zeros.
+// Returns the first `len` bytes of `zeros`.
 fn front(zeros: &[u8], len: u64) -> &[u8]
     requires zeros { zeros.now ≡ replicate (length zeros.now) 0 }
     requires len { len ≤ length zeros.now }
@@ -43,7 +43,7 @@ pub(crate) fn write_page(bytes: &mut [u8], size: u64, page: u64, content: &[u8])
     bytes[start..start + size as usize].copy_from_slice(content);
 }
 
-/// Makes a page zeros. A page that is zeros isn't written, so that the system need not back it.
+/// Sets a page to zeros. A page that is zeros isn't written, so that the system need not back it.
 pub(crate) fn clear_page(bytes: &mut [u8], size: u64, page: u64)
     requires size { IsPageSize size }
     requires room { page * size + size ≤ length bytes.old }

@@ -1,4 +1,4 @@
-//! Reading a memory that was loaded: its blocks, and its pages.
+//! Reads a loaded memory: its blocks, and its pages.
 
 ghost use Rattle.std.specs.Prelude.{◌≡◌, ◌≤◌, ◌<◌, ◌%◌, ◌↔◌, length, IfSome, IsTrue, None};
 ghost use Rattle.std.specs.Option.{option_copied};
@@ -15,7 +15,7 @@ use mig_mem::{Memory, Place, Table};
 use mig_zero::is_zero;
 use std::alloc::Global;
 
-/// Copies a page out, into a buffer of its length.
+/// Copies a page into a buffer of its length.
 pub(crate) fn page(memory: Option<&Memory<Global>>, block: usize, page: u64, out: &mut [u8]) -> u32
     ensures { GivesPage (place_at block page) result out.old out.new (option_copied memory.entry) }
 {
@@ -32,7 +32,7 @@ pub(crate) fn page(memory: Option<&Memory<Global>>, block: usize, page: u64, out
     DONE
 }
 
-// Whether a table has the pages of a block from a page on that so many bytes are.
+// Returns whether a block has pages of `len` bytes together, from page `page` on.
 fn has_pages(table: &Table<Global>, block: usize, page: u64, len: usize) -> bool
     ensures { IsTrue result ↔ HasPages table.now block page len }
 {
@@ -45,7 +45,7 @@ fn has_pages(table: &Table<Global>, block: usize, page: u64, len: usize) -> bool
     page <= pages && len as u64 <= (pages - page) * table.page_size()
 }
 
-// Copies pages of a block out, one after another.
+// Copies pages of a block into a buffer, one after another.
 fn copy_pages(memory: &Memory<Global>, block: usize, page: u64, out: &mut [u8])
     requires pages { HasPages memory.now.table block page (length out.old) }
     requires len { length out.old % memory.now.table.page_size ≡ 0 }
@@ -67,7 +67,7 @@ fn copy_pages(memory: &Memory<Global>, block: usize, page: u64, out: &mut [u8])
     }
 }
 
-/// Copies several pages of a block out, into a buffer as long as they are.
+/// Copies several pages of a block into a buffer as long as they are.
 pub(crate) fn pages(memory: Option<&Memory<Global>>, block: usize, page: u64, out: &mut [u8]) -> u32
     ensures { GivesPages block page result out.old out.new (option_copied memory.entry) }
 {
@@ -86,7 +86,7 @@ pub(crate) fn pages(memory: Option<&Memory<Global>>, block: usize, page: u64, ou
     DONE
 }
 
-// Whether a page is zeros.
+// Returns whether a page is zeros.
 fn is_blank(memory: &Memory<Global>, place: Place) -> bool
     requires { IsPlace memory.now.table place }
     ensures { IsTrue result ↔ IsZero (content_at memory.now place) }
@@ -97,7 +97,7 @@ fn is_blank(memory: &Memory<Global>, place: Place) -> bool
     is_zero(content)
 }
 
-// The first page of a block, from a page on, that isn't zeros.
+// Returns the first page of a block, from page `page` on, that isn't zeros.
 fn first_filled(memory: &Memory<Global>, block: usize, page: u64) -> Option<u64>
     requires { block < length memory.now.table.blocks }
     ensures some { IfSome result (λ at. IsFirstFilled memory.now block page at) }
@@ -115,7 +115,7 @@ fn first_filled(memory: &Memory<Global>, block: usize, page: u64) -> Option<u64>
     None
 }
 
-/// Reports the next page of a block, from a page on, that isn't zeros.
+/// Reports the first page of a block, from page `page` on, that isn't zeros.
 pub(crate) fn next_nonzero(
     memory: Option<&Memory<Global>>,
     block: usize,
@@ -139,7 +139,7 @@ pub(crate) fn next_nonzero(
     }
 }
 
-/// How many blocks a memory has: 0 where there is none.
+/// Returns how many blocks a memory has, or 0 if there is no memory.
 pub(crate) fn blocks(memory: Option<&Memory<Global>>) -> usize
     ensures { result ≡ block_count (option_copied memory.entry) }
 {
@@ -149,7 +149,7 @@ pub(crate) fn blocks(memory: Option<&Memory<Global>>) -> usize
     }
 }
 
-// A block's id with zeros behind it.
+// Returns a block's id, then zeros.
 fn filled(id: &[u8]) -> [u8; 256]
     requires { length id.now ≤ 255 }
     ensures { result ≡ named_id id.now }
@@ -159,7 +159,7 @@ fn filled(id: &[u8]) -> [u8; 256]
     bytes
 }
 
-/// Tells a block's id and its number of pages.
+/// Reports a block's id and its number of pages.
 pub(crate) fn block(memory: Option<&Memory<Global>>, i: usize, out: &mut NamedBlock) -> u32
     ensures { GivesBlock i result out.old out.new (option_copied memory.entry) }
 {

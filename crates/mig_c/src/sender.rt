@@ -1,4 +1,5 @@
-//! A sender of one stream, whose rounds are put page by page, and whose text is drained into buffers of C.
+//! A sender of one stream: rounds are put page by page, and the bytes are drained into buffers of
+//! C.
 
 ghost use Rattle.std.specs.Prelude.{◌∷◌, [], ◌≡◌, ◌≢◌, ◌<◌, ◌≤◌, IsSome, IfOk, None, Some, length};
 ghost use Rattle.mig_stream.specs.Format.{most_name_bytes};
@@ -15,34 +16,34 @@ use mig_mem::{NoMemory, Place, Table};
 use mig_send::{OpenRound, SingleSender};
 use std::alloc::Global;
 
-/// How far a sender is.
+/// The state of a sender.
 #[derive(Drop)]
 pub enum Sending {
     /// Between two rounds, or before the first.
     Idle(SingleSender<Global>),
     /// In a round.
     Round(OpenRound<Global>),
-    /// Behind the end, with what of the stream wasn't drained.
+    /// After the end, with the bytes that weren't drained.
     Over(Vec<u8>),
-    /// After RAM's END, without the end byte, with what of the stream wasn't drained.
+    /// After RAM's END, without the end byte, with the bytes that weren't drained.
     LeftOpen(Vec<u8>),
 }
 
-/// A sender, and the bytes that were drained of its stream last.
+/// A sender, and the bytes that were last drained of its stream.
 #[derive(Drop)]
 pub struct Sender {
-    /// How far it is.
+    /// The state of the sender.
     pub(crate) state: Sending,
-    /// The bytes that were drained last.
+    /// The bytes that were drained of the writer last.
     pub(crate) drained: Vec<u8>,
-    /// How many of them were handed out.
+    /// How many of them were copied out to C.
     pub(crate) given: usize,
 }
 
-// The most bytes that a machine's name has.
+// The most bytes of a machine's name.
 const MOST_NAME_BYTES: usize = 1024;
 
-// A sender of a stream without a name.
+// Creates a sender of a stream without a name.
 fn plain(alloc: Global, table: &Table<Global>) -> Result<Sender, NoMemory>
     ensures { IfOk result (λ s. Starts None (Some table.now) (Some s)) }
 {
@@ -54,7 +55,7 @@ fn plain(alloc: Global, table: &Table<Global>) -> Result<Sender, NoMemory>
     })
 }
 
-// A sender of a stream with a machine's name. The stream's first bytes wait.
+// Creates a sender of a stream with a machine's name. The stream's first bytes wait.
 fn named(alloc: Global, table: &Table<Global>, name: &[u8]) -> Result<Sender, NoMemory>
     requires name { length name.now ≤ most_name_bytes }
     ensures { IfOk result (λ s. Starts (Some name.now) (Some table.now) (Some s)) }
@@ -67,7 +68,7 @@ fn named(alloc: Global, table: &Table<Global>, name: &[u8]) -> Result<Sender, No
     })
 }
 
-// A sender in a box.
+// Creates a sender in a box.
 fn made(alloc: Global, table: &Table<Global>) -> Result<Box<Object>, NoMemory>
     ensures { IfOk result (λ object. Starts None (Some table.now) (sender_in (Some object.value))) }
 {
@@ -85,7 +86,7 @@ fn made_of(alloc: Global, table: &Object) -> Result<Box<Object>, NoMemory>
     }
 }
 
-/// Makes a sender of a table that has sent nothing. It keeps a copy of the table.
+/// Creates a sender of a table, which it copies. It has sent nothing.
 #[unsafe(no_mangle)]
 pub extern "C" fn zimgasol_sender_new(
     alloc: Global,
@@ -131,8 +132,8 @@ fn made_named_of(alloc: Global, table: &Object, name: &[u8]) -> Result<Box<Objec
     }
 }
 
-/// Makes a sender of a table that has sent nothing. Its stream has a machine's name in a
-/// configuration after the file header. It keeps a copy of the table.
+/// Creates a sender of a table, which it copies. It has sent nothing. Its stream has a machine's
+/// name, in a configuration after the file header.
 #[unsafe(no_mangle)]
 pub extern "C" fn zimgasol_sender_new_named(
     alloc: Global,
@@ -177,7 +178,7 @@ fn begun(state: Sending) -> (Sending, u32)
     }
 }
 
-// Ends the round that is open.
+// Ends the open round.
 fn ended(state: Sending) -> (Sending, u32)
     ensures { EndsRound result.1 state result.0 }
 {
@@ -192,7 +193,7 @@ fn ended(state: Sending) -> (Sending, u32)
     }
 }
 
-// Leaves out the round that is open.
+// Cancels the open round.
 fn cancelled(state: Sending) -> (Sending, u32)
     ensures { Cancels result.1 state result.0 }
 {
@@ -234,7 +235,7 @@ fn finished_open(state: Sending) -> (Sending, u32)
     }
 }
 
-// Takes the state out of a sender, which is to get one again.
+// Takes the state out of a sender, which must get one again.
 fn take_state(alloc: Global, sender: &mut Sender) -> Sending
     ensures state { result ≡ sender.old.state }
     ensures drained { sender.new.drained ≡ sender.old.drained }
@@ -298,7 +299,7 @@ fn put_page(object: &mut Object, place: Place, bytes: &[u8]) -> u32
     }
 }
 
-/// Sends a page: a place of the table, and its bytes as they were read.
+/// Sends a page: its place in the table, and its bytes.
 #[unsafe(no_mangle)]
 pub extern "C" fn zimgasol_sender_put_page(
     alloc: Global,
@@ -334,7 +335,7 @@ fn end_round(alloc: Global, object: &mut Object) -> u32
     }
 }
 
-/// Ends the round that is open: it has the pages that were put, in the order in which they were.
+/// Ends the open round. It has the pages that were put, in their order.
 #[unsafe(no_mangle)]
 pub extern "C" fn zimgasol_sender_end_round(alloc: Global, sender: &mut SenderHandle) -> u32
     requires sender { IsSome (sender_in sender.old.handle.value) }
@@ -360,7 +361,7 @@ fn cancel_round(alloc: Global, object: &mut Object) -> u32
     }
 }
 
-/// Leaves out the round that is open: the sender is as it was before.
+/// Cancels the open round: the sender is as it was before it.
 #[unsafe(no_mangle)]
 pub extern "C" fn zimgasol_sender_cancel_round(alloc: Global, sender: &mut SenderHandle) -> u32
     requires sender { IsSome (sender_in sender.old.handle.value) }
@@ -386,7 +387,7 @@ fn finish(alloc: Global, object: &mut Object) -> u32
     }
 }
 
-/// Ends the stream: what of it waits is still to be drained.
+/// Ends the stream. The bytes that wait are still to be drained.
 #[unsafe(no_mangle)]
 pub extern "C" fn zimgasol_sender_finish(alloc: Global, sender: &mut SenderHandle) -> u32
     requires sender { IsSome (sender_in sender.old.handle.value) }
@@ -412,8 +413,8 @@ fn finish_open(alloc: Global, object: &mut Object) -> u32
     }
 }
 
-/// Ends RAM's sections without the stream's end byte: what of it waits is still to be drained. The
-/// caller writes the sections of devices and the end byte.
+/// Ends RAM's sections without the stream's end byte. The bytes that wait are still to be drained.
+/// The caller writes the sections of devices and the end byte.
 #[unsafe(no_mangle)]
 pub extern "C" fn zimgasol_sender_finish_open(alloc: Global, sender: &mut SenderHandle) -> u32
     requires sender { IsSome (sender_in sender.old.handle.value) }
@@ -425,7 +426,7 @@ pub extern "C" fn zimgasol_sender_finish_open(alloc: Global, sender: &mut Sender
     status
 }
 
-// Takes all bytes of a text in place of those that were drained before.
+// Takes all bytes of `text` in place of those that were drained before.
 fn take_text(drained: &mut Vec<u8>, text: &mut Vec<u8>)
     ensures taken { drained.new.items ≡ text.old.items }
     ensures none { text.new.items ≡ [] }
@@ -434,7 +435,7 @@ fn take_text(drained: &mut Vec<u8>, text: &mut Vec<u8>)
     std::mem::swap(drained, text);
 }
 
-// Drains what was written, where no drained byte waits.
+// Drains the writer, if no drained byte waits.
 fn refill(sender: &mut Sender)
     ensures { Refills sender.old sender.new }
 {
@@ -458,7 +459,7 @@ fn refill(sender: &mut Sender)
     }
 }
 
-// Hands out the first bytes that wait.
+// Copies out the first bytes that wait.
 fn hand_out(sender: &mut Sender, out: &mut [u8]) -> usize
     ensures { Hands result out.new sender.old sender.new }
 {
@@ -484,7 +485,7 @@ fn drain(object: &mut Object, out: &mut [u8]) -> usize
     }
 }
 
-/// Hands out the next bytes of the stream, and tells how many: 0 where none waits.
+/// Copies out the next bytes of the stream, and returns how many, or 0 if none waits.
 #[unsafe(no_mangle)]
 pub extern "C" fn zimgasol_sender_drain(
     alloc: Global,
@@ -517,7 +518,7 @@ fn peek(object: &mut Object, out: &mut [u8]) -> usize
     }
 }
 
-/// Copies the next bytes of the stream out, which go on waiting, and returns how many.
+/// Copies out the next bytes of the stream, which still wait, and returns how many.
 #[unsafe(no_mangle)]
 pub extern "C" fn zimgasol_sender_peek(
     alloc: Global,
@@ -551,7 +552,7 @@ fn skip(object: &mut Object, len: usize) -> usize
     }
 }
 
-/// Counts the first bytes that wait as handed out, and returns how many: `len` of them, or all.
+/// Counts the first bytes that wait as copied out, and returns how many: `len` of them, or all.
 #[unsafe(no_mangle)]
 pub extern "C" fn zimgasol_sender_skip(
     alloc: Global,
@@ -584,7 +585,7 @@ fn waiting(object: &mut Object) -> usize
     }
 }
 
-/// Returns how many bytes of the stream wait to be handed out.
+/// Returns how many bytes of the stream wait to be copied out.
 #[unsafe(no_mangle)]
 pub extern "C" fn zimgasol_sender_waiting(alloc: Global, sender: &mut SenderHandle) -> usize
     requires sender { IsSome (sender_in sender.old.handle.value) }
@@ -596,7 +597,7 @@ pub extern "C" fn zimgasol_sender_waiting(alloc: Global, sender: &mut SenderHand
     count
 }
 
-/// Frees a sender. A handle without one stays as it is.
+/// Frees a sender. An empty handle stays as it is.
 #[unsafe(no_mangle)]
 pub extern "C" fn zimgasol_sender_free(alloc: Global, sender: &mut SenderHandle)
     ensures none { sender.new.handle.value ≡ None }

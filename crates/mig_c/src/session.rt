@@ -1,4 +1,4 @@
-//! A load of several channels, which is fed in pieces by source.
+//! The calls of a load of several channels, which is fed in pieces by source.
 
 ghost use Rattle.std.specs.Prelude.{◌≡◌, ◌≢◌, ◌≤◌, ◌^◌, IsSome, IfOk, None, Some, length};
 ghost use Rattle.mig_mem.specs.PageSize.{IsPageSize};
@@ -26,7 +26,7 @@ use mig_single_load::LoadSettings;
 use std::alloc::Global;
 use uuid::Uuid;
 
-// A session in a box.
+// Creates a session in a box.
 fn made(
     alloc: Global,
     settings: LoadSettings,
@@ -42,8 +42,8 @@ fn made(
     Ok(Box::new(alloc, Object::Session(session))?)
 }
 
-/// Makes a session that was fed nothing, of so many channels under a UUID of 16 bytes. Its main
-/// stream is read in a frame.
+/// Creates a session of `channels` channels under a UUID of 16 bytes. Its main stream is read in
+/// `frame`. No bytes were fed.
 #[unsafe(no_mangle)]
 pub extern "C" fn zimgasol_session_new(
     alloc: Global,
@@ -99,7 +99,7 @@ fn feed(object: &mut Object, source: Source, piece: &[u8]) -> u32
     }
 }
 
-/// Takes the next piece of a source's text, and puts the rounds that it makes whole into the memory.
+/// Feeds the next piece of a source, and applies the rounds that it completes.
 #[unsafe(no_mangle)]
 pub extern "C" fn zimgasol_session_feed(
     alloc: Global,
@@ -126,7 +126,7 @@ fn end(object: &mut Object, source: Source) -> u32
     }
 }
 
-/// The text of a source is over.
+/// Ends a source: no piece of it is fed after that.
 #[unsafe(no_mangle)]
 pub extern "C" fn zimgasol_session_end(
     alloc: Global,
@@ -152,7 +152,7 @@ fn fed(object: &Object, source: Source) -> u64
     }
 }
 
-/// Returns how many bytes of a source were fed: 0 where there is no such source.
+/// Returns how many bytes of a source were fed, or 0 if there is no such source.
 #[unsafe(no_mangle)]
 pub extern "C" fn zimgasol_session_fed(
     alloc: Global,
@@ -189,7 +189,7 @@ fn verdict(object: &Object) -> FoundFault
     }
 }
 
-/// How the load stands on the texts so far.
+/// Reports the verdict on the bytes so far.
 #[unsafe(no_mangle)]
 pub extern "C" fn zimgasol_session_verdict(
     alloc: Global,
@@ -218,7 +218,7 @@ fn rounds(object: &Object) -> u64
     }
 }
 
-/// How many rounds are in the memory.
+/// Returns how many rounds were applied to the memory.
 #[unsafe(no_mangle)]
 pub extern "C" fn zimgasol_session_rounds(alloc: Global, session: &mut SessionHandle) -> u64
     requires session { IsSome (session_in session.old.handle.value) }
@@ -241,7 +241,7 @@ fn page(object: &Object, block: usize, page: u64, out: &mut [u8]) -> u32
     }
 }
 
-/// Copies a page of the memory out, into a buffer of its length.
+/// Copies a page of the memory into a buffer of its length.
 #[unsafe(no_mangle)]
 pub extern "C" fn zimgasol_session_page(
     alloc: Global,
@@ -270,7 +270,7 @@ fn read(object: &Object, block: usize, page: u64, out: &mut [u8]) -> u32
     }
 }
 
-/// Copies several pages of a block out, into a buffer as long as they are.
+/// Copies several pages of a block into a buffer as long as they are.
 #[unsafe(no_mangle)]
 pub extern "C" fn zimgasol_session_read(
     alloc: Global,
@@ -299,7 +299,7 @@ fn next_nonzero(object: &Object, block: usize, page: u64, found: &mut u64) -> u3
     }
 }
 
-/// Reports the next page of a block, from a page on, that isn't zeros.
+/// Reports the first page of a block, from page `number` on, that isn't zeros.
 #[unsafe(no_mangle)]
 pub extern "C" fn zimgasol_session_next_nonzero(
     alloc: Global,
@@ -328,7 +328,7 @@ fn blocks(object: &Object) -> usize
     }
 }
 
-/// How many blocks the guest has: 0 where its memory isn't there yet.
+/// Returns how many blocks the guest has, or 0 if its memory isn't there yet.
 #[unsafe(no_mangle)]
 pub extern "C" fn zimgasol_session_blocks(alloc: Global, session: &mut SessionHandle) -> usize
     requires session { IsSome (session_in session.old.handle.value) }
@@ -351,7 +351,7 @@ fn block(object: &Object, i: usize, out: &mut NamedBlock) -> u32
     }
 }
 
-/// Tells a block's id and its number of pages.
+/// Reports a block's id and its number of pages.
 #[unsafe(no_mangle)]
 pub extern "C" fn zimgasol_session_block(
     alloc: Global,
@@ -369,7 +369,7 @@ pub extern "C" fn zimgasol_session_block(
     status
 }
 
-/// Frees a session. A handle without one stays as it is.
+/// Frees a session. An empty handle stays as it is.
 #[unsafe(no_mangle)]
 pub extern "C" fn zimgasol_session_free(alloc: Global, session: &mut SessionHandle)
     ensures none { session.new.handle.value ≡ None }

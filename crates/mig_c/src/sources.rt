@@ -1,4 +1,4 @@
-//! The sources of a session, as C names them, and what is fed to them.
+//! The sources of a session, as C names them, and the bytes that are fed to them.
 
 ghost use Rattle.std.specs.Prelude.{◌≡◌, ◌↔◌, IsTrue};
 ghost use Rattle.mig_session.specs.Session.{HasSource};
@@ -9,7 +9,7 @@ use mig_mem::NoMemory;
 use mig_session::{Session, Source};
 use std::alloc::Global;
 
-/// The source of a number.
+/// Returns the source with this number: 0 is the main stream, 1 + j is channel j.
 pub(crate) fn source_of(number: usize) -> Source
     ensures { result ≡ source_of number }
 {
@@ -19,7 +19,7 @@ pub(crate) fn source_of(number: usize) -> Source
     Source::Channel(number - 1)
 }
 
-// Whether a session has a source.
+// Returns whether a session has a source.
 fn has_source(session: &Session<Global>, source: Source) -> bool
     ensures { IsTrue result ↔ HasSource session.now.counts source }
 {
@@ -29,7 +29,7 @@ fn has_source(session: &Session<Global>, source: Source) -> bool
     }
 }
 
-/// Takes the next piece of a source's text.
+/// Feeds the next piece of a source.
 pub(crate) fn feed_source(session: &mut Session<Global>, source: Source, piece: &[u8]) -> u32
     ensures { FeedsSource source piece.now result session.old session.new }
 {
@@ -59,7 +59,7 @@ pub(crate) fn fed_of(session: &Session<Global>, source: Source) -> u64
     }
 }
 
-/// The text of a source is over.
+/// Ends a source.
 pub(crate) fn end_source(session: &mut Session<Global>, source: Source) -> u32
     ensures { EndsSource source result session.old session.new }
 {

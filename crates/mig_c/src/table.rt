@@ -1,4 +1,4 @@
-//! A table from ids and pages.
+//! The calls of a table, which is created from ids and pages.
 
 ghost use Rattle.std.specs.Prelude.{◌≡◌, ◌≢◌, ◌⊎◌, None, Some, IsSome, IfOk, IfErr, OnOk};
 ghost use Rattle.mig_mem.specs.PageSize.{IsPageSize};
@@ -15,7 +15,7 @@ use mig_c_calls::status::{BAD_PAGE_SIZE, DONE, NO_MEMORY};
 use mig_mem::{Table, TableFault, is_page_size};
 use std::alloc::Global;
 
-// The number of the bad entry, where the fault has one.
+// Returns the number of the bad entry, if the fault has one, else 0.
 fn entry_of(fault: TableFault) -> usize
     ensures { IsAt fault result }
 {
@@ -25,7 +25,7 @@ fn entry_of(fault: TableFault) -> usize
     }
 }
 
-// A table of these blocks in a box.
+// Creates a table of these blocks in a box.
 fn made(alloc: Global, page_size: u64, blocks: &[NamedBlock]) -> Result<Box<Object>, TableFault>
     requires { IsPageSize page_size }
     ensures ok { IfOk result (λ object. table_in (Some object.value) ≡ Some (table_of page_size blocks.now)) }
@@ -40,7 +40,8 @@ fn made(alloc: Global, page_size: u64, blocks: &[NamedBlock]) -> Result<Box<Obje
     }
 }
 
-/// Makes the table of these blocks, in this order. Where it answers 3, 4 or 5 it tells the number of the bad block.
+/// Creates the table of these blocks, in this order. With 3, 4 and 5 it reports the number of the
+/// bad block.
 #[unsafe(no_mangle)]
 pub extern "C" fn zimgasol_table_new(
     alloc: Global,
@@ -69,7 +70,7 @@ pub extern "C" fn zimgasol_table_new(
     }
 }
 
-/// Frees a table. A handle without one stays as it is.
+/// Frees a table. An empty handle stays as it is.
 #[unsafe(no_mangle)]
 pub extern "C" fn zimgasol_table_free(alloc: Global, table: &mut TableHandle)
     ensures none { table.new.handle.value ≡ None }

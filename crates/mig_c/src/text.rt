@@ -1,13 +1,13 @@
-//! The texts of statuses, for logs, and the version.
+//! Short messages for statuses, and the version.
 
 ghost use Rattle.std.specs.Prelude.{◌≡◌};
 ghost use Rattle.mig_c.specs.Texts.{IsText, version};
 
-/// A text of the library's own, which lasts as long as the program.
+/// A message of the library's own, which lasts as long as the program.
 #[repr(C)]
 #[derive(Clone, Copy)]
 pub struct StatusText {
-    /// The text, and a byte 0.
+    /// The message, then a byte 0.
     pub bytes: &'static [u8],
 }
 
@@ -22,7 +22,7 @@ pub extern "C" fn zimgasol_version() -> u32
     VERSION
 }
 
-// What is wrong with a table.
+// Returns the message of a fault of a table.
 fn of_table(status: u32) -> &'static [u8]
     ensures { IsText result.now }
 {
@@ -37,7 +37,7 @@ fn of_table(status: u32) -> &'static [u8]
     }
 }
 
-// What is wrong with a stream.
+// Returns the message of a fault of a stream.
 fn of_stream(status: u32) -> &'static [u8]
     ensures { IsText result.now }
 {
@@ -70,7 +70,7 @@ fn of_stream(status: u32) -> &'static [u8]
     }
 }
 
-// What is wrong with a channel.
+// Returns the message of a fault of a channel.
 fn of_channel(status: u32) -> &'static [u8]
     ensures { IsText result.now }
 {
@@ -90,7 +90,7 @@ fn of_channel(status: u32) -> &'static [u8]
     }
 }
 
-// What is wrong with a machine's stream, with channels beside one another or with a round.
+// Returns the message of a fault of a machine's stream, of channels together, or of a round.
 fn of_load(status: u32) -> &'static [u8]
     ensures { IsText result.now }
 {
@@ -116,7 +116,7 @@ fn of_load(status: u32) -> &'static [u8]
     }
 }
 
-// How a load stands, and what is wrong with a call.
+// Returns the message of a load's state, or of a refused call.
 fn of_call(status: u32) -> &'static [u8]
     ensures { IsText result.now }
 {
@@ -140,7 +140,7 @@ fn of_call(status: u32) -> &'static [u8]
     }
 }
 
-// Each status, by its range.
+// Returns the message of any status.
 fn text_of(status: u32) -> &'static [u8]
     ensures { IsText result.now }
 {
@@ -153,7 +153,7 @@ fn text_of(status: u32) -> &'static [u8]
     }
 }
 
-/// Reports the text of a status.
+/// Reports the message of a status.
 #[unsafe(no_mangle)]
 pub extern "C" fn zimgasol_read_status_text(status: u32, out: &mut StatusText)
     ensures { IsText out.new.bytes.now }

@@ -1,5 +1,5 @@
-//! The calls of a worker of a round on several channels. Workers of one round run at once, each on a
-//! thread of its own, and read the same blocks.
+//! The calls of a worker of a round on several channels. The workers of a round run at once, each
+//! on a thread of its own, and read the same blocks.
 
 ghost use Rattle.std.specs.Prelude.{◌≡◌, ◌≢◌, IsSome, None, Some};
 ghost use Rattle.mig_mem.specs.Lent.{lent_bytes};
@@ -46,7 +46,7 @@ fn drain(object: &mut Object, out: &mut [u8]) -> usize
     }
 }
 
-/// Hands out the next bytes of the worker's channel, and returns how many: 0 where none waits.
+/// Copies out the next bytes of the worker's channel, and returns how many, or 0 if none waits.
 #[unsafe(no_mangle)]
 pub extern "C" fn zimgasol_worker_drain(
     alloc: Global,
@@ -85,8 +85,8 @@ pub extern "C" fn zimgasol_worker_channel(alloc: Global, worker: &mut WorkerHand
     number
 }
 
-/// Frees a worker that isn't given back: its round can't be ended then. A handle without one stays
-/// as it is.
+/// Frees a worker that isn't given back: its round can't be ended then. An empty handle stays as it
+/// is.
 #[unsafe(no_mangle)]
 pub extern "C" fn zimgasol_worker_free(alloc: Global, worker: &mut WorkerHandle)
     ensures none { worker.new.handle.value ≡ None }

@@ -42,7 +42,7 @@ same_state (Idle s) = refl
 same_state (Round s) = refl
 same_state (Over s) = refl
 
--- no worker is handed out where a round is open that has one, and where none is
+-- no worker is given out: with status 60 if a round is open that has one left, otherwise with 109
 pub hands_none : (s : MultiState) → OfRound (λ r. 0 < length r.seats) s → HandsOutWorker 60 s s None
 hands_none s has = record {
   is_named = refl;

@@ -17,7 +17,7 @@ use Rattle.mig_c_calls.proofs.Sends.{same_drained, still_of}
 
 -- ---- bytes that wait
 
--- those that are handed out stand before those that still wait
+-- the bytes that are copied out come before those that still wait
 pub hands_out : (count : ℕ) (out : List ℕ) (old new : Waiting) → count ≤ length out → take count out ≡ take count (waiting_in old)
     → new.bytes.items ≡ old.bytes.items → new.given ≡ old.given + count → (count ≡ 0 → 0 < length out → length (waiting_in old) ≡ 0) → HandsOutOf count out old new
 hands_out count out old new fits front same given none = record {
@@ -33,7 +33,7 @@ hands_out count out old new fits front same given none = record {
 
 -- ---- the main stream
 
--- what is handed out of the main stream's bytes that were taken out
+-- what is copied out of the main stream's bytes that were drained
 and_front : (given : Drained) (front : List ℕ) (old new : Multi) → front ++ waiting_in new.main ≡ waiting_in old.main
     → and_waiting given old ≡ and_waiting (with_main given front) new
 and_front given front old new has_front =

@@ -22,7 +22,7 @@ same_at n i m = elim (cases_lt i n) [
   | inr ge ↦ get_or_past (replicate n m) i m (omega (arith, ge, length-replicate n m))
 ]
 
--- as many texts as there are channels
+-- as many byte strings as there are channels
 long_texts : (drained : Drained) (texts : List (List ℕ)) (uuid : List ℕ) (rounds : List DealtRound) (n : ℕ) → whole_texts drained texts ≡ channel_texts uuid n rounds → length texts ≡ n
 long_texts drained texts uuid rounds n same =
     sym (length-map-range_with_len (λ channel. drained.channel channel ++ get_or texts channel []) 0 (length texts))
@@ -52,7 +52,7 @@ finishes s sent given n setting drained rounds zeros many is sending =
           (subst (λ (t : RamTable). IsSending t s.uuid s.limit (length s.channels) rounds main_text (whole_texts drained texts)) is.same_table sending)))),
     )
 
--- where nothing is left of a channel, all of it was handed out
+-- if nothing is left of a channel, all of it was copied out
 left_done : (setting : MultiSetting) (drained : Drained) (rounds : List DealtRound) (e : EndedStreams) (channel : ℕ) → SendsTo setting drained rounds (Over e)
     → left_of e channel ≡ [] → channel < setting.channels → drained.channel channel ≡ channel_text setting.uuid rounds channel
 left_done setting drained rounds e channel sends none lt =
@@ -62,7 +62,7 @@ left_done setting drained rounds e channel sends none lt =
     ∙ ap (λ (l : List (List ℕ)). get_or l channel []) sends.1.has_texts
     ∙ get_or-map-range_with_len (channel_text setting.uuid rounds) 0 setting.channels channel channel [] lt (omega arith)
 
--- with other bytes handed out, and the others left, the streams are the same
+-- with other bytes copied out, and the others left, the streams are equal
 same_streams : (setting : MultiSetting) (drained after : Drained) (rounds : List DealtRound) (e e' : EndedStreams) → length e'.given.items ≡ length e.given.items
     → after.main ++ e'.sent.main.items ≡ drained.main ++ e.sent.main.items
     → ((channel : ℕ) → after.channel channel ++ left_of e' channel ≡ drained.channel channel ++ left_of e channel)
@@ -82,7 +82,7 @@ past_all e at past =
     ap (λ (l : List ℕ). drop n l) (get_or_past texts at [] (omega (arith, past, length-map e.sent.channels.items (λ (v : Vec ℕ Global). v.items))))
     ∙ drop_all n [] (omega arith)
 
--- ---- what is left is handed out
+-- ---- what is left is copied out
 
 handed : (drained : Drained) (at : ℕ) (front : List ℕ) (e e' : EndedStreams) → front ++ left_of e' at ≡ left_of e at
     → ((channel : ℕ) → channel ≢ at → left_of e' channel ≡ left_of e channel)

@@ -1,4 +1,4 @@
--- A sender on several channels, as C holds it: its rounds, their workers, and what is handed out.
+-- A sender on several channels, as C holds it: its rounds, their workers, and what is copied out.
 use Rattle.std.proofs.Common.{ℕ, ◌≡◌, ◌≢◌, ◌+◌, ◌<◌, ◌≤◌, ◌∙◌, ◌==◌, List, [], ◌∷◌, ◌++◌, length, map, replicate, take, drop, get_or, Bool, true, false, if◌then◌else◌, refl, sym, ap, subst, arith, inl, inr}
 use Rattle.std.specs.Prelude.{Result, Ok, Err, IsOk, is_ok, IsTrue, ◌||◌}
 use Rattle.std.proofs.lemmas.Bool.{cases_lt, cond-true, cond-false, eq-eqb, ne_eqb}
@@ -62,7 +62,7 @@ begins dirty s r setting image drained rounds begun is sent = record {
   others = λ channel from lt. refl;
 }
 
--- ---- a worker is handed out
+-- ---- a worker is given out
 
 pub hands : (old new : OpenMulti) (w : HeldWorker) (setting : MultiSetting) (image : Image) (dirty : List Place) (drained : Drained) (rounds : List DealtRound)
     → GivesNext old new w → 0 < length old.seats → IsInRound setting image dirty drained rounds old
@@ -227,7 +227,7 @@ ends r s setting image dirty drained rounds end all lawful table is =
 
 -- ---- a worker's bytes
 
--- what waits of a worker's channel is handed out
+-- what waits of a worker's channel is copied out
 pub worker_hands : (image : Image) (sent given more front : List ℕ) (old new : HeldWorker) → front ++ waiting_in new.drained ≡ waiting_in old.drained
     → new.worker ≡ old.worker → Packs image sent given more old → Packs image sent given (more ++ front) new
 worker_hands image sent given more front old new has_front same packs = record {
@@ -265,7 +265,7 @@ worker_steps image sent given more old new same packed packs = record {
       (packed packs.own (more ++ waiting_in old.drained) packs.has_packed);
 }
 
--- where nothing waits, nothing does once nothing was handed out
+-- if nothing was copied out, and nothing waits before, nothing waits after
 pub nothing_left : (count : ℕ) (out left waiting : List ℕ) → count ≡ 0 → take count out ++ left ≡ waiting → waiting ≡ [] → left ≡ []
 nothing_left count out left waiting zero front none = ap (λ (n : ℕ). take n out ++ left) (sym zero) ∙ front ∙ none
 

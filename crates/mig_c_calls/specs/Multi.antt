@@ -1,4 +1,4 @@
--- A sender of C on several channels: what it has sent, what was handed out of its streams, and the
+-- A sender of C on several channels: what it has sent, what was copied out of its streams, and the
 -- workers of its rounds, each with a handle of its own.
 use Rattle.std.specs.Prelude.{◌≡◌, ◌≢◌, ◌⊎◌, ◌+◌, ◌≤◌, ◌<◌, ◌++◌, ℕ, List, [], ◌∷◌, drop, take, map, length, replicate, get_or, All, Option, None, Some, Result, IsOk, ◌↔◌, ⊤}
 use Rattle.std.specs.List.{fold, range_with_len}
@@ -26,11 +26,11 @@ use Rattle.mig_c_calls.specs.Status.{IsOneOf, channels as no_channels, batch_lim
 
 -- ---- bytes that wait
 
--- the bytes that were taken out of a stream and wait to be handed out
+-- the bytes that were drained of a stream and wait to be copied out
 abbrev pub waiting_in : Waiting → List ℕ
 waiting_in w = drop w.given w.bytes.items
 
--- The first of them are handed out, as many as there is room for.
+-- The first of them are copied out, as many as there is room for.
 pub record HandsOutOf (count : ℕ) (out : List ℕ) (old new : Waiting) : Type 0 where
   pub fits : count ≤ length out
   pub has_front : take count out ++ waiting_in new ≡ waiting_in old
@@ -51,16 +51,16 @@ pub record IsSenderOf (setting : MultiSetting) (s : MultiSending) : Type 0 where
   pub same_limit : s.limit ≡ setting.limit
   pub as_many : length s.channels ≡ setting.channels
 
--- what is left to hand out of a channel once the streams are ended
+-- what is left to copy out of a channel once the streams are ended
 abbrev pub left_of : EndedStreams → ℕ → List ℕ
 left_of e channel = drop (get_or e.given.items channel 0) (get_or (texts_of e.sent.channels.items) channel [])
 
--- the whole of each channel: what was handed out of it, and what is left
+-- all bytes of each channel: what was copied out of it, and what is left
 abbrev pub all_channels : ℕ → Drained → EndedStreams → List (List ℕ)
 all_channels channels drained e = map (λ channel. drained.channel channel ++ left_of e channel) (range_with_len 0 channels)
 
--- No round is open, the sender has sent these rounds, and these bytes were drained of it. Where it
--- is ended, the rest of its streams is there.
+-- No round is open, the sender has sent these rounds, and these bytes were drained of it. If it is
+-- ended, the rest of its streams is there.
 abbrev pub SendsTo : MultiSetting → Drained → List DealtRound → MultiState → Type 0
 SendsTo setting drained rounds (Idle s) = IsSenderOf setting s × HasSentRounds drained s rounds
 SendsTo setting drained rounds (Round r) = ⊥
@@ -69,8 +69,8 @@ SendsTo setting drained rounds (Over e) = (length e.given.items ≡ setting.chan
     (drained.main ++ e.sent.main.items) (all_channels setting.channels drained e)
 
 -- A round of these dirty pages is open, after these rounds. The workers that were given back packed
--- what they drew of it from the pages of this image. Of a channel whose worker is out, `drained` has
--- what was handed out of it before the worker was.
+-- what they drew of it, from the pages of this image. For a channel whose worker is out, `drained`
+-- has what was copied out of it before the worker was given out.
 pub record IsInRound (setting : MultiSetting) (image : Image) (dirty : List Place) (drained : Drained) (rounds : List DealtRound) (r : OpenMulti) : Type 0 where
   pub old : MultiSending
   pub before : Drained
@@ -88,15 +88,15 @@ InRoundTo setting image dirty drained rounds (Idle s) = ⊥
 InRoundTo setting image dirty drained rounds (Round r) = IsInRound setting image dirty drained rounds r.round
 InRoundTo setting image dirty drained rounds (Over e) = ⊥
 
--- These bytes were handed out, and those that wait of the main stream were taken out of it, too.
+-- These bytes were copied out, and those that wait of the main stream were drained of it too.
 abbrev pub and_waiting : Drained → Multi → Drained
 and_waiting given m = with_main given (waiting_in m.main)
 
--- It has sent these rounds, and these bytes of its streams were handed out.
+-- It has sent these rounds, and these bytes of its streams were copied out.
 abbrev pub Sends : MultiSetting → Drained → List DealtRound → Multi → Type 0
 Sends setting given rounds m = SendsTo setting (and_waiting given m) rounds m.state
 
--- A round is open, and these bytes of its streams were handed out.
+-- A round is open, and these bytes of its streams were copied out.
 abbrev pub InRound : MultiSetting → Image → List Place → Drained → List DealtRound → Multi → Type 0
 InRound setting image dirty given rounds m = InRoundTo setting image dirty (and_waiting given m) rounds m.state
 
@@ -121,11 +121,11 @@ OfRound IsSo (Idle s) = ⊥
 OfRound IsSo (Round r) = IsSo r.round
 OfRound IsSo (Over e) = ⊥
 
--- a call changes how far the sender is, and nothing of the bytes that wait
+-- a call changes the state of the sender, and no bytes that wait
 abbrev pub ChangesMulti : (MultiState → MultiState → Type 0) → Multi → Multi → Type 0
 ChangesMulti step old new = step old.state new.state × (new.main ≡ old.main)
 
--- The sender is as it was.
+-- The sender is unchanged.
 abbrev pub IsSame : MultiState → MultiState → Type 0
 IsSame (Idle s) (Idle t) = s ≡ t
 IsSame (Idle s) (Round t) = ⊥
@@ -137,11 +137,11 @@ IsSame (Over s) (Idle t) = ⊥
 IsSame (Over s) (Round t) = ⊥
 IsSame (Over s) (Over t) = s ≡ t
 
--- ---- its worker
+-- ---- its workers
 
--- The stream of a worker's channel was `sent` after the rounds before, of which `given` was handed
--- out before the worker was. The worker has packed what it drew from the pages of this image, and
--- `more` was handed out of it.
+-- The bytes of a worker's channel were `sent` after the rounds before. `given` of them was copied
+-- out before the worker was given out. The worker has packed what it drew from the pages of this
+-- image, and `more` was copied out of it.
 pub record Packs (image : Image) (sent given more : List ℕ) (w : HeldWorker) : Type 0 where
   pub own : List ℕ
   pub has_sent : sent ≡ given ++ own
@@ -163,7 +163,7 @@ abbrev pub OfTable : (RamTable → Type 0) → Option RamTable → Type 0
 OfTable IsSo None = ⊤
 OfTable IsSo (Some table) = IsSo table
 
--- What `new` does, with a table: the first thing that is wrong with what it is given is returned.
+-- What `new` does, given a table. It returns the first thing that is wrong.
 pub record OpensMulti (table : Option RamTable) (uuid : List ℕ) (channels limit : ℕ) (status : ℕ) (made : Option Multi) : Type 0 where
   pub is_named : IsOneOf (done ∷ no_memory ∷ bad_length ∷ no_channels ∷ bad_batch_limit ∷ []) status
   pub starts : status ≡ done → StartsOf table uuid channels limit made
@@ -175,7 +175,7 @@ pub record OpensMulti (table : Option RamTable) (uuid : List ℕ) (channels limi
   pub has_limit : status ≢ bad_length → status ≢ no_channels → status ≢ bad_batch_limit
       → OfTable (λ t. (0 < limit) × (limit ≤ page_limit t.page_size)) table
 
--- why a sender isn't made of a table with this limit
+-- why no sender can be created of a table with this limit
 pub record Refuses (table : Option RamTable) (limit status : ℕ) : Type 0 where
   pub is_named : IsOneOf (no_memory ∷ bad_batch_limit ∷ []) status
   pub bad_limit : status ≡ bad_batch_limit → OfTable (λ t. (0 < limit) × (limit ≤ page_limit t.page_size) → ⊥) table
@@ -206,11 +206,11 @@ pub record BeginsRound (places : List Place) (status : ℕ) (old new : MultiStat
   pub foreign : status ≡ no_page → IdleOf (λ table. All (IsPlace table) places → ⊥) old
   pub has_places : status ≢ out_of_turn → status ≢ no_page → IdleOf (λ table. All (IsPlace table) places) old
 
--- what it does to a sender that is idle
+-- what `begin_round` does to a sender that is idle
 abbrev pub Deals : List Place → ℕ → MultiSending → MultiState → Type 0
 Deals places status s new = BeginsRound places status (Idle s) new × (status ≢ out_of_turn)
 
--- the worker of the next channel is out: of no round that the sender isn't in
+-- this is the worker of the next channel, and of the open round
 pub record IsNext (old : OpenMulti) (w : HeldWorker) : Type 0 where
   pub has_terms : w.worker.terms ≡ old.terms
   pub is_next : w.worker.channel ≡ handed_out old
@@ -220,13 +220,14 @@ abbrev pub HasMade : (HeldWorker → Type 0) → Option HeldWorker → Type 0
 HasMade IsSo None = ⊥
 HasMade IsSo (Some w) = IsSo w
 
--- It is handed out of a round, and its channel's bytes are its own.
+-- It is given out by a round, and has its channel's bytes.
 pub record GivesNext (old new : OpenMulti) (w : HeldWorker) : Type 0 where
   pub hands : HandsOut old new w.worker
   pub none_wait : waiting_in w.drained ≡ []
   pub few : length old.spents + length old.seats ≤ length old.sender.channels
 
--- What `held_worker` does: the worker of the next channel is handed out, of whose bytes none were.
+-- What `held_worker` does: it gives out the worker of the next channel, none of whose bytes were
+-- copied out.
 pub record HandsOutWorker (status : ℕ) (old new : MultiState) (made : Option HeldWorker) : Type 0 where
   pub is_named : IsOneOf (done ∷ no_memory ∷ out_of_turn ∷ []) status
   pub next : status ≡ done → OfRound (λ r. HasMade (IsNext r) made) old
@@ -260,34 +261,35 @@ pub record Steps (blocks : List (List ℕ)) (status : ℕ) (old new : HeldWorker
       → Packs (lent_image old.worker.terms.table blocks) sent given more old → Packs (lent_image old.worker.terms.table blocks) sent given more new
   pub same_waiting : new.drained ≡ old.drained
 
--- What `drain` does to a worker: it hands out the next bytes of its channel, and 0 where none is left.
+-- What `drain` of a worker does: it copies out the next bytes of its channel. 0 says that none is
+-- left.
 pub record DrainsWorker (count : ℕ) (out : List ℕ) (old new : HeldWorker) : Type 0 where
   pub fits : count ≤ length out
   pub hands : (image : Image) (sent given more : List ℕ) → Packs image sent given more old → Packs image sent given (more ++ take count out) new
   pub none : count ≡ 0 → 0 < length out → (waiting_in new.drained ≡ []) × (new.worker.text ≡ [])
   pub same_work : (new.worker.terms ≡ old.worker.terms) × (new.worker.channel ≡ old.worker.channel) × (new.worker.hand ≡ old.worker.hand)
 
--- its first step: where no byte waits, those that were written since are taken out
+-- the first step of `drain`: if no byte waits, those that were written since are drained
 pub record RefillsWorker (old new : HeldWorker) : Type 0 where
   pub keeps : (image : Image) (sent given more : List ℕ) → Packs image sent given more old → Packs image sent given more new
   pub none : waiting_in new.drained ≡ [] → new.worker.text ≡ []
   pub same_work : (new.worker.terms ≡ old.worker.terms) × (new.worker.channel ≡ old.worker.channel) × (new.worker.hand ≡ old.worker.hand)
 
--- The worker is one of the round that is open, if one is.
+-- The worker is one of the open round, if one is open.
 abbrev pub IsOfRound : ChannelWork → MultiState → Type 0
 IsOfRound worker (Idle s) = ⊤
 IsOfRound worker (Round r) = worker.terms ≡ r.round.terms
 IsOfRound worker (Over e) = ⊤
 
--- The worker can be given back: it is that of the next channel, has ended, and none of its bytes wait
--- that were taken out.
+-- The worker can be given back: it is that of the next channel, has ended, and no bytes that were
+-- drained of it wait.
 pub record CanComeBack (w : HeldWorker) (r : OpenMulti) : Type 0 where
   pub is_out : length r.spents < handed_out r
   pub is_next : w.worker.channel ≡ length r.spents
   pub has_ended : HasEnded w.worker.hand
   pub none_wait : waiting_in w.drained ≡ []
 
--- What `give_back` does. With DONE the worker is gone.
+-- What `give_back` does. With `done` the worker is gone.
 pub record TakesBackWorker (status : ℕ) (w : HeldWorker) (old new : MultiState) (left : Option HeldWorker) : Type 0 where
   pub is_named : IsOneOf (done ∷ no_memory ∷ out_of_turn ∷ []) status
   pub takes : status ≡ done → (setting : MultiSetting) (image : Image) (dirty : List Place) (drained : Drained) (rounds : List DealtRound) (more : List ℕ)
@@ -306,14 +308,16 @@ AreOfRound None multi = ⊤
 AreOfRound (Some w) None = ⊤
 AreOfRound (Some w) (Some m) = IsOfRound w.worker m.state
 
--- The call is handed a sender and a worker, leaves the sender and perhaps the worker, and does that.
+-- The call is passed a sender and a worker, and leaves the sender, and the worker or none. This
+-- holds of them.
 abbrev pub TurnsBoth : ℕ → Option HeldWorker → Option HeldWorker → Option Multi → Option Multi → Type 0
 TurnsBoth status None left old new = ⊤
 TurnsBoth status (Some w) left None new = ⊤
 TurnsBoth status (Some w) left (Some old) None = ⊥
 TurnsBoth status (Some w) left (Some old) (Some new) = ChangesMulti (λ was is. TakesBackWorker status w was is left) old new
 
--- What `end_round` does, once all workers are back: a round of the dirty pages of the image was sent.
+-- What `end_round` does, once all workers were given back: it sends a round of the dirty pages of
+-- the image.
 pub record EndsRound (status : ℕ) (old new : MultiState) : Type 0 where
   pub is_named : IsOneOf (done ∷ no_memory ∷ out_of_turn ∷ []) status
   pub ends : status ≡ done → (setting : MultiSetting) (image : Image) (dirty : List Place) (drained : Drained) (rounds : List DealtRound)
@@ -333,9 +337,9 @@ pub record Finishes (status : ℕ) (old new : MultiState) : Type 0 where
   pub wrong : status ≡ out_of_turn → IsIdle old → ⊥
   pub in_turn : status ≢ out_of_turn → IsIdle old
 
--- What `drain` does: it hands out the next bytes of the main stream. Where it has none between two
--- rounds, all that was written so far was handed out; of streams that are ended, all of it. A round
--- that is open stays as it is.
+-- What `drain` does: it copies out the next bytes of the main stream. If it has none between two
+-- rounds, all that was written so far was copied out; of streams that are ended, all of it. An open
+-- round stays as it is.
 pub record DrainsMain (count : ℕ) (out : List ℕ) (old new : Multi) : Type 0 where
   pub fits : count ≤ length out
   pub hands : (setting : MultiSetting) (given : Drained) (rounds : List DealtRound) → Sends setting given rounds old
@@ -350,7 +354,7 @@ pub record DrainsMain (count : ℕ) (out : List ℕ) (old new : Multi) : Type 0 
   pub all : IsOver old.state → count ≡ 0 → 0 < length out → (setting : MultiSetting) (given : Drained) (rounds : List DealtRound)
       → Sends setting given rounds old → given.main ≡ main setting.table (length rounds)
 
--- its first step: where no byte waits, those that were written since are taken out
+-- the first step of `drain`: if no byte waits, those that were written since are drained
 pub record RefillsMain (old new : Multi) : Type 0 where
   pub keeps : (setting : MultiSetting) (given : Drained) (rounds : List DealtRound) → Sends setting given rounds old → Sends setting given rounds new
   pub keeps_round : (setting : MultiSetting) (image : Image) (dirty : List Place) (given : Drained) (rounds : List DealtRound)
@@ -363,7 +367,7 @@ pub record RefillsMain (old new : Multi) : Type 0 where
   pub all : IsOver old.state → waiting_in new.main ≡ [] → (setting : MultiSetting) (given : Drained) (rounds : List DealtRound)
       → Sends setting given rounds old → given.main ≡ main setting.table (length rounds)
 
--- What `drain_channel` does: of streams that are ended it hands out what is left of a channel.
+-- What `drain_channel` does: of ended streams it copies out what is left of a channel.
 pub record DrainsChannel (channel count : ℕ) (out : List ℕ) (old new : MultiState) : Type 0 where
   pub fits : count ≤ length out
   pub hands : IsOver old → (setting : MultiSetting) (drained : Drained) (rounds : List DealtRound) → SendsTo setting drained rounds old

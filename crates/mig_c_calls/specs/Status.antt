@@ -1,16 +1,16 @@
--- The statuses that calls answer beside the numbers of faults.
+-- The statuses that calls return beside the numbers of faults.
 use Rattle.std.specs.Prelude.{ℕ, List, ◌==◌, IsTrue}
 use Rattle.std.specs.List.{list_any}
 
--- it was done
+-- the call did what it says
 abbrev pub done : ℕ
 done = 0
 
--- an allocation was refused, and nothing has changed where nothing else is said
+-- an allocation was refused, and nothing has changed unless a clause says otherwise
 abbrev pub no_memory : ℕ
 no_memory = 60
 
--- the numbers of a sender's faults: no channel or more than 255, and a batch limit of 0 or above the
+-- the numbers of a sender's faults: no channel or more than 255; a batch limit of 0 or above the
 -- pages of a packet
 abbrev pub channels : ℕ
 channels = 61
@@ -18,15 +18,15 @@ channels = 61
 abbrev pub batch_limit : ℕ
 batch_limit = 62
 
--- the load goes on: more of a text is needed
+-- the load goes on: more bytes are needed
 abbrev pub running : ℕ
 running = 100
 
--- the number of the fault of a stream that is over before its end byte (`Truncated`)
+-- the number of the fault of a stream that ends before its end byte (`Truncated`)
 abbrev pub stream_truncated : ℕ
 stream_truncated = 34
 
--- ---- a call that isn't to be made so, which changes nothing
+-- ---- a refused call, which changes nothing
 
 -- a page size other than 4096 and 8192
 abbrev pub bad_page_size : ℕ
@@ -44,11 +44,11 @@ bad_channels = 103
 abbrev pub bad_source : ℕ
 bad_source = 104
 
--- the source's text is over
+-- the source was ended before
 abbrev pub is_over : ℕ
 is_over = 105
 
--- the text would be too long to be counted
+-- the source would have more bytes than can be counted
 abbrev pub too_long : ℕ
 too_long = 106
 
@@ -68,16 +68,16 @@ out_of_turn = 109
 abbrev pub too_many_pages : ℕ
 too_many_pages = 110
 
--- the piece was taken, and no memory was found for the guest
+-- the piece was taken, and an allocation for the guest's memory was refused
 abbrev pub waits : ℕ
 waits = 111
 
--- a frame that isn't one
+-- a number that is no frame
 abbrev pub bad_frame : ℕ
 bad_frame = 113
 
 -- ----
 
--- no other status comes
+-- no other status is returned
 abbrev pub IsOneOf : List ℕ → ℕ → Type 0
 IsOneOf statuses status = IsTrue (list_any (λ n. n == status) statuses)

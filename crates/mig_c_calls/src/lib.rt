@@ -1,8 +1,8 @@
 //! What the library for C does in its calls, but for handles and pointers: `mig_c` exports it.
 //!
 //! A call of C returns a number (`status`). `Multi` is a sender on several channels, and a
-//! `HeldWorker` one of its workers (`sending`). Both are kept between calls, and copy bytes that
-//! were written into buffers of C (`waiting`).
+//! `HeldWorker` one of its workers (`sending`). They are kept between calls, and copy written bytes
+//! into buffers of C (`waiting`).
 #![tactic(auto)]
 
 mod multi;

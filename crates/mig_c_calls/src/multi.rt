@@ -1,5 +1,5 @@
-//! The calls of a sender on several channels, and of the round that is open. Its workers' calls are
-//! in `worker`.
+//! The calls of a sender on several channels, and of its open round. The calls of the round's
+//! workers are in `worker`.
 
 ghost use Rattle.std.specs.Prelude.{◌≡◌, ◌≢◌, ◌+◌, ◌≤◌, ◌<◌, [], IsSome, IsTrue, ◌↔◌, IfOk, IfErr, OnOk, OnErr, None, Some, length, All, map, replicate};
 ghost use Rattle.mig_mem.specs.Place.{IsPlace};
@@ -27,7 +27,7 @@ fn place_of(named: &NamedPlace) -> Place
     }
 }
 
-// Whether a table has all of these places.
+// Returns whether a table has all of these places.
 fn has_all(table: &Table<Global>, places: &[NamedPlace]) -> bool
     ensures { IsTrue result ↔ All (IsPlace table.now) (map place_of places.now) }
 {
@@ -39,7 +39,7 @@ fn has_all(table: &Table<Global>, places: &[NamedPlace]) -> bool
     true
 }
 
-// The set of these places.
+// Returns the set of these places, or why it can't.
 fn marked(
     alloc: Global,
     table: &Table<Global>,
@@ -71,7 +71,7 @@ fn dealt(alloc: Global, sender: MultiSender<Global>, places: &[NamedPlace]) -> (
     }
 }
 
-// Begins a round of these places, where none is open.
+// Begins a round of these places, if none is open.
 fn begun(alloc: Global, state: MultiState, places: &[NamedPlace]) -> (MultiState, u32)
     ensures { BeginsRound (map place_of places.now) result.1 state result.0 }
 {
@@ -82,7 +82,7 @@ fn begun(alloc: Global, state: MultiState, places: &[NamedPlace]) -> (MultiState
     }
 }
 
-// The worker of the next channel, where one is left.
+// Returns the worker of the next channel, if one is left.
 fn next_worker(alloc: Global, dealt: &mut DealtRound) -> Result<HeldWorker, NoMemory>
     requires { 0 < length dealt.old.round.seats }
     ensures ok { IfOk result (λ w. GivesNext dealt.old.round dealt.new.round w) }
@@ -97,7 +97,7 @@ fn next_worker(alloc: Global, dealt: &mut DealtRound) -> Result<HeldWorker, NoMe
     })
 }
 
-// Hands out the worker of the next channel.
+// Gives out the worker of the next channel.
 fn hand_out_worker(alloc: Global, state: &mut MultiState) -> (u32, Option<HeldWorker>)
     ensures { HandsOutWorker result.0 state.old state.new result.1 }
 {
@@ -113,7 +113,7 @@ fn hand_out_worker(alloc: Global, state: &mut MultiState) -> (u32, Option<HeldWo
     }
 }
 
-// Whether a worker can be given back to a round.
+// Returns whether a worker can be given back to a round.
 fn can_come_back(round: &MultiRound<Global>, worker: &HeldWorker) -> bool
     ensures { IsTrue result ↔ CanComeBack worker.now round.now }
 {
@@ -124,7 +124,7 @@ fn can_come_back(round: &MultiRound<Global>, worker: &HeldWorker) -> bool
         && worker.drained.is_empty()
 }
 
-// Takes a worker back that can be given back, or returns it.
+// Takes back a worker if it can be given back, or returns it.
 fn given_back(dealt: &mut DealtRound, worker: HeldWorker) -> Result<(), HeldWorker>
     requires own { worker.worker.terms ≡ dealt.old.round.terms }
     requires can { CanComeBack worker dealt.old.round }
@@ -147,7 +147,7 @@ fn given_back(dealt: &mut DealtRound, worker: HeldWorker) -> Result<(), HeldWork
     }
 }
 
-// Takes a worker back, and returns it where it isn't taken.
+// Takes back a worker, or returns it if it isn't taken.
 fn give_back(state: &mut MultiState, worker: HeldWorker) -> (u32, Option<HeldWorker>)
     requires { IsOfRound worker.worker state.old }
     ensures { TakesBackWorker result.0 worker state.old state.new result.1 }
@@ -178,7 +178,7 @@ fn ended_round(dealt: DealtRound) -> (MultiState, u32)
     }
 }
 
-// Ends the round that is open.
+// Ends the open round.
 fn ended(state: MultiState) -> (MultiState, u32)
     ensures { EndsRound result.1 state result.0 }
 {
@@ -189,7 +189,7 @@ fn ended(state: MultiState) -> (MultiState, u32)
     }
 }
 
-// So many zeros.
+// Returns `count` zeros.
 fn zeros(alloc: Global, count: usize) -> Result<Vec<usize>, NoMemory>
     ensures { IfOk result (λ v. v.items ≡ replicate count 0) }
 {
@@ -209,7 +209,7 @@ fn finished_sender(alloc: Global, sender: MultiSender<Global>) -> (MultiState, u
     }
 }
 
-// Ends the streams, where no round is open.
+// Ends the streams, if no round is open.
 fn finished(alloc: Global, state: MultiState) -> (MultiState, u32)
     ensures { Finishes result.1 state result.0 }
 {
@@ -220,7 +220,7 @@ fn finished(alloc: Global, state: MultiState) -> (MultiState, u32)
     }
 }
 
-// Takes the state out of a sender, which is to get one again.
+// Takes the state out of a sender, which must get one again.
 fn take_state(alloc: Global, multi: &mut Multi) -> MultiState
     ensures state { result ≡ multi.old.state }
     ensures main { multi.new.main ≡ multi.old.main }
@@ -235,7 +235,7 @@ fn take_state(alloc: Global, multi: &mut Multi) -> MultiState
     mem::replace(&mut multi.state, nothing)
 }
 
-// Takes the bytes out of the main stream that were written, where none waits.
+// Drains the bytes that were written to the main stream, if no drained byte waits.
 fn refill_main(multi: &mut Multi)
     ensures { RefillsMain multi.old multi.new }
 {
@@ -256,7 +256,7 @@ fn refill_main(multi: &mut Multi)
     }
 }
 
-// Hands out the next bytes of the main stream.
+// Copies out the next bytes of the main stream.
 fn drain_main(multi: &mut Multi, out: &mut [u8]) -> usize
     ensures { DrainsMain result out.new multi.old multi.new }
 {
@@ -264,7 +264,7 @@ fn drain_main(multi: &mut Multi, out: &mut [u8]) -> usize
     multi.main.hand_out(out)
 }
 
-// Hands out what is left of a channel of ended streams.
+// Copies out what is left of a channel of ended streams.
 fn drain_ended(streams: &mut EndedStreams, channel: usize, out: &mut [u8]) -> usize
     ensures { DrainsChannel channel result out.new (Over streams.old) (Over streams.new) }
 {
@@ -277,7 +277,7 @@ fn drain_ended(streams: &mut EndedStreams, channel: usize, out: &mut [u8]) -> us
     count
 }
 
-// Hands out what is left of a channel, where the streams are ended.
+// Copies out what is left of a channel, if the streams are ended.
 fn drain_channel(state: &mut MultiState, channel: usize, out: &mut [u8]) -> usize
     ensures { DrainsChannel channel result out.new state.old state.new }
 {
@@ -288,12 +288,12 @@ fn drain_channel(state: &mut MultiState, channel: usize, out: &mut [u8]) -> usiz
 }
 
 impl Multi {
-    /// Creates a sender that has sent nothing, on `channels` channels, with at most `limit` pages to
-    /// a packet. It keeps a copy of the table.
+    /// Creates a sender that has sent nothing, on `channels` channels, with at most `limit` pages
+    /// in a packet. It copies the table.
     ///
     /// # Errors
     ///
-    /// `NoMemory`: an allocation was refused, or `channels` or `limit` isn't one.
+    /// `NoMemory`: an allocation was refused, or `channels` or `limit` is outside its range.
     pub fn new(
         alloc: Global,
         table: &Table<Global>,
@@ -312,8 +312,8 @@ impl Multi {
         })
     }
 
-    /// Begins a round of these dirty places, in any order, of which each counts once. Returns the
-    /// status: `DONE`, `NO_MEMORY`, `NO_PAGE` or `OUT_OF_TURN`.
+    /// Begins a round of these dirty places. They may come in any order, and more than once.
+    /// Returns the status: `DONE`, `NO_MEMORY`, `NO_PAGE` or `OUT_OF_TURN`.
     pub fn begin_round(&mut self, alloc: Global, places: &[NamedPlace]) -> u32
         ensures { ChangesMulti (BeginsRound (map place_of places.now) result) self.old self.new }
     {
@@ -322,15 +322,15 @@ impl Multi {
         status
     }
 
-    /// Hands out the worker of the next channel. Returns the status, `DONE`, `NO_MEMORY` or
-    /// `OUT_OF_TURN`, and the worker with `DONE`.
+    /// Gives out the worker of the next channel. Returns the status, `DONE`, `NO_MEMORY` or
+    /// `OUT_OF_TURN`, and with `DONE` the worker.
     pub fn worker(&mut self, alloc: Global) -> (u32, Option<HeldWorker>)
         ensures { ChangesMulti (λ was is. HandsOutWorker result.0 was is result.1) self.old self.new }
     {
         hand_out_worker(alloc, &mut self.state)
     }
 
-    /// Returns why no worker is handed out where its handle gets no memory: `OUT_OF_TURN`, or else
+    /// Returns why there is no worker, if its handle got no memory: `OUT_OF_TURN`, or else
     /// `NO_MEMORY`.
     pub fn refused_worker(&self) -> u32
         ensures { HandsOutWorker result self.now.state self.now.state None }
@@ -344,8 +344,8 @@ impl Multi {
         NO_MEMORY
     }
 
-    /// Takes back a worker of the round that is open. Returns the status, `DONE`, `NO_MEMORY` or
-    /// `OUT_OF_TURN`, and the worker where it isn't taken.
+    /// Takes back a worker of the open round. Returns the status, `DONE`, `NO_MEMORY` or
+    /// `OUT_OF_TURN`, and the worker if it isn't taken.
     pub fn give_back(&mut self, worker: HeldWorker) -> (u32, Option<HeldWorker>)
         requires { IsOfRound worker.worker self.old.state }
         ensures { ChangesMulti (λ was is. TakesBackWorker result.0 worker was is result.1) self.old self.new }
@@ -353,7 +353,7 @@ impl Multi {
         give_back(&mut self.state, worker)
     }
 
-    /// Ends the round that is open, all of whose workers are back. Returns the status: `DONE`,
+    /// Ends the open round, all of whose workers were given back. Returns the status: `DONE`,
     /// `NO_MEMORY` or `OUT_OF_TURN`.
     pub fn end_round(&mut self, alloc: Global) -> u32
         ensures { ChangesMulti (EndsRound result) self.old self.new }
@@ -363,7 +363,7 @@ impl Multi {
         status
     }
 
-    /// Ends the streams, where no round is open. Returns the status: `DONE`, `NO_MEMORY` or
+    /// Ends the streams, if no round is open. Returns the status: `DONE`, `NO_MEMORY` or
     /// `OUT_OF_TURN`.
     pub fn finish(&mut self, alloc: Global) -> u32
         ensures { ChangesMulti (Finishes result) self.old self.new }
@@ -381,7 +381,7 @@ impl Multi {
     }
 
     /// Copies the next bytes that are left of a channel of ended streams to the front of `out`.
-    /// Returns how many: 0 before the end.
+    /// Returns how many, or 0 before the end.
     pub fn drain_channel(&mut self, channel: usize, out: &mut [u8]) -> usize
         ensures { ChangesMulti (DrainsChannel channel result out.new) self.old self.new }
     {

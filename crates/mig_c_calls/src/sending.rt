@@ -1,5 +1,6 @@
-//! A sender on several channels and its workers, as they are kept between two calls. (Apart from
-//! their calls: definitions name these types, and a struct with a ghost field may not name those.)
+//! A sender on several channels and its workers, as they are kept between two calls. Their calls
+//! are in other modules: definitions name these types, and a struct with a ghost field may not name
+//! those.
 
 ghost use Rattle.std.specs.Prelude.{◌≡◌, ◌+◌, ◌≤◌, length};
 
@@ -18,7 +19,7 @@ pub struct NamedPlace {
     pub page: u64,
 }
 
-/// A round whose workers are handed out.
+/// A round whose workers are given out.
 #[derive(Drop)]
 pub struct DealtRound {
     /// The round.
@@ -27,16 +28,17 @@ pub struct DealtRound {
     ghost of_table: { round.terms.table ≡ round.sender.main.table },
 }
 
-/// What of ended streams wasn't drained, and how much of each channel's was handed out since.
+/// The bytes of ended streams that weren't drained, and how many of each channel were copied out
+/// since.
 #[derive(Drop)]
 pub struct EndedStreams {
     /// The bytes that weren't drained before the end.
     pub(crate) sent: Sent<Global>,
-    /// How many of those of each channel were handed out.
+    /// How many bytes of each channel were copied out.
     pub(crate) given: Vec<usize>,
 }
 
-/// How far a sender on several channels is.
+/// The state of a sender on several channels.
 #[derive(Drop)]
 pub enum MultiState {
     /// Between two rounds, or before the first.
@@ -47,16 +49,16 @@ pub enum MultiState {
     Over(EndedStreams),
 }
 
-/// A sender on several channels, and the bytes that were taken out of its main stream last.
+/// A sender on several channels, and the bytes that were drained of its main stream last.
 #[derive(Drop)]
 pub struct Multi {
-    /// How far it is.
+    /// The state of the sender.
     pub(crate) state: MultiState,
-    /// The bytes that were taken out of its main stream last.
+    /// The bytes that were drained of its main stream last.
     pub(crate) main: Waiting,
 }
 
-/// A worker, and the bytes that were taken out of its channel last. Its table stands beside it, for
+/// A worker, and the bytes that were drained of its channel last. The table is kept beside it, for
 /// the memory that a call makes of C's blocks.
 #[derive(Drop)]
 pub struct HeldWorker {
@@ -64,7 +66,7 @@ pub struct HeldWorker {
     pub(crate) worker: ChannelWorker<Global>,
     /// The table whose pages it sends.
     pub(crate) table: Table<Global>,
-    /// The bytes that were taken out of its channel last.
+    /// The bytes that were drained of its channel last.
     pub(crate) drained: Waiting,
     ghost same_table: { table ≡ worker.terms.table },
 }

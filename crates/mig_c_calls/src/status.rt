@@ -1,21 +1,21 @@
-//! What calls answer beside the numbers of faults.
+//! The statuses that calls return beside the numbers of faults.
 
-/// It was done.
+/// The call did what it says.
 pub const DONE: u32 = 0;
 
 /// An allocation was refused.
 pub const NO_MEMORY: u32 = 60;
 
-/// No channel, or more than 255, of a sender.
+/// A sender of no channel, or of more than 255.
 pub const CHANNELS: u32 = 61;
 
 /// A batch limit of 0, or above the pages of a packet.
 pub const BATCH_LIMIT: u32 = 62;
 
-/// The load goes on: more of a text is needed.
+/// The load goes on: more bytes are needed.
 pub const RUNNING: u32 = 100;
 
-/// The number of the fault of a stream that is over before its end byte.
+/// The number of the fault of a stream that ends before its end byte.
 pub const STREAM_TRUNCATED: u32 = 34;
 
 /// A page size other than 4096 and 8192.
@@ -30,10 +30,10 @@ pub const BAD_CHANNELS: u32 = 103;
 /// No such source.
 pub const BAD_SOURCE: u32 = 104;
 
-/// The source's text is over.
+/// The source was ended before.
 pub const IS_OVER: u32 = 105;
 
-/// The text would be too long to be counted.
+/// The source would have more bytes than can be counted.
 pub const TOO_LONG: u32 = 106;
 
 /// No page there.
@@ -48,14 +48,14 @@ pub const OUT_OF_TURN: u32 = 109;
 /// More pages than a packet has.
 pub const TOO_MANY_PAGES: u32 = 110;
 
-/// The piece was taken, and no memory was found for the guest.
+/// The piece was taken, and an allocation for the guest's memory was refused.
 pub const WAITS: u32 = 111;
 
-/// A frame that isn't one.
+/// A number that is no frame.
 pub const BAD_FRAME: u32 = 113;
 
 /// The most bytes that a guest's blocks may have together.
 pub const MAX_LIMIT: u64 = 1 << 40;
 
-/// The least length of a stream that isn't counted any more.
+/// The least length of a stream that can't be counted.
 pub const ROOM: u64 = 1 << 63;

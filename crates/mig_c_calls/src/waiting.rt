@@ -1,11 +1,11 @@
-//! Bytes that were taken out of a stream, of which some were handed out.
+//! Bytes that were drained of a stream, some of which were copied out to C.
 
 ghost use Rattle.std.specs.Prelude.{◌≡◌, ◌↔◌, ◌<◌, ◌≤◌, [], IsTrue, drop, take, length};
 ghost use Rattle.mig_c_calls.specs.Multi.{HandsOutOf, waiting_in};
 
 use std::alloc::Global;
 
-/// The bytes behind those that were handed out.
+/// Returns the bytes after the first `given`.
 pub fn behind(drained: &[u8], given: usize) -> &[u8]
     ensures { result.now ≡ drop given drained.now }
 {
@@ -15,7 +15,7 @@ pub fn behind(drained: &[u8], given: usize) -> &[u8]
     }
 }
 
-/// Copies as many bytes to the front of a buffer as it has room for.
+/// Copies as many bytes to the front of a buffer as it has room for. Returns how many.
 pub fn copy_front(bytes: &[u8], out: &mut [u8]) -> usize
     ensures fits { result ≤ length out.new }
     ensures within { result ≤ length bytes.now }
@@ -27,17 +27,17 @@ pub fn copy_front(bytes: &[u8], out: &mut [u8]) -> usize
     count
 }
 
-/// Bytes that were taken out of a stream: the first ones were handed out, and the others wait.
+/// Bytes that were drained of a stream: the first ones were copied out, and the others wait.
 #[derive(Drop)]
 pub struct Waiting {
-    /// All of them.
+    /// All of the bytes.
     pub(crate) bytes: Vec<u8>,
-    /// How many were handed out.
+    /// How many were copied out.
     pub(crate) given: usize,
 }
 
 impl Waiting {
-    /// None.
+    /// Creates it with no bytes.
     pub(crate) fn none(alloc: Global) -> Waiting
         ensures { waiting_in result ≡ [] }
     {
@@ -47,7 +47,7 @@ impl Waiting {
         }
     }
 
-    /// Whether all were handed out.
+    /// Returns whether all bytes were copied out.
     pub(crate) fn is_empty(&self) -> bool
         ensures { IsTrue result ↔ (waiting_in self.now ≡ []) }
     {

@@ -1,4 +1,5 @@
-//! The calls of a worker of a round on several channels. Each runs on a thread of the caller's.
+//! The calls of a worker of a round on several channels. Each worker runs on a thread of the
+//! caller's.
 
 ghost use Rattle.std.specs.Prelude.{◌≡◌, IsTrue, ◌↔◌};
 ghost use Rattle.mig_mem.specs.Lent.{lent_bytes, lent_image, FitTable};
@@ -22,7 +23,7 @@ fn step_on(worker: &mut ChannelWorker<Global>, memory: &LentMemory<'_, Global>) 
     }
 }
 
-// Takes the bytes out of the channel that were written, where none waits.
+// Drains the bytes that were written to the channel, if no drained byte waits.
 fn refill(held: &mut HeldWorker)
     ensures { RefillsWorker held.old held.new }
 {
@@ -34,7 +35,8 @@ fn refill(held: &mut HeldWorker)
 
 impl HeldWorker {
     /// Writes one packet into the worker's channel, from the pages of blocks that are lent for the
-    /// call. Returns the status: `DONE` once it has ended, `RUNNING`, `NO_MEMORY` or `BAD_LENGTH`.
+    /// call. Returns the status: `DONE` once the worker has ended, `RUNNING`, `NO_MEMORY` or
+    /// `BAD_LENGTH`.
     pub fn step(&mut self, blocks: &[&[u8]]) -> u32
         ensures { Steps (lent_bytes blocks.now) result self.old self.new }
     {

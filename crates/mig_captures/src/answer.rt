@@ -1,18 +1,18 @@
-//! What a load answers, and how it is written.
+//! The result of a load, and its printed line.
 
 use crate::words::Trouble;
 use mig_mem::{Memory, Place};
 use mig_single_load::{LoadFault, Origin};
 use sha2::{Digest, Sha256};
 
-/// What the load of a capture answers.
+/// The result of loading a capture.
 #[derive(Drop)]
 pub struct Answer {
-    /// The fault. None if all was read to its end.
+    /// The fault; None if all sources were read to their ends.
     pub fault: Option<LoadFault>,
-    /// Where the stream, or the main stream, is closed.
+    /// The byte at which the stream, or the main stream, is closed.
     pub closed_at: Option<u64>,
-    /// The SHA-256 of the memory, where there is one.
+    /// The SHA-256 of the memory, if there is one.
     pub sum: Option<[u8; 32]>,
 }
 
@@ -47,7 +47,7 @@ fn put_sum(out: &mut String, sum: &[u8]) -> Result<(), Trouble> {
     Ok(())
 }
 
-/// Writes the line of a capture that was fed in pieces of `len` bytes, or at once if `len` is 0.
+/// Writes the line on a capture that was fed in pieces of `len` bytes, or at once if `len` is 0.
 pub fn put_line(out: &mut String, name: &str, len: usize, answer: &Answer) -> Result<(), Trouble> {
     match len {
         0 => write!(out, "{name} whole: ")?,

@@ -42,7 +42,7 @@ fn load_whole(alloc: Global, text: &[u8]) -> Result<Answer, Trouble> {
     })
 }
 
-// Returns where a main stream is closed, fed in pieces of a length.
+// Returns the byte at which a main stream is closed, when fed in pieces of `len` bytes.
 fn main_closed_at(alloc: Global, text: &[u8], len: usize) -> Result<Option<u64>, Trouble> {
     let frame = Frame::Machine;
     let mut reader = StreamReader::new_in(alloc, frame, Mode::Main, PAGE_SIZE_4K, MAX_TOTAL);
@@ -55,7 +55,7 @@ fn main_closed_at(alloc: Global, text: &[u8], len: usize) -> Result<Option<u64>,
     Ok(reader.closed_at())
 }
 
-// Feeds a source's stream in pieces of a length, and ends it.
+// Feeds a source's stream in pieces of `len` bytes, and ends it.
 fn feed(session: &mut Session, source: Source, text: &[u8], len: usize) -> Result<(), Trouble> {
     for piece in text.chunks(len.max(1)) {
         if !session.has(source) {
@@ -73,7 +73,7 @@ fn feed(session: &mut Session, source: Source, text: &[u8], len: usize) -> Resul
     Ok(())
 }
 
-// Returns a session that was fed a main stream and its channels, each in pieces of a length.
+// Returns a session that was fed a main stream and its channels, each in pieces of `len` bytes.
 fn fed(
     alloc: Global,
     uuid: &Uuid,

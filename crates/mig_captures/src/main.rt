@@ -1,11 +1,11 @@
 //! Loads captures of real migrations as machines' streams, in pieces of several lengths, and prints
-//! of each the verdict, where RAM's part ends, and the SHA-256 of the guest's memory.
+//! for each the verdict, the byte at which RAM's part ends, and the SHA-256 of the guest's memory.
 //!
-//! Its words are names of files. One that ends with `.main` is the main stream of a migration on
-//! several channels, which the words after it name; any other is a single stream. `uuid=UUID`
-//! before a file is the guest's UUID, and `pieces=LENGTH` the only length of the pieces. Memory is
-//! compared by the sum of its blocks' bytes, in the order of the stream's table. It is no part of
-//! the product.
+//! Its arguments are names of files. A name that ends with `.main` is the main stream of a
+//! migration on several channels, and the arguments after it are its channels; any other file is a
+//! single stream. `uuid=UUID` before a file sets the guest's UUID, and `pieces=LENGTH` the only
+//! length of the pieces. Memory is compared by the SHA-256 of its blocks' bytes, in the order of
+//! the stream's table. This crate isn't part of the product.
 #![tactic(auto)]
 
 mod answer;
@@ -60,7 +60,7 @@ fn play<R: Files>(
     Ok(())
 }
 
-// Loads what the words name.
+// Loads the captures that the arguments name.
 fn play_all<R: AllocGlobal + Files>(
     rt: &R,
     out: &mut String,

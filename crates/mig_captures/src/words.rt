@@ -1,4 +1,4 @@
-//! The words: which captures are loaded, and how.
+//! Parses the arguments: which captures are loaded, and how.
 
 use mig_mem::NoMemory;
 use std::alloc::{AllocError, AllocFailed, Global};
@@ -7,7 +7,8 @@ use uuid::Uuid;
 /// Why captures can't be loaded.
 #[derive(Clone, Copy)]
 pub enum Trouble {
-    /// A word that names neither a file nor a setting, or no channel after a main stream.
+    /// An argument that is neither a file nor a setting, or a main stream without a channel after
+    /// it.
     Words,
     /// A file that can't be read.
     Input,
@@ -15,7 +16,7 @@ pub enum Trouble {
 }
 
 impl Trouble {
-    /// Returns the line that is written of it.
+    /// Returns the error's line.
     pub fn text(self) -> &'static str {
         match self {
             Trouble::Words => "the words can't be followed\n",
@@ -53,7 +54,7 @@ pub struct Capture {
     pub pieces: Vec<usize>,
 }
 
-// The settings that the words before a file gave.
+// The settings in the arguments before a file.
 #[derive(Clone, Copy)]
 struct Given {
     uuid: Uuid,
@@ -75,7 +76,7 @@ impl Given {
         })
     }
 
-    // Takes a setting. Returns false if the word is none.
+    // Takes a setting. Returns false if the argument isn't one.
     fn take(&mut self, word: &str) -> Result<bool, Trouble> {
         if let Some(uuid) = word.strip_prefix("uuid=") {
             self.uuid = Uuid::parse_str(uuid).ok().ok_or(Trouble::Words)?;
@@ -105,7 +106,7 @@ fn is_channel_of(main: &str, name: &str) -> bool {
     }
 }
 
-/// Returns the captures that words name.
+/// Returns the captures that the arguments name.
 pub fn captures(alloc: Global, words: &[String]) -> Result<Vec<Capture>, Trouble> {
     let mut captures: Vec<Capture> = Vec::new(alloc);
     let mut given = Given {

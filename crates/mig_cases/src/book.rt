@@ -1,12 +1,12 @@
 //! A file of cases, as `mig_rows` reads it, and the named lines that several of them share.
 //!
-//! `text NAME` begins lines with a name, `case NAME` a case, and `from NAME` stands for the lines
-//! of an earlier name. Empty lines, and those that begin with `#`, say nothing.
+//! `text NAME` begins lines with a name, `case NAME` begins a case, and `from NAME` inserts the
+//! lines of an earlier name. Empty lines, and lines that begin with `#`, are skipped.
 
 use crate::trouble::{Done, Trouble};
 use std::alloc::Global;
 
-/// A name with its lines. Each `from` in them has given way to what it stands for.
+/// A name with its lines, in which each `from` is replaced by the lines that it names.
 #[derive(Drop)]
 pub struct Section<'a> {
     pub name: &'a str,

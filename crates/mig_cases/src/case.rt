@@ -1,4 +1,4 @@
-//! What a case has built so far: a guest, streams, and the settings of calls.
+//! The values that a case has built so far: a guest, streams, and the settings of calls.
 
 use crate::guest::Guest;
 use crate::trouble::{Done, Trouble};
@@ -8,7 +8,7 @@ use std::alloc::Global;
 use std::rt::Files;
 use uuid::Uuid;
 
-/// What a case has built so far.
+/// The values that a case has built so far.
 #[derive(Drop)]
 pub struct Case {
     pub alloc: Global,
@@ -16,7 +16,7 @@ pub struct Case {
     pub limit: u64,
     pub uuid: Uuid,
     pub channels: usize,
-    /// Whether a stream is read as that of a whole machine, and else as RAM's sections alone.
+    /// Whether a stream is read as a machine's stream. If not, it is read as RAM's sections.
     pub is_machine: bool,
     /// Whether streams have ended after they were fed.
     pub is_over: bool,
@@ -46,7 +46,7 @@ impl Case {
         })
     }
 
-    /// Takes a line that builds something. Returns false if the line is no such line.
+    /// Takes a line that builds something. Returns false if the line is another one.
     pub fn take<R: Files>(&mut self, rt: &R, name: &str, words: Words) -> Result<bool, Trouble> {
         if name == "file" {
             self.file(rt, words)?;
@@ -59,7 +59,7 @@ impl Case {
         )
     }
 
-    // Takes a line on the settings of calls. Returns false if the line is no such line.
+    // Takes a line on the settings of calls. Returns false if the line is another one.
     fn setting(&mut self, name: &str, mut words: Words) -> Result<bool, Trouble> {
         match name {
             "page" => {
@@ -88,8 +88,7 @@ impl Case {
         Ok(())
     }
 
-    // Takes a line on blocks, or on what is done to the guest. Returns false if the line is no such
-    // line.
+    // Takes a line on blocks, or on changes of the guest. Returns false if the line is another one.
     fn change_guest(&mut self, name: &str, words: Words) -> Result<bool, Trouble> {
         let alloc = self.alloc;
         match name {
@@ -110,7 +109,7 @@ impl Case {
         Ok(true)
     }
 
-    /// Returns the table of the blocks, or why they make none.
+    /// Returns the table of the blocks, or the fault for which they don't make one.
     pub fn table(&self) -> Result<Result<Table, TableFault>, Trouble> {
         let mut list = Vec::new(self.alloc);
         for (id, pages) in &self.blocks {
@@ -122,7 +121,7 @@ impl Case {
         Ok(Table::new(self.alloc, self.page_size, list))
     }
 
-    /// Returns the guest, which the first line that needs it makes of the blocks.
+    /// Returns the guest. The first line that needs it makes it from the blocks.
     pub fn guest(&mut self) -> Result<&mut Guest, Trouble> {
         if self.guest.is_none() {
             let table = self.table()?.ok().ok_or(Trouble::Line)?;

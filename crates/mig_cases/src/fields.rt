@@ -1,4 +1,4 @@
-//! What a packet of a case is to say, for the lines of `texts` that write one.
+//! The fields of a packet, for the lines of `texts` that write one.
 
 use crate::trouble::{Done, Trouble};
 use crate::words::{Words, id_of, offsets_of};
@@ -6,7 +6,8 @@ use mig_mem::{PAGE_SIZE_4K, is_page_size};
 use mig_packet::put_packet;
 use std::alloc::Global;
 
-/// What a packet is to say. Each of its pages has this first byte, and is filled with the other.
+/// The fields of a packet. Each of its pages has the byte `first` first, and is filled with the
+/// other.
 #[derive(Drop)]
 pub(crate) struct Fields {
     number: u64,

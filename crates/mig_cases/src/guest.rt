@@ -14,7 +14,7 @@ pub struct Guest {
 }
 
 impl Guest {
-    /// Creates a guest of zeros, without a mark.
+    /// Creates a guest whose memory is zeros, with no page marked.
     pub fn new(alloc: Global, table: &Table) -> Result<Guest, Trouble> {
         Ok(Guest {
             image: Memory::zeroed(alloc, table)?,
@@ -40,7 +40,7 @@ impl Guest {
         Some(self.dirty.count())
     }
 
-    /// `set BLOCK OFFSET BYTE`: its page is marked.
+    /// `set BLOCK OFFSET BYTE`: writes a byte, and marks its page.
     pub fn set(&mut self, mut words: Words) -> Done {
         let block = words.size()?;
         let offset = words.number()?;
@@ -56,7 +56,7 @@ impl Guest {
         Ok(())
     }
 
-    /// `fill BLOCK PAGES BYTE`: the pages are marked.
+    /// `fill BLOCK PAGES BYTE`: fills the pages, and marks them.
     pub fn fill(&mut self, alloc: Global, mut words: Words) -> Done {
         let block = words.size()?;
         let (first, last) = words.range()?;
@@ -79,7 +79,7 @@ impl Guest {
         Ok(())
     }
 
-    /// `wipe BLOCK PAGES`: makes them zeros. The pages are marked.
+    /// `wipe BLOCK PAGES`: makes the pages zeros, and marks them.
     pub fn wipe(&mut self, mut words: Words) -> Done {
         let block = words.size()?;
         let (first, last) = words.range()?;
@@ -99,13 +99,13 @@ impl Guest {
         Ok(())
     }
 
-    /// `copy`: from here on the memory is a copy of what it was.
+    /// `copy`: from here on the memory is a copy of itself.
     pub fn copy_image(&mut self) -> Done {
         self.image = self.image.try_copy()?;
         Ok(())
     }
 
-    /// Returns the guest as it is now, with its marks, which it no longer has afterwards.
+    /// Returns the guest's memory and marks, and clears the marks.
     pub fn take_round(&mut self, alloc: Global) -> Result<Guest, Trouble> {
         let image = self.image.try_copy()?;
         let unmarked = Dirty::none(alloc, self.image.table())?;
@@ -113,7 +113,7 @@ impl Guest {
         Ok(Guest { image, dirty })
     }
 
-    /// `touch BLOCK PAGES`: marks them.
+    /// `touch BLOCK PAGES`: marks the pages.
     pub fn touch(&mut self, mut words: Words) -> Done {
         let block = words.size()?;
         let (first, last) = words.range()?;

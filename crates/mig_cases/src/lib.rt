@@ -1,9 +1,9 @@
-//! Worked examples as data: what a case is. It has a file of cases and its words; the guest and the
-//! streams that a case's lines build; and the questions that guest memory and packets answer.
+//! Worked examples as data: the cases. It has a file of cases and its words; the guest and the
+//! streams that a case's lines build; and the questions about guest memory and packets.
 //!
 //! `mig_rows` runs such files: it adds rounds, streams and loads. `mig_tool_cases` runs files whose
 //! questions are the tool's words. `Count` compares the answers, for each of the two.
-//! `docs/EXAMPLES.md` has all the lines. This crate stands on guest memory and packets alone, and
+//! `docs/EXAMPLES.md` has all the lines. This crate depends on guest memory and packets only, and
 //! is proved beside the stream. It is no part of the product, and no function here has a contract.
 #![tactic(auto)]
 

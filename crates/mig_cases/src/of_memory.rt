@@ -6,7 +6,7 @@ use crate::trouble::{Done, Trouble};
 use crate::words::{Words, id_of};
 use mig_mem::{Place, first_difference, is_page_size};
 
-/// Writes down the answer to such a question. Returns false if it is none of them.
+/// Writes the answer to such a question. Returns false if the question is another one.
 pub fn ask_memory(
     out: &mut String,
     case: &mut Case,
@@ -110,8 +110,8 @@ fn dirty(out: &mut String, case: &mut Case) -> Done {
     Ok(())
 }
 
-/// `same`, whether two cases have one table, or `difference`, where their guests' memories differ
-/// first.
+/// `same`, whether two cases have one table, or `difference`, the first place where their guests'
+/// memories differ.
 pub fn difference(out: &mut String, case: &mut Case, other: &mut Case, name: &str) -> Done {
     if name == "same" {
         let (Ok(one), Ok(other)) = (case.table()?, other.table()?) else {

@@ -7,7 +7,7 @@ use crate::trouble::{Done, Trouble};
 use mig_mem::is_page_size;
 use mig_packet::{ChannelReader, HelloRead, PacketRead, read_hello, read_packet};
 
-/// Writes down the answer to such a question. Returns false if it is none of them.
+/// Writes the answer to such a question. Returns false if the question is another one.
 pub fn ask_packets(out: &mut String, case: &Case, name: &str) -> Result<bool, Trouble> {
     let text: &[u8] = case.texts.last().ok_or(Trouble::Line)?;
     let answered = match name {
@@ -22,7 +22,7 @@ pub fn ask_packets(out: &mut String, case: &Case, name: &str) -> Result<bool, Tr
     Ok(true)
 }
 
-/// Keeps the answer of a call that is to be the same in whatever pieces a stream is fed.
+/// Keeps the answer of a call, which has to be the same in all pieces in which a stream is fed.
 pub fn agree(wanted: &mut String, answer: &str, len: usize) -> Done {
     if wanted.is_empty() {
         wanted.push_str(answer)?;
@@ -32,7 +32,7 @@ pub fn agree(wanted: &mut String, answer: &str, len: usize) -> Done {
     Ok(())
 }
 
-/// Writes down the number of bytes fed, if it isn't the stream's.
+/// Writes the number of bytes fed, if it isn't the stream's length.
 pub fn put_fed(out: &mut String, fed: u64, text: &[u8]) -> Done {
     if fed != text.len() as u64 {
         out.push_str("; fed ")?;
@@ -78,7 +78,7 @@ fn feed(reader: &mut ChannelReader, piece: &[u8]) -> Done {
     Ok(())
 }
 
-// Writes down what a reader of a channel has found.
+// Writes the content of a channel that a reader has read.
 fn put_channel(out: &mut String, reader: &mut ChannelReader) -> Done {
     put_channel_state(out, reader.state())?;
     match reader.hello_id() {

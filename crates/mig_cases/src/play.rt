@@ -1,12 +1,12 @@
-//! Counts cases and their answers, and prints what is to be printed of them. What the lines of a
-//! case build, and how its questions are answered, is in the program that plays it.
+//! Counts cases and their answers, and prints the lines on them. The program that runs a case has
+//! the meaning of its lines and the answers to its questions.
 
 use crate::book::Book;
 use crate::trouble::Trouble;
 use std::alloc::Global;
 use std::io::{self, Write};
 
-/// How many cases there were, how many answers, and how many of these were wrong.
+/// The number of cases, of answers, and of wrong answers.
 #[derive(Clone, Copy)]
 pub struct Count {
     pub cases: u64,
@@ -14,7 +14,7 @@ pub struct Count {
     pub wrong: u64,
 }
 
-/// A line of a case, cut at its ` = `: what it builds or asks, and the answer that is wanted.
+/// A line of a case, split at its ` = `: the line itself, and the expected answer.
 #[derive(Clone, Copy)]
 pub struct Line<'a> {
     pub text: &'a str,
@@ -58,7 +58,7 @@ impl Count {
         }
     }
 
-    /// Reads a file of cases. If it is none, counts and prints a wrong answer.
+    /// Reads a file of cases. If it isn't one, counts and prints a wrong answer.
     pub fn book<'a, W: Write>(
         &mut self,
         alloc: Global,
@@ -87,9 +87,9 @@ impl Count {
         writeln!(out, "{name}: {}", trouble.text())
     }
 
-    /// Counts a line of the case `name` that was followed: `asked` says whether it asks something,
-    /// of which `answer` is the answer, or why it can't be followed. Prints an answer that is wrong
-    /// or has none beside it. Returns whether the case goes on.
+    /// Counts a line of the case `name` that was run. `asked` says whether it is a question, to
+    /// which `answer` is the answer, or why the line can't be run. Prints an answer that is wrong,
+    /// or for which none is expected. Returns whether the case continues.
     pub fn take<W: Write>(
         &mut self,
         out: &mut W,
@@ -110,7 +110,7 @@ impl Count {
         Ok(true)
     }
 
-    // Counts an answer. Prints it if it is wrong, or has none beside it.
+    // Counts an answer. Prints it if it is wrong, or if none is expected.
     fn compare<W: Write>(
         &mut self,
         out: &mut W,

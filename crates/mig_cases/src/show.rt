@@ -1,4 +1,4 @@
-//! How answers about guest memory and packets are written down.
+//! Formats answers about guest memory and packets.
 
 use crate::trouble::Done;
 use crate::words::bytes_of;
@@ -21,7 +21,7 @@ fn put_hex(out: &mut String, byte: u8) -> Done {
     Ok(())
 }
 
-/// Writes down bytes as runs of one byte, `09,00*4095`, or as the beginning of their SHA-1 sum in
+/// Writes bytes as runs of one byte, `09,00*4095`, or as the beginning of their SHA-1 sum in
 /// hexadecimal digits.
 pub fn put_bytes(out: &mut String, bytes: &[u8]) -> Done {
     let mut runs = String::new(*out.allocator());
@@ -59,8 +59,8 @@ fn put_sum(out: &mut String, bytes: &[u8]) -> Done {
     Ok(())
 }
 
-/// Compares bytes with those that are wanted, in hexadecimal digits. If they are equal, writes down
-/// what is wanted, else what they are.
+/// Compares bytes with the expected ones, in hexadecimal digits. Writes the expected ones if they
+/// are equal, or else the first difference.
 pub fn same_bytes(out: &mut String, bytes: &[u8], wanted: &str) -> Done {
     let other = bytes_of(*out.allocator(), wanted)?;
     if bytes == other.as_slice() {
@@ -69,7 +69,7 @@ pub fn same_bytes(out: &mut String, bytes: &[u8], wanted: &str) -> Done {
     put_other_bytes(out, bytes, &other)
 }
 
-// Writes down bytes that aren't those that are wanted.
+// Writes the first difference of bytes from the expected ones.
 fn put_other_bytes(out: &mut String, bytes: &[u8], wanted: &[u8]) -> Done {
     for (i, (one, other)) in bytes.iter().zip(wanted).enumerate() {
         if one != other {
@@ -81,7 +81,7 @@ fn put_other_bytes(out: &mut String, bytes: &[u8], wanted: &[u8]) -> Done {
     Ok(())
 }
 
-/// Writes down an id: as it is, or `0x` and its bytes if it is long or no UTF-8.
+/// Writes an id: as it is, or `0x` and its bytes if it is long or isn't UTF-8.
 fn put_id(out: &mut String, id: &[u8]) -> Done {
     match str::from_utf8(id) {
         Ok(text) if id.len() <= 16 => Ok(out.push_str(text)?),
@@ -92,8 +92,8 @@ fn put_id(out: &mut String, id: &[u8]) -> Done {
     }
 }
 
-/// A list of pages. Those that follow one another with one content are one entry, `0-127=07*4096`,
-/// and so is one page that comes again and again with one content, `2 of 0=zero`.
+/// A list of pages. Consecutive pages with one content are one entry, `0-127=07*4096`, and so is
+/// one page that is repeated with one content, `2 of 0=zero`.
 #[derive(Drop)]
 pub struct Pages {
     before: String,
@@ -101,7 +101,7 @@ pub struct Pages {
     last: u64,
     times: u64,
     content: String,
-    /// How far the next page is from one.
+    /// The step from one page to the next.
     step: u64,
     has_entry: bool,
 }
@@ -169,7 +169,7 @@ impl Pages {
     }
 }
 
-/// Writes down a memory: its pages that aren't zeros.
+/// Writes a memory: its pages that aren't zeros.
 pub fn put_memory(out: &mut String, memory: &Memory) -> Done {
     let alloc = *out.allocator();
     let mut pages = Pages::new(alloc, 1);
@@ -191,7 +191,7 @@ pub fn put_memory(out: &mut String, memory: &Memory) -> Done {
     pages.end(out)
 }
 
-/// Writes down a table: each block's id and pages.
+/// Writes a table: each block's id and pages.
 pub fn put_table(out: &mut String, table: &Table) -> Done {
     for block in 0..table.len() {
         if block > 0 {
@@ -213,7 +213,7 @@ pub(crate) fn put_table_fault(out: &mut String, fault: TableFault) -> Done {
     Ok(())
 }
 
-/// Writes down a place, as `0.3`, or `none`.
+/// Writes a place, as `0.3`, or `none`.
 pub fn put_place(out: &mut String, place: Option<Place>) -> Done {
     match place {
         Some(place) => write!(out, "{}.{}", place.block, place.page)?,
@@ -239,7 +239,7 @@ pub(crate) fn put_channel_state(out: &mut String, state: ChannelState) -> Done {
     Ok(())
 }
 
-/// Writes down a packet: its number, `sync`, its block's id, and its pages by their offsets.
+/// Writes a packet: its number, `sync`, its block's id, and its pages by their offsets.
 pub fn put_packet(out: &mut String, packet: &Packet<'_>) -> Done {
     out.push_str(" #")?;
     put_number(out, packet.number())?;

@@ -15,7 +15,7 @@ impl Case {
         self.texts.last_mut().ok_or(Trouble::Line)
     }
 
-    // Takes a line on the streams. Returns false if the line is no such line.
+    // Takes a line on the streams. Returns false if the line is another one.
     pub(crate) fn change(&mut self, name: &str, words: Words) -> Result<bool, Trouble> {
         let changed = match name {
             "new" => Ok(self.texts.push(Vec::new(self.alloc))?),
@@ -43,7 +43,7 @@ impl Case {
         Ok(())
     }
 
-    // `hello ID`: of the UUID that readers are passed too
+    // `hello ID`: with the UUID that is also passed to readers
     fn hello(&mut self, mut words: Words) -> Done {
         let hello = hello(&self.uuid, words.byte()?);
         self.text()?.extend_from_slice(&hello)?;
@@ -100,7 +100,7 @@ impl Case {
         self.splice(to, to, &part)
     }
 
-    // Replaces the bytes between two places by others.
+    // Replaces the bytes between two places with others.
     fn splice(&mut self, from: usize, to: usize, bytes: &[u8]) -> Done {
         let alloc = self.alloc;
         let text = self.text()?;

@@ -1,12 +1,12 @@
-//! Why a line of a case can't be followed: what every module here returns, and `play` prints.
+//! Why a line of a case can't be run: the error that every module returns, and `play` prints.
 
 use mig_mem::NoMemory;
 use std::alloc::{AllocError, AllocFailed};
 
-/// Why a line can't be followed.
+/// Why a line can't be run.
 #[derive(Clone, Copy)]
 pub enum Trouble {
-    /// Its words aren't those of any line, or a call's conditions aren't met.
+    /// Its words aren't those of any line, or a call's conditions don't hold.
     Line,
     NoMemory,
 }

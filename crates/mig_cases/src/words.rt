@@ -3,7 +3,7 @@
 use crate::trouble::{Done, Trouble};
 use std::alloc::Global;
 
-/// What is left of a line. Words are separated by spaces.
+/// The rest of a line. Words are separated by spaces.
 #[derive(Clone, Copy)]
 pub struct Words<'a> {
     rest: &'a str,
@@ -34,7 +34,7 @@ impl<'a> Words<'a> {
         self.rest.is_empty()
     }
 
-    /// Returns all that is left.
+    /// Returns the rest of the line.
     pub fn rest(self) -> &'a str {
         self.rest
     }
@@ -74,7 +74,7 @@ impl<'a> Words<'a> {
     }
 }
 
-// Reads a word and how often it stands: `00*40`.
+// Reads a word and the number of its repetitions: `00*40`.
 fn repeated(word: &str) -> Result<(&str, u64), Trouble> {
     match word.split_once('*') {
         Some((word, times)) => Ok((word, number_of(times)?)),

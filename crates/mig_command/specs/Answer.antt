@@ -39,13 +39,13 @@ use Rattle.mig_scenario.specs.Guest.{snapshots_from}
 use Rattle.mig_scenario.specs.Playing.{IsSentOf}
 use Rattle.mig_command.specs.Report.{Report, fault_line, refused, single_line, same_line, checked, IsWantOfMemory}
 
--- what comes of comparing by the places that differ, in order: none does, or so many do, of which
--- this is the first
+-- the result of a comparison, from the list of the places that differ: their number and the first
+-- of them, or `Same`
 abbrev pub comparison_of : List Place → Comparison
 comparison_of [] = Same
 comparison_of (first ∷ others) = Differs (length (first ∷ others)) first
 
--- what comes of comparing two memories of a table
+-- the result of comparing two memories of a table
 abbrev pub Compares : Image → Image → Comparison → Type 0
 Compares a b comparison = comparison ≡ comparison_of (differing a b).marked
 
@@ -97,7 +97,7 @@ tool_status tool.TooManyReads = 3
 tool_status tool.Unread = 3
 tool_status tool.Unwritten = 3
 
--- the status that goes with an answer
+-- the exit status for an answer
 abbrev pub status_of : Answer → ℕ
 status_of (answers.Checked c) = comparison_status c.comparison
 status_of (answers.Sent main channels) = 0
@@ -108,7 +108,7 @@ status_of (answers.Refused f) = 1
 status_of (answers.Unloaded e) = 1
 status_of (answers.Failed f) = tool_status f
 
--- the output that an answer is printed as; that of the tool's own faults stands with them
+-- the output that an answer is printed as; for a fault of the tool's own it is the message there
 abbrev pub text_of : Answer → Option (List ℕ)
 text_of (answers.Checked c) = Some (checked_lines c)
 text_of (answers.Sent main channels) = Some (sent_line main channels)
@@ -123,8 +123,8 @@ text_of (answers.Failed f) = None
 abbrev pub printed : Answer → Option Report
 printed answer = option_map (λ text. record { text = text; status = status_of answer }) (text_of answer)
 
--- The answer where a load has no memory to be written: its first fault, a refused allocation after
--- the rounds that it counted, or that its sources weren't read to their end.
+-- The answer if a load has no memory to write: its first fault; `NoMemory` after the rounds that it
+-- counted, if an allocation was refused; or that its sources weren't read to their end.
 abbrev pub unloaded_of : Verdict → ℕ → Answer
 unloaded_of (Failed fault) rounds = answers.Unloaded fault
 unloaded_of Done rounds = answers.Unloaded (record { round = rounds; source = origin.Round; fault = load_fault.NoMemory })
@@ -134,19 +134,19 @@ unloaded_of Running rounds = answers.Failed tool.Unread
 abbrev pub IsComparison : Image → Image → Answer → Type 0
 IsComparison a b answer = answer ≡ answers.Compared (comparison_of (differing a b).marked)
 
--- the answer on an input that wasn't read whole: a fault of its own, or `NoMemory`
+-- the answer on an input that wasn't read to its end: a fault of its own, or `NoMemory`
 abbrev pub IsUnread : Answer → Type 0
 IsUnread answer = MatchOption (printed answer) (status_of answer ≡ 3) IsWantOfMemory
 
--- an answer that is passed on as what came of a check, or as itself
+-- the answer of a check's result: an `Err` is the answer itself
 abbrev pub answer_from : Result Checked Answer → Answer
 answer_from (Ok checked) = answers.Checked checked
 answer_from (Err other) = other
 
 -- ---- a check
 
--- What is reported of a sending of these snapshots on several channels: the main stream's length,
--- that of all channels together, at most 2^64 - 1, and how many rounds there are.
+-- The report of a sending of these snapshots on several channels: the main stream's length, the sum
+-- of the channels' lengths, at most 2^64 - 1, and the number of rounds.
 pub record IsTold (table : RamTable) (layout : Layout) (snapshots : List Snapshot) (c : ChannelsChecked) : Type 0 where
   pub rounds : List DealtRound
   pub main : List ℕ
@@ -157,7 +157,7 @@ pub record IsTold (table : RamTable) (layout : Layout) (snapshots : List Snapsho
   pub has_channels : c.channels ≡ min (sum_by length texts) (2 ^ 64 - 1)
   pub has_rounds : c.rounds ≡ length snapshots
 
--- the line on channels; none where the layout has no channels
+-- the line on channels; empty if the layout has no channels
 abbrev pub IsToldAs : RamTable → Layout → List Snapshot → List ℕ → Type 0
 IsToldAs table layout snapshots line = ((layout.channels ≡ 0) × (line ≡ [])) ⊎ ((c : ChannelsChecked) × IsTold table layout snapshots c × (line ≡ channels_line c))
 
@@ -168,8 +168,8 @@ snapshots_in layout text = snapshots_from (bytes_in layout.page_size) (lines_of 
 abbrev pub table_in : Layout → List ℕ → RamTable
 table_in layout text = table_of (bytes_in layout.page_size) (lines_of text)
 
--- the report of a scenario that isn't refused: the line of its rounds' single stream, with channels
--- one of a sending of them, and `same`
+-- the report of a valid scenario: the line on the single stream of its rounds; if there are
+-- channels, the line on a sending of them; and `same`
 abbrev pub IsReportOfRounds : Layout → List ℕ → Report → Type 0
 IsReportOfRounds layout text r = (line : List ℕ) × IsToldAs (table_in layout text) layout (snapshots_in layout text) line
     × (r ≡ record { text = checked (table_in layout text) (rounds_of (snapshots_in layout text)) line; status = 0 })
@@ -182,30 +182,30 @@ IsReport layout text r = MatchOption (refusal (bytes_in layout.page_size) text) 
 abbrev pub Answers : Layout → List ℕ → Answer → Type 0
 Answers layout text answer = (r : Report) × (printed answer ≡ Some r) × (IsReport layout text r ⊎ IsWantOfMemory r)
 
--- what loading a stream answers, where it is that of rounds of a table
+-- the result of loading a stream that is that of rounds of a table
 abbrev pub IsLoadOf : {A : Type 0} → ℕ → List ℕ → Loaded A → Type 0
 IsLoadOf page_size sent a = (table : RamTable) (rounds : List (List Page)) → IsTable table → table.page_size ≡ page_size → total_bytes table ≤ 2 ^ 40
     → All (IsRound table) rounds → sent ≡ single table rounds → (a ≡ loaded table rounds) ⊎ IsSingleWithoutMemory (ram_settings page_size (2 ^ 40)) sent a
 
--- A scenario that was played, and what loading the single stream that was sent answers: the image
--- in the end is that after the rounds.
+-- A scenario that was executed, and the result of loading the single stream that was sent: the
+-- guest's image at the end is that after the rounds.
 pub record IsRoundTrip {A : Type 0} (layout : Layout) (text : List ℕ) (image : Image) (sent : List ℕ) (a : Loaded A) : Type 0 where
   pub is_table : IsTable (table_in layout text)
   pub is_sent : sent ≡ single (table_in layout text) (rounds_of (snapshots_in layout text))
   pub has_image : image ≡ after (table_in layout text) (rounds_of (snapshots_in layout text))
   pub is_loaded : (a ≡ loaded (table_in layout text) (rounds_of (snapshots_in layout text))) ⊎ IsSingleWithoutMemory (ram_settings (bytes_in layout.page_size) (2 ^ 40)) sent a
 
--- so it is with the single stream that was sent
+-- there is a round trip with the single stream that was sent
 abbrev pub HasRoundTrip : {A : Type 0} → Layout → List ℕ → Played A → Loaded A → Type 0
 HasRoundTrip layout text played a = IsSomeAnd played.texts.single (λ sent. IsRoundTrip layout text played.image sent.items a)
 
--- what was sent is a sending of the scenario's snapshots in this layout; where nothing was, it has
--- no channels
+-- the channels' streams are a sending of the scenario's snapshots in this layout; if there are
+-- none, the layout has no channels
 abbrev pub HasGone : {A : Type 0} → Layout → List ℕ → Option (Sent A) → Type 0
 HasGone layout text several = MatchOption several (layout.channels ≡ 0)
     (λ sent. IsSentOf (table_in layout text) zero_bytes layout.batch layout.channels (snapshots_in layout text) sent)
 
--- as many channels as a load takes
+-- a number of channels that a load takes
 abbrev pub HasChannels : {A : Type 0} → Sent A → Type 0
 HasChannels sent = (1 ≤ length sent.channels.items) × (length sent.channels.items ≤ 255)
 
@@ -221,8 +221,8 @@ IsLoadOfSent page_size sent a = (table : RamTable) (limit channels : ℕ) (snaps
 
 -- ---- the input
 
--- A report is that of an input that was read to its end, where `input` was left before and `rest`
--- is left after; or it reports a refused allocation.
+-- The report is that of an input that was read to its end, or it reports a refused allocation.
+-- `input` was unread before, and `rest` is unread after.
 abbrev pub IsReportOf : Layout → Option (List ℕ) → Option (List ℕ) → Report → Type 0
 IsReportOf layout input rest r = ((text : List ℕ) × Consumes input rest text × IsAtEnd rest × IsReport layout text r) ⊎ IsWantOfMemory r
 
@@ -234,7 +234,7 @@ HasPrinted output written answer status = (status ≡ status_of answer) × IfSom
 abbrev pub AnswersInput : Layout → Option (List ℕ) → Option (List ℕ) → Answer → Type 0
 AnswersInput layout input rest answer = MatchOption (printed answer) (status_of answer ≡ 3) (IsReportOf layout input rest)
 
--- such a report was written, and the status is its own
+-- a report of the input was written, and the exit status is the report's
 pub record HasReported (layout : Layout) (input rest output written : Option (List ℕ)) (status : ℕ) : Type 0 where
   pub report : Report
   pub is_report : IsReportOf layout input rest report

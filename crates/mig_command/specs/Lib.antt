@@ -1,5 +1,5 @@
--- To read first, in this order: the words; the output and the status of what is reported, and what
--- a check reports. Then the reads of an input, and what feeding one source leaves of the others.
+-- Read first, in this order: the arguments; the output and the exit status of each report; what a
+-- check reports. Then the reads of an input, and the counts of sources while one of them is fed.
 pub mod Words
 pub mod Report
 pub mod Answer

@@ -1,4 +1,4 @@
--- The command line: what it is declared as, and which words ask for a check.
+-- The command line: its declaration, and which arguments ask for a check.
 use Rattle.std.specs.Prelude.{ℕ, ◌≡◌, ◌≤◌, ◌^◌, ◌⊎◌, true, false, List, [], ◌∷◌, map, MatchOption, IfSome, Some, codes, ⊤, String, string_bytes}
 use Rattle.std.specs.Str.Parse.{IsNumeral, digits_value, without_leading_plus}
 use Rattle.uuid.specs.Text.{parsed}
@@ -34,7 +34,7 @@ pub record IsCommand (app : App) (command : Command) : Type 0 where
 abbrev pub number_rule : Text → ℕ → ℕ → Rule
 number_rule name least most = record (new_rule name) { long = Some name; parser = Some (Unsigned least most) }
 
--- a file's name, which has to be there
+-- a file's name, which is required
 abbrev pub file_rule : Text → Rule
 file_rule name = record (new_rule name) { required = true }
 
@@ -70,31 +70,31 @@ load_app = with_rule (with_rule (with_rule (with_rule (with_rule (with_rule (wit
 abbrev pub compare_app : App
 compare_app = with_rule (with_rule (with_rule (new_app (codes "compare")) (file_rule (codes "scenario"))) (file_rule (codes "image"))) page_rule
 
--- the program, whose words have no program's name before them
+-- the program; its arguments don't begin with the program's name
 abbrev pub program_app : App
 program_app = let named = new_app (codes "mig_tool") in record named { top = record named.top { no_binary_name = true } }
 
 abbrev pub tool_app : App
 tool_app = with_subcommand (with_subcommand (with_subcommand (with_subcommand program_app check_app.top) send_app.top) load_app.top) compare_app.top
 
--- ---- what is asked for
+-- ---- requests
 
--- the words as lists of bytes
+-- the arguments as lists of bytes
 abbrev pub texts_of : {A : Type 0} → List (String A) → List Text
 texts_of words = map string_bytes words
 
--- a single stream alone, with pages of 4096 bytes, and as many pages to a packet as it has room for
+-- a single stream without channels, with pages of 4096 bytes, and as many pages in a packet as it
+-- has room for
 abbrev pub plain_layout : Layout
 plain_layout = record { page_size = Small; channels = 0; batch = 128 }
 
--- the number that an option's value is in decimal digits, or the one that it has where it isn't
--- used
+-- the number of an option: its value in decimal digits, or its default if the option isn't used
 abbrev pub Gives : List Row → Text → ℕ → ℕ → Type 0
 Gives rows option without number = MatchOption (one_of option rows) (number ≡ without)
     (λ text. IsNumeral 10 (without_leading_plus text) × (number ≡ digits_value 10 (without_leading_plus text)))
 
--- The options of `check` give this layout: pages of 4096 bytes, no channels, and batches as large
--- as a packet has room for, where they don't say. A packet has room for such a batch.
+-- The options of `check` give this layout. The defaults are pages of 4096 bytes, no channels, and
+-- the most pages that a packet has room for. A packet has room for the batch.
 pub record GiveLayout (rows : List Row) (layout : Layout) : Type 0 where
   pub gives_page : Gives rows (codes "page") 4096 (bytes_in layout.page_size)
   pub gives_channels : Gives rows (codes "channels") 0 layout.channels
@@ -102,23 +102,23 @@ pub record GiveLayout (rows : List Row) (layout : Layout) : Type 0 where
   pub few_channels : layout.channels ≤ 255
   pub has_room : HasRoom layout
 
--- The words ask for a check in a layout: there are none, and it is the plain one; or the command
--- line takes them, the command is `check`, and its options give the layout.
+-- The arguments ask for a check in a layout: there are no arguments, and the layout is the plain
+-- one; or the command line accepts them, the command is `check`, and its options give the layout.
 abbrev pub AskCheck : List Text → Layout → Type 0
 AskCheck words layout = ((words ≡ []) × (layout ≡ plain_layout))
     ⊎ ((rows : List Row) × (takes tool_app words ≡ true) × (subcommand_of tool_app words ≡ Some (codes "check", rows)) × GiveLayout rows layout)
 
--- The command line takes the words, they name this command, and these are its options.
+-- The command line accepts the arguments, they name this command, and these are its options.
 pub record AskCommand (words : List Text) (command : Text) (rows : List Row) : Type 0 where
   pub is_taken : takes tool_app words ≡ true
   pub is_met : subcommand_of tool_app words ≡ Some (command, rows)
 
--- The words ask for `send` in a layout, which its options give as those of `check` do.
+-- The arguments ask for `send` in a layout, which its options give in the way of `check`.
 abbrev pub AskSend : List Text → Layout → Type 0
 AskSend words layout = (rows : List Row) × AskCommand words (codes "send") rows × GiveLayout rows layout
 
--- The options of `load` give pages of this size, so many channels, and the most bytes of a guest:
--- pages of 4096 bytes, no channels, and 2^30 bytes, where they don't say.
+-- The options of `load` give the page size, the number of channels and the most bytes of a guest.
+-- The defaults are pages of 4096 bytes, no channels, and 2^30 bytes.
 pub record GiveLoad (rows : List Row) (page_size : PageSize) (channels limit : ℕ) : Type 0 where
   pub gives_page : Gives rows (codes "page") 4096 (bytes_in page_size)
   pub gives_channels : Gives rows (codes "channels") 0 channels
@@ -126,48 +126,48 @@ pub record GiveLoad (rows : List Row) (page_size : PageSize) (channels limit : �
   pub few_channels : channels ≤ 255
   pub keeps_most : limit ≤ 2 ^ 40
 
--- The words ask for `load`, and its options give these.
+-- The arguments ask for `load`, and its options give these.
 abbrev pub AskLoad : List Text → PageSize → ℕ → ℕ → Type 0
 AskLoad words page_size channels limit = (rows : List Row) × AskCommand words (codes "load") rows
     × GiveLoad rows page_size channels limit
 
--- a scenario is to be sent in this layout
+-- the request sends a scenario in this layout
 abbrev pub SendsIn : Layout → Request → Type 0
 SendsIn layout (request.Check other) = ⊥
 SendsIn layout (request.Send send) = send.layout ≡ layout
 SendsIn layout (request.Load load) = ⊥
 SendsIn layout (request.Compare compare) = ⊥
 
--- what a load is to be done with
+-- a load's page size, channels and limit
 pub record LoadsWith (page_size : PageSize) (channels limit : ℕ) (load : LoadRequest) : Type 0 where
   pub has_page : load.page_size ≡ page_size
   pub has_channels : load.channels ≡ channels
   pub has_limit : load.limit ≡ limit
 
--- files are to be loaded with these
+-- the request loads files with these
 abbrev pub LoadsIn : PageSize → ℕ → ℕ → Request → Type 0
 LoadsIn page_size channels limit (request.Check layout) = ⊥
 LoadsIn page_size channels limit (request.Send send) = ⊥
 LoadsIn page_size channels limit (request.Load load) = LoadsWith page_size channels limit load
 LoadsIn page_size channels limit (request.Compare compare) = ⊥
 
--- the UUID that the options name, if they do, has one of a UUID's forms
+-- if the options have a UUID, it has one of a UUID's forms
 abbrev pub HasUuid : Found → Type 0
 HasUuid found = IfSome (first_value found (codes "uuid")) (λ text. (u : List ℕ) × (parsed text ≡ Some u))
 
--- No words, or `check` alone.
+-- No arguments, or `check` alone.
 abbrev pub AskPlainCheck : List Text → Type 0
 AskPlainCheck words = (words ≡ []) ⊎ (words ≡ codes "check" ∷ [])
 
--- where a check is asked for, P holds of its layout
+-- if the request is a check, P holds of its layout
 abbrev pub IfCheck : Request → (Layout → Type 0) → Type 0
 IfCheck (request.Check layout) P = P layout
 IfCheck (request.Send send) P = ⊤
 IfCheck (request.Load load) P = ⊤
 IfCheck (request.Compare compare) P = ⊤
 
--- what is asked for is within limits: a packet has room for a batch, and what a load may make of a
--- guest is no larger than the largest table
+-- the request keeps the limits: a packet has room for a batch, and the most bytes of a loaded guest
+-- are at most those of the largest table
 abbrev pub KeepsLimits : Request → Type 0
 KeepsLimits (request.Check layout) = HasRoom layout
 KeepsLimits (request.Send send) = HasRoom send.layout

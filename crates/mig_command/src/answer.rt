@@ -1,61 +1,62 @@
-//! What the tool answers, before it is printed.
+//! The tool's answer, before it is printed.
 
 use crate::fault::ToolFault;
 use mig_mem::{NoMemory, Place};
 use mig_scenario::ScenarioFault;
 use mig_single_load::LoadFault;
 
-/// What comes of comparing two memories of one table.
+/// The result of comparing two memories of one table.
 #[derive(Clone, Copy, Debug, PartialEq, Eq)]
 pub enum Comparison {
     Same,
-    /// So many pages differ, and this is the first of them.
+    /// The number of pages that differ, and the first of them.
     Differs(u64, Place),
 }
 
-/// What was sent on several channels beside a main stream, and loaded again.
+/// The rounds that were sent on several channels with a main stream, and loaded again.
 #[derive(Clone, Copy, Debug, PartialEq, Eq)]
 pub struct ChannelsChecked {
     /// The length of the main stream.
     pub main: usize,
-    /// The length of all channels together.
+    /// The sum of the channels' lengths.
     pub channels: u64,
-    /// The rounds that were loaded.
+    /// The number of rounds that were loaded.
     pub rounds: u64,
 }
 
-/// What came of a scenario's rounds.
+/// The result of sending and loading a scenario's rounds.
 #[derive(Clone, Copy, Debug, PartialEq, Eq)]
 pub struct Checked {
     /// The length of the single stream.
     pub single: usize,
-    /// The sections that were loaded of it.
+    /// The number of its sections that were loaded.
     pub sections: u64,
-    /// The sending of these rounds on channels, where there are any.
+    /// The result on channels, if there are any.
     pub several: Option<ChannelsChecked>,
-    /// What was loaded, compared with the guest: of the single stream where that differs, else of
-    /// what was sent on channels, if anything was.
+    /// The loaded memory compared with the guest's: that of the single stream if it differs, else
+    /// that of the channels, if there are any.
     pub comparison: Comparison,
 }
 
-/// What the tool answers.
+/// The tool's answer.
 #[derive(Clone, Copy)]
 pub enum Answer {
     /// The scenario's rounds were sent, loaded and compared.
     Checked(Checked),
-    /// The length of the single or main stream that was written, and that of all channels together.
+    /// The length of the single or main stream that was written, and the sum of the channels'
+    /// lengths.
     Sent(usize, u64),
-    /// So many sections of a single stream were loaded, and the memory was written.
+    /// The number of sections of a single stream that were loaded; the memory was written.
     LoadedSections(u64),
-    /// So many rounds of several channels were loaded, and the memory was written.
+    /// The number of rounds of several channels that were loaded; the memory was written.
     LoadedRounds(u64),
     /// A scenario's memory was compared with a file's.
     Compared(Comparison),
-    /// The input is no scenario, or an allocation was refused.
+    /// The input isn't a scenario, or an allocation was refused.
     Refused(ScenarioFault),
-    /// What was to be loaded wasn't.
+    /// The load failed.
     Unloaded(LoadFault),
-    /// The words, the input or a file was refused.
+    /// The arguments, the input or a file were refused.
     Failed(ToolFault),
 }
 

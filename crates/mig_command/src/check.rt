@@ -1,5 +1,5 @@
-//! The check of a scenario: its rounds become a stream, and a main stream with channels. These are
-//! loaded and compared with the guest.
+//! Checks a scenario: sends its rounds on a single stream and on channels, loads what was sent, and
+//! compares it with the guest.
 
 ghost use Rattle.std.specs.Prelude.{ℕ, ◌≡◌, ◌⊎◌, ⊤, List, None, Some, Ok, Err, true, length, is_some, IfSome, IsSomeAnd, IfOk, IfErr, OnOk};
 ghost use Rattle.mig_send.specs.declared.multi.Sent.{Sent};
@@ -24,8 +24,8 @@ use std::sync::Wait;
 use std::thread::Threads;
 use uuid::Uuid;
 
-// Plays a scenario. Returns the guest in the end with the streams of its rounds, and what loading
-// the single stream answers.
+// Executes a scenario. Returns the guest at the end with the streams of its rounds, and the result
+// of loading the single stream.
 fn round_trip<H: Threads + Sync, A: Allocator + Copy + Send + Sync>(
     rt: &H,
     alloc: A,
@@ -88,7 +88,7 @@ fn compare_loaded<H: Threads + Sync, A: Allocator + Copy + Send + Sync>(
     }
 }
 
-// Loads what was sent on several channels.
+// Loads the main stream and the channels that were sent.
 fn load_sent<H: Threads + Wait + Sync, A: Allocator + Copy + Send + Sync>(
     rt: &H,
     alloc: A,

@@ -1,4 +1,4 @@
-//! The comparison of a scenario's file with the file of a memory.
+//! Compares a scenario's file with the file of a memory.
 
 ghost use Rattle.std.specs.Prelude.{◌≡◌, IfOk};
 ghost use Rattle.mig_command.specs.Answer.{IsComparison};
@@ -29,7 +29,7 @@ fn answer_on<H: Threads + Sync, A: Allocator + Copy + Send + Sync>(
 }
 
 /// Compares the memory that a scenario makes with that of a file, and returns the answer. An `Err`
-/// is one too: that of the first fault.
+/// is an answer, too: that of the first fault.
 pub(crate) fn compare<H: Files + Threads + Sync, A: Allocator + Copy + Send + Sync>(
     rt: &H,
     alloc: A,

@@ -1,4 +1,4 @@
-//! The comparison of two memories.
+//! Compares two memories.
 
 ghost use Rattle.std.specs.Prelude.{◌≡◌, IfOk};
 ghost use Rattle.mig_command.specs.Answer.{Compares};
@@ -8,7 +8,8 @@ use mig_mem::{Memory, NoMemory, Place, differences};
 use std::alloc::Allocator;
 use std::thread::Threads;
 
-/// Returns where two memories of one table differ. Threads share large blocks.
+/// Returns the number of pages in which two memories of one table differ, and the first of them.
+/// Several threads compare a large block.
 pub(crate) fn compared<H: Threads + Sync, A: Allocator + Copy + Send + Sync>(
     rt: &H,
     alloc: A,

@@ -1,4 +1,4 @@
-//! Reads files completely, and writes them from their front to their end.
+//! Reads and writes complete files.
 
 ghost use Rattle.std.specs.Prelude.{◌≡◌, ◌++◌, IfOk, codes, decimal, string_bytes};
 
@@ -16,8 +16,8 @@ pub(crate) fn open<H: Files>(rt: &H, name: &str) -> Result<H::File, ToolFault> {
     File::open(rt, name).map_err(|_| ToolFault::Unread)
 }
 
-// Returns how many bytes a file is expected to have, which is only a hint: it can be 0, and the
-// file can change.
+// Returns the length that a file is expected to have. It is only a hint: it can be 0, and the file
+// can change.
 fn expected_len<F: OpenFile>(file: &F) -> usize {
     match file.metadata() {
         Ok(metadata) if metadata.is_file() => metadata.len().min(MAX_LEN) as usize,
@@ -25,7 +25,7 @@ fn expected_len<F: OpenFile>(file: &F) -> usize {
     }
 }
 
-/// Reads a file up to its end. An `Err` is the answer if its bytes can't be had.
+/// Reads a file up to its end. An `Err` is the answer if it can't be read.
 pub(crate) fn read_file<H: Files, A: Allocator + Copy>(
     rt: &H,
     alloc: A,
@@ -36,7 +36,7 @@ pub(crate) fn read_file<H: Files, A: Allocator + Copy>(
     read_whole(alloc, &mut file, room)
 }
 
-/// Returns whether there is a folder of this name.
+/// Returns whether a folder has this name.
 pub(crate) fn is_folder<H: Files>(rt: &H, name: &str) -> bool {
     match rt.metadata(name) {
         Ok(metadata) => metadata.is_dir(),
@@ -44,7 +44,7 @@ pub(crate) fn is_folder<H: Files>(rt: &H, name: &str) -> bool {
     }
 }
 
-/// Writes bytes into a file, which is made where there is none, and has nothing else afterwards.
+/// Writes bytes into a file, which is created if it doesn't exist, and truncated if it does.
 pub(crate) fn write_file<H: Files>(rt: &H, name: &str, bytes: &[u8]) -> Result<(), ToolFault> {
     write_to(rt, name, bytes).map_err(|_| ToolFault::Unwritten)
 }
@@ -55,7 +55,7 @@ fn write_to<H: Files>(rt: &H, name: &str, bytes: &[u8]) -> io::Result<()> {
     file.flush()
 }
 
-/// Returns the name of a channel's file, beside that of the main stream: `MAIN.0` and so on.
+/// Returns the name of a channel's file, made from that of the main stream: `MAIN.0` and so on.
 pub(crate) fn channel_name<A: Allocator>(
     alloc: A,
     main: &str,

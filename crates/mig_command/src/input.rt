@@ -1,4 +1,4 @@
-//! Reads a complete input, for `run`, in at most `MAX_READS` reads.
+//! Reads a complete input in at most `MAX_READS` reads, for `run`.
 
 ghost use Rattle.std.specs.Prelude.{◌≡◌, ◌<◌, length, IfOk, IfErr};
 ghost use Rattle.std.specs.Io.KnownBytes.{Consumes, IsAtEnd};
@@ -11,8 +11,8 @@ use mig_scenario::ScenarioFault;
 use std::alloc::Allocator;
 use std::io::{ErrorKind, Read};
 
-/// The most reads that an input may take, the one that finds its end and those that a signal
-/// interrupted among them.
+/// The most reads of an input. The read that finds its end counts, and so do reads that a signal
+/// interrupted.
 const MAX_READS: usize = 65_536;
 
 /// The most bytes of one read.
@@ -32,8 +32,8 @@ fn buffer_of<A: Allocator>(alloc: A, len: usize) -> Result<Vec<u8, A>, Answer>
     }
 }
 
-// Reads once, and appends what came. Returns whether the input has ended. A read that a signal
-// interrupted brings nothing.
+// Reads once, and appends the bytes. Returns whether the input has ended. A read that a signal
+// interrupted appends nothing.
 fn read_more<A: Allocator, R: Read>(
     input: &mut R,
     buffer: &mut [u8],
@@ -56,7 +56,7 @@ fn read_more<A: Allocator, R: Read>(
 }
 
 /// Reads an input up to its end, with room for `room` bytes from the start. An `Err` is the answer
-/// if the input can't be had.
+/// if the input can't be read.
 pub(crate) fn read_whole<A: Allocator + Copy, R: Read>(
     alloc: A,
     input: &mut R,

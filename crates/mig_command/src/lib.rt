@@ -1,10 +1,10 @@
-//! The command line of the tool: what its words ask for, and what is done and printed then.
+//! The command line of the tool: its arguments, its commands, and what they print.
 //!
-//! `run` is the tool as a function of its words, its input, files and its output; the program
-//! `mig_tool` passes it its own. What a scenario is, and the guest that plays it, is
-//! `mig_scenario`'s; the formats are the libraries' below. Here are the words (`specs/Words`), the
+//! `run` is the tool as a function of its arguments, its input, files and its output; the program
+//! `mig_tool` passes it its own. Scenarios and the guest that executes them are in `mig_scenario`;
+//! the formats are in the libraries below it. This crate has the arguments (`specs/Words`), the
 //! answers and how they are printed (`specs/Report`, `Answer`), and the reading of an input
-//! (`specs/Inputs`). A module for each command: `check`, `sending`, `loading`, `comparing`.
+//! (`specs/Inputs`). Each command has a module: `check`, `sending`, `loading`, `comparing`.
 #![tactic(auto)]
 
 mod answer;

@@ -1,4 +1,4 @@
-//! The load of a migration's files into the file of a memory.
+//! Loads a migration's files into the file of a memory.
 
 ghost use Rattle.std.specs.Prelude.{◌≡◌, ◌≤◌, ◌^◌, replicate, Some, IfOk, IfErr, vec_len};
 ghost use Rattle.mig_answer.specs.MultiLoad.{as_verdict};
@@ -22,11 +22,11 @@ use std::fs::Files;
 use std::sync::Wait;
 use std::thread::Threads;
 
-/// How often each source is read at most where it is loaded as it is read, the read that finds its
-/// end among them.
+/// The most reads of each source, if it is loaded as it is read. The read that finds its end
+/// counts.
 const MOST_READS: u64 = 65_536;
 
-// Writes a memory into its file. Without memory for the buffer the file isn't opened.
+// Writes a memory into its file. If the buffer can't be allocated, the file isn't opened.
 fn write_image<H: Files, A: Allocator, B: Allocator>(
     rt: &H,
     alloc: A,
@@ -63,7 +63,7 @@ fn settled<A: Allocator>(loaded: Loaded<A>) -> Result<(Memory<A>, u64), Answer>
     }
 }
 
-// Returns the answer where the guest's memory couldn't be allocated.
+// Returns the answer if the guest's memory couldn't be allocated.
 fn without_memory(rounds: u64) -> Answer
     ensures { result ≡ unloaded_of Verdict.Done rounds }
 {
@@ -109,7 +109,7 @@ fn read_channels<H: Files, A: Allocator + Copy>(
     Ok(texts)
 }
 
-// Loads several channels beside a main stream.
+// Loads a main stream with several channels.
 fn load_channels<H: Files + Threads + Wait + Sync, A: Allocator + Copy + Send + Sync>(
     rt: &H,
     alloc: A,
@@ -137,7 +137,7 @@ fn load_channels<H: Files + Threads + Wait + Sync, A: Allocator + Copy + Send + 
 
 // ---- streams that are loaded as they are read
 
-// Returns the answer where a source wasn't read to its end, or not fed.
+// Returns the answer if reading a source failed, or feeding it.
 fn unpumped<A: Allocator>(session: &Session<A>, fault: PumpFault) -> Answer {
     match (fault, session.verdict()) {
         (PumpFault::Read, _) => Answer::Failed(ToolFault::Unread),
@@ -168,7 +168,7 @@ fn feed_file<H: Files, A: Allocator + Copy>(
     }
 }
 
-// Feeds the main stream, then channel after channel.
+// Feeds the main stream, then each channel.
 fn feed_files<H: Files, A: Allocator + Copy>(
     rt: &H,
     alloc: A,
@@ -192,7 +192,7 @@ fn settled_session<A: Allocator>(session: &Session<A>) -> Result<&Memory<A>, Ans
 {
     match session.verdict() {
         Verdict::Failed(fault) => return Err(Answer::Unloaded(fault)),
-        // (of sources that have all ended none is pending)
+        // (when all sources have ended the load isn't pending)
         Verdict::Running => return Err(Answer::Failed(ToolFault::Unread)),
         Verdict::Done => {}
     }
@@ -202,7 +202,7 @@ fn settled_session<A: Allocator>(session: &Session<A>) -> Result<&Memory<A>, Ans
     }
 }
 
-// Loads several channels beside a main stream, each as it is read.
+// Loads a main stream with several channels, each as it is read.
 fn load_fed<H: Files, A: Allocator + Copy>(
     rt: &H,
     alloc: A,
@@ -224,8 +224,8 @@ fn load_fed<H: Files, A: Allocator + Copy>(
     Ok(Answer::LoadedRounds(session.rounds()))
 }
 
-/// Loads what a request says, and writes the memory into its file unless there is a fault. Returns
-/// the answer. An `Err` is one too: that of the first fault.
+/// Executes a load request, and writes the memory into its file unless there is a fault. Returns
+/// the answer. An `Err` is an answer, too: that of the first fault.
 pub(crate) fn load<H: Files + Threads + Wait + Sync, A: Allocator + Copy + Send + Sync>(
     rt: &H,
     alloc: A,

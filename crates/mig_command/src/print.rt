@@ -13,8 +13,8 @@ use mig_scenario::ScenarioFault;
 use mig_single_load::{LoadFault, Origin};
 use std::io::{self, Write};
 
-/// The most bytes that an answer's lines have: those of a check on channels whose memories differ,
-/// with eight numbers of 20 digits, take 211.
+/// The most bytes of an answer's lines. The longest are those of a check on channels whose memories
+/// differ: with eight numbers of 20 digits they take 211.
 const MAX_ANSWER_LEN: usize = 256;
 
 // Writes a word and a number.
@@ -35,7 +35,7 @@ fn put_refused<W: Write>(output: &mut W, fault: ScenarioFault) -> io::Result<()>
     output.write_all(b"\n")
 }
 
-// Writes where a scenario has its fault.
+// Writes the place of a scenario's fault.
 fn put_place<W: Write>(output: &mut W, fault: ScenarioFault) -> io::Result<()>
     ensures { OnOk result (Appends (W.contents output.old) (W.contents output.new) (scenario_place fault)) }
 {
@@ -59,7 +59,7 @@ fn put_unloaded<W: Write>(output: &mut W, fault: LoadFault) -> io::Result<()>
     output.write_all(b"\n")
 }
 
-// Writes where a load has its fault.
+// Writes the source of a load's fault.
 fn put_origin<W: Write>(output: &mut W, source: Origin) -> io::Result<()>
     ensures { OnOk result (Appends (W.contents output.old) (W.contents output.new) (in_origin source)) }
 {
@@ -70,7 +70,7 @@ fn put_origin<W: Write>(output: &mut W, source: Origin) -> io::Result<()>
     }
 }
 
-// Writes what comes of comparing two memories.
+// Writes the result of comparing two memories.
 fn put_comparison<W: Write>(output: &mut W, comparison: Comparison) -> io::Result<()>
     ensures { OnOk result (Appends (W.contents output.old) (W.contents output.new) (comparison_line comparison)) }
 {
@@ -85,7 +85,7 @@ fn put_comparison<W: Write>(output: &mut W, comparison: Comparison) -> io::Resul
     }
 }
 
-// Writes the line of what was sent on channels.
+// Writes the line on what was sent on channels.
 fn put_channels<W: Write>(output: &mut W, checked: ChannelsChecked) -> io::Result<()>
     ensures { OnOk result (Appends (W.contents output.old) (W.contents output.new) (channels_line checked)) }
 {
@@ -108,7 +108,7 @@ fn put_checked<W: Write>(output: &mut W, checked: Checked) -> io::Result<()>
     put_comparison(output, checked.comparison)
 }
 
-// Writes the line of what was sent into files.
+// Writes the line on what was sent into files.
 fn put_sent<W: Write>(output: &mut W, main: usize, channels: u64) -> io::Result<()>
     ensures { OnOk result (Appends (W.contents output.old) (W.contents output.new) (sent_line main channels)) }
 {
@@ -117,7 +117,7 @@ fn put_sent<W: Write>(output: &mut W, main: usize, channels: u64) -> io::Result<
     output.write_all(b"\n")
 }
 
-// Writes the line of what was loaded.
+// Writes the line on what was loaded.
 fn put_loaded<W: Write>(output: &mut W, kind: &[u8], count: u64) -> io::Result<()>
     ensures { OnOk result (Appends (W.contents output.old) (W.contents output.new) (loaded_line kind.now count)) }
 {
@@ -142,8 +142,8 @@ fn put_answer<W: Write>(output: &mut W, answer: Answer) -> io::Result<()>
     }
 }
 
-/// Writes an answer, all of its lines in one write if the output takes them so, and flushes the
-/// output. Lines of two tools at one terminal then don't mix.
+/// Writes an answer, and flushes the output. All its lines are passed to one write, so that lines
+/// of two tools on one terminal don't mix.
 pub(crate) fn print<W: Write>(output: &mut W, answer: Answer) -> io::Result<()>
     ensures { OnOk result (IfSome (printed answer) (λ r. Appends (W.contents output.old) (W.contents output.new) r.text)) }
 {
@@ -153,7 +153,7 @@ pub(crate) fn print<W: Write>(output: &mut W, answer: Answer) -> io::Result<()>
     output.flush()
 }
 
-// Returns the status that goes with what comes of comparing two memories.
+// Returns the exit status for the result of comparing two memories.
 fn compared_status(comparison: Comparison) -> u8
     ensures { result ≡ comparison_status comparison }
 {
@@ -163,7 +163,7 @@ fn compared_status(comparison: Comparison) -> u8
     }
 }
 
-// Returns the status that goes with a fault of the tool's own.
+// Returns the exit status for a fault of the tool's own.
 fn failed_status(fault: ToolFault) -> u8
     ensures { result ≡ tool_status fault }
 {
@@ -174,7 +174,7 @@ fn failed_status(fault: ToolFault) -> u8
     }
 }
 
-/// Returns the status that goes with an answer.
+/// Returns the exit status for an answer.
 pub(crate) fn status(answer: Answer) -> u8
     ensures { result ≡ status_of answer }
 {

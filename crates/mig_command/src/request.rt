@@ -1,9 +1,9 @@
-//! What the tool can be asked for.
+//! The tool's requests: one for each command.
 
 use mig_scenario::{Layout, PageSize};
 use uuid::Uuid;
 
-/// A scenario's file that is sent into a file, or into one for each source.
+/// Sends a scenario's file into a file, or into one file for each source.
 #[derive(Clone, Copy, Debug)]
 pub struct SendRequest<'a> {
     pub scenario: &'a str,
@@ -12,7 +12,7 @@ pub struct SendRequest<'a> {
     pub uuid: Uuid,
 }
 
-/// Files of a migration that are loaded, and the file that the memory goes into.
+/// Loads a migration's files, and writes the memory into a file.
 #[derive(Clone, Copy, Debug)]
 pub struct LoadRequest<'a> {
     pub main: &'a str,
@@ -20,13 +20,13 @@ pub struct LoadRequest<'a> {
     pub page_size: PageSize,
     pub channels: u8,
     pub uuid: Uuid,
-    /// The most bytes that the blocks may have together.
+    /// The largest sum of the blocks' lengths.
     pub limit: u64,
-    /// Whether the streams are loaded as they are read, one after the other.
+    /// Whether each stream is loaded as it is read, one stream after another.
     pub is_fed: bool,
 }
 
-/// A scenario's file and a memory's that are compared.
+/// Compares a scenario's file with a memory's file.
 #[derive(Clone, Copy, Debug)]
 pub struct CompareRequest<'a> {
     pub scenario: &'a str,
@@ -34,10 +34,10 @@ pub struct CompareRequest<'a> {
     pub page_size: PageSize,
 }
 
-/// What the words ask for.
+/// A parsed command line.
 #[derive(Clone, Copy, Debug)]
 pub enum Request<'a> {
-    /// The scenario in the input is sent, loaded and compared.
+    /// Sends the scenario in the input, loads it and compares it.
     Check(Layout),
     Send(SendRequest<'a>),
     Load(LoadRequest<'a>),

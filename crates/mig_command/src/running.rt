@@ -1,5 +1,5 @@
-//! The tool as a function, which the program, its cases and its tests call: its words, its input
-//! and its output, and the status that it ends with.
+//! The tool as a function, which the program, its cases and its tests call. It takes the arguments,
+//! the input and the output, and returns the exit status.
 
 ghost use Rattle.std.specs.Prelude.{◌≡◌, ◌≢◌, ◌≤◌, ◌⊎◌};
 ghost use Rattle.mig_scenario.specs.declared.layout.Layout.{Layout as Asked};
@@ -23,15 +23,16 @@ use std::io::{Read, Write};
 use std::sync::Wait;
 use std::thread::Threads;
 
-// The status where the output fails.
+// The exit status if the output fails.
 const OUTPUT_FAILED: u8 = 3;
 
-/// Runs the tool: does what the words ask for, prints what came of it, and returns the status. The
-/// words are those after the program's name.
+/// Runs the tool: executes the command line, prints the answer, and returns the exit status.
+/// `words` are the arguments after the program's name.
 ///
-/// Without words, and with `check`, it reads a scenario from the input and sends its rounds on a
-/// single stream, with channels on these too. It loads all, and compares the memory with the
-/// guest's. If the output fails the status is 3, and no output is promised.
+/// Without arguments, and with `check`, it reads a scenario from the input and sends its rounds on
+/// a single stream, and on channels if the arguments name any. It loads what it sent, and compares
+/// the memory with the guest's. If the output fails the status is 3, and nothing is promised of the
+/// output.
 pub fn run<
     H: AllocGlobal + Files + Threads + Wait + Sync,
     A: Allocator + Copy + Send + Sync,
@@ -51,7 +52,7 @@ pub fn run<
     end_with(output, answer)
 }
 
-/// Prints an answer, and returns the status that goes with it, or 3 if the output fails.
+/// Prints an answer, and returns its exit status, or 3 if the output fails.
 pub fn end_with<W: Write>(output: &mut W, answer: Answer) -> u8
     ensures printed { result ≢ 3 → HasPrinted (W.contents output.old) (W.contents output.new) answer result }
     ensures status { (result ≡ status_of answer) ⊎ (result ≡ 3) }
@@ -62,7 +63,7 @@ pub fn end_with<W: Write>(output: &mut W, answer: Answer) -> u8
     }
 }
 
-// Returns the answer to what is asked for.
+// Returns the answer to a request.
 fn answer_to<H: Files + Threads + Wait + Sync, A: Allocator + Copy + Send + Sync, R: Read>(
     rt: &H,
     alloc: A,

@@ -14,7 +14,7 @@ use std::alloc::Allocator;
 use std::fs::Files;
 use std::thread::Threads;
 
-/// Returns how many bytes all channels have together, as far as 64 bits count.
+/// Returns the sum of the channels' lengths, at most `u64::MAX`.
 pub(crate) fn total_len<A: Allocator>(channels: &[Vec<u8, A>]) -> u64
     ensures { result ≡ min (sum_by length (texts_of channels.now)) (2 ^ 64 - 1) }
 {
@@ -25,7 +25,7 @@ pub(crate) fn total_len<A: Allocator>(channels: &[Vec<u8, A>]) -> u64
     total
 }
 
-// Refuses a folder in the place of a channel's file.
+// Refuses if a channel's file is a folder.
 fn check_channel_files<H: Files, A: Allocator + Copy>(
     rt: &H,
     alloc: A,
@@ -41,9 +41,9 @@ fn check_channel_files<H: Files, A: Allocator + Copy>(
     Ok(())
 }
 
-// Writes the main stream, and each channel beside it. Each file is opened when its turn comes,
-// since a pipe's other end may be opened no earlier. A folder in a file's place is found before the
-// first one is emptied.
+// Writes the main stream, then each channel. Each file is opened just before it is written, since
+// the reader of a pipe may open it only then. A folder in a file's place is found before the first
+// file is truncated.
 fn write_several<H: Files, A: Allocator + Copy>(
     rt: &H,
     alloc: A,
@@ -59,8 +59,8 @@ fn write_several<H: Files, A: Allocator + Copy>(
     Ok(Answer::Sent(sent.main.len(), total_len(&sent.channels)))
 }
 
-/// Sends what a request says, into its files, and returns the answer. An `Err` is one too: that of
-/// the first fault.
+/// Executes a send request, writes its files, and returns the answer. An `Err` is an answer, too:
+/// that of the first fault.
 pub(crate) fn send<H: Files + Threads + Sync, A: Allocator + Copy + Send + Sync>(
     rt: &H,
     alloc: A,

@@ -1,4 +1,4 @@
-//! The command line: what its words ask for.
+//! Parses the command line.
 
 ghost use Rattle.std.specs.Prelude.{ℕ, ◌≡◌, ◌<◌, ◌≤◌, ◌^◌, Ok, codes, IsOk, IfOk, IfErr};
 ghost use Rattle.clap.specs.Words.{found_of, kind_of, rows_of};
@@ -20,10 +20,11 @@ use mig_scenario::{Layout, PageSize, ScenarioFault};
 use std::alloc::{AllocError, Global};
 use uuid::Uuid;
 
-/// The most bytes of a loaded guest, where the words don't say: 1 GiB.
+/// The most bytes of a loaded guest, if the arguments don't set it: 1 GiB.
 const DEFAULT_LIMIT: u64 = 1 << 30;
 
-/// What a UUID's form as a URN begins with, in these letters alone, and its length.
+/// The prefix of a UUID's form as a URN, which has to be in lower case, and the length of that
+/// form.
 const URN_PREFIX: &str = "urn:uuid:";
 
 const URN_LEN: usize = 45;
@@ -39,7 +40,7 @@ fn number_option<'a>(alloc: Global, name: &'a str, least: u64, most: u64) -> Arg
         .value_parser(ValueParser::Unsigned(least, most))
 }
 
-// Returns an argument for a file's name, which has to be there.
+// Returns a required argument for a file's name.
 fn file_name<'a>(alloc: Global, name: &'a str) -> Arg<'a>
     ensures { IsArg (file_rule name.now) result }
 {
@@ -138,9 +139,9 @@ fn tool_command<'a>(alloc: Global) -> Result<Command<'a>, AllocError>
         .subcommand(compare_command(alloc)?)
 }
 
-// ---- what was read
+// ---- the parsed arguments
 
-// Returns the answer where the words weren't read.
+// Returns the answer if the arguments weren't parsed.
 fn unread(error: &Error) -> Answer
     ensures { kind_of error.now ≡ ErrorKind.OutOfMemory → result ≡ Answer.Refused ScenarioFault.NoMemory }
 {
@@ -184,8 +185,7 @@ fn uuid_in<'a>(matches: &ArgMatches<'a>) -> Result<Uuid, ToolFault>
     }
 }
 
-// Returns how many pages a packet has at most: as many as there is room for, where the words don't
-// say.
+// Returns the most pages of a packet: as many as it has room for, if the arguments don't set it.
 fn batch_in<'a>(matches: &ArgMatches<'a>, page_size: PageSize) -> Result<usize, ToolFault>
     ensures given { (batch : ℕ) → 0 < batch → batch ≤ page_limit (bytes_in page_size) → Gives (rows_of (found_of matches.now)) (codes "batch") (page_limit (bytes_in page_size)) batch
         → result ≡ Ok batch }
@@ -211,7 +211,7 @@ fn check_in<'a>(matches: &ArgMatches<'a>) -> Result<Layout, ToolFault>
     })
 }
 
-// Returns a file's name, which is there.
+// Returns the name of a required file.
 fn file_in<'a>(matches: &ArgMatches<'a>, name: &str) -> Result<&'a str, ToolFault> {
     matches.get_str(name).ok_or(ToolFault::Words)
 }
@@ -278,7 +278,7 @@ fn compare_in<'a>(matches: &ArgMatches<'a>) -> Result<CompareRequest<'a>, ToolFa
     })
 }
 
-// Returns what a command that was met asks for.
+// Returns the request of a command.
 fn request_in<'a>(name: &str, matches: &ArgMatches<'a>) -> Result<Request<'a>, ToolFault>
     ensures check { (layout : Asked) → name.now ≡ codes "check" → GiveLayout (rows_of (found_of matches.now)) layout → result ≡ Ok (Request.Check layout) }
     ensures send { IfOk result (λ request. (layout : Asked) → name.now ≡ codes "send" → GiveLayout (rows_of (found_of matches.now)) layout → SendsIn layout request) }
@@ -307,14 +307,14 @@ fn request_in<'a>(name: &str, matches: &ArgMatches<'a>) -> Result<Request<'a>, T
     }
 }
 
-/// What no words ask for: a check of a single stream.
+/// The layout without arguments: a check of a single stream.
 pub(crate) const PLAIN_CHECK: Layout = Layout {
     page_size: PageSize::Small,
     channels: 0,
     batch: 128,
 };
 
-/// Returns what words ask for, or the answer if they ask for nothing that the tool does.
+/// Returns the request of the arguments, or the answer if they aren't a command line of the tool.
 pub(crate) fn asked<'a>(alloc: Global, words: &'a [String]) -> Result<Request<'a>, Answer>
     ensures ok { IfOk result (λ request. (layout : Asked) → AskCheck (texts_of words.entry.now) layout → request ≡ Request.Check layout) }
     ensures err { IfErr result (λ answer. (layout : Asked) → AskCheck (texts_of words.entry.now) layout → answer ≡ Answer.Refused ScenarioFault.NoMemory) }

@@ -1,5 +1,5 @@
--- A deal as its callers see it: which deal it is, what a seat has drawn, and when numbers are a
--- whole run, each drawn once.
+-- A deal as its callers see it: which deal it is, what a seat has drawn, and when numbers are
+-- consecutive, each drawn once.
 use Rattle.std.specs.Prelude.{◌≡◌, ℕ, ◌+◌, ◌<◌, ◌≤◌, List, ◌++◌, ◌∷◌, [], length, ◌==◌, ◌^◌, All, count_by, flat_map}
 use Rattle.atomic_table.specs.Seated.{TableId}
 
@@ -43,14 +43,14 @@ all_drawn seats = flat_map (λ (seat : SeatView). seat.drawn) seats
 abbrev pub times : ℕ → List ℕ → ℕ
 times number numbers = count_by (λ other. other == number) numbers
 
--- each number from `from` up to `to`, `to` left out, stands in the list exactly once, and no other
--- number does
+-- each number from `from` up to `to` (exclusive) is in the list exactly once, and no other number
+-- is
 pub record HasEachOnce (from to : ℕ) (numbers : List ℕ) : Type 0 where
   pub once : (number : ℕ) → from ≤ number → number < to → times number numbers ≡ 1
   pub none_below : (number : ℕ) → number < from → times number numbers ≡ 0
   pub none_above : (number : ℕ) → to ≤ number → times number numbers ≡ 0
 
--- the number is above all that the seat drew before, and at least the base plus how many these are
+-- the number is above all that the seat drew before, and at least the base plus their count
 pub record IsNext (base : ℕ) (before : List ℕ) (number : ℕ) : Type 0 where
   pub above : All (λ earlier. earlier < number) before
   pub far : base + length before ≤ number

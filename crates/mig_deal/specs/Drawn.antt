@@ -1,4 +1,4 @@
--- What a draw answers.
+-- What a draw returns.
 use Rattle.std.specs.Prelude.{◌≡◌, ℕ, ◌<◌, ◌≤◌, All}
 use Rattle.mig_deal.specs.declared.seat.Drawn.{Drawn}
 use Rattle.mig_deal.specs.declared.seat.Drawn.TheVariants.{Work, Last}
@@ -12,7 +12,7 @@ pub record HasDrawn (deal : DealView) (before : SeatView) (number : ℕ) (after 
   pub within : number < end_of_deal deal
   pub was_work : All (λ earlier. earlier < end_of_work deal) before.drawn
 
--- a draw is work exactly where its number is below the end of work, else the seat's last
+-- a draw is work exactly if its number is below the end of work, and else the seat's last
 abbrev pub IsDraw : DealView → SeatView → Drawn → Type 0
 IsDraw deal before (Work number after) = HasDrawn deal before number after × (number < end_of_work deal)
 IsDraw deal before (Last number after) = HasDrawn deal before number after × (end_of_work deal ≤ number)

@@ -13,7 +13,7 @@ use Rattle.mig_deal.specs.Rule.{Word, IsDealt, next_number, numbers_of, last_cou
 abbrev pub EachNumberOnce : Type 0
 EachNumberOnce = (terms : Terms) (word : Word) → IsDealt terms word → HasEachOnce terms.base (next_number word) (flat_map numbers_of word.views)
 
--- the seat with this place among all seats holds the number
+-- seat `place` among all seats holds the number
 abbrev pub IsHeldBy : Word → ℕ → ℕ → Type 0
 IsHeldBy word number place = (seat : Holding) × (get_elem? word.views place ≡ some seat) × (times number (numbers_of seat) ≡ 1)
 

@@ -29,11 +29,11 @@ numbers_of seat = seat.drawn ++ seat.joined
 abbrev pub last_count : Terms → List ℕ → ℕ
 last_count terms numbers = count_by (λ number. leb (terms.base + terms.batches) number) numbers
 
--- the numbers from `from` up to `to`, `to` left out
+-- the numbers from `from` up to `to` (exclusive)
 abbrev pub numbers_between : ℕ → ℕ → List ℕ
 numbers_between from to = range_with_len from (to - from)
 
--- two lists have the same numbers, each as often, in whatever order: as many pass any test
+-- two lists have the same numbers, each equally often, in any order: as many pass any test
 abbrev pub HasSameNumbers : List ℕ → List ℕ → Type 0
 HasSameNumbers numbers others = (test : ℕ → Bool) → count_by test numbers ≡ count_by test others
 
@@ -41,8 +41,8 @@ HasSameNumbers numbers others = (test : ℕ → Bool) → count_by test numbers 
 abbrev pub IsWorkButNewest : Terms → List ℕ → Type 0
 IsWorkButNewest terms drawn = (place : ℕ) → place + 1 < length drawn → slice_index drawn place < terms.base + terms.batches
 
--- what holds of one seat: it holds at most one last number for each of the deal's seats that it
--- stands for; it drew nothing after a last number; where it stands for no seat, it holds no number
+-- What holds of one seat: it holds at most one last number for each of the deal's seats that it
+-- stands for; it drew nothing after a last number; if it stands for no seat, it holds no number.
 pub record IsLawfulSeat (terms : Terms) (seat : Holding) : Type 0 where
   pub few_lasts : last_count terms (numbers_of seat) ≤ seat.seats
   pub stops : IsWorkButNewest terms seat.drawn
@@ -57,7 +57,7 @@ pub record IsDealt (terms : Terms) (word : Word) : Type 0 where
   pub whole : HasSameNumbers (flat_map numbers_of word.views) (numbers_between terms.base (next_number word))
   pub lawful : (id : ℕ) (seat : Holding) → get_elem? word.views id ≡ some seat → IsLawfulSeat terms seat
 
--- a draw adds the number found to those that the seat drew, and says where that number lies
+-- a draw adds the number that it finds to those that the seat drew
 pub record HasNumber (before : Holding) (number : ℕ) (after : Holding) : Type 0 where
   pub appended : after ≡ holding before.terms before.seats (before.drawn ++ number ∷ []) before.joined
   pub next : IsNext before.terms.base before.drawn number
@@ -66,13 +66,13 @@ pub record HasNumber (before : Holding) (number : ℕ) (after : Holding) : Type 
 abbrev pub TellsNumber : Step (Unit {0}) → Me (Unit {0}) Holding → ℕ → Me (Unit {0}) Holding → Type 0
 TellsNumber _ before number after = HasNumber before.0 number after.0 × (after.1 ≡ before.1)
 
--- of a seat that stands for all of the deal's seats, each of which drew its last number: it holds
--- each number from the base up to the next one once, and the next one is the deal's end
+-- For a seat that stands for all of the deal's seats, each of which drew its last number: it holds
+-- each number from the base up to the next one once, and the next one is the deal's end.
 abbrev pub HasAllUpTo : Terms → Holding → ℕ → Type 0
 HasAllUpTo terms seat next = seat.seats ≡ terms.seats → last_count terms (numbers_of seat) ≡ terms.seats → 0 < terms.seats → (numbers : List ℕ) → HasSameNumbers (numbers_of seat) numbers
     → HasEachOnce terms.base next numbers × (next ≡ terms.base + terms.batches + terms.seats)
 
--- what a read of the word says of the number that it finds
+-- what a read of the word reports of the number that it finds
 abbrev pub TellsEnd : Step (Unit {0}) → Me (Unit {0}) Holding → ℕ → Me (Unit {0}) Holding → Type 0
 TellsEnd _ before number after = HasAllUpTo before.0.terms before.0 number
 
@@ -103,8 +103,8 @@ terms_of deal = record { base = deal.base; batches = deal.batches; seats = deal.
 abbrev pub seat_view : TableId → Holding → SeatView
 seat_view id seat = record { deal = deal_view id seat.terms; drawn = seat.drawn }
 
--- a seat that a caller has stands for one, has no other joined into it, and has drawn so many last
--- numbers: none while it may draw, one when it is spent
+-- A seat that a caller has stands for one, has no other joined into it, and has drawn `lasts` last
+-- numbers: none while it may draw, one when it is spent.
 pub record IsSeatWithLasts (lasts : ℕ) (seat : Holding) : Type 0 where
   pub one : seat.seats ≡ 1
   pub alone : seat.joined ≡ []

@@ -1,6 +1,6 @@
-//! The word that workers draw numbers from. `MultiSender::round` makes one for each round, from
-//! which the workers of its channels draw. A caller with threads of its own makes one for its
-//! calls of `work`.
+//! The shared word that workers draw numbers from. `MultiSender::round` creates one for each round,
+//! from which the workers of its channels draw. A caller with threads of its own creates one for
+//! its calls of `work`.
 
 ghost use Rattle.std.specs.Prelude.{◌≡◌, ◌<◌, ◌≤◌, [], ◌∷◌, ◌++◌, All, IfOk, vec_len, replicate, vec_capacity};
 ghost use Rattle.mig_deal.specs.Deal.{new_seat, all_drawn, IsWithinLimits, HasEachOnce, end_of_deal};
@@ -17,8 +17,8 @@ use std::marker::Model;
 
 /// One shared word that numbers packets and claims batches. Threads share it by reference or in an
 /// `Arc`, each with a seat of its own. When all seats are spent, `close` ends the deal, and
-/// `end_number` answers for a deal that is still shared. A deal may also be dropped: its memory is
-/// freed, and the numbers that are left are never drawn.
+/// `end_number` returns the end of a deal that is still shared. A deal may also be dropped: its
+/// memory is freed, and the numbers that are left are never drawn.
 #[derive(Drop)]
 pub struct Deal<A: Allocator = Global> {
     table: Table<(), Holding, Terms, DealRule, A>,
@@ -119,8 +119,8 @@ impl<A: Allocator> Deal<A> {
         self.terms.base
     }
 
-    /// Draws the next number for a seat of this deal. The call waits for nobody, allocates nothing,
-    /// and always succeeds. Which of the numbers that are left a seat draws is up to the schedule.
+    /// Draws the next number for a seat of this deal. The call waits for no other thread, allocates
+    /// nothing, and always succeeds. The schedule decides which seat draws which number.
     pub fn draw(&self, seat: Seat) -> Drawn
         requires { seat.deal ≡ self.now }
         ensures { IsDraw self.now seat result }

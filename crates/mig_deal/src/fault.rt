@@ -1,4 +1,4 @@
-//! Why `Deal::new` was refused: an allocation was.
+//! Why `Deal::new` fails: an allocation was refused.
 
 ghost use Rattle.std.specs.Prelude.{◌≡◌};
 
@@ -19,7 +19,7 @@ impl NoMemory {
     }
 }
 
-/// Writes the fault's number and its words.
+/// Writes the fault's number and its message.
 impl Display for NoMemory {
     fn fmt<W: fmt::Write>(&self, f: &mut Formatter<W>) -> fmt::Result {
         write!(f, "{}: an allocation was refused", self.number())

@@ -1,8 +1,8 @@
 //! Laws of the rule alone: what is true of a deal between any two steps, since each step keeps the
 //! rule.
 //!
-//! They stand as clauses of a function that does nothing. So they are proved with the crate, and
-//! callers can have them.
+//! Each law is the clause of a function that does nothing. So it is proved with the crate, and a
+//! caller who calls the function may use it.
 
 ghost use Rattle.mig_deal.specs.History.{EachNumberOnce, EachNumberHasOneSeat, WordStaysBelow, SeatsStopAtLast};
 

@@ -1,7 +1,7 @@
-//! The rule of a deal's word, and the kinds of steps that are made under it, for `deal` and `seat`.
+//! The rule of a deal's word, and the kinds of steps under it, for `deal` and `seat`.
 //!
-//! Nothing here runs. At each step, `atomic_table` asks that the step keeps the rule, whatever the
-//! word and all seats are by then. It answers with what the kind of step promises.
+//! Nothing here runs. `atomic_table` requires of each step that it keeps the rule, for any value of
+//! the word and of all seats. In return the step has what its kind promises.
 //!
 //! The steps are: the word is made with one seat; one seat is split in two; a draw; one seat is
 //! joined into another; a read by the seat that all others were joined into; the end.
@@ -42,7 +42,7 @@ impl TableRule<(), Holding, Terms> for DealRule {
     ghost first = { λ terms. holding terms terms.seats [] [] };
 }
 
-/// The step of a draw: the seat has the word's number, and the word goes on by one.
+/// The step of a draw: the seat gets the word's number, and the word is incremented.
 pub struct DrawNumber;
 
 impl Play<(), Holding> for DrawNumber {
@@ -51,7 +51,7 @@ impl Play<(), Holding> for DrawNumber {
     ghost then = { TellsNumber };
 }
 
-/// The step that makes a new seat out of one that stands for several.
+/// The step that splits a new seat off one that stands for several.
 pub struct SplitSeat;
 
 impl Split<Holding> for SplitSeat {

@@ -9,8 +9,8 @@ use std::fmt;
 use std::marker::Model;
 
 /// One worker's right to draw. It has no bytes, and it can't be copied. Its worker draws until the
-/// last number. If a seat is dropped before, no spent seat is left of it: then its deal can only be
-/// dropped too, since `close` and `end_number` take one for each seat.
+/// last number. If a seat is dropped before, its deal can only be dropped too: `close` and
+/// `end_number` take a spent seat for each seat.
 #[derive(Drop)]
 pub struct Seat {
     pub(crate) inner: TableSeat<(), Holding>,
@@ -36,8 +36,7 @@ impl fmt::Debug for Seat {
 }
 
 /// What is left of a seat that has drawn its last number. It can't be copied. `Deal::close` and
-/// `Deal::end_number` take one for each seat of the deal, so where one is dropped, neither can be
-/// called.
+/// `Deal::end_number` take one for each seat of the deal. If one is dropped, neither can be called.
 #[derive(Drop)]
 pub struct Spent {
     pub(crate) inner: TableSeat<(), Holding>,

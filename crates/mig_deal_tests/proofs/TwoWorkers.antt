@@ -1,4 +1,4 @@
--- Two workers that are stepped, one after the other or at once.
+-- Two workers that are stepped, one after another or at once.
 use Rattle.std.proofs.Common.{ℕ, ◌≡◌, ◌∙◌, List, [], get_or, ap, refl, subst, sym}
 use Rattle.mig_mem.specs.declared.place.Place.{Place}
 use Rattle.mig_mem.specs.Image.{Image, IsImage}
@@ -18,7 +18,7 @@ runs_on image old mid new first then = record {
   has_packed = λ before drained packed. then.has_packed before drained (first.has_packed before drained packed);
 }
 
--- what a worker packed that was run stays its channel's, and its round has come so far
+-- the packets of a worker that was run stay its channel's, and its round has advanced so far
 runs_back : (image : Image) (sender : MultiSending) (before after : OpenMulti) (work done : ChannelWork) → HasRun image work done → TakesBack done before after
     → HasPacked image (get_or sender.channels work.channel []) work.text work → IsRoundSoFar image none_drained sender before
     → IsRoundSoFar image none_drained sender after
@@ -27,7 +27,7 @@ runs_back image sender before after work done run back packed come =
     (subst (λ (channel : ℕ). HasPacked image (get_or sender.channels channel []) done.text done) (sym run.same_channel)
     (run.has_packed (get_or sender.channels work.channel []) [] packed))
 
--- A round of two workers, of which each ran as it might, is a round as any other.
+-- A round of two workers in any interleaving is a round like any other.
 pub sent_by_two : (image : Image) (dirty : PlaceSet) (sender : MultiSending) (begun one two back both : OpenMulti) (a b a_done b_done : ChannelWork) (new : MultiSending)
     → IsImage image → image.table ≡ sender.main.table → HasBegun dirty sender begun → HandsOut begun one a → HandsOut one two b
     → HasRun image a a_done → HasRun image b b_done → TakesBack a_done two back → TakesBack b_done back both → EndsRound both new

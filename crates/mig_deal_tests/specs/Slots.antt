@@ -1,4 +1,4 @@
--- The slots of a deal's seats: what lies in them before their workers ran, and afterwards.
+-- The slots of a deal's seats: their content before their workers ran, and afterwards.
 use Rattle.std.specs.Prelude.{◌≡◌}
 use Rattle.mig_deal.specs.Deal.{DealView}
 use Rattle.mig_deal_tests.specs.declared.workers.Slot.{Slot}

@@ -1,5 +1,5 @@
-//! One worker that has a deal for itself. Tests can't show what `work` asks of its seat, so this
-//! module makes deal and seat.
+//! One worker that has a deal for itself. Tests can't prove what `work` requires of its seat, so
+//! this module makes the deal and the seat.
 
 ghost use Rattle.std.specs.Prelude.{◌≡◌, All};
 ghost use Rattle.mig_send.specs.Batches.{IsBatch};
@@ -13,7 +13,7 @@ use mig_send::{Batch, Packed, Worked, work};
 use std::alloc::{AllocGlobal, Allocator, Global};
 use std::process::Abort;
 
-/// What a worker returned, and the number after all that were drawn.
+/// A worker's result, and the number after all drawn numbers.
 #[derive(Drop)]
 pub(crate) struct Alone<A: Allocator = Global> {
     pub packets: Result<Vec<Packed<A>, A>, NoMemory>,

@@ -8,7 +8,7 @@ use mig_send::{Batch, Packed, cut, pack};
 use std::alloc::{AllocGlobal, Allocator};
 use std::process::Abort;
 
-/// Cuts a set of a table, at a limit that is one.
+/// Cuts a set of a table, with a valid limit.
 pub(crate) fn cut_at<A: Allocator + Copy, B: Allocator>(
     rt: &impl Abort,
     alloc: A,
@@ -66,7 +66,7 @@ fn are<A: Allocator>(batches: &[Batch<A>], wanted: &[(usize, &[u64])]) -> bool {
     true
 }
 
-// Cuts the set of some places, a page to a batch, with allocation `nth` refused, which comes.
+// Cuts the set of some places, a page to a batch, with allocation `nth` refused, which exists.
 fn assert_cut_refused(
     rt: &(impl AllocGlobal + Abort),
     heap: &TestHeap,
@@ -81,7 +81,7 @@ fn assert_cut_refused(
     assert!(rt; !heap.is_waiting());
 }
 
-// Cuts the set of some places, a page to a batch, where allocation `nth` doesn't come. Asserts the
+// Cuts the set of some places, a page to a batch, if there is no allocation `nth`. Asserts the
 // batches.
 fn assert_cut(
     rt: &(impl AllocGlobal + Abort),
@@ -124,7 +124,7 @@ fn pack_first<A: Allocator + Copy>(
     pack(alloc, memory, batch, 0)
 }
 
-// Of block `a` of two pages, page 0 of zeros and page 1 with the first byte 9. Each of the two
+// Block `a` of two pages has page 0 as zeros, and page 1 with the first byte 9. Each of the two
 // lists of offsets takes one allocation, and the packet's bytes one.
 #[test]
 fn pack_with_each_allocation_refused(rt: HostRuntime) {

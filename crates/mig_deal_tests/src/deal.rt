@@ -161,7 +161,7 @@ fn many_seats_on_threads(rt: HostRuntime) -> Result<(), Fail> {
     Ok(())
 }
 
-// Gives the deal two owners: the workers draw by the first, and the second is asked for the end.
+// Gives the deal two owners: the workers draw through the first, and the second returns the end.
 fn end_in_an_arc<R: AllocGlobal + Abort + Threads + Sync>(
     rt: &R,
     deal: Deal,
@@ -182,7 +182,7 @@ fn end_in_an_arc<R: AllocGlobal + Abort + Threads + Sync>(
     other.end_number(spents)
 }
 
-// The end is the number that `close` gives in `many_seats_on_threads`.
+// The end is the number that `close` returns in `many_seats_on_threads`.
 #[test]
 fn end_of_a_deal_in_an_arc(rt: HostRuntime) -> Result<(), Fail> {
     let hall = Hall::new(rt.alloc(), 1255)?;

@@ -1,5 +1,5 @@
-//! The sender on two channels with gates that one worker alone doesn't pass, and on as many
-//! channels as there may be. Each channel is read as a loader reads it, packet by packet.
+//! The sender on two channels with gates that one worker alone doesn't pass, and on the largest
+//! number of channels. Each channel is read as a loader reads it, packet by packet.
 
 use crate::multi::{Round, finish, send, uuid};
 use crate::working::Told;
@@ -24,7 +24,7 @@ struct Guest {
 }
 
 impl Guest {
-    // Returns a round of no page of it.
+    // Returns a round without pages of the guest.
     fn idle(&self, rt: &(impl AllocGlobal + Abort)) -> Round {
         let table = table_of(rt.alloc(), self.page_size, &[("a", self.pages)]);
         let table = table.expect(rt, "a table");
@@ -33,7 +33,7 @@ impl Guest {
         Round { memory, dirty }
     }
 
-    // Returns a round of all its pages.
+    // Returns a round of all pages of the guest.
     fn busy(&self, rt: &(impl AllocGlobal + Abort)) -> Round {
         let mut round = self.idle(rt);
         let mut content = Vec::new(rt.alloc());
@@ -48,7 +48,7 @@ impl Guest {
         round
     }
 
-    // Returns a sender of it, on `channels` channels.
+    // Returns a sender of the guest, on `channels` channels.
     fn sender(&self, rt: &(impl AllocGlobal + Abort), channels: usize) -> MultiSender {
         let round = self.idle(rt);
         MultiSender::new(
@@ -64,8 +64,8 @@ impl Guest {
 
 // ---- the streams read
 
-// The numbers of a round: the first one, and how many packets with pages it has, which come before
-// the SYNC packets.
+// The numbers of a round: the first one, and the number of packets with pages, which precede the
+// SYNC packets.
 #[derive(Clone, Copy)]
 struct Numbers {
     base: u64,
@@ -92,8 +92,8 @@ fn assert_packet(rt: &impl Abort, guest: &Guest, numbers: &Numbers, packet: &Pac
     }
 }
 
-// Returns the `rounds` rounds of a channel. It begins with the channel's own hello, and has nothing
-// more.
+// Returns the `rounds` rounds of a channel. The channel begins with its own hello, and has nothing
+// after these rounds.
 fn rounds_of(
     rt: &(impl AllocGlobal + Abort),
     guest: &Guest,
@@ -120,8 +120,7 @@ fn rounds_of(
     read
 }
 
-// Asserts the packets of a guest's rounds, whose numbers are these, in all channels: the rounds'
-// numbers are each had once.
+// Asserts the packets of a guest's rounds in all channels: each of the rounds' numbers occurs once.
 fn assert_texts(
     rt: &(impl AllocGlobal + Abort),
     guest: &Guest,
@@ -167,8 +166,8 @@ fn steps_of(
 
 // ---- gates
 
-// What a gate knows of a channel: its steps so far, one more than the last number that it drew, and
-// for which number of the other channel it is held, if it is.
+// A gate's state of a channel: its steps so far, one more than the last number that it drew, and
+// the number of the other channel for which it is held, if it is held.
 #[derive(Drop)]
 struct Lane {
     told: Told,
@@ -185,8 +184,8 @@ impl Lane {
         }
     }
 
-    // Waits until this channel has drawn such a number or a later one, and returns whether it did.
-    // It gives up after a while.
+    // Waits until this channel has drawn this number or a later one, and returns whether it did. It
+    // gives up after a while.
     fn reaches(&self, number: u64) -> bool {
         for turn in 0..100_000_000u64 {
             if self.drawn.load(Ordering::SeqCst) > number {
@@ -237,8 +236,8 @@ impl Gate for Holding {
 // ---- two channels that are held
 
 // Sends all pages of a guest, in `batches` batches, on two channels with a gate, which never gives
-// up. Asserts the streams, of `bytes` bytes in all. Returns how many steps each channel has, which
-// are those of its packets.
+// up. Asserts the streams, of `bytes` bytes in all. Returns the number of steps of each channel,
+// which are those of its packets.
 fn send_held<R: AllocGlobal + Abort + Threads + Sync>(
     rt: &R,
     guest: &Guest,
@@ -265,7 +264,7 @@ fn send_held<R: AllocGlobal + Abort + Threads + Sync>(
     [first.len(), second.len()]
 }
 
-// Two batches. No worker goes on from its first draw before the other has drawn, so workers that
+// Two batches. No worker continues after its first draw before the other has drawn, so workers that
 // run in turn don't get through, and each draws one batch: its draw, its packing, and the last draw
 // make three steps. Two hellos, four heads and all pages make the bytes: 128 + 4 * 1344 + 129 *
 // 4096, and 128 + 4 * 832 + 65 * 8192.
@@ -304,10 +303,10 @@ fn one_worker_held(rt: HostRuntime) {
     assert!(rt; held <= 3);
 }
 
-// ---- as many channels as there may be
+// ---- the largest number of channels
 
-// A round without pages and one of three batches. Which worker draws what is left open: none waits
-// for another, as where threads can't be had they run in turn.
+// A round without pages and one of three batches. The order in which the workers draw isn't tested:
+// no worker waits for another, since they run in turn if threads can't be started.
 #[test]
 fn most_channels(rt: HostRuntime) {
     let guest = Guest {

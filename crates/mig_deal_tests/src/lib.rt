@@ -1,4 +1,4 @@
-//! Tests of the deal, of the workers that draw from it, on real threads where they share it, and of
+//! Tests of the deal, of the workers that draw from it, on real threads if they share it, and of
 //! the sender that runs them on several channels, with each allocation refused.
 //!
 //! The worked examples of batches and packets are cases of `mig_rows`.

@@ -39,7 +39,7 @@ pub(crate) fn first_round(rt: &(impl AllocGlobal + Abort)) -> Round {
     Round { memory, dirty }
 }
 
-// Returns two pages in two batches, one of zeros and one that no longer is.
+// Returns two pages in two batches: one of zeros, and one that is no longer zeros.
 pub(crate) fn second_round(rt: &(impl AllocGlobal + Abort)) -> Round {
     let mut memory = memory_of(rt, &[("a", 3), ("b", 3)]);
     assert!(rt; set(&mut memory, 1, 8191, 7));
@@ -130,7 +130,7 @@ pub(crate) fn finish<A: Allocator>(rt: &impl Abort, sender: MultiSender<A>) -> S
     sent
 }
 
-// Returns what stands after this front of a stream.
+// Returns the rest of a stream after this prefix.
 fn behind<'a>(text: &'a [u8], front: &[u8]) -> Option<&'a [u8]> {
     let (start, rest) = text.split_at_checked(front.len())?;
     if start == front { Some(rest) } else { None }
@@ -216,7 +216,7 @@ fn one_channel(rt: HostRuntime) {
     assert_sent(&rt, &sent);
 }
 
-// A round without dirty pages has the SYNC packets alone.
+// A round without dirty pages has only SYNC packets.
 #[test]
 fn no_pages(rt: HostRuntime) {
     let memory = memory_of(&rt, &[("a", 3), ("b", 3)]);
@@ -261,8 +261,8 @@ fn refused_senders(rt: HostRuntime) {
     assert!(rt; SendFault::Channels.number() == 61 && SendFault::Limit.number() == 62);
 }
 
-// Returns what a refused round leaves as it was, beside the streams: the next packet's number, the
-// rounds sent, and the channels.
+// Returns the values that a refused round doesn't change, other than the streams: the next packet's
+// number, the rounds sent, and the channels.
 fn counts<A: Allocator>(sender: &MultiSender<A>) -> (u64, u64, usize) {
     (sender.base(), sender.rounds(), sender.channels())
 }
@@ -404,7 +404,7 @@ fn allocations_of_two_workers_refused(rt: HostRuntime) {
 // ---- gates
 
 // A gate of four workers. It holds each at its first draw until all four have drawn, and notes what
-// each has drawn and packed, as bits, and how many workers it let go on alone.
+// each has drawn and packed, as bits, and the number of workers that continued alone.
 #[derive(Drop)]
 struct Barrier {
     come: AtomicU64,
@@ -476,8 +476,8 @@ fn is_noted(numbers: &[AtomicU64], channel: u8, wanted: u64) -> bool {
         .is_some_and(|bits| bits.load(Ordering::SeqCst) == wanted)
 }
 
-// Packets 0 to 3, and 8 and 9 of the second round, have pages. When the four go on, each has drawn
-// one of the first four numbers.
+// Packets 0 to 3, and 8 and 9 of the second round, have pages. When the four continue, each has
+// drawn one of the first four numbers.
 #[test]
 fn four_workers_at_once(rt: HostRuntime) {
     let gate = Barrier::new();
@@ -494,8 +494,8 @@ fn four_workers_at_once(rt: HostRuntime) {
 
 // ---- draining
 
-// Appends what is drained of a sender's main stream and of its only channel, into a buffer that
-// holds other bytes.
+// Appends the bytes drained from a sender's main stream and from its only channel, into a buffer
+// that has other bytes.
 fn drain(rt: &(impl AllocGlobal + Abort), sender: &mut MultiSender, drained: &mut Sent) {
     let mut bytes = Vec::from_slice(rt.alloc(), &[5, 6, 7]).expect(rt, "a buffer");
     sender.drain_main(&mut bytes);
@@ -513,7 +513,7 @@ fn append(rt: &impl Abort, drained: &mut Sent, bytes: &[u8]) {
     assert!(rt; text.extend_from_slice(bytes).is_ok());
 }
 
-// Returns the streams of one channel, which have no bytes yet.
+// Returns empty streams of one channel.
 fn no_texts(rt: &(impl AllocGlobal + Abort)) -> Sent {
     let mut channels = Vec::new(rt.alloc());
     assert!(rt; channels.push(Vec::new(rt.alloc())).is_ok());

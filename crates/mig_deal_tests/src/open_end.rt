@@ -14,8 +14,8 @@ const CONFIGURED: [u8; 16] = [
     0x51, 0x45, 0x56, 0x4D, 0, 0, 0, 3, 0x07, 0, 0, 0, 3, b'q', b'3', b'5',
 ];
 
-// Asserts that streams that were left open are those of both rounds on one channel, with the end
-// byte put after the main one; with a configuration after its file header where there is one.
+// Asserts that streams that were left open are those of both rounds on one channel, if the end byte
+// is appended to the main stream, and a configuration, if there is one, follows its file header.
 fn assert_sent_open<A: Allocator>(
     rt: &(impl AllocGlobal + Abort),
     sent: Sent<A>,
@@ -44,8 +44,8 @@ fn assert_sent_open<A: Allocator>(
     );
 }
 
-// Sends both rounds, with the main stream drained between them, and leaves it open. Returns what
-// was drained with what is left, and the streams.
+// Sends both rounds, with the main stream drained between them, and leaves it open. Returns the
+// drained bytes with the rest, and the streams.
 fn sent_open<R: AllocGlobal + Abort + Threads + Sync, A: Allocator + Copy + Send + Sync>(
     rt: &R,
     mut sender: MultiSender<A>,

@@ -1,5 +1,5 @@
-//! What `Debug` shows of batches, packets and the senders: small numbers, and no byte of a page or
-//! a stream.
+//! The `Debug` output of batches, packets and senders: small numbers, and no byte of a page or a
+//! stream.
 
 use crate::batches::{batches_of, memory_of};
 use crate::multi::{finish, sender_on};
@@ -9,7 +9,7 @@ use std::alloc::AllocGlobal;
 use std::fmt::Debug;
 use std::process::Abort;
 
-// Asserts that `Debug` shows a value so.
+// Asserts the `Debug` output of a value.
 fn assert_shown<T: Debug>(rt: &(impl AllocGlobal + Abort), value: &T, wanted: &str) {
     let shown = format!(in rt.alloc(); "{value:?}").expect(rt, "memory");
     assert!(rt; shown.as_str() == wanted);

@@ -1,6 +1,6 @@
-//! Rounds on several channels whose workers the caller steps: in an order of its own, whose bytes
-//! are also made by hand, drained after each step; on threads of its own; what refuses a round; and
-//! each allocation of a step refused.
+//! Rounds on several channels whose workers the caller steps: in an order of its own, with the
+//! bytes made by hand, drained after each step; on threads of its own; with refused rounds; and
+//! with each allocation of a step refused.
 
 ghost use Rattle.std.specs.Prelude.{◌≡◌};
 ghost use Rattle.mig_send.specs.ChannelWork.{HasEnded};
@@ -53,7 +53,7 @@ fn step<A: Allocator>(rt: &impl Abort, worker: &mut ChannelWorker<A>, memory: &M
     assert!(rt; worker.step(memory).is_ok());
 }
 
-// Steps a worker as often as it has packets of a small round, and SYNC.
+// Steps a worker once for each packet of a small round, and once for SYNC.
 fn run<A: Allocator>(rt: &impl Abort, worker: &mut ChannelWorker<A>, memory: &Memory)
     ensures run { HasRun memory.now worker.old worker.new }
     ensures ended { HasEnded worker.new.hand }
@@ -86,7 +86,7 @@ fn end<A: Allocator>(rt: &impl Abort, round: MultiRound<A>) -> MultiSender<A>
 
 // ---- two workers in turn
 
-// Appends what a worker has written since it was drained last.
+// Appends the bytes that a worker has written since it was drained last.
 fn drain<A: Allocator>(
     rt: &impl Abort,
     worker: &mut ChannelWorker<A>,
@@ -147,7 +147,7 @@ fn workers_in_turn(rt: HostRuntime) {
     assert!(rt; sender.base() == 6 && sender.rounds() == 1);
 }
 
-// What isn't drained of a worker is the sender's again, after what the channel had.
+// A worker's bytes that weren't drained are appended to the sender's channel.
 #[test]
 fn two_rounds_of_stepped_workers(rt: HostRuntime) {
     let mut sender = sender_on(&rt, 2);
@@ -195,8 +195,8 @@ fn run_both<R: Threads + Abort + Sync>(
     join_mut(rt, &mut || run(rt, a, memory), &mut || run(rt, b, memory));
 }
 
-// Returns a round whose workers run at once. The proof is that of `stepped`: whoever has which
-// batch, the round is sent.
+// Returns a round whose workers run at once. The proof is that of `stepped`: the round is sent,
+// whichever worker packs a batch.
 fn on_threads<R: Threads + Abort + Sync>(rt: &R, sender: MultiSender, given: &Round) -> MultiSender
     ensures { HasSentOne (record { image = given.now.memory; dirty = given.now.dirty.marked }) sender result }
 {
@@ -221,7 +221,7 @@ fn workers_on_threads(rt: HostRuntime) {
 
 // ---- refusals
 
-// A dirty set of another table is refused, and the sender goes on as it was.
+// A dirty set of another table is refused, and the sender is unchanged.
 #[test]
 fn round_of_another_table(rt: HostRuntime) {
     let memory = memory_of(&rt, &[("a", 3), ("c", 3)]);

@@ -1,5 +1,4 @@
-//! Many workers that draw from one deal, each on a thread of its own. Tests run them; nothing else
-//! does.
+//! Many workers that draw from one deal, each on a thread of its own. Only tests run them.
 
 ghost use Rattle.std.specs.Prelude.{◌≡◌, ◌+◌, ◌<◌, ◌≤◌, ◌++◌, ◌∷◌, [], All, IfOk, length, vec_len, vec_capacity};
 ghost use Rattle.mig_deal_tests.specs.Slots.{IsWaiting, IsDone};
@@ -10,8 +9,8 @@ use std::mem;
 use std::sync::atomic::{AtomicU64, Ordering};
 use std::thread::{Threads, for_each_mut, yield_now};
 
-/// What all workers share, beside the deal: how many have come, how many of them went on alone, and
-/// how often each number was drawn, from the base on.
+/// What all workers share, in addition to the deal: the number of workers that have started, the
+/// number that continued alone, and how often each number was drawn, from the base on.
 #[derive(Drop)]
 pub struct Hall {
     come: AtomicU64,
@@ -34,7 +33,7 @@ impl Hall {
         })
     }
 
-    // Waits until `seats` workers have come, and gives up after a while.
+    // Waits until `seats` workers have started, and gives up after a while.
     fn meet(&self, seats: u64) {
         self.come.fetch_add(1, Ordering::SeqCst);
         for _ in 0..10_000_000u64 {
@@ -53,7 +52,7 @@ impl Hall {
     }
 }
 
-/// A seat before its worker ran, and what is left of it afterwards.
+/// A seat before its worker ran, and the spent seat afterwards.
 pub enum Slot {
     Waiting(Seat),
     Running,
@@ -81,7 +80,7 @@ fn draw_all(deal: &Deal, seat: Seat, hall: &Hall) -> Spent
     }
 }
 
-// A worker: it draws when all have come.
+// A worker: it draws when all have started.
 fn work(deal: &Deal, hall: &Hall, workers: u64, slot: &mut Slot)
     requires own { IsWaiting deal.now slot.old }
     requires places { vec_len hall.now.times ≡ deal.now.batches + deal.now.seats }
@@ -144,7 +143,7 @@ fn put_slot(slots: &mut Vec<Slot>, slot: Slot)
     }
 }
 
-/// Each seat into a slot.
+/// Moves each seat into a slot.
 pub fn seat_all(deal: &Deal, mut seats: Vec<Seat>, slots: &mut Vec<Slot>)
     requires own { All (λ seat. seat.deal ≡ deal.now) seats.items }
     requires room { (slots.old.items ≡ []) × (vec_len seats ≤ vec_capacity slots.old) }
@@ -157,7 +156,7 @@ pub fn seat_all(deal: &Deal, mut seats: Vec<Seat>, slots: &mut Vec<Slot>)
     seats.destroy_empty();
 }
 
-/// What is left of the seats, out of the slots.
+/// Takes the spent seats out of the slots.
 pub fn gather(deal: &Deal, mut slots: Vec<Slot>, spents: &mut Vec<Spent>)
     requires done { All (IsDone deal.now) slots.items }
     requires room { (spents.old.items ≡ []) × (vec_len slots ≤ vec_capacity spents.old) }

@@ -1,5 +1,5 @@
-//! Workers: the packets of one that has a deal for itself, what it passes to its gate, and what it
-//! does where an allocation is refused.
+//! Workers: the packets of a worker that has a deal for itself, the steps that it passes to its
+//! gate, and a refused allocation.
 
 use crate::alone::{Alone, work_alone};
 use crate::batches::{assert_page_and_zeros, batches_of, memory_of};
@@ -14,7 +14,7 @@ use std::sync::atomic::{AtomicU64, Ordering};
 const CHANNEL: usize = 3;
 
 /// A gate of one channel that keeps the steps that pass it, in order: twice the number of a draw,
-/// and one more where its packet was made.
+/// and one more if its packet was made.
 #[derive(Drop)]
 pub(crate) struct Told {
     channel: usize,
@@ -66,7 +66,7 @@ impl Gate for Told {
     }
 }
 
-// What a worker is given, and what it is to return and to pass to its gate.
+// A worker's arguments, and its expected results and steps.
 #[derive(Clone, Copy)]
 struct Run<'a> {
     base: u64,
@@ -104,8 +104,8 @@ fn packets_of<A: Allocator + Copy>(
     alone.packets
 }
 
-// Returns whether a packet is of this number, with one zero page: of a block with an id of this
-// byte, at this offset's third byte from the end.
+// Returns whether a packet has this number and one zero page, of a block whose id is this byte, at
+// the offset `offset` * 256.
 fn is_zeros<A: Allocator>(packet: &Packed<A>, number: u64, id: u8, offset: u8) -> bool {
     let bytes = packet.bytes();
     packet.number() == number
@@ -115,7 +115,7 @@ fn is_zeros<A: Allocator>(packet: &Packed<A>, number: u64, id: u8, offset: u8) -
         && bytes.get(320..328) == Some(&[0, 0, 0, 0, 0, 0, offset, 0][..])
 }
 
-// Returns whether packets are of these numbers, ids and offsets, with one zero page each.
+// Returns whether packets have these numbers, ids and offsets, with one zero page each.
 fn are_zeros<A: Allocator>(packets: &[Packed<A>], wanted: &[(u64, u8, u8)]) -> bool {
     if packets.len() != wanted.len() {
         return false;
@@ -178,7 +178,7 @@ fn no_batch(rt: HostRuntime) {
     assert!(rt; packets.is_empty());
 }
 
-// Returns the packets of two batches of a page each, where the worker passes these steps.
+// Returns the packets of two batches of a page each, after asserting the worker's steps.
 fn two_packets<'a>(
     rt: &(impl AllocGlobal + Abort),
     heap: &'a TestHeap,
@@ -198,7 +198,7 @@ fn two_packets<'a>(
 }
 
 // A worker takes three allocations for each packet and one for the list of two. After a refused one
-// it draws on and packs no more.
+// it continues to draw, and packs no more.
 #[test]
 fn work_with_each_allocation_refused(rt: HostRuntime) {
     let heap = TestHeap::new(rt.alloc());

@@ -1,4 +1,4 @@
--- `Tally::refuses` and `Tally::count` at a call: what each is passed, and what a caller has of it.
+-- Calls of `Tally::refuses` and `Tally::count`: the arguments, and the facts after the call.
 -- Assumes `Logic`.
 use Rattle.std.proofs.Common.{◌≡◌, ℕ, ◌^◌, ◌<◌, List, [], ◌∷◌, refl, ap, w64}
 use seplogic.Ra.Ura.{Ura}

@@ -1,5 +1,5 @@
 //! Tables of some blocks, memories of them, sets of their pages, and single pages. Pages have 4096
-//! bytes, but for `table_of`.
+//! bytes, except in `table_of`.
 
 use mig_mem::{Dirty, Memory, PAGE_SIZE_4K, Place, Table, is_page_size};
 use std::alloc::{AllocError, Allocator};
@@ -71,12 +71,12 @@ pub fn set<A: Allocator>(memory: &mut Memory<A>, block: usize, offset: u64, byte
     true
 }
 
-/// Returns whether a page holds this byte alone.
+/// Returns whether each byte of a page is this one.
 pub fn is_full<A: Allocator>(memory: &Memory<A>, place: Place, byte: u8) -> bool {
     memory.page(place).is_some_and(|page| page.len() == 4096 && page.iter().all(|b| *b == byte))
 }
 
-/// Returns whether the first byte of a page that isn't 0 is this one, and stands there.
+/// Returns whether the first byte of a page that isn't 0 is `byte`, at `offset`.
 pub fn has_byte<A: Allocator>(memory: &Memory<A>, place: Place, offset: usize, byte: u8) -> bool {
     memory.page(place).is_some_and(|page| page.iter().position(|b| *b != 0) == Some(offset)
         && page.get(offset) == Some(&byte))

@@ -73,8 +73,8 @@ impl<A: Allocator> TestHeap<A> {
         self.tally.countdown.store(nth, Ordering::SeqCst);
     }
 
-    /// Returns whether the refusal hasn't come yet. It is false once it has, and if none was
-    /// chosen.
+    /// Returns whether the chosen allocation is still to be refused. It is false after the refusal,
+    /// and if none was chosen.
     pub fn is_waiting(&self) -> bool {
         let countdown = self.tally.countdown.load(Ordering::SeqCst);
         countdown > 0 && countdown <= u64::MAX / 2
@@ -90,7 +90,7 @@ impl<A: Allocator> TestHeap<A> {
         self.tally.peak.load(Ordering::SeqCst)
     }
 
-    /// Makes what is held now the peak.
+    /// Sets the peak to the bytes that are held now.
     pub fn reset_peak(&self) {
         self.tally.peak.store(self.held(), Ordering::SeqCst);
     }

@@ -3,7 +3,8 @@
 use mig_packet::{NoMemory, PacketFields};
 use std::alloc::Allocator;
 
-/// Appends packet 0 of block `a`: page 1, all zeros but its first byte 9, and page 0 as zeros.
+/// Appends packet 0 of block `a`: page 1, all zeros except for its first byte 9, and page 0 as
+/// zeros.
 pub fn put_page_and_zeros<A: Allocator>(text: &mut Vec<u8, A>) -> Result<(), NoMemory> {
     let mut page = [0u8; 4096];
     page[0] = 9;

@@ -1,7 +1,7 @@
 //! The file of a guest's memory: the bytes of all blocks, in the table's order, and nothing else.
 //!
-//! `writing` writes it, and leaves pages of zeros out of a regular file, which reads the same.
-//! `reading` makes a memory of a file's bytes.
+//! `writing` writes it, and skips pages of zeros in a regular file, where a hole reads as zeros.
+//! `reading` makes a memory from a file's bytes.
 #![tactic(auto)]
 
 mod reading;

@@ -1,4 +1,4 @@
-//! The memory that a file's bytes are.
+//! Makes a memory from a file's bytes.
 
 ghost use Rattle.std.specs.Prelude.{◌≡◌, IfOk, IfSome};
 
@@ -6,7 +6,7 @@ use mig_mem::{Memory, NoMemory, Place, Table};
 use mig_zero::is_zero;
 use std::alloc::Allocator;
 
-// Returns how many bytes the blocks of a table have together.
+// Returns the sum of the blocks' lengths.
 fn total_len<A: Allocator>(table: &Table<A>) -> u64 {
     let mut pages = 0u64;
     for block in 0..table.len() {
@@ -15,8 +15,8 @@ fn total_len<A: Allocator>(table: &Table<A>) -> u64 {
     pages.saturating_mul(table.page_size())
 }
 
-// Puts the pages of a block, one after another. Returns the rest of the bytes, or None if there are
-// too few.
+// Writes the pages of a block, one after another. Returns the rest of the bytes, or None if there
+// are too few.
 fn take_block<'b, A: Allocator>(
     memory: &mut Memory<A>,
     block: usize,
@@ -38,8 +38,8 @@ fn take_block<'b, A: Allocator>(
     Some(left)
 }
 
-/// Makes the memory of `table` that the bytes of a file are. Returns None if they aren't as many as
-/// the blocks have.
+/// Makes the memory of `table` with the bytes of a file. Returns `None` if there are more or fewer
+/// bytes than the blocks have.
 ///
 /// # Errors
 ///

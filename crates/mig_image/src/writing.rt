@@ -1,4 +1,4 @@
-//! The writing of a memory into its file.
+//! Writes a memory into a file.
 
 use mig_mem::{Memory, Place};
 use mig_zero::is_zero;
@@ -6,22 +6,21 @@ use std::alloc::Allocator;
 use std::fs::{File, Files, OpenFile};
 use std::io::{self, Seek, SeekFrom, Write};
 
-/// How many bytes are written at once.
+/// The number of bytes that are written at once.
 const BUFFER_LEN: usize = 65_536;
 
-/// How many bytes a buffer has room for: those that are written at once, and a page or more.
+/// The capacity of a buffer: the bytes that are written at once, and a page or more.
 pub const BUFFER_ROOM: usize = 2 * BUFFER_LEN;
 
-// A file that is being written from its front to its end.
+// A file that is being written from beginning to end.
 #[derive(Drop)]
 struct ImageWriter<'b, F: Drop, A: Allocator> {
     file: F,
-    // what is to be written next
+    // what is written next
     buffer: &'b mut Vec<u8, A>,
-    // whether zeros may be left out: what is skipped in a regular file that was made empty reads as
-    // zeros
+    // whether zeros may be skipped: a hole in a regular file reads as zeros
     may_skip: bool,
-    // how many bytes were put, and whether the last of them were left out
+    // the file's length so far, and whether its last bytes were skipped
     len: u64,
     has_skipped: bool,
 }
@@ -46,7 +45,7 @@ impl<F: Write + Seek + Drop, A: Allocator> ImageWriter<'_, F, A> {
         Ok(())
     }
 
-    // Writes what is in the buffer.
+    // Writes the buffer's bytes into the file.
     fn write_out(&mut self) -> io::Result<()> {
         self.file.write_all(self.buffer)?;
         self.buffer.clear();
@@ -69,13 +68,13 @@ fn put_pages<F: Write + Seek + Drop, A: Allocator, B: Allocator>(
     Ok(())
 }
 
-/// Writes a memory into a file, which is made where there is none, and then has nothing else. Pages
-/// of zeros are left out of a regular file. `buffer` keeps what is written at once: it is passed
-/// empty, with room for [`BUFFER_ROOM`] bytes.
+/// Writes a memory into a file, which is created if it doesn't exist, and truncated if it does.
+/// Pages of zeros are skipped in a regular file. `buffer` collects the bytes of a write: the caller
+/// passes it empty, with a capacity of [`BUFFER_ROOM`] bytes.
 ///
 /// # Errors
 ///
-/// The first error of opening or changing the file. What was written by then stays.
+/// The first error of opening or writing the file. The bytes written before it stay.
 pub fn write_image<H: Files, A: Allocator, B: Allocator>(
     rt: &H,
     name: &str,
@@ -94,7 +93,7 @@ pub fn write_image<H: Files, A: Allocator, B: Allocator>(
     put_pages(&mut writer, memory)?;
     writer.write_out()?;
     if writer.may_skip {
-        // where zeros were left out at the end
+        // zeros at the end were skipped
         writer.file.set_len(writer.len)?;
     }
     writer.file.flush()

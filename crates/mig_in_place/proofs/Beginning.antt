@@ -28,7 +28,7 @@ use Rattle.mig_in_place.specs.Sources.{KeptMain, KeptChannel, HoldsMain, HoldsCh
 use Rattle.mig_in_place.specs.Session.{InPlaceLoad, Loading, Loads, StandsFor, IsMainOf}
 use Rattle.mig_in_place.proofs.Told.{stands_told}
 
--- what nothing tells
+-- the reading of no bytes
 abbrev nothing_read : StreamReading
 nothing_read = record { table = None; rounds = []; state = Reading }
 

@@ -72,7 +72,7 @@ zip_set R (a ∷ xs) [] j x y zip here = absurd zip
 zip_set R (a ∷ xs) (b ∷ ys) zero x y zip here = (here, zip.1)
 zip_set R (a ∷ xs) (b ∷ ys) (suc j) x y zip here = (zip.0, zip_set R xs ys j x y zip.1 here)
 
--- texts beside what they gave
+-- channels beside what they gave
 pub pick : {K : Type 0} (R : Text → GivenSoFar → K → Type 0) (texts : List Text) (gave : List GivenSoFar) (kept : List K) (j : ℕ) (d : GivenSoFar) (c : K) → length gave ≡ length texts
     → AllZip (λ x y. R x.0 x.1 y) (zip texts gave) kept → slice_get kept j ≡ Some c → R (get_or texts j no_text) (get_or gave j d) c × (j < length gave)
 pick R [] [] [] j d c same holds is = absurd cc

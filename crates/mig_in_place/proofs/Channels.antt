@@ -1,4 +1,4 @@
--- What is kept of a channel, and what it tells.
+-- What is kept of a channel, and what it reports.
 use Rattle.std.proofs.Common.{ℕ, ◌≡◌, ◌≢◌, true, false, Bool, List, [], ◌++◌, length, refl, sym, ap, subst, ◌∙◌, Option, Some, None, arith}
 use Rattle.std.specs.Prelude.{IfSome, IsFalse}
 use Rattle.std.proofs.lemmas.Bool.{cond-false}
@@ -50,7 +50,7 @@ ends given table k text so_far old now block whole gives over_ holds = record {
   has_block = holds.has_block;
 }
 
--- ---- what it tells
+-- ---- what it reports
 
 -- no complete packet waits in the reader
 pub read_as_given : (read : ChannelProgress) (o : Option OpenPacket) → IfSome o (λ packet. IsFalse (is_complete packet)) → read_to read o ≡ read

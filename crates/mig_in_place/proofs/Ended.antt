@@ -37,7 +37,7 @@ use Rattle.mig_in_place.specs.Session.{InPlaceLoad, Loading, Loads, Stands, IsDu
 use Rattle.mig_in_place.proofs.Lawful.{has_it}
 use Rattle.mig_in_place.proofs.Waiting.{running_waits, not_all_whole}
 
--- a text with the same bytes
+-- the same bytes, ended or not
 abbrev pub SameBytes : Text → Text → Type 0
 SameBytes old new = new.bytes ≡ old.bytes
 

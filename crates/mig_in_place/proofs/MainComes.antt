@@ -158,7 +158,7 @@ module _ (f : Loading) (memory : Image) (s : InPlaceLoad) (loads : Loads f memor
     | inl none ↦ alone_writes (settings given.page_size f.uuid (length f.texts.channels)) table k f.texts.channels r.gave s.sources.channels r.as_many r.channels (r.awaited none (was_reading none is))
   ]
 
-  -- the load with the text that goes on
+  -- the load with more bytes of the main stream
   pub main_goes_on : (m : KeptMain) (round : KeptRound) (changed : Image) → IsOfOwnTable f.first now.main → HoldsMain (main_of given) k text m
       → (now.main.table ≡ Some table → HoldsRound table (rounds_onto f.first k now) k (record { records = records_come table.page_size k now m; channels = r.gave }) round changed)
       → round.has_misplaced ≡ s.round.has_misplaced → (now.main.table ≡ None → (changed ≡ memory) × (round ≡ s.round))

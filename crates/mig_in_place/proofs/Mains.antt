@@ -1,4 +1,4 @@
--- What is kept of a main stream, and what it tells.
+-- What is kept of a main stream, and what it reports.
 use Rattle.std.proofs.Common.{ℕ, ◌≡◌, ◌≢◌, ◌+◌, ◌<◌, ◌≤◌, true, false, Bool, List, [], length, get_or, refl, sym, ap, subst, ◌∙◌, inl, inr, Option, Some, None, arith, Bor}
 use Rattle.std.specs.Prelude.{IsTrue, IsFalse, IfSome, IfNone, is_some}
 use Rattle.std.specs.Option.{option_copied}
@@ -52,9 +52,9 @@ pub taken : (given : Settings) (k : ℕ) (text : Text) (old now : Reader) → St
     → StandsAt given k text (kept old false) → StandsAt given k text (kept now true)
 taken given k text old now step stands = step given (so_far_of text k) stands
 
--- ---- what it tells
+-- ---- what it reports
 
--- what is read of the text has the rounds of its reading
+-- what is read of the stream has the rounds of its reading
 pub same_found : (given : LoadSettings) (text : Text) (found reading : StreamReading) → IsPageSize given.page_size → IsReading (main_of given) text.bytes found → IsMainReading given text reading
     → reading ≡ record found { state = state_at text.ended found.state }
 same_found given text found reading size is_found is =

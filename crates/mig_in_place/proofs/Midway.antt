@@ -1,4 +1,4 @@
--- A channel in the midst of a call that reads on: what each answer of its reader makes of it.
+-- A channel during a call that reads on: what each answer of its reader makes of it.
 use Rattle.std.proofs.Common.{ℕ, ◌≡◌, ◌≢◌, ◌+◌, ◌-◌, ◌<◌, ◌≤◌, ◌/◌, Bool, true, false, List, [], ◌∷◌, ◌++◌, length, map, take, drop, get_or, Option, Some, None, refl, sym, ap, subst, ◌∙◌, append_assoc, inl, inr, arith}
 use Rattle.std.specs.Prelude.{◌⊎◌, IsTrue, IsFalse, IfSome, Result, Ok, Err, OnErr}
 use Rattle.std.specs.List.{range_with_len}

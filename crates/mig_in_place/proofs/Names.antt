@@ -64,7 +64,7 @@ stream_over stream_state.Reading settled = absurd cc
 stream_over stream_state.Closed settled = λ e. absurd cc
 stream_over (stream_state.Bad f) settled = λ e. absurd cc
 
--- the text goes on by some bytes
+-- some bytes follow the stream
 pub main_stays_named : (given : stream.Settings) (k : ℕ) (text more : List ℕ) (p : Place) → IsPageSize given.page_size → (names : MainNames given k text p)
     → (k < length names.reading.rounds) ⊎ (names.reading.state ≢ stream_state.Reading) → MainNames given k (text ++ more) p
 main_stays_named given k text more p size names (inl lt) =

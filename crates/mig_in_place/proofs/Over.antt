@@ -83,7 +83,7 @@ same_table given old new before now size same was is =
     let found : is.found ≡ was.found = one.2 is.found again ∙ sym (one.2 was.found was.is_reading) in
     ap (λ (r : StreamReading). r.table) is.has_end ∙ ap (λ (r : StreamReading). r.table) found ∙ sym (ap (λ (r : StreamReading). r.table) was.has_end)
 
--- what the memory holds, on readings of the texts where a source has ended
+-- what the memory holds, on readings of the streams after the end of a source
 ended_onto : (given : LoadSettings) (uuid : List ℕ) (first : Image) (from : Source) (texts : Texts) (before now : Readings) (memory : Image) (k : ℕ) → ReadingsStay before now → ((j : ℕ) → j < k → IsTrue (passes j before))
     → HasRoundsOnto given uuid first texts before memory k → HasRoundsOnto given uuid first (end_step from texts) now memory k
 ended_onto given uuid first from texts before now memory k stay passed onto =

@@ -1,4 +1,5 @@
--- What was sent on several channels is loaded in place: the memory has the rounds sent on top of what it held.
+-- What was sent on several channels is loaded in place: the memory has the rounds sent on top of
+-- what it held.
 use Rattle.std.proofs.Common.{ℕ, zero, suc, ◌≡◌, ◌+◌, ◌<◌, ◌≤◌, List, [], ◌∷◌, ◌++◌, length, map, take, get_or, Option, refl, sym, ap, subst, ◌∙◌, inr, arith}
 use Rattle.std.specs.List.{range_with_len}
 use Rattle.std.proofs.lemmas.List.{length-map, get_or-map, take_more, take_all}

@@ -53,7 +53,7 @@ Holds given table k text c = (so_far : GivenSoFar) × HoldsChannel given table k
 abbrev AreRead : Settings → List Text → List ChannelReading → Type 0
 AreRead given texts readings = AllZip (λ (text : Text) (reading : ChannelReading). IsReading given text.bytes text.ended reading) texts readings
 
--- what each channel tells is a function of its reading
+-- what each channel reports is a function of its reading
 each_is : {V : Type 0} (Tells : KeptChannel → V → Type 0) (value : ChannelReading → V) (given : Settings) (table : RamTable) (k : ℕ)
     → ((c : KeptChannel) (v : V) (text : Text) (reading : ChannelReading) → Tells c v → Holds given table k text c → IsReading given text.bytes text.ended reading → v ≡ value reading)
     → (texts : List Text) (readings : List ChannelReading) (channels : List KeptChannel) (told : List V) → AllZip (Holds given table k) texts channels → AreRead given texts readings → AllZip Tells channels told
@@ -154,9 +154,9 @@ module _ (f : Loading) (memory : Image) (s : InPlaceLoad) (loads : Loads f memor
         (IsNamed given f.uuid f.first.table s.rounds f.texts) (rounds_onto f.first s.rounds r.readings) memory holds.written holds.has_memory all_named holds.are_named
   ]
 
--- ---- what is told
+-- ---- the verdict of the sources
 
--- under a verdict that is told the load stands
+-- with a verdict of the sources the load stands for them
 same_running : (load : LoadSettings) (uuid : List ℕ) (first : Image) (texts : Texts) (memory : Image) (s : InPlaceLoad) (v : Verdict) → IsRunning load uuid first texts memory s
     → IsRunning load uuid first texts memory (record s { verdict = v })
 same_running load uuid first texts memory s v r = record {
@@ -215,14 +215,14 @@ verdict_stands f memory s v loads tells = stands_told f memory s v loads (tells 
 pub none_is_due : (f : Loading) (k : ℕ) → TellsVerdict None f k → IsDue f k
 none_is_due f k tells = λ readings are. sym (tells readings are)
 
--- what is told at one reading of the texts is told at each
+-- the verdict on one reading of the streams is the verdict on each
 pub tells_verdict : (f : Loading) (memory : Image) (s : InPlaceLoad) (told : Option Verdict) (loads : Loads f memory s) → told ≡ first_some (told_at s.rounds loads.is_running.readings) → TellsVerdict told f s.rounds
 tells_verdict f memory s told loads e = λ readings are.
     let same : loads.is_running.readings ≡ readings =
     same_readings (for_table f.first.table f.given) f.uuid f.texts loads.is_running.readings readings loads.is_table.has_page_size loads.is_running.are_readings are in
     e ∙ ap (λ (x : Readings). first_some (told_at s.rounds x)) same
 
--- where an allocation is refused
+-- if an allocation is refused
 pub lacks_memory : (f : Loading) (memory : Image) (s : InPlaceLoad) → Loads f memory s → LacksMemory f.given f.uuid f.first f.texts memory (record s { verdict = failed s.rounds origin.Round fault.NoMemory })
 lacks_memory f memory s loads =
     let r = loads.is_running in

@@ -201,7 +201,7 @@ comes_failed old new x fails unended = record {
 
 -- ---- what comes of all sources
 
--- a load has a channel's text for each channel, as long as it runs
+-- a running load has a stream for each channel
 pub has_texts : (given : LoadSettings) (uuid : List ℕ) (first : Image) (texts : Texts) (memory : Image) (s : InPlaceLoad) (from : Source) → StandsFor given uuid first texts memory s → s.verdict ≡ Running
     → HasSource (counts_of s.sources) from → number_of from < length texts.channels + 1
 has_texts given uuid first texts memory s source.Main stands runs has = omega arith

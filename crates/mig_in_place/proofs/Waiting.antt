@@ -31,7 +31,7 @@ use Rattle.mig_answer.proofs.Growing.{ReadingsStay}
 use Rattle.mig_in_place.proofs.Exact.{status_behind}
 use Rattle.mig_in_place.proofs.Names.{at_round, stream_over, channel_over}
 
--- ---- texts go on
+-- ---- streams with more bytes
 
 stays_same : (text : Text) → GoesOn text text
 stays_same text = record { more = []; has_bytes = sym (append-nil text.bytes); stays_ended = λ e. refl }

@@ -66,7 +66,7 @@ table_kept k before now stays first settled = elim (at_round k (length before.ro
   | inr end ↦ ap (λ (r : StreamReading). r.table) (stays.same_once_over (stream_over before.state end.1))
 ]
 
--- ---- the answer on longer texts
+-- ---- the answer on longer streams
 
 -- With the same table, a source that is pending still, and at least the places that were named, the
 -- answer is the same.
@@ -138,7 +138,7 @@ main_goes_on given uuid first texts k step before now size goes was are settled 
 
 -- ---- a channel goes on
 
--- the texts with another one of a channel
+-- the streams, with one channel replaced
 abbrev with_channel : Texts → ℕ → (Text → Text) → Texts
 with_channel texts j step = record texts { channels = set texts.channels j (step (get_or texts.channels j no_text)) }
 

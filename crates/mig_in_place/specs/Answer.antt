@@ -1,5 +1,5 @@
--- What a load of several channels answers that writes into memory that is there already, each page
--- as soon as it has come.
+-- The answer of a load of several channels into existing memory, which writes each page as soon as
+-- it has come.
 use Rattle.std.specs.Prelude.{ℕ, ◌≡◌, ◌<◌, List, map, IsTrue, None}
 use Rattle.std.specs.List.{range_with_len}
 use Rattle.mig_mem.specs.declared.place.Place.{Place}
@@ -23,33 +23,33 @@ use Rattle.mig_in_place.specs.Named.{IsNamed}
 abbrev pub rounds_onto : Image → ℕ → Readings → Image
 rounds_onto first k readings = with_rounds first (map (λ i. pages_at first.table i readings) (range_with_len 0 k))
 
--- A memory holds what `kept` does, at each place but the open ones, where it may hold anything.
+-- A memory has the contents of `kept`, at each place but the open ones, which may have any.
 pub record HoldsElsewhere (kept : Image) (IsOpen : Place → Type 0) (memory : Image) : Type 0 where
   pub same_table : memory.table ≡ kept.table
   pub elsewhere : (p : Place) → IsPlace kept.table p → (IsOpen p → ⊥) → content_at memory p ≡ content_at kept p
 
--- The memory has k rounds on top of what it held first. It may hold anything at the places that the
--- next round names so far.
+-- The memory has k rounds on top of what it held. The places that the next round names so far may
+-- have any contents.
 abbrev pub HasRoundsOnto : LoadSettings → List ℕ → Image → Texts → Readings → Image → ℕ → Type 0
 HasRoundsOnto given uuid first texts readings memory k =
     HoldsElsewhere (rounds_onto first k readings) (IsNamed given uuid first.table k texts) memory
 
 -- ---- the answer
 
--- The answer on texts of the memory's table, or whose table isn't known yet: rounds and verdict are
--- those of any load on several channels.
+-- The answer on streams of the memory's table, or whose table isn't known yet: rounds and verdict
+-- are those of any load on several channels.
 pub record IsOwnAnswer (given : LoadSettings) (uuid : List ℕ) (first : Image) (texts : Texts) (readings : Readings) (memory : Image) (rounds : ℕ) (verdict : Verdict) : Type 0 where
   pub has_rounds : IsFirstStop readings rounds
   pub has_verdict : verdict ≡ verdict_at rounds readings
   pub has_memory : HasRoundsOnto given uuid first texts readings memory rounds
 
--- The answer on texts of another table: nothing was written.
+-- The answer on streams of another table: nothing was written.
 pub record IsOtherAnswer (first memory : Image) (rounds : ℕ) (verdict : Verdict) : Type 0 where
   pub has_none : rounds ≡ 0
   pub has_verdict : verdict ≡ failed 0 origin.Main fault.OtherTable
   pub has_memory : memory ≡ first
 
--- The answer on some texts, of a load with these settings and under this UUID into the memory
+-- The answer on some streams, of a load with these settings and under this UUID into the memory
 -- `first`, whose page size counts. Before the stream's table is known nothing was written.
 pub record IsInPlaceAnswer (given : LoadSettings) (uuid : List ℕ) (first : Image) (texts : Texts) (memory : Image) (rounds : ℕ) (verdict : Verdict) : Type 0 where
   pub readings : Readings
@@ -58,7 +58,7 @@ pub record IsInPlaceAnswer (given : LoadSettings) (uuid : List ℕ) (first : Ima
   pub unknown : readings.main.table ≡ None → memory ≡ first
   pub other : IsOfOtherTable first readings.main → IsOtherAnswer first memory rounds verdict
 
--- The answer where an allocation was refused: each round that is counted passes, and the memory has
+-- The answer after a refused allocation: each round that is counted passes, and the memory has
 -- these rounds.
 pub record IsInPlaceWithoutMemory (given : LoadSettings) (uuid : List ℕ) (first : Image) (texts : Texts) (memory : Image) (rounds : ℕ) (verdict : Verdict) : Type 0 where
   pub readings : Readings

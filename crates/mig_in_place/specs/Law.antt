@@ -21,19 +21,20 @@ use Rattle.mig_session.specs.Session.{HasSource, counts_in, at_source}
 use Rattle.mig_in_place.specs.Answer.{rounds_onto, IsInPlaceAnswer}
 use Rattle.mig_in_place.specs.Session.{text_of, TakesBytes}
 
--- Rounds and verdict are those of any load on several channels, but of a stream of another table.
+-- Rounds and verdict are those of any load on several channels, unless the stream has another
+-- table.
 abbrev pub InPlaceTellsAlike : Type 0
 InPlaceTellsAlike = (given : LoadSettings) (uuid : List ℕ) (first : Image) (texts : Texts) (memory : Image) (rounds : ℕ) (verdict : Verdict) (answer : Answer) → IsTable first.table
     → IsInPlaceAnswer given uuid first texts memory rounds verdict → IsAnswer (for_table first.table given) uuid texts answer → verdict ≢ failed 0 origin.Main fault.OtherTable
     → (rounds ≡ answer.rounds) × (verdict ≡ answer.verdict)
 
--- Where the load is done the memory has all rounds on top of what it held first, and nothing else.
+-- If the load is done the memory has all rounds on top of what it held, and nothing else.
 abbrev pub InPlaceDoneIsExact : Type 0
 InPlaceDoneIsExact = (given : LoadSettings) (uuid : List ℕ) (first : Image) (texts : Texts) (memory : Image) (rounds : ℕ) → IsTable first.table → IsImage first → IsImage memory
     → (answer : IsInPlaceAnswer given uuid first texts memory rounds Done) → memory ≡ rounds_onto first rounds answer.readings
 
--- A source's bytes that aren't taken change no answer, nor does its end after them. So the answer on
--- the bytes taken is that on all bytes that have come to the caller.
+-- Bytes of a source that aren't taken change no answer, nor does its end after them. So the answer
+-- on the bytes taken is that on all bytes that have come to the caller.
 abbrev pub WaitingBytesChangeNothing : Type 0
 WaitingBytesChangeNothing = (given : LoadSettings) (uuid : List ℕ) (first : Image) (texts : Texts) (memory : Image) (rounds : ℕ) (from : Source) (new : Text) → IsTable first.table
     → GoesOn (text_of texts from) new → (TakesBytes (for_table first.table given) uuid rounds texts from → ⊥)
@@ -45,14 +46,14 @@ RunningTakesSome = (given : LoadSettings) (uuid : List ℕ) (first : Image) (tex
     → IsInPlaceAnswer given uuid first texts memory rounds Running → (from : Source) × HasSource (counts_in texts) from × TakesBytes (for_table first.table given) uuid rounds texts from
 
 -- What a sender on several channels has sent of the memory's table is loaded: the memory has the
--- rounds sent on top of what it held first.
+-- rounds sent on top of what it held.
 abbrev pub SentIsLoadedInPlace : Type 0
 SentIsLoadedInPlace = (uuid : List ℕ) (limit : ℕ) (first : Image) (rounds : List DealtRound) (main : List ℕ) (channels : List (List ℕ)) (memory : Image) (k : ℕ) (verdict : Verdict)
     → IsTable first.table → IsImage first → IsImage memory → IsSentInAnyOrder first.table uuid rounds main channels → total_bytes first.table ≤ limit
     → IsInPlaceAnswer (ram_settings first.table.page_size limit) uuid first (ended_texts main channels) memory k verdict
     → (verdict ≡ Done) × (k ≡ length rounds) × (memory ≡ with_rounds first (sent_rounds rounds))
 
--- So is what it has sent with a machine's main stream, by a load in a machine's frame, whatever
+-- What the sender has sent with a machine's main stream is loaded in a machine's frame, whatever
 -- follows RAM's END. Any number of page records may wait.
 abbrev pub MachineSentIsLoadedInPlace : Type 0
 MachineSentIsLoadedInPlace = (given : LoadSettings) (uuid : List ℕ) (first : Image) (rounds : List DealtRound) (main : List ℕ) (channels : List (List ℕ)) (memory : Image) (k : ℕ) (verdict : Verdict)

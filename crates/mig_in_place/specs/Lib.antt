@@ -7,6 +7,6 @@ pub mod Law
 -- Turns of sources, whose bytes wait in buffers
 pub mod Turns
 pub mod TurnFaultNumber
--- Internal: what is kept of the round in hand, and of the sources
+-- Private: what is kept of the current round, and of the sources
 pub mod Round
 pub mod Sources

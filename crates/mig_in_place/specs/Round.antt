@@ -1,4 +1,4 @@
--- What is kept of the round in hand: numbers and places, without the pages' contents.
+-- What is kept of the current round: numbers and places, without the pages' contents.
 use Rattle.std.specs.Prelude.{ℕ, ◌≡◌, ◌≢◌, true, ◌+◌, ◌++◌, ◌∷◌, [], Bool, List, length, map, Some, None}
 use Rattle.std.specs.List.{list_any, range_with_len}
 use Rattle.std.specs.Option.{is_some}
@@ -13,17 +13,17 @@ use Rattle.mig_assemble.specs.Arrivals.{Arrival, packets_in, RoundSoFar, HasCome
 abbrev pub offsets_in : List ℕ → List ℕ
 offsets_in head = map (offset_at head) (range_with_len 0 (normal_count head + zero_count head))
 
--- the packet of a head, as if all its pages were zeros: a round is judged by the heads of its
--- packets
+-- the packet of a head with zeros for all its pages: a round is judged by the heads of its packets
 abbrev pub as_zeros : List ℕ → Fields
 as_zeros head = record { number = number_in head; sync = is_sync head; id = id_in head; normal = []; zero = offsets_in head }
 
--- the pages of a packet lie in this block, which its id names
+-- the pages of a packet are in this block, which its id names
 pub record LieIn (table : RamTable) (b : ℕ) (head : List ℕ) : Type 0 where
   pub has_block : block_of table.blocks (id_in head) ≡ Some b
   pub are_right : place_fault table (as_zeros head) ≡ None
 
--- Where the pages of a packet lie, by its head: it has none; or they lie in a block; or they lie wrong.
+-- Where the pages of a packet are, by its head: it has none, or they are in a block, or they are
+-- misplaced.
 abbrev pub Lie : RamTable → List ℕ → Pages → Type 0
 Lie table head pages.Nowhere = length (offsets_in head) ≡ 0
 Lie table head (pages.In b) = (length (offsets_in head) ≢ 0) × LieIn table b head
@@ -31,10 +31,10 @@ Lie table head pages.Misplaced = is_some (place_fault table (as_zeros head)) ≡
 
 pub record KeptRound : Type 0 where
   pub arrivals : RoundSoFar
-  -- whether the pages of a packet lie wrong
+  -- whether the pages of a packet are misplaced
   pub has_misplaced : Bool
 
--- once it is known where the pages of a packet lie
+-- after it is known where the pages of a packet are
 abbrev pub with_pages : Pages → KeptRound → KeptRound
 with_pages pages.Misplaced r = record r { has_misplaced = true }
 with_pages pages.Nowhere r = r
@@ -48,13 +48,13 @@ pub record Keeps (table : RamTable) (came : List Arrival) (r : KeptRound) : Type
   pub has_come : HasCome table came r.arrivals
   pub has_misplaced : r.has_misplaced ≡ any_misplaced table (packets_in came)
 
--- whatever had come before, this has come too now
+-- this has come too, after what had come before
 abbrev pub AlsoKeeps : Arrival → KeptRound → KeptRound → Type 0
 AlsoKeeps more old new = (table : RamTable) (came : List Arrival) → Keeps table came old → Keeps table (came ++ more ∷ []) new
 
 abbrev pub KeepsSame : KeptRound → KeptRound → Type 0
 KeepsSame old new = (table : RamTable) (came : List Arrival) → Keeps table came old → Keeps table came new
 
--- it stands for some list
+-- it stands for some list of arrivals
 abbrev pub KeepsSome : RamTable → KeptRound → Type 0
 KeepsSome table r = (came : List Arrival) × Keeps table came r

@@ -1,4 +1,4 @@
--- What an `InPlaceSession` holds, the texts and the memory that it stands for, and which bytes it
+-- What an `InPlaceSession` holds, the streams and the memory that it stands for, and which bytes it
 -- takes. The memory is passed to each call.
 use Rattle.std.specs.Prelude.{ℕ, ◌≡◌, ◌≢◌, ◌<◌, ◌≤◌, ◌^◌, false, List, [], length, map, zip, get_or, All, IsTrue, IsFalse, IfSome, slice_get, take, ⊤, ◌⊎◌, Option, Some, None, if◌then◌else◌}
 use Rattle.std.specs.List.{AllZip}
@@ -38,7 +38,7 @@ pub record InPlaceLoad : Type 0 where
   -- the memory's table
   pub table : RamTable
   pub sources : KeptSources
-  -- what has come of the round in hand
+  -- what has come of the current round
   pub round : KeptRound
   -- how many rounds were judged lawful, and how many packets they had
   pub rounds : ℕ
@@ -47,18 +47,18 @@ pub record InPlaceLoad : Type 0 where
 
 -- ---- which bytes are taken
 
--- a source's text
+-- the stream of a source
 abbrev pub text_of : Texts → Source → Text
 text_of texts source.Main = texts.main
 text_of texts (source.Channel j) = get_or texts.channels j no_text
 
--- how a source stands at round k
+-- the status of a source at round k
 abbrev pub status_of : ℕ → Readings → Source → Status
 status_of k readings source.Main = main_status k readings.main
 status_of k readings (source.Channel j) = get_or (map (channel_status k) readings.channels) j Pending
 
--- A channel is held back after its hello as long as the main stream's size list may still come. Its
--- pages would be written before the table is known.
+-- A channel is held back after its hello as long as the main stream's size list may still come:
+-- otherwise its pages would be written before the table is known.
 abbrev pub IsHeldBack : Readings → Source → Type 0
 IsHeldBack readings source.Main = ⊥
 IsHeldBack readings (source.Channel j) =
@@ -74,11 +74,11 @@ pub record TakesBytes (given : LoadSettings) (uuid : List ℕ) (k : ℕ) (texts 
 
 -- ---- what it stands for
 
--- the pages of the main stream's records of the round in hand, if it has come
+-- the pages of the main stream's records of the current round, if it has come
 abbrev pub records_come : ℕ → ℕ → Readings → KeptMain → List Page
 records_come page_size k readings m = if m.is_whole then record_pages_at page_size k readings else []
 
--- As long as a load runs: what is kept of each source, and of the round in hand. Before the table is
+-- While a load runs: what is kept of each source, and of the current round. Before the table is
 -- known nothing was written.
 pub record IsRunning (given : LoadSettings) (uuid : List ℕ) (first : Image) (texts : Texts) (memory : Image) (s : InPlaceLoad) : Type 0 where
   pub readings : Readings
@@ -99,8 +99,8 @@ pub record IsRunning (given : LoadSettings) (uuid : List ℕ) (first : Image) (t
   pub is_unwritten : readings.main.table ≡ None → All (λ kept. kept.block ≡ None) s.sources.channels
   pub awaited : readings.main.table ≡ None → readings.main.state ≡ stream_state.Reading → All HasHelloAlone gave
 
--- A load was made for the memory `first` with these settings and under this UUID, and took so much
--- of the texts. Its answer on them is that of a load in place; `memory` is the memory now.
+-- A load was made for the memory `first` with these settings and under this UUID, and took this
+-- much of the streams. Its answer on them is that of a load in place. `memory` is the memory now.
 pub record StandsFor (given : LoadSettings) (uuid : List ℕ) (first : Image) (texts : Texts) (memory : Image) (s : InPlaceLoad) : Type 0 where
   pub is_table : IsTable first.table
   pub is_image : IsImage first
@@ -108,15 +108,15 @@ pub record StandsFor (given : LoadSettings) (uuid : List ℕ) (first : Image) (t
   pub is_answer : IsInPlaceAnswer given uuid first texts memory s.rounds s.verdict
   pub runs : s.verdict ≡ Running → IsRunning (for_table first.table given) uuid first texts memory s
 
--- The same, where an allocation was refused.
+-- What `StandsFor` says, after a refused allocation.
 pub record LacksMemory (given : LoadSettings) (uuid : List ℕ) (first : Image) (texts : Texts) (memory : Image) (s : InPlaceLoad) : Type 0 where
   pub is_table : IsTable first.table
   pub is_image : IsImage first
   pub same_table : first.table ≡ s.table
   pub is_without : IsInPlaceWithoutMemory given uuid first texts memory s.rounds s.verdict
 
--- A call takes this step: whatever texts the load stood for with the memory before it, it stands for
--- those with the step done, with the memory after it.
+-- A call takes this step: if the load stood for some streams with the memory before it, it stands
+-- for them with the step done, with the memory after it.
 abbrev pub StepsOn : (Texts → Texts) → Image → InPlaceLoad → Image → InPlaceLoad → Type 0
 StepsOn step before old after new = (given : LoadSettings) (uuid : List ℕ) (first : Image) (texts : Texts)
     → StandsFor given uuid first texts before old → StandsFor given uuid first (step texts) after new
@@ -126,25 +126,26 @@ abbrev pub StillLacks : (Texts → Texts) → Image → InPlaceLoad → Image �
 StillLacks step before old after new = (given : LoadSettings) (uuid : List ℕ) (first : Image) (texts : Texts)
     → LacksMemory given uuid first texts before old → LacksMemory given uuid first (step texts) after new
 
--- An allocation was refused as a piece of a source was fed, of which some bytes had been taken.
+-- An allocation was refused while a piece of a source was fed, some bytes of which had been taken.
 abbrev pub RunsOut : Source → List ℕ → Image → InPlaceLoad → Image → InPlaceLoad → Type 0
 RunsOut from piece before old after new = (given : LoadSettings) (uuid : List ℕ) (first : Image) (texts : Texts)
     → StandsFor given uuid first texts before old → (n : ℕ) × (n ≤ length piece) × LacksMemory given uuid first (feed_step from (take n piece) texts) after new
 
--- what is said of a load and a memory by the texts that they stand for alone
+-- a statement on a load and a memory that depends on nothing else than the streams that they stand
+-- for
 abbrev pub Tells : Image → InPlaceLoad → (LoadSettings → List ℕ → Image → Texts → Type 0) → Type 0
 Tells memory s says = (given : LoadSettings) (uuid : List ℕ) (first : Image) (texts : Texts) → StandsFor given uuid first texts memory s → says given uuid first texts
 
--- ---- in the midst of a call
+-- ---- during a call
 
--- what a load is of, and how much of the texts it took
+-- what a load was made of, and how much of the streams it took
 pub record Loading : Type 0 where
   pub given : LoadSettings
   pub uuid : List ℕ
   pub first : Image
   pub texts : Texts
 
--- A load that runs, whose rounds up to the one in hand were judged.
+-- A load that runs, and has judged the rounds before the current one.
 pub record Loads (f : Loading) (memory : Image) (s : InPlaceLoad) : Type 0 where
   pub is_table : IsTable f.first.table
   pub is_image : IsImage f.first
@@ -154,12 +155,12 @@ pub record Loads (f : Loading) (memory : Image) (s : InPlaceLoad) : Type 0 where
 abbrev pub Stands : Loading → Image → InPlaceLoad → Type 0
 Stands f memory s = StandsFor f.given f.uuid f.first f.texts memory s
 
--- The sources tell no verdict at the round in hand: all have it, and no hello's id comes again.
+-- The sources give no verdict at the current round: all have it, and no hello's id comes again.
 abbrev pub IsDue : Loading → ℕ → Type 0
 IsDue f k = (readings : Readings) → AreReadings (for_table f.first.table f.given) f.uuid f.texts readings
     → first_some (verdicts_told k (main_at k readings) (channels_at k readings) (repeated_hello (hello_ids readings))) ≡ None
 
--- this is the verdict that they tell, None where the round in hand is due
+-- this is the verdict of the sources, or None if the current round is to be judged
 abbrev pub TellsVerdict : Option Verdict → Loading → ℕ → Type 0
 TellsVerdict told f k = (readings : Readings) → AreReadings (for_table f.first.table f.given) f.uuid f.texts readings
     → told ≡ first_some (verdicts_told k (main_at k readings) (channels_at k readings) (repeated_hello (hello_ids readings)))
@@ -168,11 +169,11 @@ TellsVerdict told f k = (readings : Readings) → AreReadings (for_table f.first
 abbrev pub PassesAt : Loading → ℕ → Type 0
 PassesAt f k = (readings : Readings) → AreReadings (for_table f.first.table f.given) f.uuid f.texts readings → IsTrue (passes k readings)
 
--- with so many bytes more of a source
+-- with more bytes of a source
 abbrev pub with_bytes : Source → List ℕ → Loading → Loading
 with_bytes from bytes f = record f { texts = feed_step from bytes f.texts }
 
--- where a source has ended
+-- with the end of a source
 abbrev pub with_over : Source → Loading → Loading
 with_over from f = record f { texts = end_step from f.texts }
 
@@ -181,7 +182,7 @@ pub record IsUnsettled (f : Loading) (memory : Image) (s : InPlaceLoad) : Type 0
   pub runs : s.verdict ≡ Running → Loads f memory s
   pub stands : s.verdict ≢ Running → Stands f memory s
 
--- it would stand for the texts without memory
+-- it stands for the streams, with a refused allocation
 abbrev pub Lacks : Loading → Image → InPlaceLoad → Type 0
 Lacks f memory s = LacksMemory f.given f.uuid f.first f.texts memory (record s { verdict = failed s.rounds origin.Round fault.NoMemory })
 
@@ -190,18 +191,18 @@ abbrev pub TakesNoMore : Source → KeptSources → Type 0
 TakesNoMore source.Main s = ⊥
 TakesNoMore (source.Channel j) s = IfSome (slice_get s.channels j) (λ c. (l : SizeList) × TellsList s.main l × TellsTakes l c false)
 
--- the main stream isn't read on where it has the round in hand
+-- the main stream isn't read on if it has the current round
 abbrev pub IsOpenAt : Source → KeptSources → Type 0
 IsOpenAt source.Main s = IsFalse s.main.is_whole
 IsOpenAt (source.Channel j) s = ⊤
 
--- So many bytes of a piece were taken, and an allocation was refused.
+-- Some bytes of a piece were taken, and an allocation was refused.
 abbrev pub LacksBehind : Source → List ℕ → Loading → Image → InPlaceLoad → Type 0
 LacksBehind from piece f memory s = (n : ℕ) × (n ≤ length piece) × Lacks (with_bytes from (take n piece) f) memory s
 
 -- ---- whatever the memory holds
 
--- A main stream of a load into memory of this table: it is of that table, or its table isn't known.
+-- The main stream of a load into memory of this table: it has that table, or its table isn't known.
 pub record IsMainOf (table : RamTable) (m : KeptMain) : Type 0 where
   pub given : stream.Settings
   pub k : ℕ
@@ -211,7 +212,7 @@ pub record IsMainOf (table : RamTable) (m : KeptMain) : Type 0 where
   pub has_page_size : given.page_size ≡ table.page_size
   pub is_own : HasTable given text.bytes None ⊎ HasTable given text.bytes (Some table)
 
--- What is so of each load, with room for what so many channels tell.
+-- What holds of each load, with room for the statuses and hellos of its channels.
 pub record IsLoad (s : InPlaceLoad) (statuses hellos : ℕ) : Type 0 where
   pub channels : All (IsChannelOf s.table) s.sources.channels
   pub round : KeepsSome s.table s.round

@@ -1,5 +1,5 @@
--- What a load in place keeps of its sources, and what came of the round in hand. All of it is
--- internal, but for the counts.
+-- What a load in place keeps of its sources, and what came of the current round. All of it is
+-- private, but for the counts.
 use Rattle.std.specs.Prelude.{ℕ, ◌≡◌, ◌≢◌, ◌⊎◌, ◌+◌, ◌<◌, ◌≤◌, ◌++◌, ◌∷◌, [], Bool, true, false, List, length, map, All, IsTrue, take, ◌↔◌, IsFalse, IfSome, Option, Some, None, IsPermutation}
 use Rattle.std.specs.List.{flat_map}
 use Rattle.std.specs.Option.{IsSomeAnd, unwrap_or}
@@ -36,7 +36,7 @@ use Rattle.mig_in_place.specs.Round.{offsets_in, as_zeros, LieIn, KeptRound, Kee
 
 pub record KeptMain : Type 0 where
   pub reader : stream_reader.Reader
-  -- whether the round in hand has come, and was taken from the reader
+  -- whether the current round has come, and was taken from the reader
   pub is_whole : Bool
 
 pub record KeptChannel : Type 0 where
@@ -59,31 +59,31 @@ channel_count c = record { fed = c.reader.fed; ended = c.reader.ended }
 abbrev pub counts_of : KeptSources → Counts
 counts_of s = record { main = main_count s.main; channels = map channel_count s.channels }
 
--- which goes on to the next round
+-- the channel at the next round
 abbrev pub at_next_round : KeptChannel → KeptChannel
 at_next_round c = record c { is_whole = false }
 
 -- ---- what is kept of one source, whose first k rounds were judged
 
--- so many, and the one in hand if it has come
+-- the rounds judged, and the current one if it has come
 abbrev pub rounds_come : ℕ → Bool → ℕ
 rounds_come k false = k
 rounds_come k true = k + 1
 
--- so much of a main stream's text, of which so many rounds were taken from the reader
+-- a main stream up to here, some of whose rounds were taken from the reader
 abbrev pub so_far_of : Text → ℕ → stream_reader.SoFar
 so_far_of text taken = record { text = text.bytes; ended = text.ended; taken = taken }
 
--- Of the main stream so much was taken, and of its rounds the first k, and the next one if it is
--- whole, were taken from the reader.
+-- This much of the main stream was taken. Of its rounds the first k, and the next one if it is
+-- complete, were taken from the reader.
 abbrev pub StandsAt : stream.Settings → ℕ → Text → KeptMain → Type 0
 StandsAt given k text m = stream_reader.Stands given (so_far_of text (rounds_come k m.is_whole)) m.reader
 
--- round k isn't whole
+-- round k isn't complete
 abbrev pub HasNoRound : stream.Settings → ℕ → Text → Type 0
 HasNoRound given k text = (i : ℕ) (records : List PageRecord) → stream_reader.HasRound given text.bytes i records → i < k
 
--- The next round is here, or hasn't come whole.
+-- The next round is complete and here, or it isn't complete.
 pub record HoldsMain (given : stream.Settings) (k : ℕ) (text : Text) (m : KeptMain) : Type 0 where
   pub stands : StandsAt given k text m
   pub has_none : IsFalse m.is_whole → HasNoRound given k text
@@ -93,7 +93,7 @@ pub record IsRoundOf (given : stream.Settings) (k : ℕ) (text : Text) (page_siz
   pub has_page_size : page_size ≡ given.page_size
   pub has_records : stream_reader.HasRound given text.bytes k records
 
--- Of a channel so much was taken and given. Of a packet that was begun pages are missing.
+-- This much of a channel was taken and given. A packet that was begun lacks pages.
 pub record HoldsChannel (given : channel.Settings) (table : RamTable) (k : ℕ) (text : Text) (so_far : GivenSoFar) (c : KeptChannel) : Type 0 where
   pub gives : Gives given text.bytes so_far c.reader
   pub has_ended : c.reader.ended ≡ text.ended
@@ -113,8 +113,8 @@ pub record HasHelloAlone (so_far : GivenSoFar) : Type 0 where
 abbrev pub WritesPages : GivenSoFar → KeptChannel → Type 0
 WritesPages so_far c = IfSome so_far.packet (λ packet. length (offsets_in packet.head) ≢ 0 → c.block ≢ None)
 
--- What is so of a channel of a load into memory of this table, whatever the memory holds: its reader
--- gave something, and the pages of a packet that was begun are written into the block of that.
+-- What holds of a channel of a load into memory of this table, whatever the memory holds: its
+-- reader gave something, and the pages of a packet that was begun are written into its block.
 pub record IsChannelOf (table : RamTable) (c : KeptChannel) : Type 0 where
   pub given : channel.Settings
   pub text : List ℕ
@@ -123,9 +123,9 @@ pub record IsChannelOf (table : RamTable) (c : KeptChannel) : Type 0 where
   pub gives : Gives given text so_far c.reader
   pub has_block : IfSome c.block (λ b. IsSomeAnd so_far.packet (λ packet. LieIn table b packet.head))
 
--- ---- what is told of a source
+-- ---- the status of a source
 
--- this is how it stands at the round in hand
+-- this is its status at the current round
 abbrev pub TellsMainStatus : KeptMain → Status → Type 0
 TellsMainStatus m status = (given : LoadSettings) (k : ℕ) (text : Text) (reading : stream.StreamReading) → IsPageSize given.page_size
     → HoldsMain (main_of given) k text m → IsMainReading given text reading → status ≡ main_status k reading
@@ -134,7 +134,7 @@ abbrev pub TellsChannelStatus : KeptChannel → Status → Type 0
 TellsChannelStatus c status = (given : channel.Settings) (table : RamTable) (k : ℕ) (text : Text) (so_far : GivenSoFar) (reading : channel.ChannelReading) → IsPageSize given.page_size
     → HoldsChannel given table k text so_far c → channel.IsReading given text.bytes text.ended reading → status ≡ channel_status k reading
 
--- this is the id that its hello names
+-- this is the id in its hello
 abbrev pub TellsHello : KeptChannel → Option ℕ → Type 0
 TellsHello c hello = (given : channel.Settings) (table : RamTable) (k : ℕ) (text : Text) (so_far : GivenSoFar) (reading : channel.ChannelReading) → IsPageSize given.page_size
     → HoldsChannel given table k text so_far c → channel.IsReading given text.bytes text.ended reading → hello ≡ reading.hello
@@ -154,7 +154,7 @@ abbrev pub heads_begun : Option OpenPacket → List (List ℕ)
 heads_begun None = []
 heads_begun (Some packet) = packet.head ∷ []
 
--- and the head of the one that was begun
+-- the heads of the complete packets, and that of the packet that was begun
 abbrev pub heads_given : ℕ → GivenSoFar → List (List ℕ)
 heads_given k so_far = packets_given k so_far ++ heads_begun so_far.packet
 
@@ -178,7 +178,7 @@ abbrev pub pages_given : RamTable → ℕ → GivenSoFar → List Page
 pages_given table k so_far =
     flat_map (λ packet. packet_pages table (fields_of table.page_size packet)) (packets_given k so_far) ++ pages_begun table so_far.packet
 
--- the places that a packet's head names: none where a page lies wrong
+-- the places that a packet's head names; none if a page is misplaced
 abbrev pub head_places : RamTable → List ℕ → List Place
 head_places table head = places_of (arrival_pages table (OnePacket (as_zeros head)))
 
@@ -187,7 +187,7 @@ abbrev pub named_places : RamTable → ℕ → CameSoFar → List Place
 named_places table k came = places_of came.records ++ flat_map (head_places table) (flat_map (heads_given k) came.channels)
 
 -- What is kept of round k, and the memory, which held `kept` before it. Each page that was written
--- has a place that the round names; and where no page lies wrong all pages that came were written.
+-- has a place that the round names. If no page is misplaced all pages that came were written.
 pub record HoldsRound (table : RamTable) (kept : Image) (k : ℕ) (came : CameSoFar) (r : KeptRound) (memory : Image) : Type 0 where
   pub arrivals : List Arrival
   pub keeps : Keeps table arrivals r
@@ -199,7 +199,7 @@ pub record HoldsRound (table : RamTable) (kept : Image) (k : ℕ) (came : CameSo
   pub are_all : IsFalse r.has_misplaced → IsPermutation written (came.records ++ flat_map (pages_given table k) came.channels)
 
 -- The records of round k of a main stream were taken: the round has them, and so has the memory,
--- unless pages are known to lie wrong. Or there was none to take.
+-- unless pages are known to be misplaced. Or there was none to take.
 pub record TakesRecords (given : stream.Settings) (k : ℕ) (text : Text) (old : KeptMain) (r : KeptRound) (memory : Image) (new : KeptMain) (after : KeptRound) (then : Image) : Type 0 where
   pub records : List PageRecord
   pub has_records : stream_reader.HasRound given text.bytes k records
@@ -217,7 +217,7 @@ HasTakenRecords given k text old r memory new after then =
 
 -- ---- the size list
 
--- how the size list of a main stream stands
+-- the state of the size list of a main stream
 abbrev pub IsListAt : SizeList → stream.StreamReading → Type 0
 IsListAt list.Complete reading = reading.table ≢ None
 IsListAt list.Awaited reading = (reading.table ≡ None) × (reading.state ≡ stream_state.Reading)
@@ -227,9 +227,9 @@ abbrev pub TellsList : KeptMain → SizeList → Type 0
 TellsList m l = (given : LoadSettings) (k : ℕ) (text : Text) (reading : stream.StreamReading) → IsPageSize given.page_size
     → StandsAt (main_of given) k text m → IsMainReading given text reading → IsListAt l reading
 
--- ---- in the midst of a call
+-- ---- during a call
 
--- one channel of a load, as the round in hand comes
+-- one channel of a load, while the current round comes
 pub record AtChannel : Type 0 where
   pub given : channel.Settings
   -- the memory before round k
@@ -244,7 +244,7 @@ pub record AtChannel : Type 0 where
 abbrev pub came_with : AtChannel → GivenSoFar → CameSoFar
 came_with f so_far = record { records = f.records; channels = f.before ++ so_far ∷ f.after }
 
--- So much of the channel was taken and given, and is in the round and in the memory, where the table
+-- This much of the channel was taken and given, and is in the round, and in the memory if the table
 -- is known.
 pub record HoldsAt (f : AtChannel) (l : SizeList) (text : Text) (so_far : GivenSoFar) (c : KeptChannel) (r : KeptRound) (memory : Image) : Type 0 where
   pub is_page_size : IsPageSize f.given.page_size
@@ -252,11 +252,11 @@ pub record HoldsAt (f : AtChannel) (l : SizeList) (text : Text) (so_far : GivenS
   pub same_table : r.arrivals.seen.table ≡ memory.table
   pub holds : HoldsChannel f.given memory.table f.k text so_far c
   pub round : l ≡ list.Complete → HoldsRound memory.table f.kept f.k (came_with f so_far) r memory
-  -- as long as the size list is awaited nothing comes but the hello
+  -- while the size list is awaited nothing comes but the hello
   pub is_alone : l ≡ list.Awaited → HasHelloAlone so_far
-  -- no page is written as long as the table isn't known
+  -- no page is written while the table isn't known
   pub is_unwritten : l ≢ list.Complete → c.block ≡ None
-  -- the pages of the packet that was begun are written, as long as no page is known to lie wrong
+  -- the pages of the packet that was begun are written, unless a page is known to be misplaced
   pub writes : l ≡ list.Complete → IsFalse r.has_misplaced → WritesPages so_far c
 
 -- A head is added: the round and the memory have what they had, and its packet with its zeros.
@@ -276,7 +276,7 @@ AddsPage offset content block r memory then = (f : AtChannel) (so_far : GivenSoF
     → WritesInto memory.table packet.head r block → HoldsRound memory.table f.kept f.k (came_with f so_far) r memory
     → HoldsRound memory.table f.kept f.k (came_with f (record so_far { packet = with_page offset content so_far.packet })) r then
 
--- a channel whose hello named an id, or not, is held back
+-- a channel is held back, by the id of its hello if that has come
 abbrev pub holds_back : SizeList → Option ℕ → Bool
 holds_back list.Awaited (Some id) = true
 holds_back list.Awaited None = false
@@ -289,13 +289,13 @@ TellsTakes l c takes = (given : channel.Settings) (table : RamTable) (k : ℕ) (
     → HoldsChannel given table k text so_far c → channel.IsReading given text.bytes text.ended reading
     → (IsTrue takes ↔ ((channel_status k reading ≡ Pending) × (l ≡ list.Awaited → reading.hello ≡ None)))
 
--- What reading on in a piece leaves, of which so many bytes were taken.
+-- What reading a piece leaves, `taken` bytes of which were taken.
 abbrev pub HasRead : SizeList → List ℕ → ℕ → KeptChannel → KeptRound → Image → KeptChannel → KeptRound → Image → Type 0
 HasRead l piece n c r memory new after then = (f : AtChannel) (text : Text) (so_far : GivenSoFar) → HoldsAt f l text so_far c r memory
     → (gave : GivenSoFar) × HoldsAt f l (with_piece (take n piece) text) gave new after then
 
--- What it leaves where an allocation was refused: all that was written is of the bytes that came
--- before the head whose packet couldn't be added.
+-- What it leaves after a refused allocation: all that was written is of the bytes before the head
+-- whose packet couldn't be added.
 abbrev pub HasReadSome : SizeList → List ℕ → KeptChannel → KeptRound → Image → KeptRound → Image → Type 0
 HasReadSome l piece c r memory after then = (f : AtChannel) (text : Text) (so_far : GivenSoFar) → HoldsAt f l text so_far c r memory
     → (n : ℕ) × (some : KeptChannel) × (gave : GivenSoFar) × (n ≤ length piece) × HoldsAt f l (with_piece (take n piece) text) gave some after then

@@ -1,5 +1,5 @@
 -- Turns: a source's bytes are read into a buffer of its own, and a load in place takes from it what
--- belongs to the round in hand. The others wait there.
+-- belongs to the current round. The others wait there.
 use Rattle.std.specs.Prelude.{ℕ, ◌≡◌, ◌≢◌, ◌+◌, ◌<◌, ◌≤◌, ◌^◌, ◌⊎◌, true, List, [], ◌∷◌, ◌++◌, length, take, drop, get_or, slice_set, IsTrue, IsFalse, Option, None, Some, Result, Ok, Err, if◌then◌else◌, nat_lt}
 use Rattle.std.specs.Io.KnownBytes.{Consumes, IsAtEnd, Keeps}
 use Rattle.mig_mem.specs.Image.{Image}
@@ -41,7 +41,7 @@ read_limit = 2 ^ 62
 abbrev pub new_source : ReadsSoFar → Option (List ℕ) → KeptSource
 new_source reads remaining = record { reads = reads; left = read_limit; remaining = remaining; waiting = [] }
 
--- The reader was read once more, which it counts so.
+-- The reader was read once more, and this is how it counts that.
 pub record ReadsOn (counts : ReadsSoFar → ReadsSoFar) (old new : KeptSource) : Type 0 where
   pub is_counted : new.reads ≡ counts old.reads
   pub has_left : old.left ≡ new.left + 1
@@ -61,7 +61,7 @@ pub record FindsEnd (old new : KeptSource) : Type 0 where
   pub none_given : Consumes old.remaining new.remaining []
   pub is_at_end : IsAtEnd new.remaining
 
--- A read failed, or there were all the reads that are allowed, and the buffer is empty.
+-- A read failed, or no more reads are allowed, and the buffer is empty.
 pub record FailsToRead (old new : KeptSource) : Type 0 where
   pub was_empty : old.waiting ≡ []
   pub is_empty : new.waiting ≡ []
@@ -76,24 +76,24 @@ HasBytes old full = ((old.waiting ≢ []) × (full ≡ old)) ⊎ Fills old full
 abbrev pub without_first : ℕ → KeptSource → KeptSource
 without_first n s = record s { waiting = drop n s.waiting }
 
--- ---- of which sources bytes are taken
+-- ---- the sources whose bytes are taken
 
--- The load takes bytes of a source: it runs, and the source wasn't ended. It doesn't have the round
--- in hand of it, and the source isn't closed, has no fault and isn't held back.
+-- The load takes bytes of a source: it runs, and the source wasn't ended. It doesn't have the
+-- current round of it, and the source isn't closed, has no fault and isn't held back.
 pub record Takes (from : Source) (memory : Image) (load : InPlaceLoad) : Type 0 where
   pub runs : load.verdict ≡ Running
   pub is_open : IsFalse (count_of (counts_of load.sources) from).ended
   pub takes : Tells memory load (λ given uuid first texts. TakesBytes (for_table first.table given) uuid load.rounds texts from)
 
--- The load takes no bytes of a source: its verdict is there, the source was ended, or it has the round
--- in hand, is closed, has a fault, or is held back.
+-- The load takes no bytes of a source: its verdict is there, the source was ended, or it has the
+-- current round, is closed, has a fault, or is held back.
 abbrev pub TakesNone : Source → Image → InPlaceLoad → Type 0
 TakesNone from memory load = (load.verdict ≢ Running) ⊎ (IsTrue (count_of (counts_of load.sources) from).ended
     ⊎ Tells memory load (λ given uuid first texts. TakesBytes (for_table first.table given) uuid load.rounds texts from → ⊥))
 
 -- ---- what a turn leaves
 
--- a load, the memory that it is into, and one of its sources
+-- a load, the memory into which it loads, and one of its sources
 pub record AtTurn : Type 0 where
   pub load : InPlaceLoad
   pub memory : Image
@@ -144,7 +144,7 @@ pub record HasRunOut (from : Source) (old new : AtTurn) : Type 0 where
   pub has_bytes : HasBytes old.source new.source
   pub runs_out : RunsOut from new.source.waiting old.memory old.load new.memory new.load
 
--- What a turn of a source leaves, by its answer.
+-- What a turn of a source leaves, by its result.
 abbrev pub TurnsTo : Source → Result Turn TurnFault → AtTurn → AtTurn → Type 0
 TurnsTo from (Ok (turn.Taken n)) old new = HasTaken from n old new
 TurnsTo from (Ok turn.Ended) old new = HasEnded from old new
@@ -153,17 +153,17 @@ TurnsTo from (Err fault.Read) old new = HasFailedRead from old new
 TurnsTo from (Err fault.OtherTable) old new = IsOfOther from old new
 TurnsTo from (Err fault.NoMemory) old new = HasRunOut from old new
 
--- ---- whose turn it is
+-- ---- the source of the next turn
 
--- a load, the memory that it is into, all of its sources, the main stream's first, and the order in
--- which these have their turns
+-- a load, the memory into which it loads, all of its sources, the main stream's first, and the
+-- order of their turns
 pub record AtTurns (O : Type 0) : Type 0 where
   pub load : InPlaceLoad
   pub memory : Image
   pub sources : List KeptSource
   pub order : O
 
--- the number of a source among all: 0 of the main stream, j + 1 of channel j
+-- the number of a source among all: 0 for the main stream, j + 1 for channel j
 abbrev pub number_of : Source → ℕ
 number_of source.Main = 0
 number_of (source.Channel j) = j + 1
@@ -193,16 +193,16 @@ pub record CanTurn {O : Type 0} (t : AtTurns O) (from : Source) : Type 0 where
 abbrev pub CantTurn : {O : Type 0} → AtTurns O → Source → Type 0
 CantTurn t from = number_of from < length t.sources → HasRoom t.load from → TakesNone from t.memory t.load
 
--- Of the bytes that wait in buffers none are taken. An order that chooses so (the order before, the
--- load, the number of a source, and the order after) was asked. It chose the source, or else one that
--- can't have a turn.
+-- None of the bytes that wait in buffers are taken. The order was asked, which chooses so (the
+-- order before, the load, the number of a source, and the order after). It chose the source, or
+-- else one that can't have a turn.
 pub record IsChosen {O : Type 0} (chooses : O → InPlaceLoad → ℕ → O → Type 0) (t : AtTurns O) (after : O) (from : Source) : Type 0 where
   pub none_waits : (other : Source) → (source_in t.sources other).waiting ≢ [] → CantTurn t other
   pub number : ℕ
   pub is_choice : chooses t.order t.load number after
   pub is_followed : (number_of from ≡ number) ⊎ ((other : Source) → number_of other ≡ number → CantTurn t other)
 
--- It is a source's turn: of its bytes some wait, or the order chose it.
+-- The source has the next turn: some bytes of it wait, or the order chose it.
 pub record IsNext {O : Type 0} (chooses : O → InPlaceLoad → ℕ → O → Type 0) (t : AtTurns O) (after : O) (from : Source) : Type 0 where
   pub can : CanTurn t from
   pub is_next : (((source_in t.sources from).waiting ≢ []) × (after ≡ t.order)) ⊎ IsChosen chooses t after from
@@ -215,7 +215,7 @@ pub record NoneIsNext {O : Type 0} (chooses : O → InPlaceLoad → ℕ → O �
 
 -- ---- all turns
 
--- The source whose turn it is had it, and the others are as they were.
+-- The source with the turn had it, and the others are as they were.
 pub record TakesTurn {O : Type 0} (chooses : O → InPlaceLoad → ℕ → O → Type 0) (from : Source) (answer : Result Turn TurnFault) (old new : AtTurns O) : Type 0 where
   pub is_next : IsNext chooses old new.order from
   pub turns : TurnsTo from answer (one_source old from) (one_source new from)
@@ -231,8 +231,8 @@ TakeTurns chooses (t ∷ turns) old new = (mid : AtTurns _) × TakesTurn chooses
 abbrev pub Stops : {O : Type 0} → (O → InPlaceLoad → ℕ → O → Type 0) → ℕ → ℕ → AtTurns O → AtTurns O → Type 0
 Stops chooses most count old new = ((count ≡ most) × (new ≡ old)) ⊎ (NoneIsNext chooses old new.order × (new ≡ record old { order = new.order }))
 
--- What a pump of at most so many turns leaves. At Ok the verdict is the load's. At Err the last turn
--- failed.
+-- What a pump of at most `most` turns leaves. With Ok the verdict is the load's. With Err the last
+-- turn failed.
 abbrev pub Pumps : {O : Type 0} → (O → InPlaceLoad → ℕ → O → Type 0) → ℕ → Result Verdict TurnFault → AtTurns O → AtTurns O → Type 0
 Pumps chooses most (Ok verdict) old new = (turns : List (Source × Turn)) × (mid : AtTurns _)
     × TakeTurns chooses turns old mid × (length turns ≤ most) × Stops chooses most (length turns) mid new × (verdict ≡ new.load.verdict)
@@ -249,14 +249,14 @@ pub record Came : Type 0 where
 abbrev pub came_in : {O : Type 0} → AtTurns O → Texts → Source → Came
 came_in t texts from = record { text = text_of texts from; count = count_of (counts_of t.load.sources) from }
 
--- It was ended as its input was at its end, and all of it was taken.
+-- It was ended since its input was at its end, and all of it was taken.
 pub record IsOver (old new : Came) (after : KeptSource) : Type 0 where
   pub was_open : IsFalse old.count.ended
   pub is_ended : (new.text.ended ≡ true) × (new.count.ended ≡ true)
   pub none_wait : after.waiting ≡ []
   pub is_at_end : IsAtEnd after.remaining
 
--- Its reader gave some bytes, and the load took some. Those that wait are the bytes that were read
+-- Its reader gave some bytes, and the load took some. The waiting bytes are those that were read
 -- and not taken, and no more than a piece. A source that was ended stays as it is.
 pub record ComesTo (before after : KeptSource) (old new : Came) : Type 0 where
   pub read : List ℕ
@@ -269,21 +269,21 @@ pub record ComesTo (before after : KeptSource) (old new : Came) : Type 0 where
   pub ends : ((new.text.ended ≡ old.text.ended) × (new.count.ended ≡ old.count.ended)) ⊎ IsOver old new after
   pub stays : IsTrue old.count.ended → (after ≡ before) × (new ≡ old)
 
--- So it is of all sources of a load, which stood for some texts and stands for others then.
+-- This holds of all sources of a load, which stood for some streams and then stands for others.
 pub record HaveCome {O : Type 0} (old new : AtTurns O) (before after : Texts) : Type 0 where
   pub same_sources : length new.sources ≡ length old.sources
   pub same_channels : length after.channels ≡ length before.channels
   pub comes : (from : Source) → ComesTo (source_in old.sources from) (source_in new.sources from) (came_in old before from) (came_in new after from)
 
--- Whatever texts the load stood for, it stands for those with the bytes that were taken: no byte that
--- was read is lost, and none is taken twice.
+-- If the load stood for some streams, it stands for them with the bytes that were taken: no byte
+-- that was read is lost, and none is taken twice.
 abbrev pub KeepsBytes : {O : Type 0} → AtTurns O → AtTurns O → Type 0
 KeepsBytes old new = (given : LoadSettings) (uuid : List ℕ) (first : Image) (texts : Texts) → StandsFor given uuid first texts old.memory old.load
     → (after : Texts) × HaveCome old new texts after × StandsFor given uuid first after new.memory new.load
 
 -- ---- an order of all sources
 
--- the number after the one that was chosen last, of the main stream and so many channels
+-- the number after the one that was chosen last, among the main stream and the channels
 abbrev pub next_after : Option ℕ → ℕ → ℕ
 next_after None channels = 0
 next_after (Some last) channels = if nat_lt last channels then last + 1 else 0

@@ -1,4 +1,4 @@
-//! What a load in place keeps of a channel: the reader, and how the round in hand stands.
+//! What a load in place keeps of a channel: the reader, and the state of the current round.
 
 ghost use Rattle.std.specs.Prelude.{ℕ, ◌≡◌, ◌≢◌, ◌+◌, ◌<◌, ◌≤◌, ◌^◌, List, Option, length, true, false, None, Some, IsTrue, IsFalse, IfOk, IfSome, IfNone, OnOk, OnErr, ◌/◌};
 ghost use Rattle.std.specs.Option.{option_map};
@@ -25,17 +25,17 @@ use std::alloc::{Allocator, Global};
 use std::marker::Model;
 use uuid::Uuid;
 
-/// A channel as far as it has come.
+/// A channel, as far as its bytes have come.
 #[derive(Drop)]
 pub(crate) struct Channel<A: Allocator = Global> {
     reader: PageReader<A>,
     // the block of the packet that was begun, if its pages are to be written
     block: Option<usize>,
-    // whether the round in hand has come
+    // whether the current round has come
     is_whole: bool,
 }
 
-// Returns whether a channel whose hello named an id, or not, is held back.
+// Returns whether a channel is held back, by the id of its hello if that has come.
 fn holds_back(list: SizeList, hello: Option<u8>) -> bool
     ensures { result ≡ holds_back list hello }
 {
@@ -77,8 +77,8 @@ impl<A: Allocator + Copy> Channel<A> {
 }
 
 impl<A: Allocator> Channel<A> {
-    /// Reads on in `piece`, up to the SYNC packet of the round in hand, or, as long as the size list
-    /// is awaited, up to the hello. Adds the packets to `round`, and writes their pages. Returns how
+    /// Reads on in `piece`, up to the SYNC packet of the current round, or, before the size list is
+    /// there, up to the hello. Adds the packets to `round`, and writes their pages. Returns how
     /// many bytes were taken.
     ///
     /// # Errors
@@ -133,8 +133,8 @@ impl<A: Allocator> Channel<A> {
         }
     }
 
-    // Adds the packet whose head has come, and writes its pages of zeros. If pages are known to lie
-    // wrong in the round, none is written.
+    // Adds the packet whose head has come, and writes its pages of zeros. If the round has a
+    // misplaced page, none is written.
     fn begin_packet<M: GuestTarget>(
         &mut self,
         list: SizeList,
@@ -212,7 +212,7 @@ impl<A: Allocator> Channel<A> {
         self.is_whole = sync;
     }
 
-    /// Returns whether bytes of the channel are taken: it is pending at the round in hand, and isn't
+    /// Returns whether bytes of the channel are taken: its current round is pending, and it isn't
     /// held back.
     pub(crate) fn takes(&self, list: SizeList) -> bool
         ensures tells { TellsTakes list self.now result }
@@ -224,7 +224,7 @@ impl<A: Allocator> Channel<A> {
         is_pending(self.status())
     }
 
-    // Whether the hello has come, while the main stream's size list may still come.
+    // Returns whether the hello has come, while the main stream's size list may still come.
     fn is_held_back(&self, list: SizeList) -> bool
         ensures { (hello : Option ℕ) × TellsHello self.now hello × (result ≡ holds_back list hello) }
     {
@@ -261,7 +261,7 @@ impl<A: Allocator> Channel<A> {
         self.reader.fed()
     }
 
-    /// Returns how the channel stands at the round in hand.
+    /// Returns the status of the channel at the current round.
     pub(crate) fn status(&self) -> Status
         ensures tells { TellsChannelStatus self.now result }
         ensures whole { IsTrue self.now.is_whole → result ≡ whole }
@@ -272,8 +272,7 @@ impl<A: Allocator> Channel<A> {
         channel_end(self.reader.state())
     }
 
-    /// Returns the id that its hello names. None before the hello is complete, and where it has a
-    /// fault.
+    /// Returns the id in its hello. None before the hello is complete, and if it has a fault.
     pub(crate) fn hello(&self) -> Option<u8>
         ensures { TellsHello self.now result }
     {

@@ -1,5 +1,5 @@
-//! What holds of each answer of a load in place: laws over the definitions, as clauses of functions
-//! that do nothing.
+//! Laws of the answers of a load in place: what follows from the definitions, as clauses of
+//! functions that do nothing.
 
 ghost use Rattle.mig_in_place.specs.Law.{InPlaceTellsAlike, InPlaceDoneIsExact, WaitingBytesChangeNothing, RunningTakesSome, SentIsLoadedInPlace, MachineSentIsLoadedInPlace};
 
@@ -8,7 +8,7 @@ pub fn in_place_tells_alike()
     ensures { InPlaceTellsAlike }
 {}
 
-/// A load that is done has all rounds in the memory, on top of what it held first, and nothing else.
+/// A load that is done has all rounds in the memory, on top of what it held, and nothing else.
 pub fn in_place_done_is_exact()
     ensures { InPlaceDoneIsExact }
 {}

@@ -1,18 +1,18 @@
-//! Loads several channels into memory that is there already, each page as soon as its bytes have
-//! come. Of a round its numbers and marks are kept, and the main stream's page records, which are
-//! written once their FLUSH has come and their round is the one in hand.
+//! Loads several channels into existing memory, each page as soon as its bytes have come. Of a
+//! round it keeps the packets' numbers and a mark for each page. It also keeps the main stream's
+//! page records, and writes them once their FLUSH has come and their round is the current one.
 //!
 //! An `InPlaceSession` is for a guest whose memory the caller has mapped where it is to run. A
 //! `Session` (`mig_session`) keeps each round until all sources have it, and judges it before it
-//! writes a page of it. So its memory has complete lawful rounds alone. This one writes first and
-//! judges at the round's end. So its memory may hold anything at the places that the unfinished
-//! round names. Both return the same verdict.
+//! writes a page of it. So its memory has complete lawful rounds alone. An `InPlaceSession` writes
+//! first and judges at the round's end. So its memory may hold anything at the places that the
+//! unfinished round names. Both return the same verdict.
 //!
-//! A `SourceReader` reads a source, keeps in a buffer what the load doesn't take yet, and so lets a
-//! caller serve several connections by turns, in whatever order they have bytes.
+//! A `SourceReader` reads a source, and keeps in a buffer what the load doesn't take yet. So a
+//! caller can serve several connections in turn, in whatever order they have bytes.
 //!
 //! Definitions, in reading order: `Named`, `Answer`, `Session`, `Law`, `Turns` (`specs/`). `Round`
-//! and `Sources` are internal: only contracts of private functions name them.
+//! and `Sources` are private: only contracts of private functions name them.
 #![tactic(auto)]
 
 mod channel;

@@ -1,4 +1,4 @@
-//! What a load in place keeps of its main stream: the reader, and how the round in hand stands.
+//! What a load in place keeps of its main stream: the reader, and the state of the current round.
 
 ghost use Rattle.std.specs.Prelude.{ℕ, ◌≡◌, ◌+◌, ◌<◌, ◌≤◌, ◌^◌, true, false, List, All, length, None, Some, IsTrue, IsFalse, IfSome, IfNone, OnOk, OnErr};
 ghost use Rattle.std.specs.Option.{option_copied};
@@ -20,7 +20,7 @@ use mig_stream::{Mode, StreamReader, StreamRound, StreamState};
 use std::alloc::{Allocator, Global};
 use std::marker::Model;
 
-/// How the size list of the main stream stands.
+/// The state of the main stream's size list.
 #[derive(Clone, Copy, PartialEq, Eq)]
 pub(crate) enum SizeList {
     /// It is complete.
@@ -38,11 +38,11 @@ pub(crate) fn is_pending(status: Status) -> bool
     matches!(status, Status::Pending)
 }
 
-/// The main stream as far as it has come.
+/// The main stream, as far as its bytes have come.
 #[derive(Drop)]
 pub(crate) struct MainStream<A: Allocator = Global> {
     reader: StreamReader<'static, A>,
-    // whether the round in hand has come, and was taken from the reader
+    // whether the current round has come, and was taken from the reader
     is_whole: bool,
 }
 
@@ -95,7 +95,7 @@ impl<A: Allocator + Copy> MainStream<A> {
 }
 
 impl<A: Allocator> MainStream<A> {
-    /// Takes the round in hand, once: where it has come, and wasn't taken.
+    /// Takes the current round, if it has come and wasn't taken.
     pub(crate) fn take_round(&mut self) -> Option<StreamRound<'static, A>>
         ensures stands { (given : Settings) (k : ℕ) (text : Text) → StandsAt given k text self.old → StandsAt given k text self.new }
         ensures none { IfNone result (self.new ≡ self.old) }
@@ -146,7 +146,7 @@ impl<A: Allocator> MainStream<A> {
         self.reader.fed()
     }
 
-    /// Returns how the main stream stands at the round in hand.
+    /// Returns the status of the main stream at the current round.
     pub(crate) fn status(&self) -> Status
         ensures tells { TellsMainStatus self.now result }
         ensures whole { IsTrue self.now.is_whole → result ≡ whole }
@@ -164,7 +164,7 @@ impl<A: Allocator> MainStream<A> {
         self.reader.table()
     }
 
-    /// Returns how the size list stands.
+    /// Returns the state of the size list.
     pub(crate) fn size_list(&self) -> SizeList
         ensures { TellsList self.now result }
     {

@@ -1,4 +1,5 @@
-//! The pump of a load in place: it reads all sources by turns, and feeds the load what it takes.
+//! The pump of a load in place: it reads all sources in turn, and feeds the load the bytes that it
+//! takes.
 
 ghost use Rattle.std.specs.Prelude.{ℕ, ◌≡◌, ◌≢◌, ◌+◌, ◌<◌, ◌≤◌, ◌^◌, [], None, Ok, Err, length, slice_set, IfSome, IfNone, IsTrue, IsFalse};
 ghost use Rattle.mig_mem.specs.Image.{Image};
@@ -13,18 +14,19 @@ use mig_mem::GuestTarget;
 use mig_session::{PieceReader, Source};
 use std::alloc::Allocator;
 
-/// Chooses whose turn it is: of live connections one that has bytes, so that none waits for another.
+/// Chooses the source to read next: among live connections one that has bytes, so that none waits
+/// for another.
 pub trait TurnOrder {
     ghost use Rattle.std.specs.Prelude.{ℕ, ⊤};
     ghost use Rattle.mig_in_place.specs.Session.{InPlaceLoad};
 
-    // How it chooses: the order before, the load, the number that is chosen, and the order after. An
-    // order that waits for connections says nothing of that.
+    // How it chooses: the order before, the load, the chosen number, and the order after. An order
+    // that waits for connections promises nothing here.
     ghost chooses: { Self → InPlaceLoad → ℕ → Self → Type 0 } = { λ before load number after. ⊤ };
 
-    /// Returns the number of a source that is to be read next: 0 for the main stream, `j + 1` for
-    /// channel `j`. It may wait until one of those has bytes that `load` takes bytes of (`takes`). If
-    /// the load takes none of the source returned, another one of which it takes some has its turn.
+    /// Returns the number of the source to read next: 0 for the main stream, `j + 1` for channel
+    /// `j`. It may wait until a source has bytes that `load` takes (`takes`). If the load takes
+    /// none of the source that it returns, another source is read of which the load takes bytes.
     fn next_turn<A: Allocator>(&mut self, load: &InPlaceSession<A>) -> usize
         ensures { chooses self.old load.now result self.new };
 }
@@ -61,7 +63,7 @@ impl TurnOrder for RoundRobin {
     }
 }
 
-// The source of a number.
+// Returns the source with a number.
 fn source_at(number: usize) -> Source
     ensures { number_of result ≡ number }
 {
@@ -71,7 +73,7 @@ fn source_at(number: usize) -> Source
     }
 }
 
-// The number of a source.
+// Returns the number of a source.
 fn number_of(source: Source) -> usize
     requires { number_of source < 2 ^ 64 }
     ensures { result ≡ number_of source }
@@ -82,7 +84,7 @@ fn number_of(source: Source) -> usize
     }
 }
 
-// Whether a source can have a turn: the load takes bytes of it, and has room for a piece of it.
+// Returns whether a source can be read: the load takes bytes of it, and has room for a piece of it.
 fn has_turn<A: Allocator + Copy>(load: &InPlaceSession<A>, source: Source) -> bool
     ensures room { IsTrue result → HasRoom load.now source }
     ensures takes { IsTrue result → (memory : Image) → Takes source memory load.now }
@@ -91,7 +93,7 @@ fn has_turn<A: Allocator + Copy>(load: &InPlaceSession<A>, source: Source) -> bo
     load.has(source) && load.has_room(source, PIECE_LIMIT) && takes(load, source)
 }
 
-// A source of which bytes wait, and which can have a turn.
+// Returns a source that has bytes waiting, and can be read.
 fn first_waiting<P: PieceReader, A: Allocator, B: Allocator + Copy>(
     sources: &[SourceReader<P, A>],
     load: &InPlaceSession<B>,
@@ -109,7 +111,7 @@ fn first_waiting<P: PieceReader, A: Allocator, B: Allocator + Copy>(
     None
 }
 
-// The first of `count` sources that can have a turn.
+// Returns the first of `count` sources that can be read.
 fn first_open<B: Allocator + Copy>(count: usize, load: &InPlaceSession<B>) -> Option<Source>
     ensures some { IfSome result (λ from. (number_of from < count) × HasRoom load.now from × ((memory : Image) → Takes from memory load.now)) }
     ensures none { IfNone result ((from : _) → number_of from < count → HasRoom load.now from → (memory : Image) → TakesNone from memory load.now) }
@@ -123,7 +125,7 @@ fn first_open<B: Allocator + Copy>(count: usize, load: &InPlaceSession<B>) -> Op
     None
 }
 
-// Whose turn it is: a source's of which bytes wait, or else the one's that is next in the order.
+// Returns the source to read: one that has bytes waiting, or else the next one in the order.
 fn whose_turn<P: PieceReader, A: Allocator, B: Allocator + Copy, O: TurnOrder>(
     sources: &[SourceReader<P, A>],
     order: &mut O,
@@ -145,7 +147,7 @@ fn whose_turn<P: PieceReader, A: Allocator, B: Allocator + Copy, O: TurnOrder>(
     first_open(sources.len(), load)
 }
 
-// Takes a turn of a source that can have one.
+// Takes a turn of a source that can be read.
 fn turn_of<P: PieceReader, A: Allocator, B: Allocator + Copy, M: GuestTarget>(
     sources: &mut [SourceReader<P, A>],
     load: &mut InPlaceSession<B>,
@@ -164,14 +166,14 @@ fn turn_of<P: PieceReader, A: Allocator, B: Allocator + Copy, M: GuestTarget>(
     reader.take_turn(load, memory, source)
 }
 
-/// Reads the sources of a load by at most `turns` turns, and feeds it what it takes of them, up to
-/// the verdict. `sources` has the reader of the main stream first, and then those of the channels.
-/// What a source brings that is ahead of the others waits in its buffer, and no more of it is read.
-/// A source of which bytes wait that the load takes has the next turn. If there is none, `order`
-/// chooses.
+/// Reads the sources of a load by at most `turns` turns, and feeds it the bytes that it takes, up
+/// to the verdict. `sources` has the reader of the main stream first, and then those of the
+/// channels. If a source is ahead of the others, its bytes wait in its buffer, and no more of it is
+/// read. A source with waiting bytes that the load takes has the next turn. If there is none,
+/// `order` chooses.
 ///
-/// Returns the verdict, which is `Running` after all the turns, or if there is no reader of a source
-/// that is still to come. Then it can be pumped on.
+/// Returns the verdict. It is `Running` after all the turns, or if a source that is still to come
+/// has no reader. Then it can be pumped on.
 ///
 /// # Errors
 ///

@@ -1,4 +1,4 @@
-//! Writing the pages of zeros of a packet as soon as its head has come.
+//! Writes the pages of zeros of a packet as soon as its head has come.
 
 ghost use Rattle.std.specs.Prelude.{◌≡◌};
 ghost use Rattle.mig_mem.specs.Round.{with_round};
@@ -8,7 +8,7 @@ ghost use Rattle.mig_assemble.specs.PacketPages.{zero_pages, LiesIn};
 use mig_mem::{GuestTarget, Place};
 use mig_packet::PacketHead;
 
-/// Writes the pages of zeros of a packet into the block of a number.
+/// Writes the pages of zeros of a packet into block `block`.
 pub(crate) fn put_zeros<M: GuestTarget>(memory: &mut M, block: usize, head: &PacketHead<'_>)
     requires page_size { head.now.page_size ≡ (M.image memory.old).table.page_size }
     requires lies { LiesIn (M.image memory.old).table block head.now.bytes.now }

@@ -1,4 +1,4 @@
-//! The round in hand of a load in place: what has come of it, without the pages' contents.
+//! The current round of a load in place: what has come of it, without the pages' contents.
 
 ghost use Rattle.std.specs.Prelude.{◌≡◌, ◌+◌, ◌<◌, ◌≤◌, ◌^◌, [], All, length, None, Some, IfOk, IfErr, OnOk, OnErr, get_or, position, IsTrue};
 ghost use Rattle.mig_packet.specs.Lent.{fields};
@@ -15,18 +15,18 @@ use mig_stream::StreamRound;
 use std::alloc::{Allocator, Global};
 use std::marker::Model;
 
-/// Where the pages of a packet lie.
+/// Where the pages of a packet are.
 #[derive(Clone, Copy)]
 pub(crate) enum Pages {
-    /// It has none.
+    /// The packet has no pages.
     Nowhere,
-    /// In the block of this number, each where the block has a page.
+    /// In the block with this number, which has each of the pages.
     In(usize),
     /// Its id names no block, or an offset no page of the block.
     Misplaced,
 }
 
-/// What has come of the round in hand: its numbers, its places, and whether pages lie wrong.
+/// What has come of the current round: its numbers, its places, and whether pages are misplaced.
 #[derive(Drop)]
 pub(crate) struct RoundInHand<A: Allocator = Global> {
     arrivals: Arrivals<A>,
@@ -60,7 +60,7 @@ fn page_count(head: &PacketHead<'_>) -> usize
     head.normal_len() + head.zero_len()
 }
 
-// Returns an offset of a packet, the normal pages' first.
+// Returns offset `i` of a packet; those of the normal pages come first.
 #[tactic(auto, using(crate::proofs::Heads::count, crate::proofs::Heads::offset_is))]
 fn offset(head: &PacketHead<'_>, i: usize) -> u64
     requires { i < length (offsets_in head.now.bytes.now) }
@@ -69,7 +69,7 @@ fn offset(head: &PacketHead<'_>, i: usize) -> u64
     head.offset(i)
 }
 
-// Returns the number of the first offset of a packet at which a block of `pages` pages has none.
+// Returns the index of the first offset of a packet at which a block of `pages` pages has no page.
 #[tactic(auto, using(mig_mem::proofs::Lists::position_at, mig_mem::proofs::Lists::position_past))]
 fn first_outside(pages: u64, head: &PacketHead<'_>) -> Option<usize>
     ensures { result ≡ position (is_outside head.now.page_size pages) (offsets_in head.now.bytes.now) }
@@ -82,7 +82,7 @@ fn first_outside(pages: u64, head: &PacketHead<'_>) -> Option<usize>
     None
 }
 
-// Returns where the pages of a packet lie.
+// Returns where the pages of a packet are.
 #[tactic(auto, using(mig_assemble::proofs::PacketPlaces::faults))]
 pub(crate) fn pages_of<A: Allocator>(table: &Table<A>, head: &PacketHead<'_>) -> Pages
     requires { head.now.page_size ≡ table.now.page_size }
@@ -115,7 +115,7 @@ fn list_offsets<A: Allocator>(
     Ok(())
 }
 
-// Writes the packet of zeros that has the number and the pages of a head, and reads it back.
+// Writes the packet of zeros with the number and the pages of a head, and reads it back.
 fn zeros_of<'b, A: Allocator>(
     head: &PacketHead<'_>,
     offsets: &[u64],
@@ -174,7 +174,7 @@ impl<A: Allocator> RoundInHand<A> {
         self.arrivals.len()
     }
 
-    /// Returns whether pages of a packet lie wrong. The round will be refused then.
+    /// Returns whether pages of a packet are misplaced. Then the round will be refused.
     pub(crate) fn has_misplaced(&self) -> bool
         ensures { result ≡ self.now.has_misplaced }
     {
@@ -190,11 +190,11 @@ impl<A: Allocator> RoundInHand<A> {
         self.arrivals.records(round);
     }
 
-    /// Adds the packet of a head. Returns where its pages lie.
+    /// Adds the packet of a head. Returns where its pages are.
     ///
     /// # Errors
     ///
-    /// `NoMemory`: an allocation was refused. What has come is the same.
+    /// `NoMemory`: an allocation was refused. Nothing was added.
     pub(crate) fn packet(&mut self, head: &PacketHead<'_>) -> Result<Pages, NoMemory>
         requires { head.now.page_size ≡ self.old.arrivals.seen.table.page_size }
         ensures keeps { OnOk result (AlsoKeeps (OnePacket (as_zeros head.now.bytes.now)) self.old self.new) }
@@ -209,7 +209,7 @@ impl<A: Allocator> RoundInHand<A> {
         Ok(pages)
     }
 
-    // Notes where the pages of a packet lie.
+    // Notes where the pages of a packet are.
     fn note(&mut self, pages: Pages)
         ensures { self.new ≡ with_pages pages self.old }
     {
@@ -220,7 +220,7 @@ impl<A: Allocator> RoundInHand<A> {
     }
 
     // Adds the packet of a head to what arrived. A round is judged by the heads of its packets, so
-    // it goes in as the packet of zeros with that number and those pages.
+    // the packet of zeros with that number and those pages is added.
     fn add(&mut self, head: &PacketHead<'_>) -> Result<(), NoMemory>
         requires { head.now.page_size ≡ self.old.arrivals.seen.table.page_size }
         ensures come { OnOk result (AlsoHas (OnePacket (as_zeros head.now.bytes.now)) self.old.arrivals self.new.arrivals) }
@@ -232,7 +232,7 @@ impl<A: Allocator> RoundInHand<A> {
         self.arrivals.packet(&packet)
     }
 
-    /// Judges what has come as the whole round, whose packets are to be numbered from `base` on.
+    /// Judges what has come as the complete round, whose packets are numbered from `base` on.
     pub(crate) fn judge(&mut self, base: u64) -> Result<(), RoundFault>
         requires { base + length self.old.arrivals.numbers ≤ 2 ^ 63 }
         ensures lawful { OnOk result (IsJudged base self.old.arrivals None) }

@@ -1,4 +1,4 @@
-//! The load of several channels into memory that is there already, from pieces of their bytes.
+//! The load of several channels into existing memory, from pieces of their bytes.
 
 ghost use Rattle.std.specs.Prelude.{ℕ, ◌≡◌, ◌≢◌, ◌⊎◌, ◌+◌, ◌<◌, ◌≤◌, ◌^◌, ◌++◌, ◌↔◌, List, [], length, map, take, replicate, true, false, None, Some, Ok, Err, IsTrue, IsFalse, IfOk, IfErr, OnOk, OnErr, All, vec_capacity};
 ghost use Rattle.std.specs.List.{AllZip};
@@ -38,28 +38,45 @@ use std::fmt::{self, Debug, Formatter};
 use std::marker::Model;
 use uuid::Uuid;
 
-// Packets are numbered below 2^63, and as many rounds are counted: more are refused with
+// Packets are numbered below 2^63, and as many rounds are counted. More are refused with
 // `NoMemory`. No stream in memory has so many.
 const PACKET_LIMIT: u64 = 1 << 63;
 
 const ROUND_LIMIT: u64 = 1 << 63;
 
 /// Loads a guest from the pieces of a main stream and of its channels, into memory that is passed
-/// with each piece, and writes each page once: a channel's when its bytes have come.
+/// with each piece. It writes each page once: a channel's when its bytes have come.
 ///
-/// A channel takes bytes up to the end of the round in hand. What follows waits with the caller
-/// until all sources have the round, and it was judged. The main stream takes a whole piece, and its
-/// page records of later rounds are kept. Verdict and rounds are a `Session`'s of the bytes taken.
+/// A channel takes bytes up to the end of the current round. What follows waits with the caller
+/// until all sources have the round, and it was judged. The main stream takes a whole piece, and
+/// its page records of later rounds are kept. Verdict and rounds are a `Session`'s on the bytes
+/// taken.
 ///
-/// All calls take the memory as the call before left it. Of a page that was written meanwhile nothing
-/// is promised.
+/// Each call must be passed the memory as the call before left it. Nothing is promised of a page
+/// that was written meanwhile.
+///
+/// # Examples
+///
+/// A guest is received over connections, into `memory`. `buffered` gives each a buffer:
+///
+/// <!-- quoted from crates/mig_uses/src/by_turns.rt -->
+/// ```rust
+/// let channels = connections.len() - 1;
+/// let Ok(mut load) = InPlaceSession::new(alloc, memory.table(), uuid, channels, limit) else {
+///     return Err(TurnFault::NoMemory);
+/// };
+/// let Ok(mut sources) = buffered(alloc, connections) else {
+///     return Err(TurnFault::NoMemory);
+/// };
+/// pump_by_turns(&mut sources, order, &mut load, memory, TURNS)
+/// ```
 #[derive(Drop)]
 pub struct InPlaceSession<A: Allocator = Global> {
     table: Table<A>,
     main: MainStream<A>,
     channels: Vec<Channel<A>, A>,
     round: RoundInHand<A>,
-    // what the channels told last, with room for all of them
+    // the channels' last statuses, with room for all of them
     statuses: Vec<Status, A>,
     hellos: Vec<Option<u8>, A>,
     // how many rounds were judged, and how many packets they had
@@ -93,7 +110,7 @@ impl<A: Allocator> Model for InPlaceSession<A> {
     }) (vec_capacity s.statuses) (vec_capacity s.hellos) };
 }
 
-/// Opaque: it holds a guest's bytes.
+/// Prints an opaque value: it holds guest memory.
 impl<A: Allocator> Debug for InPlaceSession<A> {
     fn fmt<W: fmt::Write>(&self, f: &mut Formatter<W>) -> fmt::Result {
         f.write_str("InPlaceSession { .. }")
@@ -142,8 +159,8 @@ fn is_of_other_table<A: Allocator>(main: &MainStream<A>, table: &Table<A>) -> bo
     }
 }
 
-// Takes the main stream's records of the round in hand, if they have come, adds them to the round,
-// and writes them, as long as no page is known to lie wrong.
+// Takes the main stream's records of the current round, if they have come, adds them to the round,
+// and writes them, as long as no page is known to be misplaced.
 fn take_main_round<A: Allocator, M: GuestTarget>(
     main: &mut MainStream<A>,
     round: &mut RoundInHand<A>,
@@ -175,7 +192,7 @@ fn advance_channels<A: Allocator>(channels: &mut [Channel<A>])
     }
 }
 
-// How the channels stand at the round in hand.
+// Puts the channels' statuses at the current round into `statuses`.
 fn look_at_statuses<A: Allocator>(channels: &[Channel<A>], statuses: &mut Vec<Status, A>)
     requires room { length channels.now ≤ vec_capacity statuses.old }
     ensures told { AllZip TellsChannelStatus channels.now statuses.new.items }
@@ -187,7 +204,7 @@ fn look_at_statuses<A: Allocator>(channels: &[Channel<A>], statuses: &mut Vec<St
     }
 }
 
-// The ids that the channels' hellos name.
+// Puts the ids of the channels' hellos into `hellos`.
 fn look_at_hellos<A: Allocator>(channels: &[Channel<A>], hellos: &mut Vec<Option<u8>, A>)
     requires room { length channels.now ≤ vec_capacity hellos.old }
     ensures told { AllZip TellsHello channels.now hellos.new.items }
@@ -200,9 +217,9 @@ fn look_at_hellos<A: Allocator>(channels: &[Channel<A>], hellos: &mut Vec<Option
 }
 
 impl<A: Allocator + Copy> InPlaceSession<A> {
-    /// Creates a load into memory of `table`, of which it takes a copy, from `channels` channels
-    /// under `uuid`. A stream whose blocks have more than `limit` bytes together is refused, so
-    /// `limit` must be at least the table's own total.
+    /// Creates a load into memory of `table`, which it copies, from `channels` channels under
+    /// `uuid`. A stream whose blocks have more than `limit` bytes together is refused. So `limit`
+    /// must be at least the table's own total.
     ///
     /// # Errors
     ///
@@ -225,9 +242,9 @@ impl<A: Allocator + Copy> InPlaceSession<A> {
         InPlaceSession::new_in(alloc, table, settings, uuid, channels)
     }
 
-    /// Creates a load into memory of `table`, of which it takes a copy, from `channels` channels
-    /// under `uuid`. Of `settings` all but the page size counts: the pages have the size that
-    /// `table` has. The limit must be at least the table's own total.
+    /// Creates a load into memory of `table`, which it copies, from `channels` channels under
+    /// `uuid`, with `settings`. Their page size doesn't count: pages have the size that `table`
+    /// has. The limit must be at least the table's own total.
     ///
     /// # Errors
     ///
@@ -264,9 +281,9 @@ impl<A: Allocator + Copy> InPlaceSession<A> {
         })
     }
 
-    /// Takes the first bytes of `piece`, the next of `source`, and writes their pages into the memory.
-    /// Of a channel it takes those of the round in hand, of the main stream all. Returns how many
-    /// bytes it took. The others are to be fed again once `takes` returns true for the source.
+    /// Takes the first bytes of `piece`, the next of `source`, and writes their pages into the
+    /// memory. Of a channel it takes those of the current round, of the main stream all. Returns
+    /// how many bytes it took. Feed the others again once `takes` returns true for the source.
     ///
     /// # Errors
     ///
@@ -307,7 +324,7 @@ impl<A: Allocator + Copy> InPlaceSession<A> {
         }
     }
 
-    // Takes bytes of a source, round after round, as long as it takes some.
+    // Takes bytes of a source, round after round, as long as some are taken.
     fn take<M: GuestTarget>(
         &mut self,
         memory: &mut M,
@@ -344,7 +361,7 @@ impl<A: Allocator + Copy> InPlaceSession<A> {
         Ok(taken)
     }
 
-    // Takes bytes of a source for the round in hand.
+    // Takes bytes of a source for the current round.
     fn read<M: GuestTarget>(
         &mut self,
         memory: &mut M,
@@ -400,8 +417,8 @@ impl<A: Allocator + Copy> InPlaceSession<A> {
         channel.read(list, &mut self.round, memory, piece)
     }
 
-    // Takes a piece of the main stream, and writes the records of the round in hand once it is
-    // complete. Of a stream of another table none is written.
+    // Takes a piece of the main stream, and writes the records of the current round once it is
+    // complete. If the stream has another table, none is written.
     fn read_main<M: GuestTarget>(&mut self, memory: &mut M, piece: &[u8]) -> Result<(), NoMemory>
         requires open { IsFalse self.old.sources.main.reader.ended }
         requires room { self.old.sources.main.reader.fed + length piece.now < 2 ^ 64 }
@@ -445,7 +462,7 @@ impl<A: Allocator> InPlaceSession<A> {
         Ok(())
     }
 
-    // Returns the verdict that the sources tell at the round in hand, None if all have it.
+    // Returns the verdict of the sources at the current round, or None if all have the round.
     fn told(&mut self) -> Option<Verdict>
         ensures told { (f : Loading) (memory : Image) → Loads f memory self.old → TellsVerdict result f self.old.rounds }
         ensures same { self.new ≡ self.old }
@@ -473,7 +490,7 @@ impl<A: Allocator> InPlaceSession<A> {
         }
     }
 
-    // Judges the round in hand, which all sources have. Returns whether it is lawful.
+    // Judges the current round, which all sources have. Returns whether it is lawful.
     fn judge(&mut self) -> Result<bool, NoMemory>
         requires { self.old.verdict ≡ running }
         ensures lawful { IfOk result (λ lawful. IsTrue lawful → (f : Loading) (memory : Image) → Loads f memory self.old → IsDue f self.old.rounds
@@ -496,7 +513,7 @@ impl<A: Allocator> InPlaceSession<A> {
         }
     }
 
-    // Counts the round in hand, which is lawful, and goes on to the next one.
+    // Counts the current round, which is lawful, and goes on to the next one.
     fn advance<M: GuestTarget>(&mut self, memory: &mut M)
         requires table { (M.image memory.old).table ≡ self.old.table }
         requires runs { self.old.verdict ≡ running }
@@ -517,8 +534,8 @@ impl<A: Allocator> InPlaceSession<A> {
         take_main_round(&mut self.main, &mut self.round, memory);
     }
 
-    /// Ends a source, all of whose bytes were taken. A second call changes nothing, and no call
-    /// changes a verdict that is there.
+    /// Ends a source, all of whose bytes were taken. A second call changes nothing. A verdict that
+    /// is there stays.
     pub fn end(&mut self, source: Source)
         requires { HasSource (counts_of self.old.sources) source }
         ensures steps { (memory : Image) → StepsOn (end_step source) memory self.old memory self.new }
@@ -550,7 +567,7 @@ impl<A: Allocator> InPlaceSession<A> {
     }
 
     /// Returns whether bytes of `source` are taken now. They aren't once the verdict is there, nor
-    /// of a source that has the round in hand, is closed, or has a fault. Of a channel they wait
+    /// if the source has the current round, is closed, or has a fault. Those of a channel wait
     /// after its hello until the main stream's size list is complete.
     pub fn takes(&self, source: Source) -> bool
         requires { HasSource (counts_of self.now.sources) source }
@@ -561,7 +578,8 @@ impl<A: Allocator> InPlaceSession<A> {
         self.is_taking(source)
     }
 
-    // The same, and that the main stream doesn't have the round in hand then.
+    // Returns what `takes` does. If it is true of the main stream, that doesn't have the current
+    // round, and may be read on.
     pub(crate) fn is_taking(&self, source: Source) -> bool
         requires { HasSource (counts_of self.now.sources) source }
         ensures takes { (memory : Image) → self.now.verdict ≡ running
@@ -592,7 +610,7 @@ impl<A: Allocator> InPlaceSession<A> {
         self.channels.len()
     }
 
-    /// Returns whether the load has `source`: the main stream, or a channel that there is.
+    /// Returns whether the load has `source`: the main stream, or one of its channels.
     pub fn has(&self, source: Source) -> bool
         ensures { IsTrue result ↔ HasSource (counts_of self.now.sources) source }
     {
@@ -602,7 +620,7 @@ impl<A: Allocator> InPlaceSession<A> {
         }
     }
 
-    /// Returns whether a piece of `len` bytes of `source` has room: fewer than 2^64 bytes of it were
+    /// Returns whether a piece of `len` bytes of `source` has room: fewer than 2^64 bytes of it are
     /// taken with that piece.
     pub fn has_room(&self, source: Source, len: usize) -> bool
         requires { HasSource (counts_of self.now.sources) source }

@@ -1,5 +1,5 @@
-//! Turns of a load in place: a source's bytes are read into a buffer of its own, as soon as the load
-//! takes some of them, and fed from there. So connections that are live don't wait for one another.
+//! Turns of a load in place. A source's bytes are read into a buffer of its own once the load takes
+//! some of them, and fed from there. So live connections don't wait for one another.
 
 ghost use Rattle.std.specs.Prelude.{ℕ, ◌≡◌, ◌≢◌, ◌+◌, ◌<◌, ◌≤◌, ◌^◌, ◌↔◌, List, [], length, take, drop, IsTrue, IsFalse, IfOk, OnErr, Ok, Err};
 ghost use Rattle.mig_mem.specs.Image.{Image};
@@ -28,7 +28,7 @@ const READ_LIMIT: u64 = 1 << 62;
 /// What a turn of a source did.
 #[derive(Clone, Copy, Debug, PartialEq, Eq)]
 pub enum Turn {
-    /// The load took so many bytes of it.
+    /// The load took this many bytes of it.
     Taken(usize),
     /// Its input is at its end, all of it was taken, and the source was ended.
     Ended,
@@ -39,8 +39,8 @@ pub enum Turn {
 /// Why a turn failed.
 #[derive(Clone, Copy, Debug, PartialEq, Eq)]
 pub enum TurnFault {
-    /// The reader returned an error, or was read 2^62 times. Nothing else has changed: the next turn
-    /// reads again.
+    /// The reader returned an error, or was read 2^62 times. Nothing else has changed: the next
+    /// turn reads again.
     Read,
     /// The memory is of another table than the load.
     OtherTable,
@@ -49,7 +49,7 @@ pub enum TurnFault {
 }
 
 impl TurnFault {
-    /// The fault's number in documents and in the tool's output.
+    /// Returns the fault's number, as documents and the tool's output have it.
     pub fn number(self) -> u8
         ensures { result ≡ turn_fault_number self }
     {
@@ -61,7 +61,7 @@ impl TurnFault {
     }
 }
 
-/// The fault's number, and what it says.
+/// Writes the fault's number and its message.
 impl Display for TurnFault {
     fn fmt<W: fmt::Write>(&self, f: &mut Formatter<W>) -> fmt::Result {
         match self {
@@ -74,8 +74,8 @@ impl Display for TurnFault {
 
 impl Error for TurnFault {}
 
-/// A source of a load in place: its reader, and a buffer of 65,536 bytes with what was read of it and
-/// not taken yet.
+/// A source of a load in place: its reader, and a buffer of 65,536 bytes for what was read and not
+/// taken yet.
 #[derive(Drop)]
 pub struct SourceReader<P: PieceReader, A: Allocator = Global> {
     reader: P,
@@ -104,7 +104,7 @@ impl<P: PieceReader, A: Allocator> Model for SourceReader<P, A> {
     ghost invariant = { λ s. (s.from ≤ s.to) × (s.to ≤ length s.buffer.items) × (length s.buffer.items ≡ piece_limit) × ((P.reads s.reader).reads + s.left ≤ 2 ^ 63) };
 }
 
-/// Opaque: its buffer may hold a guest's bytes.
+/// Prints an opaque value: its buffer may hold guest memory.
 impl<P: PieceReader, A: Allocator> Debug for SourceReader<P, A> {
     fn fmt<W: fmt::Write>(&self, f: &mut Formatter<W>) -> fmt::Result {
         f.write_str("SourceReader { .. }")
@@ -192,8 +192,9 @@ impl<P: PieceReader, A: Allocator> SourceReader<P, A> {
         Ok(taken)
     }
 
-    /// Takes a turn of `source`, whose reader this is: if `load` takes bytes of it, feeds those that
-    /// wait, or, if none do, one piece that it reads. At the end of the input it ends the source.
+    /// Takes a turn of `source`, whose reader this is. If `load` takes bytes of it, feeds those
+    /// that wait, or, if none wait, one piece that it reads. At the end of the input it ends the
+    /// source.
     ///
     /// # Errors
     ///
@@ -247,7 +248,7 @@ impl<P: PieceReader, A: Allocator> SourceReader<P, A> {
     }
 }
 
-// Whether a load takes bytes of a source that wasn't ended.
+// Returns whether a load takes bytes of a source that wasn't ended.
 pub(crate) fn takes<B: Allocator + Copy>(load: &InPlaceSession<B>, source: Source) -> bool
     requires { HasSource (counts_of load.now.sources) source }
     ensures takes { IsTrue result → (memory : Image) → Takes source memory load.now }

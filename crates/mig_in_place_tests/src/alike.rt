@@ -53,7 +53,7 @@ fn send_round(
     assert!(rt; sender.round(rt, memory, &dirty, &OpenGate).is_ok());
 }
 
-// The streams of a guest whose memory was zeros first.
+// Returns the streams of a guest whose memory was zeros at first.
 fn send(
     rt: &(impl AllocGlobal + Abort + Threads + Sync),
     memory: &mut Memory,

@@ -1,4 +1,4 @@
-//! A session and a load in place that are fed the same bytes.
+//! Feeds a session and a load in place the same bytes, and compares them.
 
 use mig_answer::Verdict;
 use mig_fixtures::{at, is_full, table};
@@ -18,7 +18,7 @@ pub(crate) const LIMIT: u64 = 1 << 40;
 // The longest pieces that streams are cut into.
 const MOSTS: [u64; 6] = [1, 7, 1000, 5000, 100_000, 1_000_000];
 
-/// What both came to.
+/// The results of the session and of the load in place.
 #[derive(Drop)]
 pub(crate) struct Both {
     pub(crate) session: Session,
@@ -26,12 +26,12 @@ pub(crate) struct Both {
     pub(crate) memory: Memory,
 }
 
-/// A random number below `n`.
+/// Returns a random number below `n`.
 pub(crate) fn below(random: &mut Pcg32, n: u64) -> u64 {
     random.next_u64().checked_rem(n).unwrap_or(0)
 }
 
-/// The sources in order: the main stream is number 0, and channel 0 is number 1.
+/// Returns the sources in order: the main stream is number 0, and channel 0 is number 1.
 pub(crate) fn source_at(number: usize) -> Source {
     match number.checked_sub(1) {
         None => Source::Main,
@@ -39,7 +39,7 @@ pub(crate) fn source_at(number: usize) -> Source {
     }
 }
 
-/// The stream of a source.
+/// Returns the stream of a source.
 pub(crate) fn text_of<'a>(rt: &impl Abort, texts: &'a Sent, source: Source) -> &'a [u8] {
     match source {
         Source::Main => &texts.main,
@@ -47,7 +47,7 @@ pub(crate) fn text_of<'a>(rt: &impl Abort, texts: &'a Sent, source: Source) -> &
     }
 }
 
-/// The verdict of a load that failed.
+/// Returns the verdict of a load that failed.
 pub(crate) fn failed(round: u64, source: Origin, fault: Fault) -> Verdict {
     Verdict::Failed(LoadFault {
         round,
@@ -56,7 +56,7 @@ pub(crate) fn failed(round: u64, source: Origin, fault: Fault) -> Verdict {
     })
 }
 
-// A session and a load in place of so many channels, into a memory of zeros.
+// Returns a session and a load in place of `channels` channels, into a memory of zeros.
 fn both_of(rt: &(impl AllocGlobal + Abort), table: &Table, channels: usize) -> Both {
     let size = table.page_size();
     assert!(rt; is_page_size(size) && 1 <= channels && channels <= 255);
@@ -82,7 +82,7 @@ pub(crate) fn feed<A: Allocator + Copy, B: Allocator>(
     load.feed(memory, source, piece)
 }
 
-/// Whether a load in place takes bytes of a source.
+/// Returns whether a load in place takes bytes of a source.
 pub(crate) fn takes<A: Allocator>(
     rt: &impl Abort,
     load: &InPlaceSession<A>,
@@ -92,7 +92,7 @@ pub(crate) fn takes<A: Allocator>(
     load.takes(source)
 }
 
-/// How many bytes of a source a load in place took.
+/// Returns the number of bytes of a source that a load in place took.
 pub(crate) fn fed<A: Allocator>(
     rt: &impl Abort,
     load: &InPlaceSession<A>,
@@ -120,7 +120,7 @@ fn end_session(rt: &impl Abort, session: &mut Session, source: Source) {
     session.end(source);
 }
 
-// Both tell the same, but for a stream of another table.
+// Asserts that the session and the load in place answer alike, unless the stream has another table.
 fn assert_alike(rt: &impl Abort, both: &Both) {
     if both.in_place.verdict() == failed(0, Origin::Main, Fault::OtherTable) {
         return;
@@ -134,7 +134,7 @@ fn assert_alike(rt: &impl Abort, both: &Both) {
     }
 }
 
-// Feeds a piece of a source, or ends it where nothing of it is left.
+// Feeds a piece of a source, or ends the source if none of it is left.
 fn step(rt: &impl Abort, both: &mut Both, source: Source, text: &[u8], most: u64) {
     let from = fed(rt, &both.in_place, source);
     if from == text.len() {
@@ -151,14 +151,14 @@ fn step(rt: &impl Abort, both: &mut Both, source: Source, text: &[u8], most: u64
     feed_session(rt, &mut both.session, source, front);
 }
 
-// Whether a source has more to feed or to end.
+// Returns whether a source has more to feed or to end.
 fn goes_on(rt: &impl Abort, load: &InPlaceSession, source: Source, text: &[u8]) -> bool {
     assert!(rt; load.has(source));
     !load.ended(source) && (load.takes(source) || load.fed(source) as usize == text.len())
 }
 
-// Feeds streams to both in pieces of at most `most` bytes and in a random order, until a verdict is
-// there: the session gets what the load in place took.
+// Feeds streams to the session and the load in place until there is a verdict, in pieces of at most
+// `most` bytes and in a random order. The session is fed what the load in place took.
 fn feed_both(rt: &impl Abort, both: &mut Both, texts: &Sent, most: u64, random: &mut Pcg32) {
     let sources = texts.channels.len().wrapping_add(1) as u64;
     for _ in 0..1_000_000u64 {
@@ -177,7 +177,7 @@ fn feed_both(rt: &impl Abort, both: &mut Both, texts: &Sent, most: u64, random: 
     panic!(rt; "a load without a verdict")
 }
 
-/// What both come to that are fed streams so.
+/// Returns the results of a session and a load in place that are fed in this way.
 pub(crate) fn loaded(
     rt: &(impl AllocGlobal + Abort),
     table: &Table,
@@ -190,7 +190,7 @@ pub(crate) fn loaded(
     both
 }
 
-// How many rounds both have that are fed streams so, and their verdict.
+// Returns the rounds and the verdict of a session and a load in place that are fed in this way.
 fn rounds_and_verdict(
     rt: &(impl AllocGlobal + Abort),
     table: &Table,
@@ -201,8 +201,8 @@ fn rounds_and_verdict(
     (both.session.rounds(), both.session.verdict())
 }
 
-/// Feeds streams of a block `a` of so many pages in all kinds of pieces, and asserts what both came
-/// to.
+/// Feeds streams of a block `a` of `pages` pages in pieces of several lengths, and asserts the
+/// results.
 pub(crate) fn assert_comes_to(
     rt: &(impl AllocGlobal + Abort),
     pages: u64,
@@ -218,7 +218,7 @@ pub(crate) fn assert_comes_to(
     }
 }
 
-// Whether pages are filled with a byte each.
+// Returns whether each page is filled with its byte.
 fn are_full(memory: &Memory, full: &[(u64, u8)]) -> bool {
     for (page, byte) in full {
         if !is_full(memory, at(0, *page), *byte) {
@@ -228,7 +228,8 @@ fn are_full(memory: &Memory, full: &[(u64, u8)]) -> bool {
     true
 }
 
-// Asserts that pages of the memory are filled with a byte each, once both are fed streams so.
+// Asserts that the memory's pages in `full` are filled with their bytes, after a session and a load
+// in place were fed in this way.
 fn assert_full(
     rt: &(impl AllocGlobal + Abort),
     table: &Table,
@@ -240,8 +241,8 @@ fn assert_full(
     assert!(rt; are_full(&both.memory, full));
 }
 
-/// Asserts that pages of the memory, after a load in pieces of 1,000 bytes and more, are filled with
-/// a byte each.
+/// Asserts that the memory's pages in `full` are filled with their bytes, after a load in pieces of
+/// 1,000 bytes and more.
 pub(crate) fn assert_pages(
     rt: &(impl AllocGlobal + Abort),
     pages: u64,
@@ -254,13 +255,14 @@ pub(crate) fn assert_pages(
     }
 }
 
-/// Both at their start, of so many channels, into a block `a` of so many pages.
+/// Returns a session and a load in place at their start, of `channels` channels, into a block `a`
+/// of `pages` pages.
 pub(crate) fn both_at_start(rt: &(impl AllocGlobal + Abort), pages: u64, channels: usize) -> Both {
     let table = table(rt.alloc(), &[("a", pages)]).expect(rt, "a table");
     both_of(rt, &table, channels)
 }
 
-/// Feeds a source's stream to the load in place alone, from the bytes that it took up to `to`.
+/// Feeds a source's stream to the load in place only, from the bytes that it took up to `to`.
 pub(crate) fn give_to(
     rt: &impl Abort,
     both: &mut Both,
@@ -274,7 +276,7 @@ pub(crate) fn give_to(
     feed(rt, &mut both.in_place, &mut both.memory, source, piece)
 }
 
-/// Feeds all that is left of a source's stream to the load in place alone.
+/// Feeds the rest of a source's stream to the load in place only.
 pub(crate) fn give(
     rt: &impl Abort,
     both: &mut Both,

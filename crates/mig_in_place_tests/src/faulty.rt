@@ -1,5 +1,5 @@
-//! Streams with a fault: the same verdict as a session's, and the places that the failed round
-//! doesn't name as the rounds before left them.
+//! Streams with a fault: the verdict is that of a session, and places that the failed round doesn't
+//! name are as the rounds before left them.
 
 use crate::both::{assert_comes_to, assert_pages, failed, loaded};
 use crate::texts::{
@@ -20,14 +20,14 @@ use std::process::Abort;
 
 const CHANNEL: Source = Source::Channel(0);
 
-// The verdict on a round that isn't lawful.
+// Returns the verdict on a round that isn't lawful.
 fn unlawful(round: u64, fault: RoundFault) -> Verdict {
     failed(round, Origin::Round, Fault::Round(fault))
 }
 
 // ---- numbers
 
-// A channel of a SYNC packet alone.
+// Returns a channel with one SYNC packet and no others.
 fn sync_alone(rt: &(impl AllocGlobal + Abort), id: u8, number: u64) -> Vec<u8> {
     let mut channel = hello_of(rt, id);
     put_sync(rt, &mut channel, number);
@@ -63,8 +63,8 @@ fn packet_twice(rt: HostRuntime) {
     assert_comes_to(&rt, 129, &texts, 0, unlawful(0, RoundFault::Doubled(1)));
 }
 
-// Packet 0 comes again in the second round: what the first left stays, but at the place that the
-// second names.
+// Packet 0 is repeated in the second round: the memory of the first round stays, except at the
+// place that the second names.
 #[test]
 fn packet_of_a_round_before(rt: HostRuntime) {
     let mut channel = hello_of(&rt, 0);
@@ -90,8 +90,8 @@ fn number_at_the_end_of_the_type(rt: HostRuntime) {
 
 // ---- bytes
 
-// One byte of the channel is another: of the SYNC packet's number, of the block's id, and of the
-// offsets of both pages.
+// One byte of the channel is changed: in the SYNC packet's number, in the block's id, or in the
+// offsets of the two pages.
 #[test]
 fn round_that_is_not_lawful(rt: HostRuntime) {
     let rows = [
@@ -108,7 +108,7 @@ fn round_that_is_not_lawful(rt: HostRuntime) {
     }
 }
 
-// After a packet whose pages lie wrong no page of the round is written.
+// After a packet whose pages are misplaced no page of the round is written.
 #[test]
 fn page_after_a_misplaced_packet(rt: HostRuntime) {
     let mut channel = hello_of(&rt, 0);
@@ -121,12 +121,12 @@ fn page_after_a_misplaced_packet(rt: HostRuntime) {
     assert_pages(&rt, 2, &texts, &[(0, 7), (1, 0)]);
 }
 
-// Loads streams, and asserts after each piece that both loads are alike.
+// Loads streams, and asserts after each piece that the session and the load in place are alike.
 fn load(rt: &(impl AllocGlobal + Abort), table: &Table, texts: &Sent, most: u64) {
     let _both = loaded(rt, table, texts, most, &mut Pcg32::new(5, 0));
 }
 
-// Loads streams with another byte of a source, and then cut there.
+// Loads streams with a byte of a source changed, and streams cut there.
 fn load_damaged(
     rt: &(impl AllocGlobal + Abort),
     table: &Table,
@@ -140,7 +140,7 @@ fn load_damaged(
     load(rt, table, &texts, most);
 }
 
-// Each byte of the main stream and some of the channel.
+// Changes each byte of the main stream, and some of the channel.
 #[test]
 fn cut_and_spoiled_texts(rt: HostRuntime) {
     let table = table(rt.alloc(), &[("a", 2)]).expect(&rt, "a table");
@@ -163,7 +163,7 @@ fn hello_of_an_earlier_id(rt: HostRuntime) {
 
 // ---- rounds
 
-// Loads a main stream of so many rounds beside a channel of two.
+// Loads a main stream of `rounds` rounds with a channel of two.
 fn assert_rounds(rt: &(impl AllocGlobal + Abort), rounds: u64, fault: Fault) {
     let mut texts = sevens_then_zeros(rt);
     texts.main = main_of(rt, 1, rounds);
@@ -188,7 +188,7 @@ fn put_records(rt: &(impl AllocGlobal + Abort), writer: &mut StreamWriter) {
     assert!(rt; writer.part(&memory, &dirty).is_ok());
 }
 
-// A main stream of one round, with the section before its FLUSH, or after it.
+// Returns a main stream of one round, with the section before its FLUSH, or after it.
 fn main_with_records(rt: &(impl AllocGlobal + Abort), flush_first: bool) -> Vec<u8> {
     let table = table(rt.alloc(), &[("a", 2)]).expect(rt, "a table");
     let Ok(mut writer) = StreamWriter::new(rt.alloc(), &table) else {
@@ -208,7 +208,7 @@ fn main_with_records(rt: &(impl AllocGlobal + Abort), flush_first: bool) -> Vec<
     main
 }
 
-// Such a main stream, and a channel with page 1.
+// Returns such a main stream, and a channel with page 1.
 fn with_records(rt: &(impl AllocGlobal + Abort), flush_first: bool) -> Sent {
     let mut channel = hello_of(rt, 0);
     put_page(rt, &mut channel, 0, 1, 9);

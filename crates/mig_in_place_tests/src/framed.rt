@@ -16,8 +16,9 @@ use uuid::Uuid;
 
 const CHANNEL: Source = Source::Channel(0);
 
-// A main stream of RAM's sections as a machine's: with the configuration `pc` and OPEN_RETURN_PATH
-// before START, and a device's section after the 18 bytes of END, which begin at byte 82.
+// Returns a main stream of RAM's sections as a machine's: with the configuration `pc` and
+// OPEN_RETURN_PATH before START, and a device's section after the 18 bytes of END, which begin at
+// byte 82.
 fn machine_of(rt: &(impl AllocGlobal + Abort), ram: &[u8]) -> Vec<u8> {
     let mut main = Vec::new(rt.alloc());
     for piece in [
@@ -33,7 +34,7 @@ fn machine_of(rt: &(impl AllocGlobal + Abort), ram: &[u8]) -> Vec<u8> {
     main
 }
 
-// A load in a frame that was fed all streams, and whose channel has ended.
+// Returns a load in a frame that was fed all streams, and whose channel has ended.
 fn fed_in(
     rt: &(impl AllocGlobal + Abort),
     frame: Frame,
@@ -51,7 +52,7 @@ fn fed_in(
     load
 }
 
-// How many rounds such a load has, and its verdict.
+// Returns the rounds and the verdict of such a load.
 fn load_in(
     rt: &(impl AllocGlobal + Abort),
     frame: Frame,
@@ -62,7 +63,7 @@ fn load_in(
     (load.rounds(), load.verdict())
 }
 
-// Page 0 as zeros, and page 1 with the first byte 9.
+// Asserts that page 0 is zeros, and that page 1 has the first byte 9.
 #[test]
 fn machines_main_stream(rt: HostRuntime) {
     let mut texts = page_and_zeros(&rt);

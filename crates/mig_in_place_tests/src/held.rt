@@ -1,4 +1,4 @@
-//! What a load in place holds beside the guest.
+//! The bytes that a load in place holds in addition to the guest's memory.
 
 use crate::both::{LIMIT, feed, source_at, text_of};
 use mig_fixtures::{TestHeap, at, table};
@@ -31,7 +31,7 @@ fn send(rt: &(impl AllocGlobal + Abort + Threads + Sync), sender: &mut MultiSend
     assert!(rt; sender.round(rt, &memory, &dirty, &OpenGate).is_ok());
 }
 
-// That round on four channels.
+// Returns the streams of that round on four channels.
 fn whole_guest(rt: &(impl AllocGlobal + Abort + Threads + Sync), table: &Table) -> Sent {
     let made = MultiSender::new(rt.alloc(), table, Uuid::nil(), 4, 128);
     let mut sender = made.expect(rt, "a sender");
@@ -42,7 +42,7 @@ fn whole_guest(rt: &(impl AllocGlobal + Abort + Threads + Sync), table: &Table) 
     texts
 }
 
-// Feeds all of the sources, one after another.
+// Feeds each source completely, one after another.
 fn feed_all<A: Allocator + Copy>(
     rt: &impl Abort,
     load: &mut InPlaceSession<A>,
@@ -72,7 +72,7 @@ fn load<A: Allocator + Copy>(
     assert!(rt; load.rounds() == 1);
 }
 
-// A round of 12 MB is loaded with a head and a page for each channel, a head more, and the marks.
+// A round of 12 MB is loaded with a head and a page for each channel, one more head, and the marks.
 #[test]
 fn round_of_a_whole_guest(rt: HostRuntime) {
     let table = table(rt.alloc(), &[("a", 3000)]).expect(&rt, "a table");

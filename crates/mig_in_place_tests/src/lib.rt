@@ -1,5 +1,6 @@
-//! Tests of the load of several channels in place. It returns what a `Session` returns of the same
-//! bytes, in any pieces and any order of the sources. Where it is done it leaves the same memory.
+//! Tests of the load of several channels in place. Its answers are those of a `Session` that is fed
+//! the same bytes, in any pieces and any order of the sources. When it is done the memory is the
+//! session's.
 #![tactic(auto)]
 
 #[cfg(test)]

@@ -12,7 +12,7 @@ use std::alloc::{AllocGlobal, Allocator};
 use std::process::Abort;
 use uuid::Uuid;
 
-// Feeds the next piece of a source, or ends it. Says whether an allocation was refused.
+// Feeds the next piece of a source, or ends the source. Returns whether an allocation was refused.
 fn is_refused<A: Allocator + Copy>(
     rt: &impl Abort,
     load: &mut InPlaceSession<A>,
@@ -41,7 +41,7 @@ fn is_refused<A: Allocator + Copy>(
     }
 }
 
-// Feeds pieces up to the first refusal, or the end. Says whether there was a refusal.
+// Feeds pieces up to the first refusal, or the end. Returns whether there was a refusal.
 fn runs_out<A: Allocator + Copy>(
     rt: &impl Abort,
     load: &mut InPlaceSession<A>,
@@ -61,7 +61,7 @@ fn runs_out<A: Allocator + Copy>(
     panic!(rt; "a load without a verdict")
 }
 
-// Loads a guest of one page and two rounds. Says whether there was a refusal.
+// Loads a guest of one page and two rounds. Returns whether there was a refusal.
 fn has_refusal<A: Allocator + Copy>(
     rt: &(impl AllocGlobal + Abort),
     alloc: A,

@@ -1,5 +1,5 @@
-//! Streams of whole migrations by hand: the UUID is that of zeros, pages have 4096 bytes, and the only
-//! block is `a`.
+//! Streams of complete migrations, made by hand: the UUID is zeros, pages have 4096 bytes, and the
+//! only block is `a`.
 
 use mig_fixtures::{put_page_and_zeros, table};
 use mig_packet::{hello, put_packet};
@@ -12,7 +12,7 @@ use uuid::Uuid;
 
 // ---- streams of one source
 
-/// The main stream of so many pages and rounds.
+/// Returns the main stream of `pages` pages and `rounds` rounds.
 pub(crate) fn main_of(rt: &(impl AllocGlobal + Abort), pages: u64, rounds: u64) -> Vec<u8> {
     let table = table(rt.alloc(), &[("a", pages)]).expect(rt, "a table");
     let Ok(mut writer) = StreamWriter::new(rt.alloc(), &table) else {
@@ -27,7 +27,7 @@ pub(crate) fn main_of(rt: &(impl AllocGlobal + Abort), pages: u64, rounds: u64) 
     text
 }
 
-/// A channel of a hello alone.
+/// Returns a channel with a hello and no packets.
 pub(crate) fn hello_of(rt: &(impl AllocGlobal + Abort), id: u8) -> Vec<u8> {
     Vec::from_slice(rt.alloc(), &hello(&Uuid::nil(), id)).expect(rt, "a hello")
 }
@@ -51,14 +51,14 @@ pub(crate) fn put_sync(rt: &impl Abort, text: &mut Vec<u8>, number: u64) {
 
 // ---- streams of all sources
 
-/// The streams of one channel.
+/// Returns the streams of one channel.
 pub(crate) fn one(rt: &(impl AllocGlobal + Abort), main: Vec<u8>, channel: Vec<u8>) -> Sent {
     let mut channels = Vec::new(rt.alloc());
     assert!(rt; channels.push(channel).is_ok());
     Sent { main, channels }
 }
 
-/// The streams of two channels.
+/// Returns the streams of two channels.
 pub(crate) fn two(
     rt: &(impl AllocGlobal + Abort),
     main: Vec<u8>,
@@ -70,9 +70,9 @@ pub(crate) fn two(
     texts
 }
 
-/// One round of two pages on one channel: page 0 as zeros, and page 1 with the first byte 9. The main
-/// stream names its table in its first 43 bytes, and its round is whole with byte 69. The channel's
-/// last packet has 1344 bytes.
+/// Returns one round of two pages on one channel: page 0 as zeros, and page 1 with the first byte
+/// 9. The main stream has its table in its first 43 bytes, and its round is complete with byte 69.
+/// The channel's last packet has 1344 bytes.
 pub(crate) fn page_and_zeros(rt: &(impl AllocGlobal + Abort)) -> Sent {
     let mut channel = hello_of(rt, 0);
     assert!(rt; put_page_and_zeros(&mut channel).is_ok());
@@ -82,7 +82,7 @@ pub(crate) fn page_and_zeros(rt: &(impl AllocGlobal + Abort)) -> Sent {
     one(rt, main, channel)
 }
 
-/// Two rounds of the only page on one channel: filled with 7, and then zeros.
+/// Returns two rounds of the only page on one channel: filled with 7, and then zeros.
 pub(crate) fn sevens_then_zeros(rt: &(impl AllocGlobal + Abort)) -> Sent {
     let mut channel = hello_of(rt, 0);
     put_page(rt, &mut channel, 0, 0, 7);
@@ -92,8 +92,8 @@ pub(crate) fn sevens_then_zeros(rt: &(impl AllocGlobal + Abort)) -> Sent {
     one(rt, main_of(rt, 1, 2), channel)
 }
 
-/// These rounds on two channels: the one has the page of the first round, the other that of the
-/// second.
+/// Returns these rounds on two channels: one has the page of the first round, the other has the
+/// page of the second.
 pub(crate) fn sevens_then_zeros_on_two(rt: &(impl AllocGlobal + Abort)) -> Sent {
     let mut first = hello_of(rt, 0);
     put_page(rt, &mut first, 0, 0, 7);
@@ -118,8 +118,8 @@ fn put_sevens(rt: &(impl AllocGlobal + Abort), text: &mut Vec<u8>) {
     assert!(rt; put_packet(4096, text, 0, false, b"a", &offsets, &pages, &[]).is_ok());
 }
 
-/// One round of 129 pages, each filled with 7, on two channels: the one has 128 of them, the other
-/// the last. The main stream's round is whole with byte 69.
+/// Returns one round of 129 pages, each filled with 7, on two channels: one has 128 of them, the
+/// other has the last. The main stream's round is complete with byte 69.
 pub(crate) fn sevens_on_two(rt: &(impl AllocGlobal + Abort)) -> Sent {
     let mut first = hello_of(rt, 0);
     put_sevens(rt, &mut first);
@@ -130,7 +130,7 @@ pub(crate) fn sevens_on_two(rt: &(impl AllocGlobal + Abort)) -> Sent {
     two(rt, main_of(rt, 129, 1), first, second)
 }
 
-/// One round without pages on two channels.
+/// Returns one round without pages on two channels.
 pub(crate) fn syncs_on_two(rt: &(impl AllocGlobal + Abort)) -> Sent {
     let mut first = hello_of(rt, 0);
     put_sync(rt, &mut first, 0);
@@ -139,9 +139,9 @@ pub(crate) fn syncs_on_two(rt: &(impl AllocGlobal + Abort)) -> Sent {
     two(rt, main_of(rt, 1, 1), first, second)
 }
 
-// ---- streams that are changed
+// ---- changed streams
 
-/// The bytes of a source's stream.
+/// Returns the bytes of a source's stream.
 pub(crate) fn bytes_of<'a>(
     rt: &impl Abort,
     texts: &'a mut Sent,
@@ -153,7 +153,7 @@ pub(crate) fn bytes_of<'a>(
     }
 }
 
-/// The streams with another byte of a source.
+/// Returns the streams with a byte of a source changed.
 pub(crate) fn with_byte(
     rt: &impl Abort,
     mut texts: Sent,
@@ -167,7 +167,7 @@ pub(crate) fn with_byte(
     texts
 }
 
-/// The streams with some bits of a byte of a source turned.
+/// Returns the streams with some bits of a byte of a source flipped.
 pub(crate) fn spoiled(rt: &impl Abort, mut texts: Sent, source: Source, at: usize) -> Sent {
     let byte = *bytes_of(rt, &mut texts, source)
         .get(at)
@@ -175,13 +175,13 @@ pub(crate) fn spoiled(rt: &impl Abort, mut texts: Sent, source: Source, at: usiz
     with_byte(rt, texts, source, at, byte ^ 0x21)
 }
 
-/// The streams with a source that ends early.
+/// Returns the streams with a source that ends early.
 pub(crate) fn cut(rt: &impl Abort, mut texts: Sent, source: Source, len: usize) -> Sent {
     bytes_of(rt, &mut texts, source).truncate(len);
     texts
 }
 
-/// The streams with another channel.
+/// Returns the streams with channel `j` replaced.
 pub(crate) fn with_channel(rt: &impl Abort, mut texts: Sent, j: usize, channel: Vec<u8>) -> Sent {
     *texts.channels.get_mut(j).expect(rt, "a channel") = channel;
     texts

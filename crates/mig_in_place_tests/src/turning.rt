@@ -1,4 +1,4 @@
-//! Loads in place that are fed by turns, from readers that give little and that fail.
+//! Loads in place that are fed by turns, from readers with short reads and readers that fail.
 
 use crate::both::{LIMIT, below, failed, source_at, text_of};
 use crate::texts::{page_and_zeros, sevens_on_two, sevens_then_zeros_on_two};
@@ -21,8 +21,8 @@ const FIRST: Source = Source::Channel(0);
 
 const SECOND: Source = Source::Channel(1);
 
-// A reader that gives at most so many bytes a read. It fails once, at this read, counted from 1; at
-// none if it is 0.
+// A reader that returns at most `len` bytes a read. It fails once, at read `fails_at`, counted from
+// 1; at none if that is 0.
 #[derive(Drop)]
 struct Slow<'a> {
     rest: &'a [u8],
@@ -45,7 +45,7 @@ impl<'a> Read for Slow<'a> {
     }
 }
 
-// An order that always chooses the source of this number.
+// An order that always chooses the source with this number.
 #[derive(Drop)]
 struct Always(usize);
 
@@ -55,7 +55,7 @@ impl TurnOrder for Always {
     }
 }
 
-// An order that chooses by chance, also numbers of no source.
+// An order that chooses at random, also numbers that no source has.
 #[derive(Drop)]
 struct ByChance(Pcg32);
 
@@ -76,7 +76,7 @@ struct Turning<'a> {
     sources: Vec<Reader<'a>>,
 }
 
-// The readers of streams, the main stream's first, of at most so many bytes a read.
+// Returns readers of streams, the main stream's first, of at most `len` bytes a read.
 fn readers<'a>(
     rt: &(impl AllocGlobal + Abort),
     texts: &'a Sent,
@@ -97,7 +97,7 @@ fn readers<'a>(
     sources
 }
 
-// A load of streams into a block `a` of so many pages.
+// Returns a load of streams into a block `a` of `pages` pages.
 fn made<'a>(
     rt: &(impl AllocGlobal + Abort),
     pages: u64,
@@ -127,7 +127,7 @@ impl<'a> Turning<'a> {
         reader.turn(&mut self.load, &mut self.memory, source)
     }
 
-    // Pumps by at most so many turns.
+    // Pumps by at most `turns` turns.
     fn pump(&mut self, order: &mut impl TurnOrder, turns: u64) -> Result<Verdict, TurnFault> {
         pump_by_turns(
             &mut self.sources,
@@ -138,13 +138,13 @@ impl<'a> Turning<'a> {
         )
     }
 
-    // How many bytes of a source were taken.
+    // Returns the number of bytes of a source that were taken.
     fn fed(&self, rt: &impl Abort, source: Source) -> u64 {
         assert!(rt; self.load.has(source));
         self.load.fed(source)
     }
 
-    // How many bytes of a source wait.
+    // Returns the number of bytes of a source that wait.
     fn waiting(&self, rt: &impl Abort, number: usize) -> usize {
         self.sources
             .get(number)
@@ -154,7 +154,7 @@ impl<'a> Turning<'a> {
     }
 }
 
-// Pumps streams of two rounds from readers of at most so many bytes, and expects the verdict.
+// Pumps streams of two rounds from readers of at most `len` bytes, and asserts the verdict.
 fn assert_pumped(rt: &(impl AllocGlobal + Abort), len: usize, turns: u64) {
     let texts = sevens_then_zeros_on_two(rt);
     let mut turning = made(rt, 1, &texts, len);
@@ -169,7 +169,7 @@ fn pumped_to_the_end(rt: HostRuntime) {
     assert_pumped(&rt, usize::MAX, 20);
 }
 
-// A channel that is a round ahead isn't read, and what was read of it waits.
+// A channel that is a round ahead isn't read, and its bytes that were read wait.
 #[test]
 fn source_ahead_waits_in_its_buffer(rt: HostRuntime) {
     let texts = sevens_then_zeros_on_two(&rt);
@@ -218,7 +218,7 @@ fn pumped_on_after_reads_that_fail(rt: HostRuntime) {
     assert!(rt; turning.load.rounds() == 2 && is_full(&turning.memory, at(0, 0), 0));
 }
 
-// Of the second channel only its hello is taken before the main stream has come. As long as it is
+// Only the second channel's hello is taken before the main stream is read. While the channel is
 // held back, another source has its turn.
 #[test]
 fn order_is_followed(rt: HostRuntime) {
@@ -230,7 +230,7 @@ fn order_is_followed(rt: HostRuntime) {
     assert!(rt; turning.waiting(&rt, 2) == 3 * 1344);
     assert!(rt; turning.pump(&mut order, 1) == Ok(Verdict::Running));
     assert!(rt; turning.fed(&rt, Source::Main) == 127 && turning.fed(&rt, FIRST) == 0);
-    // what waits comes first, up to the end of the first round
+    // the bytes that wait are first, up to the end of the first round
     assert!(rt; turning.pump(&mut Always(1), 1) == Ok(Verdict::Running));
     assert!(rt; turning.fed(&rt, SECOND) == 64 + 1344 && turning.fed(&rt, FIRST) == 0);
     assert!(rt; turning.pump(&mut order, 100) == Ok(Verdict::Done));
@@ -264,7 +264,7 @@ fn pumped_by_chance(rt: HostRuntime) {
     }
 }
 
-// What was read for a memory of another table waits, and is taken into the right one.
+// Bytes that were read for a memory of another table wait, and are taken for the right memory.
 #[test]
 fn memory_of_another_table(rt: HostRuntime) {
     let texts = page_and_zeros(&rt);

@@ -1,4 +1,4 @@
-//! Which bytes are taken, and when.
+//! Tests which bytes are taken, and when.
 
 use crate::both::{Both, both_at_start, end, failed, fed, feed, give, give_to, takes};
 use crate::texts::{page_and_zeros, sevens_then_zeros_on_two};
@@ -14,7 +14,7 @@ const FIRST: Source = Source::Channel(0);
 
 const SECOND: Source = Source::Channel(1);
 
-// Gives the channel and then the main stream.
+// Feeds the channel and then the main stream.
 fn give_another_table(rt: &impl Abort, both: &mut Both, texts: &Sent) {
     assert!(rt; give(rt, both, texts, FIRST) == Ok(64));
     assert!(rt; !takes(rt, &both.in_place, FIRST));
@@ -26,7 +26,7 @@ fn give_another_table(rt: &impl Abort, both: &mut Both, texts: &Sent) {
     assert!(rt; is_full(&both.memory, at(0, 1), 0));
 }
 
-// Of a stream of another table nothing is written.
+// A stream of another table writes no page.
 #[test]
 fn another_table(rt: HostRuntime) {
     let texts = page_and_zeros(&rt);
@@ -41,7 +41,7 @@ fn give_into_another(rt: &impl Abort, both: &mut Both, memory: &mut Memory, text
     assert!(rt; takes(rt, &both.in_place, Source::Main));
 }
 
-// A memory of another table than the load is refused, and nothing changes.
+// A memory whose table isn't the load's is refused, and nothing changes.
 #[test]
 fn memory_of_another_table(rt: HostRuntime) {
     let texts = page_and_zeros(&rt);
@@ -49,7 +49,7 @@ fn memory_of_another_table(rt: HostRuntime) {
     give_into_another(&rt, &mut both_at_start(&rt, 2, 1), &mut memory, &texts);
 }
 
-// Gives the main stream and the first channel, up to the end of the first round.
+// Feeds the main stream and the first channel, up to the end of the first round.
 fn give_first_round(rt: &impl Abort, both: &mut Both, texts: &Sent) {
     assert!(rt; give(rt, both, texts, Source::Main).is_ok());
     assert!(rt; give(rt, both, texts, FIRST) == Ok(64 + 5440 + 1344));
@@ -59,8 +59,8 @@ fn give_first_round(rt: &impl Abort, both: &mut Both, texts: &Sent) {
     assert!(rt; give(rt, both, texts, FIRST) == Ok(0));
 }
 
-// Gives the second channel. With the last byte of the first round that is judged, and the second one
-// goes on.
+// Feeds the second channel. With the last byte of the first round that round is judged, and the
+// second round begins.
 fn give_second_channel(rt: &impl Abort, both: &mut Both, texts: &Sent) {
     assert!(rt; give(rt, both, texts, SECOND) == Ok(64 + 3 * 1344));
     assert!(rt; both.in_place.rounds() == 1 && is_full(&both.memory, at(0, 0), 0));
@@ -68,7 +68,7 @@ fn give_second_channel(rt: &impl Abort, both: &mut Both, texts: &Sent) {
     assert!(rt; takes(rt, &both.in_place, FIRST));
 }
 
-// A channel that is a round ahead waits, and its bytes with the caller.
+// A channel that is a round ahead waits, and its bytes stay with the caller.
 #[test]
 fn source_that_is_ahead_waits(rt: HostRuntime) {
     let texts = sevens_then_zeros_on_two(&rt);
@@ -77,7 +77,7 @@ fn source_that_is_ahead_waits(rt: HostRuntime) {
     give_second_channel(&rt, &mut both, &texts);
 }
 
-// Gives a page without its last byte, and then that.
+// Feeds a page without its last byte, and then that byte.
 fn give_page(rt: &impl Abort, both: &mut Both, texts: &Sent) {
     assert!(rt; give(rt, both, texts, Source::Main).is_ok());
     assert!(rt; give_to(rt, both, texts, FIRST, 5503) == Ok(5503));
@@ -93,7 +93,7 @@ fn page_before_its_packet_is_complete(rt: HostRuntime) {
     give_page(&rt, &mut both_at_start(&rt, 2, 1), &texts);
 }
 
-// Gives a channel whose main stream ended before its first byte.
+// Feeds a channel whose main stream ended before its first byte.
 fn give_channel_alone(rt: &impl Abort, both: &mut Both, texts: &Sent) {
     end(rt, &mut both.in_place, Source::Main);
     assert!(rt; give(rt, both, texts, FIRST) == Ok(6848));
@@ -103,8 +103,8 @@ fn give_channel_alone(rt: &impl Abort, both: &mut Both, texts: &Sent) {
     assert!(rt; found.source == Origin::Main && is_full(&both.memory, at(0, 1), 0));
 }
 
-// A main stream with a fault before its table lets channels be read on, and none of their pages is
-// written.
+// After a fault in the main stream before its table, channels are still read, and none of their
+// pages is written.
 #[test]
 fn main_stream_without_a_table(rt: HostRuntime) {
     let texts = page_and_zeros(&rt);

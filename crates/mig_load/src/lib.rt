@@ -1,4 +1,4 @@
-//! Gives callers the loaders under one name. Nothing else stands here.
+//! Re-exports the loaders under one name. It has no code of its own.
 //!
 //! - `mig_single_load`: the loaders of single streams, and the faults of every load
 //! - `mig_answer`: the verdict of a load on several channels, and the laws of its answer

@@ -32,7 +32,7 @@ fn append(rt: &impl Abort, text: &mut Vec<u8>, piece: &[u8]) {
     assert!(rt; text.extend_from_slice(piece).is_ok());
 }
 
-// Returns the main stream of one page and `rounds` rounds in a frame. That of a machine has the
+// Returns the main stream of one page and `rounds` rounds in a frame. A machine's stream has the
 // configuration `pc` and OPEN_RETURN_PATH before START, and SWITCHOVER_START before END. A device's
 // section follows END's 18 bytes in place of the end byte.
 fn main_in(rt: &(impl AllocGlobal + Abort), frame: Frame, rounds: u64) -> Vec<u8> {
@@ -78,9 +78,9 @@ fn load_in<R: AllocGlobal + Abort + Threads + Wait + Sync, A: Allocator + Copy +
     )
 }
 
-// A main stream with one round beside a channel with two fails after the round. A machine's read as
-// RAM's fails at its first COMMAND, byte 15, before there is a memory; the other way round it is
-// one.
+// A main stream with one round and a channel with two fails after the round. A machine's stream
+// read as RAM's sections fails at its first COMMAND, byte 15, before there is a memory. RAM's
+// sections alone are a machine's stream as well.
 #[test]
 fn read_in_both_frames(rt: HostRuntime) {
     let texts = one(&rt, sevens_then_zeros(&rt));
@@ -129,7 +129,7 @@ fn each_allocation_refused(rt: HostRuntime) {
     }
 }
 
-// A later load of the same relay begins with what the refused one took.
+// A later load of the relay begins with the items that the refused load took.
 fn assert_relayed<R: AllocGlobal + Abort + Wait>(rt: &R, frame: Frame) {
     let heap = TestHeap::new(rt.alloc());
     let texts = one(rt, sevens_then_zeros(rt));

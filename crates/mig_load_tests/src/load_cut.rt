@@ -1,5 +1,5 @@
-//! Loads of one channel's stream and of the main stream beside it, each cut at each of its bytes: a
-//! round of page 1 with the first byte 9, and page 0 as zeros.
+//! Loads of one channel's stream and its main stream, each cut at each of its bytes: a round of
+//! page 1 with the first byte 9, and page 0 as zeros.
 
 use crate::load_texts::{
     assert_done, assert_failed, assert_full, assert_page_and_zeros, cut, load, main_of, one,
@@ -13,7 +13,7 @@ use std::process::Abort;
 use std::sync::Wait;
 use std::thread::Threads;
 
-// The main stream names its table in its first 43 bytes, and its round is complete with byte 68.
+// The main stream has its table in its first 43 bytes, and its round is complete with byte 68.
 #[test]
 fn main_stream_that_is_cut(rt: HostRuntime) {
     let main = main_of(&rt, 2, 1);

@@ -13,7 +13,7 @@ use std::sync::Wait;
 use std::thread::Threads;
 use uuid::Uuid;
 
-// Loads streams with what memory the allocator has.
+// Loads streams with the memory that the allocator has.
 fn load_in<'a, R: AllocGlobal + Abort + Threads + Wait + Sync>(
     rt: &R,
     heap: &'a TestHeap,
@@ -33,9 +33,9 @@ fn load_in<'a, R: AllocGlobal + Abort + Threads + Wait + Sync>(
     )
 }
 
-/// Asserts what a refused load returns: the memory is that after the rounds counted, where `bytes`
-/// has what fills the only page after each number of rounds. Before the first round there may be
-/// none.
+/// Asserts the result of a refused load: the memory is that after the rounds counted. `bytes` has
+/// the byte that fills the only page after each number of rounds. Before the first round there may
+/// be no memory.
 pub(crate) fn assert_no_memory(rt: &impl Abort, loaded: &Loaded<&TestHeap>, bytes: &[u8]) {
     let rounds = loaded.rounds;
     assert_failed(rt, loaded, rounds, Origin::Round, Fault::NoMemory);

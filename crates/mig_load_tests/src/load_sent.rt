@@ -1,5 +1,5 @@
-//! What the sender on several channels wrote is loaded to what the single stream of the same rounds
-//! is loaded to.
+//! Loading the streams of several channels gives the memory that loading the single stream of the
+//! same rounds gives.
 
 use crate::framed::settings;
 use crate::meeting::Meeting;
@@ -138,7 +138,7 @@ fn assert_loaded(rt: &impl Abort, loaded: &Loaded, rounds: u64, wanted: &Memory)
     assert!(rt; first_difference(memory, wanted).is_none());
 }
 
-// Returns the streams of the rounds on `channels` channels, whose workers pass a gate that is open.
+// Returns the streams of the rounds on `channels` channels, whose workers pass an open gate.
 fn sent_of<R: AllocGlobal + Abort + Threads + Sync>(
     rt: &R,
     rounds: &[Round],
@@ -148,8 +148,8 @@ fn sent_of<R: AllocGlobal + Abort + Threads + Sync>(
     sent_behind(rt, rounds, channels, limit, &OpenGate)
 }
 
-// Asserts that what was sent is loaded to what the single stream is loaded to, and that to the
-// guest's memory. Of a single stream START and END count as rounds too.
+// Asserts that loading the channels and loading the single stream give the guest's memory. In a
+// single stream START and END count as rounds too.
 fn assert_same<R: AllocGlobal + Abort + Threads + Wait + Sync>(
     rt: &R,
     rounds: &[Round],
@@ -204,7 +204,7 @@ fn sevens_on_two_channels(rt: HostRuntime) {
     assert_same(&rt, &rounds, &sent);
 }
 
-// Neither worker goes on with the first number that it drew before the other has drawn one.
+// Neither worker continues with its first number before the other has drawn one.
 #[test]
 fn sevens_by_two_workers_at_once(rt: HostRuntime) {
     let rounds = round_of_sevens(&rt);
@@ -216,8 +216,8 @@ fn sevens_by_two_workers_at_once(rt: HostRuntime) {
 
 // ---- in a machine's stream
 
-// The streams of the rounds on so many channels, with the main stream of a machine `q35`, whose RAM
-// a device's section follows.
+// Returns the streams of the rounds on `channels` channels, with the main stream of a machine
+// `q35`, in which a device's section follows RAM's sections.
 fn machine_sent<R: AllocGlobal + Abort + Threads + Sync>(
     rt: &R,
     rounds: &[Round],

@@ -1,5 +1,5 @@
-//! Streams of complete migrations, and what tests ask of their loads: the UUID is that of zeros,
-//! pages have 4096 bytes, and the only block is `a`.
+//! Streams of complete migrations, and assertions on their loads: the UUID is zeros, pages have
+//! 4096 bytes, and the only block is `a`.
 
 use crate::texts::{hello_of, put_pages, put_sync, put_text};
 use mig_fixtures::{at, has_byte, is_full, put_page_and_zeros, table};
@@ -91,7 +91,7 @@ pub(crate) fn sevens_then_zeros(rt: &(impl AllocGlobal + Abort)) -> Vec<u8> {
     text
 }
 
-/// Returns a channel of SYNC packets alone, of this id, with these numbers.
+/// Returns a channel that has only SYNC packets, of this id, with these numbers.
 pub(crate) fn syncs_of(rt: &(impl AllocGlobal + Abort), id: u8, numbers: &[u64]) -> Vec<u8> {
     let mut text = hello_of(rt, id);
     for number in numbers {

@@ -1,5 +1,5 @@
-//! Loads on several channels whose workers pass a gate: what each worker found and pushed, and that
-//! the workers run beside one another and last for the whole load.
+//! Loads on several channels whose workers pass a gate: the items that each worker found and
+//! pushed, and that the workers run concurrently for the whole load.
 //!
 //! Loads whose workers pass no gate are cases of `mig_rows`, in `several.txt`.
 
@@ -29,8 +29,8 @@ impl Gate for Counting {
     }
 }
 
-// The verdict falls at the first of 100 rounds. The worker pushes its hello, the SYNC packets and
-// the stop all the same, and has ended when the load returns.
+// The verdict is reached at the first of 100 rounds. The worker still pushes its hello, the SYNC
+// packets and the stop, and has ended when the load returns.
 #[test]
 fn channel_with_many_rounds_more(rt: HostRuntime) {
     let gate = Counting {
@@ -74,7 +74,7 @@ impl Gate for Lasting {
     }
 }
 
-// Item 2 is the SYNC packet of the second round: workers that were started anew for each round
+// Item 2 is the SYNC packet of the second round: workers that are started again for each round
 // wouldn't get through.
 #[test]
 fn worker_that_lasts(rt: HostRuntime) {

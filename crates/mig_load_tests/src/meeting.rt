@@ -18,7 +18,8 @@ pub(crate) fn reaches(word: &AtomicU64, bits: u64) -> bool {
     false
 }
 
-/// A gate of two channels: each waits at its first step until the other has come to its own.
+/// A gate of two channels: each worker waits at its first step until the other has reached its
+/// first step.
 #[derive(Drop)]
 pub(crate) struct Meeting {
     come: AtomicU64,
@@ -33,7 +34,7 @@ impl Meeting {
         }
     }
 
-    /// Asserts that both came, and neither gave up.
+    /// Asserts that both workers came, and neither gave up.
     pub(crate) fn assert_met(&self, rt: &impl Abort) {
         assert!(rt; self.come.load(Ordering::SeqCst) == 3);
         assert!(rt; self.given_up.load(Ordering::SeqCst) == 0);

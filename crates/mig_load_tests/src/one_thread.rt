@@ -46,7 +46,7 @@ fn pieces_of_a_channel_and_of_an_empty_text(rt: HostRuntime) {
     collector.drain(&rt, 2);
 }
 
-// Through a queue that has room for one item: each is taken before the next is pushed.
+// The queue has room for one item: each item is taken before the next is pushed.
 #[test]
 fn pieces_through_a_queue_of_one(rt: HostRuntime) {
     let mut texts = Vec::new(rt.alloc());

@@ -1,4 +1,4 @@
-//! What tests ask of the items that a relay passes on, and the feeders that bring them.
+//! Assertions on the items that a relay passes on, and steps of its feeders.
 
 use mig_packet::Gate;
 use mig_relay::{ChannelEnd, Collector, Feeder, FeederStep, Item};
@@ -63,7 +63,7 @@ pub(crate) fn take<A: Allocator, R: Wait + Abort>(
     }
 }
 
-/// Asserts that a channel's stop was taken: it has no more, however often it is asked.
+/// Asserts that a channel's stop was taken: each further take returns nothing.
 pub(crate) fn assert_over<A: Allocator, R: Wait + Abort>(
     rt: &R,
     collector: &mut Collector<'_, A>,

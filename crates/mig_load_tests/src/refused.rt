@@ -36,7 +36,7 @@ const NINE: [Seen; 11] = [
 // The items of the channel of none.
 const NONE: [Seen; 2] = [Seen::Hello(0), Seen::Stop(ChannelEnd::Clean)];
 
-// A relay of two streams, with whatever memory the allocator has.
+// Returns a relay of two streams, with the memory that the allocator has.
 #[derive(Drop)]
 struct Started<'a> {
     feeders: Vec<Feeder<'a, &'a TestHeap>, &'a TestHeap>,
@@ -71,8 +71,8 @@ fn feed_all<'a, R: Wait + Abort>(
     collector
 }
 
-// Takes the wanted items of a channel, each refused one again with memory. A refused call has taken
-// nothing.
+// Takes the wanted items of a channel. A refused call has taken nothing, and is repeated with
+// memory.
 fn take_again<R: Wait + Abort>(
     rt: &R,
     collector: &mut Collector<'_, &TestHeap>,
@@ -93,7 +93,7 @@ fn take_again<R: Wait + Abort>(
     assert_received(rt, collector, channel, wanted);
 }
 
-// A refused start leaves the streams to a later one, which makes both ends.
+// After a refused start a later start has the streams, and makes the feeders and the collector.
 #[test]
 fn start_with_each_allocation_refused(rt: HostRuntime) {
     let texts = two_texts(&rt);
@@ -116,8 +116,8 @@ fn start_with_each_allocation_refused(rt: HostRuntime) {
     panic!(rt; "each run had a refusal");
 }
 
-// Takes all items of both channels with allocation `nth` refused, and returns whether it came.
-// After its stop a channel takes no memory, nor does the drain.
+// Takes all items of both channels with allocation `nth` refused, and returns whether there was
+// such an allocation. After a channel's stop neither a take nor the drain allocates.
 fn take_all_refused<R: Wait + Abort>(
     rt: &R,
     heap: &TestHeap,

@@ -1,5 +1,5 @@
-//! What a load and a drain leave in a relay, how many items a queue holds, and when a feeder passes
-//! its gate.
+//! The items that a load and a drain leave in a relay, the capacity of a queue, and the steps at
+//! which a feeder passes its gate.
 
 use crate::load_texts::{LIMIT, assert_failed, assert_full, main_of, one, syncs_of, two};
 use crate::meeting::reaches;
@@ -67,14 +67,14 @@ fn queue_has_room_for_its_capacity(rt: HostRuntime) {
     collector.drain(&rt, 1);
 }
 
-// ---- one thread more
+// ---- one more thread
 
 // The steps that the gate below has seen, as bits: item 1 was found, and item 1 was pushed.
 const FOUND: u64 = 1;
 
 const PUSHED: u64 = 2;
 
-// A gate that shows how far the feeder has come with item 1.
+// A gate that shows the feeder's progress with item 1.
 #[derive(Drop)]
 struct Watch {
     seen: AtomicU64,

@@ -35,7 +35,7 @@ const TWO_ROUNDS: [Seen; 6] = [
     Seen::Stop(ChannelEnd::Clean),
 ];
 
-/// Returns what a relay of one stream brings, whose feeder has pushed all of it.
+/// Returns the collector of a relay of one stream, whose feeder has pushed all items.
 pub(crate) fn relayed<'a, R: Wait + Abort, A: Allocator + Copy>(
     rt: &R,
     alloc: A,
@@ -65,7 +65,7 @@ fn items_that_were_taken_before(rt: HostRuntime) {
     }
 }
 
-// The load takes the round that is counted at least; what it left is still to be taken.
+// The load takes at least the round that it counts; the items that it leaves can still be taken.
 #[test]
 fn round_that_the_main_stream_lacks(rt: HostRuntime) {
     let texts = one(&rt, sevens_then_zeros(&rt));
@@ -83,7 +83,7 @@ fn round_that_the_main_stream_lacks(rt: HostRuntime) {
     assert_over(&rt, &mut collector, 0);
 }
 
-// A later load of the same relay begins with what the refused one took.
+// A later load of the relay begins with the items that the refused load took.
 #[test]
 fn each_allocation_refused(rt: HostRuntime) {
     let texts = one(&rt, sevens_then_zeros(&rt));

@@ -1,12 +1,12 @@
-//! Streams of channels, by hand: their hellos are of the UUID of zeros, their pages have 4096
-//! bytes, and their block is `a`.
+//! Streams of channels, by hand: their hellos have a UUID of zeros, their pages have 4096 bytes,
+//! and their block is `a`.
 
 use mig_packet::{hello, put_packet};
 use std::alloc::AllocGlobal;
 use std::process::Abort;
 use uuid::Uuid;
 
-/// Returns a stream of a hello alone.
+/// Returns a stream with a hello and no packets.
 pub(crate) fn hello_of(rt: &(impl AllocGlobal + Abort), id: u8) -> Vec<u8> {
     Vec::from_slice(rt.alloc(), &hello(&Uuid::nil(), id)).expect(rt, "a hello")
 }
@@ -43,7 +43,7 @@ pub(crate) fn put_text(rt: &impl Abort, texts: &mut Vec<Vec<u8>>, text: Vec<u8>)
 }
 
 /// Returns two channels of one round of 129 pages, each filled with 7: packet 0 of 128 pages and
-/// SYNC packet 2 in the one, packet 1 of the last page and SYNC packet 3 in the other.
+/// SYNC packet 2 in one, packet 1 of the last page and SYNC packet 3 in the other.
 pub(crate) fn two_channels(rt: &(impl AllocGlobal + Abort)) -> Vec<Vec<u8>> {
     let mut first = hello_of(rt, 0);
     put_pages(rt, &mut first, 0, 0, 128, 7);
@@ -57,7 +57,7 @@ pub(crate) fn two_channels(rt: &(impl AllocGlobal + Abort)) -> Vec<Vec<u8>> {
     texts
 }
 
-/// Returns a channel of SYNC packets alone, numbered from 0.
+/// Returns a channel that has only SYNC packets, numbered from 0.
 pub(crate) fn syncs(rt: &(impl AllocGlobal + Abort), count: u64) -> Vec<u8> {
     let mut text = hello_of(rt, 0);
     for number in 0..count {

@@ -1,5 +1,5 @@
-//! A relay with a worker for each channel, on a thread of its own, while the collector takes on
-//! another.
+//! A relay with a worker for each channel, each on its own thread, while the collector takes on
+//! another thread.
 
 use crate::pieces::{Seen, assert_over, assert_received, feed, take};
 use crate::texts::{put_text, syncs, two_channels};
@@ -11,8 +11,7 @@ use std::sync::Wait;
 use std::thread::{self, JoinHandle, Scope, Threads};
 use uuid::Uuid;
 
-// What is wanted of a channel: its first items, all that are taken of it, and whether the stop is
-// one of them.
+// The items to take from a channel: its first ones, and whether the stop is one of them.
 #[derive(Clone, Copy)]
 struct Wanted<'a> {
     pieces: &'a [Seen],
@@ -34,7 +33,7 @@ fn start_workers<'s, 'a: 's, E, R: Abort + Threads + Wait + Sync>(
     }
 }
 
-// Takes what is wanted of each channel, and drops the rest.
+// Takes the wanted items of each channel, and drops the rest.
 fn take_wanted<R: Abort + Wait>(rt: &R, mut collector: Collector<'_>, wanted: &[Wanted<'_>]) {
     assert!(rt; collector.len() == wanted.len());
     for (j, wanted) in wanted.iter().enumerate() {
@@ -49,8 +48,8 @@ fn take_wanted<R: Abort + Wait>(rt: &R, mut collector: Collector<'_>, wanted: &[
     collector.drain(rt, started);
 }
 
-// Relays the streams through queues of this capacity, takes what is wanted, drains, and waits for
-// the workers' ends.
+// Relays the streams through queues of this capacity, takes the wanted items, drains, and waits for
+// the workers to end.
 fn relay<R: AllocGlobal + Abort + Threads + Wait + Sync>(
     rt: &R,
     texts: &[Vec<u8>],
@@ -92,7 +91,8 @@ fn two_channels_on_two_threads(rt: HostRuntime) {
     relay(&rt, &texts, 1, &wanted);
 }
 
-// Of 102 items three are taken: a worker that waits at a full queue goes on as the rest is dropped.
+// Three of 102 items are taken: a worker that waits at a full queue continues when the rest is
+// dropped.
 #[test]
 fn pieces_that_nobody_takes(rt: HostRuntime) {
     let mut texts = Vec::new(rt.alloc());

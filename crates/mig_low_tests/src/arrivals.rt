@@ -35,7 +35,7 @@ fn add_packet<A: Allocator>(
     arrivals.packet(packet)
 }
 
-// Judges what arrived, twice, since judging forgets nothing; the answer is the same.
+// Judges the round twice, since judging changes nothing; the answer is the same.
 fn judge<A: Allocator>(
     rt: &impl Abort,
     arrivals: &mut Arrivals<A>,
@@ -64,8 +64,8 @@ fn records_first<A: Allocator>(
     judge(rt, arrivals, base)
 }
 
-// Returns the verdict on such a round whose packets arrive before its records. It is judged too
-// early once.
+// Returns the verdict on such a round whose packets arrive before its records. It is also judged
+// once before all has arrived.
 fn records_last<A: Allocator>(
     rt: &impl Abort,
     arrivals: &mut Arrivals<A>,
@@ -152,7 +152,7 @@ fn numbers_from_a_base(rt: HostRuntime) {
     assert!(rt; both_get(&rt, &mut arrivals, 6, &bytes, Err(RoundFault::Missing(6))));
 }
 
-// No part of the round before is left, and a round of no pages is lawful.
+// Nothing of the previous round is left, and a round without pages is lawful.
 #[test]
 fn cleared(rt: HostRuntime) {
     let mut arrivals = arrivals(&rt, rt.alloc());

@@ -1,6 +1,5 @@
-//! Where the bytes of a channel that were fed are complete items without a fault: of a worked
-//! channel in pieces, ended anywhere, with faults inside of items, and where an allocation was
-//! refused.
+//! The valid prefix of a channel's bytes: of a worked channel in pieces, ended anywhere, with
+//! faults inside of items, and after a refused allocation.
 //!
 //! The channel has a hello of 64 bytes, a packet of two pages with 1344 bytes and a page's 4096,
 //! and a SYNC packet of 1344.
@@ -11,7 +10,7 @@ use std::alloc::{AllocGlobal, Allocator};
 use std::process::Abort;
 use uuid::Uuid;
 
-// Where its items end.
+// The ends of the channel's items.
 const HELLO: u64 = 64;
 
 const PACKET: u64 = 64 + 1344 + 4096;
@@ -26,7 +25,7 @@ fn channel(rt: &(impl AllocGlobal + Abort)) -> Vec<u8> {
     text
 }
 
-// Returns how many of its first `len` bytes are complete items.
+// Returns the number of the channel's first `len` bytes that are complete items.
 fn whole(len: u64) -> u64 {
     if len < HELLO {
         0
@@ -68,8 +67,8 @@ fn in_pieces(rt: HostRuntime) {
     }
 }
 
-// Ended after `len` bytes: `Truncated` begins where its last item does, and `Unsynced` stands after
-// the last byte.
+// Ends the channel after `len` bytes: the place of `Truncated` is where its last item begins, and
+// that of `Unsynced` is after the last byte.
 #[test]
 fn ended_anywhere(rt: HostRuntime) {
     let text = channel(&rt);
@@ -97,7 +96,7 @@ fn ended_anywhere(rt: HostRuntime) {
     }
 }
 
-// A byte that is changed: where it is, what it is then, the fault, and where its item begins.
+// A changed byte: its place, its new value, the fault, and the beginning of its item.
 type Spoiled = (usize, u8, ChannelFault, u64);
 
 const SPOILED: [Spoiled; 11] = [
@@ -114,7 +113,7 @@ const SPOILED: [Spoiled; 11] = [
     (5515, 3, ChannelFault::PacketFlags(3), 5504),
 ];
 
-// Fed in pieces of `len` bytes, with more bytes after it, and ended.
+// Feeds the changed channel in pieces of `len` bytes, with more bytes after it, and ends it.
 fn assert_spoiled(rt: &(impl AllocGlobal + Abort), spoiled: Spoiled, len: usize) {
     let (place, byte, fault, valid) = spoiled;
     let mut text = channel(rt);

@@ -1,5 +1,5 @@
-//! Memories that are compared as a whole: the sets of the places where they differ, of small blocks
-//! and of one that threads share, and what is answered where an allocation is refused.
+//! Comparisons of memories: the sets of the places where they differ, of small blocks and of a
+//! block that threads share, and the answer if an allocation is refused.
 
 use mig_fixtures::{TestHeap, at, set, with_each_allocation_refused, zeroed};
 use mig_mem::{Dirty, Memory, Place, differences, first_difference};
@@ -17,7 +17,7 @@ const SMALL: [(&str, u64); 4] = [("a", 2), ("b", 64), ("c", 65), ("d", 200)];
 // A block whose pages threads share, between two that they don't.
 const LARGE: [(&str, u64); 3] = [("a", 1), ("pc.ram", 5000), ("b", 63)];
 
-// Returns a memory of zeros but for the first byte of some pages.
+// Returns a memory of zeros except for the first byte of some pages.
 fn memory(rt: &(impl AllocGlobal + Abort), blocks: &[(&str, u64)], places: &[Place]) -> Memory {
     let mut memory = zeroed(rt.alloc(), blocks).expect(rt, "a memory");
     for place in places {
@@ -98,7 +98,7 @@ fn pages_that_threads_share(rt: HostRuntime) {
     assert_differ(&rt, &one, &other, &all);
 }
 
-// Asserts what two memories with one page that differs answer, after each allocation was refused.
+// Asserts the answer on two memories with one page that differs, after each allocation was refused.
 fn assert_refused<R: AllocGlobal + Abort + Threads + Sync>(
     rt: &R,
     blocks: &[(&str, u64)],

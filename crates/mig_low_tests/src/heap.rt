@@ -1,4 +1,4 @@
-//! The allocator of tests: what it counts, and which allocation it refuses.
+//! The allocator of tests: its counts, and the allocation that it refuses.
 
 use mig_fixtures::TestHeap;
 
@@ -16,7 +16,7 @@ fn held_and_peak(rt: HostRuntime) {
     assert_eq!(rt; (heap.held(), heap.peak()), (0, 200));
 }
 
-// No system has so much memory.
+// No system has this much memory.
 #[test]
 fn allocation_that_the_system_refuses_is_not_held(rt: HostRuntime) {
     let heap = TestHeap::new(rt.alloc());

@@ -1,5 +1,5 @@
-//! Guest memory in bytes that the caller keeps: where pages land in them, what stays, and which
-//! bytes aren't taken.
+//! Guest memory in bytes that the caller keeps: the places of pages in them, the bytes that stay,
+//! and the bytes that are refused.
 
 ghost use Rattle.mig_mem.specs.PageSize.{IsPageSize};
 
@@ -45,7 +45,7 @@ pub(crate) fn joined(rt: &(impl AllocGlobal + Abort), parts: &[&[u8]]) -> Vec<u8
     bytes
 }
 
-// Puts a page, where the table has its place.
+// Writes a page, if the table has its place.
 fn put<A: Allocator>(
     rt: &impl Abort,
     memory: &mut LentMemoryMut<'_, '_, A>,
@@ -57,13 +57,13 @@ fn put<A: Allocator>(
     memory.put_page(place, bytes);
 }
 
-// Makes a page zeros, where the table has its place.
+// Makes a page zeros, if the table has its place.
 fn wipe<A: Allocator>(rt: &impl Abort, memory: &mut LentMemoryMut<'_, '_, A>, place: Place) {
     assert!(rt; memory.table().holds(place));
     memory.put_zero_page(place);
 }
 
-// Puts a page at the end of each block, and makes a page of bytes and a page of zeros zeros.
+// Writes the last page of each block, and makes two pages zeros, one of which is zeros already.
 fn put_some<'a, 'b>(
     rt: &impl Abort,
     table: &'a Table,
@@ -174,7 +174,7 @@ fn are_taken(rt: &(impl AllocGlobal + Abort), table: &Table, first: u64, second:
     )
 }
 
-// Only blocks of two pages and of three are taken, in this order.
+// Only a block of two pages and one of three are taken, in this order.
 fn assert_lengths(rt: &(impl AllocGlobal + Abort), size: u64)
     requires { IsPageSize size }
 {

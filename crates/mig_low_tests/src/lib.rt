@@ -1,6 +1,6 @@
 //! Tests of guest memory, packets and channels: each call that allocates with its allocations
 //! refused, calls that allocate nothing, the gate that does nothing, channels that are read by
-//! pages, and rounds that are judged as they arrive. And tests of the allocator that refuses.
+//! pages, and rounds that are judged as they arrive. Also tests of the allocator that refuses.
 //!
 //! The worked examples are cases of `mig_rows`.
 #![tactic(auto)]

@@ -74,8 +74,8 @@ fn fill<A: Allocator>(rt: &impl Abort, memory: &mut Memory<A>, place: Place) {
     assert!(rt; is_full(memory, place, 9));
 }
 
-// Writes pages for the first time and again, whole and by a byte, and makes some zeros, with the
-// first allocation refused. It doesn't come.
+// Writes pages for the first time and again, complete pages and single bytes, and makes some zeros,
+// with the first allocation refused. There is none.
 fn assert_writes_take_none(rt: &impl Abort, heap: &TestHeap, memory: &mut Memory<&TestHeap>) {
     heap.refuse(1);
     for place in [at(1, 64), at(0, 0), at(1, 64)] {

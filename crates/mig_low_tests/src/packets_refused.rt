@@ -1,6 +1,6 @@
 //! Each call on packets and channels that allocates, with its first allocation refused, then its
-//! second, until a run has no refusal. A refused run answers `NoMemory` and leaves what it was
-//! passed as it was; the run with memory answers as ever.
+//! second, until a run has no refusal. A refused run answers `NoMemory` and doesn't change its
+//! arguments; the run with memory succeeds.
 
 use mig_fixtures::{TestHeap, put_page_and_zeros};
 use mig_packet::{
@@ -10,7 +10,7 @@ use std::alloc::{AllocGlobal, Allocator};
 use std::process::Abort;
 use uuid::Uuid;
 
-// Returns a channel of 6,848 bytes: a hello of the UUID of zeros, the packet of two pages, and a
+// Returns a channel of 6,848 bytes: a hello with a UUID of zeros, the packet of two pages, and a
 // SYNC packet.
 fn two_page_channel(rt: &(impl AllocGlobal + Abort)) -> Vec<u8> {
     let mut text = Vec::from_slice(rt.alloc(), &hello(&Uuid::nil(), 0)).expect(rt, "a hello");
@@ -102,8 +102,8 @@ fn has_read<A: Allocator + Copy>(reader: &mut ChannelReader<A>, len: u64) -> boo
         && has_no_round(reader)
 }
 
-// A refused piece leaves the reader as it was, also where the packet that it completes was taken
-// before the allocation. Fed again with memory, it is read as ever.
+// A refused piece leaves the reader as it was, also if the packet that it completes was taken
+// before the allocation. Fed again with memory, it is read.
 #[test]
 fn pieces(rt: HostRuntime) {
     let heap = TestHeap::new(rt.alloc());

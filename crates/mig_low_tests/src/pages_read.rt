@@ -1,4 +1,5 @@
-//! A channel read by pages beside the same channel read by packets, in pieces of several lengths.
+//! A channel read by pages, compared with the same channel read by packets, in pieces of several
+//! lengths.
 
 use mig_fixtures::{TestHeap, put_page_and_zeros};
 use mig_packet::{
@@ -9,8 +10,8 @@ use std::alloc::{AllocGlobal, Allocator};
 use std::process::Abort;
 use uuid::Uuid;
 
-// What was read of a channel's packets: their numbers, and which of them had SYNC, and the offsets
-// and contents of their normal pages.
+// The packets read from a channel: their numbers, which of them have SYNC, and the offsets and
+// contents of their normal pages.
 #[derive(Drop)]
 struct Read {
     numbers: Vec<u64>,
@@ -106,7 +107,7 @@ fn read_piece<A: Allocator>(
     }
 }
 
-// Returns whether two readers of one channel return the same of it.
+// Returns whether two readers of one channel return the same.
 fn tell_the_same<A: Allocator + Copy, B: Allocator>(
     packets: &ChannelReader<A>,
     pages: &PageReader<B>,
@@ -114,7 +115,7 @@ fn tell_the_same<A: Allocator + Copy, B: Allocator>(
     packets.state() == pages.state() && packets.hello_id() == pages.hello_id()
 }
 
-// Reads a stream in pieces of `len` bytes by packets and by pages, and returns what came by pages.
+// Reads a stream in pieces of `len` bytes by packets and by pages, and returns the pages read.
 fn read_both(rt: &(impl AllocGlobal + Abort), text: &[u8], len: usize) -> Read {
     let mut packets = ChannelReader::new(rt.alloc(), 4096, Uuid::nil(), 1);
     let made = PageReader::new(rt.alloc(), 4096, Uuid::nil(), 1);
@@ -133,7 +134,7 @@ fn read_both(rt: &(impl AllocGlobal + Abort), text: &[u8], len: usize) -> Read {
     read
 }
 
-// The pages come in their order, however the bytes are cut, and each time the same ones.
+// The pages are in their order, and the same ones however the bytes are cut.
 #[test]
 fn in_pieces(rt: HostRuntime) {
     let text = channel(&rt);
@@ -145,7 +146,7 @@ fn in_pieces(rt: HostRuntime) {
     }
 }
 
-// Bytes that are cut, or have a fault, stand as they do for a reader of packets.
+// For bytes that are cut or have a fault the state is that of a reader of packets.
 #[test]
 fn cut_and_spoiled(rt: HostRuntime) {
     let text = channel(&rt);
@@ -184,7 +185,8 @@ fn allocations(rt: HostRuntime) {
     assert!(rt; reader.fed() == text.len() as u64);
 }
 
-// Reads a channel by what it wants: no byte beyond it is read, and each page is lent whole.
+// Reads a channel by the lengths that it wants: no byte beyond them is read, and each page is lent
+// completely.
 fn read_wanted(rt: &(impl AllocGlobal + Abort), text: &[u8]) -> Read {
     let made = PageReader::new(rt.alloc(), 4096, Uuid::nil(), 1);
     let mut reader = made.ok().expect(rt, "a reader");
@@ -212,15 +214,15 @@ fn read_wanted(rt: &(impl AllocGlobal + Abort), text: &[u8]) -> Read {
     panic!(rt; "the channel never ends");
 }
 
-// Read by what is wanted next, the pages are the same.
+// Read by the wanted lengths, the pages are the same.
 #[test]
 fn pages_wanted(rt: HostRuntime) {
     let text = channel(&rt);
     assert!(rt; read_wanted(&rt, &text).is_same(&read_whole(&rt, &text)));
 }
 
-// A page is wanted at its offset, with how many follow it; of a page that was begun its other
-// bytes; and nothing once a packet is complete, or the channel was ended.
+// A page is wanted at its offset, with the number of pages after it. If a page was begun its other
+// bytes are wanted. Nothing is wanted when a packet is complete, or the channel has ended.
 #[test]
 fn what_is_wanted(rt: HostRuntime) {
     let text = channel(&rt);

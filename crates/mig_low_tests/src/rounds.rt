@@ -46,7 +46,7 @@ pub(crate) fn bytes_of(rt: &(impl AllocGlobal + Abort), sent: &[Sent]) -> Vec<u8
     bytes
 }
 
-// Returns the packet at the beginning of some bytes, and what follows it.
+// Returns the packet at the beginning of some bytes, and the bytes after it.
 fn next_packet<'a>(rt: &(impl AllocGlobal + Abort), bytes: &'a [u8]) -> (Packet<'a>, &'a [u8])
     ensures { result.0.page_size ≡ 4096 }
 {

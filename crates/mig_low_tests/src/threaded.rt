@@ -15,10 +15,10 @@ use std::thread::Threads;
 // A block whose pages four threads share, and a small one.
 const BLOCKS: [(&str, u64); 2] = [("a", 4097), ("b", 5)];
 
-// How many pages the round has: more than the blocks, so that some come twice.
+// The number of the round's pages: more than the blocks have, so that some are repeated.
 const PAGES: u64 = 5000;
 
-// Returns the page of the round by its number. Of four one after another, one is zeros.
+// Returns the page of the round by its number. One of four consecutive pages is zeros.
 fn page<'a>(i: u64, ones: &'a [u8], twos: &'a [u8]) -> RoundPage<'a>
     requires { length ones.now ≡ length twos.now }
     ensures { HasPageSize (length ones.now) result }
@@ -36,8 +36,7 @@ fn page<'a>(i: u64, ones: &'a [u8], twos: &'a [u8]) -> RoundPage<'a>
     RoundPage { place, content }
 }
 
-// Returns a round of pages of both blocks in no order, and of pages that the table has no place
-// for.
+// Returns a round of unordered pages of both blocks, and of pages that the table has no place for.
 fn round<'a>(rt: &(impl AllocGlobal + Abort), ones: &'a [u8], twos: &'a [u8]) -> Vec<RoundPage<'a>>
     requires { length ones.now ≡ length twos.now }
     ensures { All (HasPageSize (length ones.now)) result.items }
@@ -53,7 +52,7 @@ fn round<'a>(rt: &(impl AllocGlobal + Abort), ones: &'a [u8], twos: &'a [u8]) ->
     pages
 }
 
-// Puts pages one by one, where the table has their places.
+// Writes pages one by one, if the table has their places.
 fn put_in_turn(rt: &impl Abort, table: &Table, blocks: &mut [&mut [u8]], pages: &[RoundPage<'_>]) {
     let mut memory = LentMemoryMut::new(table, blocks)
         .ok()
@@ -114,7 +113,7 @@ fn assert_put<R: AllocGlobal + Abort + Threads + Sync>(
     assert!(rt; second.as_slice() == wanted_second.as_slice());
 }
 
-// Returns what two blocks of a table hold after a round whose pages are put one by one.
+// Returns the bytes of a table's two blocks after a round whose pages are written one by one.
 fn wanted(rt: &(impl AllocGlobal + Abort), table: &Table, pages: &[RoundPage<'_>]) -> [Vec<u8>; 2] {
     assert!(rt; table.len() == 2);
     let size = table.page_size();
@@ -194,7 +193,7 @@ fn assert_last_one_counts<R: AllocGlobal + Abort + Threads + Sync>(
     assert_put(rt, &table, threads, &[], &all);
 }
 
-// Asserts it of each number of threads.
+// Asserts the memory for each number of threads.
 fn assert_last_ones_count<R: AllocGlobal + Abort + Threads + Sync>(rt: &R, page: &[u8])
     requires { IsPageSize (length page.now) }
 {

@@ -1,4 +1,4 @@
--- A list is refused for no reason exactly where it is a lawful table.
+-- A list has no refusal exactly if it is a lawful table.
 use Rattle.std.proofs.Common.{ℕ, ◌≡◌, ◌≢◌, ◌<◌, ◌*◌, ◌^◌, List, [], ◌∷◌, length, map, take, get_or, true, false, not, refl, sym, ap, ◌∙◌, arith, None, nat_lt, ◌==◌}
 use Rattle.std.proofs.lemmas.Bool.{not-false, ltb-false, eqb-false, ne_eqb, le-ltb, false_from_ne_true}
 use Rattle.std.proofs.lemmas.List.Folds.{list_any_none}

@@ -1,4 +1,4 @@
--- Rounds one after the other, and the memory after them.
+-- Rounds one after another, and the memory after them.
 use Rattle.std.proofs.Common.{ℕ, ◌≡◌, List, [], ◌∷◌, ◌++◌, length, reverse, refl, sym, ap, ◌∙◌, inl, inr, Option, Some, None, true, false}
 use Rattle.std.specs.Prelude.{if◌then◌else◌}
 use Rattle.std.specs.List.{find, All}
@@ -20,7 +20,7 @@ use Rattle.mig_mem.proofs.Images.{image_agree, image_from, image_is, with_page-i
 
 -- ---- the last page at a place
 
--- of two lists one after the other, the second counts
+-- of two lists one after another, the second counts
 pub last_at-append : (p : Place) (xs ys : List Page) → last_at p (xs ++ ys) ≡ option_or (last_at p ys) (last_at p xs)
 unfolding last_at
 last_at-append p xs ys =

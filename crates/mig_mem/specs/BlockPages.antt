@@ -14,7 +14,7 @@ page_at b i = slice_index_or b.pages i []
 abbrev pub with_content : BlockPages → ℕ → List ℕ → BlockPages
 with_content b i content = record b { pages = slice_set b.pages i content }
 
--- the pages are parts of the bytes that are kept
+-- the pages are parts of the bytes
 pub record ArePages (size : ℕ) (slots bytes : List ℕ) (capacity : ℕ) : Type 0 where
   pub is_size : IsPageSize size
   pub are_parts : AreParts size slots bytes capacity

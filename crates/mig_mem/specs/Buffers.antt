@@ -17,7 +17,7 @@ pages_of_block blocks i = slice_index_or blocks i (record { size = 0; pages = []
 abbrev pub held_at : List BlockPages → Place → List ℕ
 held_at blocks p = page_at (pages_of_block blocks p.block) p.page
 
--- as many pages as the table says, of its size
+-- as many pages as the table says, each of the page size
 pub record HasPages (size count : ℕ) (pages : BlockPages) : Type 0 where
   pub same_size : pages.size ≡ size
   pub same_count : length pages.pages ≡ count

@@ -14,25 +14,25 @@ pub record Image : Type 0 where
   pub table : RamTable
   pub pages : List Page
 
--- A memory has one page for each place of its table, in their order and no others, each of the
--- table's page size. That the table is a lawful one is asked beside it.
+-- A memory has one page for each place of its table, in the order of the places, and no other. Each
+-- has the table's page size. `IsTable` says beside it that the table is lawful.
 pub record IsImage (m : Image) : Type 0 where
   pub has_places : map (λ x. x.place) m.pages ≡ places m.table
   pub has_sizes : All (λ x. length x.content ≡ m.table.page_size) m.pages
 
--- what a memory holds at a place, None where its table has no such place
+-- what a memory holds at a place, or None for a place outside its table
 unfoldable pub content : Image → Place → Option (List ℕ)
 content m p = option_map (λ x. x.content) (find (λ x. place_eq x.place p) m.pages)
 
--- what it holds at a place of its table
+-- the content at a place of the table
 abbrev pub content_at : Image → Place → List ℕ
 content_at m p = unwrap_or (content m p) []
 
--- the pages at some places, of a given content each
+-- the pages at these places, with the content that the function gives
 unfoldable pub pages_of : (Place → List ℕ) → List Place → List Page
 pages_of f ps = map (λ p. record { place = p; content = f p }) ps
 
--- the memory with a given content at each place of a table, and nothing elsewhere
+-- the memory with the content that the function gives at each place of a table
 abbrev pub image_of : RamTable → (Place → List ℕ) → Image
 image_of table f = record { table = table; pages = pages_of f (places table) }
 
@@ -47,7 +47,7 @@ zero_image table = image_of table (λ _. zero_page table.page_size)
 abbrev pub with_page : Image → Place → List ℕ → Image
 with_page m p bytes = image_of m.table (λ q. if place_eq q p then bytes else content_at m q)
 
--- the memory with another byte at an offset in a block
+-- the memory with another byte, `offset` bytes into a block
 abbrev pub with_byte : Image → ℕ → ℕ → ℕ → Image
 with_byte m b offset byte =
     let p = place_at b (offset / m.table.page_size) in
@@ -57,7 +57,7 @@ with_byte m b offset byte =
 abbrev pub differs : Image → Image → Place → Bool
 differs a b p = not (bytes_eq (content_at a p) (content_at b p))
 
--- the first page of a block where they differ
+-- the first page of a block where two memories differ
 pub record IsFirstDifference (a b : Image) (at page : ℕ) : Type 0 where
   pub has_page : page < (block a.table.blocks at).pages
   pub here : differs a b (place_at at page) ≡ true

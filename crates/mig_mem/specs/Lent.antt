@@ -11,7 +11,7 @@ use Rattle.mig_mem.specs.Parts.{part_at}
 abbrev pub lent_bytes : List (Bor (List ℕ)) → List (List ℕ)
 lent_bytes blocks = map (λ b. b.now) blocks
 
--- and of blocks that are lent for writing
+-- the bytes of blocks that are lent for writing
 abbrev pub mut_lent_bytes : List (MutBor (List ℕ)) → List (List ℕ)
 mut_lent_bytes blocks = map (λ b. b.now) blocks
 
@@ -19,7 +19,7 @@ mut_lent_bytes blocks = map (λ b. b.now) blocks
 abbrev pub bytes_of_block : List (List ℕ) → ℕ → List ℕ
 bytes_of_block blocks i = slice_index_or blocks i []
 
--- Bytes fit a table: those of each block are as many as its pages have, and no others are there.
+-- Bytes fit a table: there are bytes for each block, as many as its pages have, and no others.
 pub record FitTable (table : RamTable) (blocks : List (List ℕ)) : Type 0 where
   pub same_count : length blocks ≡ length table.blocks
   pub has_sizes : (i : ℕ) → i < length table.blocks → length (bytes_of_block blocks i) ≡ (block table.blocks i).pages * table.page_size
@@ -28,7 +28,7 @@ pub record FitTable (table : RamTable) (blocks : List (List ℕ)) : Type 0 where
 abbrev pub lent_at : ℕ → List (List ℕ) → Place → List ℕ
 lent_at page_size blocks p = part_at page_size (bytes_of_block blocks p.block) p.page
 
--- the memory that bytes which fit a table hold
+-- the memory in bytes that fit a table
 abbrev pub lent_image : RamTable → List (List ℕ) → Image
 lent_image table blocks = image_of table (lent_at table.page_size blocks)
 

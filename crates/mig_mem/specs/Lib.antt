@@ -1,4 +1,4 @@
--- To be read first, in this order.
+-- Read these first, in this order.
 pub mod PageSize
 pub mod RamTable
 pub mod First
@@ -10,7 +10,7 @@ pub mod PlaceSet
 pub mod Difference
 pub mod Tracking
 pub mod Lent
--- How the types keep their values: only contracts of the inside cite these.
+-- How the types keep their values. Only private contracts cite these.
 pub mod Packed
 pub mod Parts
 pub mod Leaves

@@ -41,17 +41,17 @@ pub record HasWords (table : RamTable) (rows : List (List ℕ)) : Type 0 where
   pub blocks : length rows ≡ length table.blocks
   pub pages : (i : ℕ) → i < length table.blocks → length (slice_index_or rows i []) ≡ ((block table.blocks i).pages + 63) / 64
 
--- and no mark past the pages of a block
+-- no mark after the last page of a block
 pub record AreMarks (table : RamTable) (rows : List (List ℕ)) : Type 0 where
   pub is_table : IsTable table
   pub has_room : HasWords table rows
   pub is_within : (i q : ℕ) → i < length table.blocks → (block table.blocks i).pages ≤ q → is_set (slice_index_or rows i []) q ≡ false
 
--- the word with a number, of the marks of a block's pages where two memories differ
+-- word `i` of the marks of a block's pages where two memories differ
 pub record IsDifferingWord (a b : Image) (at i word : ℕ) : Type 0 where
   pub bits : (k : ℕ) → k < 64 → (bit_at word k == 1) ≡ (nat_lt (i * 64 + k) (block a.table.blocks at).pages && differs a b (place_at at (i * 64 + k)))
 
--- and all its words
+-- all words of a block's marks where two memories differ
 pub record IsDifferingRow (a b : Image) (at : ℕ) (words : List ℕ) : Type 0 where
   pub len : length words ≡ ((block a.table.blocks at).pages + 63) / 64
   pub marks : (page : ℕ) → is_set words page ≡ (nat_lt page (block a.table.blocks at).pages && differs a b (place_at at page))

@@ -6,7 +6,7 @@ use Rattle.std.specs.Prelude.{ℕ, zero, suc, ◌≡◌, ◌≢◌, ◌<◌, ◌
 abbrev pub part_at : {T : Type 0} → ℕ → List T → ℕ → List T
 part_at size items i = take size (drop (i * size) items)
 
--- the numbers have this content at a part, and are as before at each other
+-- one part has this content, and every other is unchanged
 pub record ChangesPart {T : Type 0} (size : ℕ) (old new : List T) (part : ℕ) (content : List T) : Type 0 where
   pub len : length new ≡ length old
   pub here : part_at size new part ≡ content

@@ -21,7 +21,7 @@ IsAscending ps = AllPairs (λ p q. IsTrue (place_lt p q)) ps
 abbrev pub has_place : List Place → Place → Bool
 has_place ps p = list_any (λ q. place_eq q p) ps
 
--- the table has a page there
+-- the table has a page at the place
 pub record IsPlace (table : RamTable) (p : Place) : Type 0 where
   pub has_block : p.block < length table.blocks
   pub has_page : p.page < (block table.blocks p.block).pages

@@ -18,15 +18,15 @@ pub record IsPlaceSet (s : PlaceSet) : Type 0 where
 unfoldable pub places_where : RamTable → (Place → Bool) → List Place
 places_where table test = filter test (places table)
 
--- the set with a place in it, which may be there already; a place that the table lacks is not added
+-- The set with a place added, which may be there already. A place outside the table isn't added.
 abbrev pub with_place : PlaceSet → Place → PlaceSet
 with_place s p = record s { marked = places_where s.table (λ q. place_eq q p || has_place s.marked q) }
 
--- the set without a place, which may not have been there
+-- the set without a place, which may not be in it
 abbrev pub without_place : PlaceSet → Place → PlaceSet
 without_place s p = record s { marked = places_where s.table (λ q. has_place s.marked q && not (place_eq q p)) }
 
--- the first page of a block, from a page on, that is in the set
+-- the first page of a block in the set, from a page on
 pub record IsFirstIn (s : PlaceSet) (b from page : ℕ) : Type 0 where
   pub low : from ≤ page
   pub has : has_place s.marked (place_at b page) ≡ true

@@ -22,7 +22,7 @@ entry_block e = record { id = e.0.items; pages = e.1 }
 abbrev pub table_from : {A : Type 0} → ℕ → List (Vec ℕ A × ℕ) → RamTable
 table_from page_size list = record { page_size = page_size; blocks = map entry_block list }
 
--- the block of a number
+-- the block with a number
 abbrev pub block : List Block → ℕ → Block
 block blocks i = slice_index_or blocks i (record { id = []; pages = 0 })
 

@@ -9,7 +9,7 @@ use Rattle.mig_mem.specs.RamTable.{Block, RamTable, IsTable, block, is_id, max_b
 use Rattle.mig_mem.specs.declared.fault.TableFault.{TableFault}
 use Rattle.mig_mem.specs.declared.fault.TableFault.TheVariants.{NoBlocks, TooManyBlocks, Id, IdTwice, NoPages, TooLarge, NoMemory}
 
--- what is wrong with a block that stands after others
+-- what is wrong with an entry, given the entries before it
 unfoldable pub block_refusal : List Block → Block → Option TableFault
 block_refusal before b = first_some (
     then_some (not (is_id b.id)) (Id (length before))
@@ -17,11 +17,11 @@ block_refusal before b = first_some (
     ∷ (then_some (b.pages == 0) (NoPages (length before))
     ∷ [])))
 
--- what is wrong with the entry of a number
+-- what is wrong with the entry with a number
 abbrev pub entry_refusal : List Block → ℕ → Option TableFault
 entry_refusal blocks i = block_refusal (take i blocks) (block blocks i)
 
--- Why these blocks are no table: the first that applies. Of the entries the first bad one is named.
+-- Why these blocks are no table: the first reason that applies. It names the first bad entry.
 unfoldable pub refusal : RamTable → Option TableFault
 refusal table = first_some (
     then_some (length table.blocks == 0) NoBlocks
@@ -42,6 +42,6 @@ fault_number (NoPages i) = 5
 fault_number TooLarge = 6
 fault_number NoMemory = no_memory_number
 
--- A list is refused for no reason exactly where it is a lawful table.
+-- A list has no refusal exactly if it is a lawful table.
 abbrev pub TableIsLawful : Type 0
 TableIsLawful = (table : RamTable) → IsPageSize table.page_size → (refusal table ≡ None) ↔ IsTable table

@@ -15,7 +15,7 @@ pub record Snapshot : Type 0 where
 abbrev pub AreImagesOf : RamTable → List Snapshot → Type 0
 AreImagesOf table ss = All (λ s. IsImage s.image × (s.image.table ≡ table)) ss
 
--- the round that each snapshot gives
+-- the round of each snapshot
 abbrev pub rounds_of : List Snapshot → List (List Page)
 rounds_of ss = map (λ s. round_of s.image s.dirty) ss
 
@@ -23,14 +23,14 @@ rounds_of ss = map (λ s. round_of s.image s.dirty) ss
 abbrev pub HasChanges : Image → Snapshot → Type 0
 HasChanges before s = (p : Place) → IsPlace s.image.table p → content_at s.image p ≢ content_at before p → Contains s.dirty p
 
--- Tracking from an image on is faithful: each snapshot's dirty places have every page that changed
--- since the one before it. From a memory of zeros on: the first snapshot's have every page that
--- isn't zero.
+-- Tracking from an image on is faithful if each snapshot's dirty places have every page that
+-- changed since the image before. From a memory of zeros on, the first snapshot's have every page
+-- that isn't zeros.
 abbrev pub IsFaithful : Image → List Snapshot → Type 0
 IsFaithful before [] = ⊤
 IsFaithful before (s ∷ ss) = HasChanges before s × IsFaithful s.image ss
 
--- the image of the last snapshot, or the one before them all
+-- the image of the last snapshot, or the image before them if there is none
 abbrev pub last_image : Image → List Snapshot → Image
 last_image before [] = before
 last_image before (s ∷ ss) = last_image s.image ss

@@ -13,15 +13,15 @@ use rayon::prelude::*;
 use std::alloc::Allocator;
 use std::thread::Threads;
 
-// The fewest words of marks that are worth a thread: as many as 1,024 pages have.
+// The fewest words that are worth a thread: those of 1,024 pages.
 const FEWEST_WORDS: usize = 16;
 
-/// Returns the set of the places where two memories of one table have different contents.
-/// `Table::same` is the test of the tables.
+/// Returns the set of the places where two memories of one table have different contents. A caller
+/// tests the tables by `Table::same`.
 ///
-/// Threads compare the pages of a large block. What they find together is what one walk over all
-/// places finds: the least place of the set is what `first_difference` returns. A page that neither
-/// memory has written isn't read.
+/// Threads compare the pages of a large block. The result is that of one walk over all places: the
+/// least place of the set is what `first_difference` returns. A page that neither memory has
+/// written isn't read.
 ///
 /// # Errors
 ///
@@ -44,7 +44,7 @@ pub fn differences<
     Ok(Dirty::from_rows(table, rows))
 }
 
-// Returns the marks of the pages of a block where the two memories differ.
+// Returns the marks of the pages of `block` where the two memories differ.
 fn row<
     R: Threads + Sync,
     A: Allocator + Sync,
@@ -71,7 +71,7 @@ fn row<
     Ok(row)
 }
 
-// Returns the marks of up to 64 pages of a block, those of one word.
+// Returns the marks of up to 64 pages of `block`: those of word `i`.
 fn word<A: Allocator, B: Allocator>(a: &Memory<A>, b: &Memory<B>, block: usize, i: u64) -> u64
     requires same { a.now.table ≡ b.now.table }
     requires has_block { block < length a.now.table.blocks }

@@ -8,8 +8,8 @@ ghost use Rattle.mig_mem.specs.Image.{differs, IsFirstDifference};
 use crate::{Memory, Place};
 use std::alloc::Allocator;
 
-/// Returns the least place where two memories of one table have different contents. `Table::same`
-/// is the test of the tables.
+/// Returns the least place where two memories of one table have different contents. A caller tests
+/// the tables by `Table::same`.
 pub fn first_difference<A: Allocator, B: Allocator>(a: &Memory<A>, b: &Memory<B>) -> Option<Place>
     requires { a.now.table ≡ b.now.table }
     ensures { result ≡ find (differs a.now b.now) (places a.now.table) }
@@ -22,7 +22,7 @@ pub fn first_difference<A: Allocator, B: Allocator>(a: &Memory<A>, b: &Memory<B>
     None
 }
 
-// Returns the first page of a block where the two memories differ.
+// Returns the first page of `block` where the two memories differ.
 fn first_page<A: Allocator, B: Allocator>(a: &Memory<A>, b: &Memory<B>, block: usize) -> Option<u64>
     requires same { a.now.table ≡ b.now.table }
     requires has_block { block < length a.now.table.blocks }
@@ -38,7 +38,7 @@ fn first_page<A: Allocator, B: Allocator>(a: &Memory<A>, b: &Memory<B>, block: u
     None
 }
 
-/// Returns whether two memories have the same content at a place. If neither was written there, no
+/// Returns whether two memories have the same content at `place`. If neither was written there, no
 /// byte is read.
 pub(crate) fn is_same_at<A: Allocator, B: Allocator>(
     a: &Memory<A>,

@@ -14,6 +14,21 @@ use std::marker::Model;
 
 /// A set of the places of a table: which pages are dirty, as in QEMU's dirty bitmap
 /// (`RAMBlock.bmap`).
+///
+/// # Examples
+///
+/// A guest writes a byte, and its page is marked:
+///
+/// <!-- quoted from crates/mig_uses/src/live_guest.rt -->
+/// ```rust
+/// let page = offset / table.page_size();
+/// let place = Place { block, page };
+/// if !self.dirty.table().holds(place) {
+///     return false;
+/// }
+/// self.memory.set(block, offset, byte);
+/// self.dirty.mark(place).is_ok()
+/// ```
 #[derive(Drop)]
 pub struct Dirty<A: Allocator = Global> {
     table: Table<A>,
@@ -115,7 +130,7 @@ impl<A: Allocator + Copy> Dirty<A> {
 }
 
 impl<A: Allocator> Dirty<A> {
-    /// Creates the set of the places whose pages are marked.
+    /// Creates the set of the pages that `words` marks.
     pub(crate) fn from_rows(table: Table<A>, words: Vec<Vec<u64, A>, A>) -> Dirty<A>
         requires { AreMarks table (buffers_of words.items) }
         ensures { result ≡ set_in table words.items }
@@ -128,8 +143,8 @@ impl<A: Allocator> Dirty<A> {
         }
     }
 
-    /// Returns the table whose places may be in the set. The contract also says what a set keeps:
-    /// its places are the table's, ascending.
+    /// Returns the table of the set. The contract also says that the places of a set are the
+    /// table's, ascending.
     pub fn table(&self) -> &Table<A>
         ensures value { result.now ≡ self.now.table }
         ensures set { IsPlaceSet self.now }
@@ -137,8 +152,8 @@ impl<A: Allocator> Dirty<A> {
         &self.table
     }
 
-    /// Adds a place, and returns whether it is new. `Table::holds` is the test of the place. It
-    /// allocates nothing, and is always `Ok`.
+    /// Adds `place`, and returns whether it is new. A caller tests the place by `Table::holds`. The
+    /// call allocates nothing, and always returns `Ok`.
     pub fn mark(&mut self, place: Place) -> Result<bool, NoMemory>
         requires { IsPlace self.old.table place }
         ensures set { self.new ≡ with_place self.old place }
@@ -152,7 +167,7 @@ impl<A: Allocator> Dirty<A> {
         Ok(true)
     }
 
-    /// Removes a place from the set, if it is there. `Table::holds` is the test of the place.
+    /// Removes `place` from the set, if it is there. A caller tests the place by `Table::holds`.
     pub fn unmark(&mut self, place: Place)
         requires { IsPlace self.old.table place }
         ensures { self.new ≡ without_place self.old place }
@@ -164,7 +179,7 @@ impl<A: Allocator> Dirty<A> {
         self.count -= 1;
     }
 
-    /// Returns whether a place is in the set. A place that the table doesn't have is not.
+    /// Returns whether `place` is in the set. It is false for a place outside the table.
     pub fn has(&self, place: Place) -> bool
         ensures { result ≡ has_place self.now.marked place }
     {
@@ -187,9 +202,9 @@ impl<A: Allocator> Dirty<A> {
         self.count = 0;
     }
 
-    /// Returns the first place of the set that isn't before `from`. With it the set is walked in
-    /// ascending order without a list of its places. An empty set isn't walked: a round without
-    /// marks costs a large guest nothing.
+    /// Returns the first place of the set that isn't before `from`. With it a caller walks the set
+    /// in ascending order without a list of its places. On an empty set it returns at once, also
+    /// for a large guest.
     pub fn first_from(&self, from: Place) -> Option<Place>
         ensures { result ≡ find (λ p. not (place_lt p from)) self.now.marked }
     {
@@ -206,7 +221,7 @@ impl<A: Allocator> Dirty<A> {
         None
     }
 
-    // Returns the first page of a block, from page `from` on, that is in the set.
+    // Returns the first page of `block`, from page `from` on, that is in the set.
     fn first_in(&self, block: usize, from: u64) -> Option<u64>
         requires { block < length self.now.table.blocks }
         ensures some { IfSome result (λ page. IsFirstIn self.now block from page) }

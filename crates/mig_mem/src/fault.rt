@@ -16,7 +16,7 @@ pub enum TableFault {
     NoBlocks,
     /// There are more than 256 entries.
     TooManyBlocks,
-    /// The id isn't 1 to 255 bytes of 0x20 to 0x7E.
+    /// The id isn't 1 to 255 bytes, each from 0x20 to 0x7E.
     Id(usize),
     /// An earlier entry has the id.
     IdTwice(usize),
@@ -45,7 +45,7 @@ impl TableFault {
     }
 }
 
-/// Writes the fault's number and its words.
+/// Writes the fault's number and its message.
 impl Display for TableFault {
     fn fmt<W: fmt::Write>(&self, f: &mut Formatter<W>) -> fmt::Result {
         write!(f, "{}: ", self.number())?;
@@ -79,10 +79,10 @@ impl NoMemory {
     }
 }
 
-// The words of `NoMemory`.
+// The message of `NoMemory`.
 const REFUSED: &str = "an allocation was refused";
 
-/// Writes the fault's number and its words.
+/// Writes the fault's number and its message.
 impl Display for NoMemory {
     fn fmt<W: fmt::Write>(&self, f: &mut Formatter<W>) -> fmt::Result {
         write!(f, "{}: ", self.number())?;

@@ -1,5 +1,5 @@
-//! What a sender asks of a guest's memory (`GuestPages`) and a loader (`GuestTarget`), whoever
-//! keeps it. Callers may implement both.
+//! The traits by which senders read a guest's memory (`GuestPages`) and loads write one
+//! (`GuestTarget`). Callers may implement both.
 
 ghost use Rattle.std.specs.Prelude.{◌≡◌, ◌↔◌, ◌<◌, All, map, length, IfSome, IsSome};
 ghost use Rattle.std.specs.Option.{option_copied};
@@ -13,8 +13,8 @@ use crate::{Memory, Place, RoundPage, Table};
 use std::alloc::Allocator;
 use std::thread::Threads;
 
-/// The memory of a guest that is read page by page: a `Memory`, or a `LentMemory` of bytes that
-/// another owns. It is one image as long as it is borrowed.
+/// Guest memory that is read page by page: a `Memory`, or a `LentMemory` of bytes that another
+/// owns. Its contents don't change as long as it is borrowed.
 pub trait GuestPages {
     /// The allocator of the table.
     type Alloc: Allocator;
@@ -22,8 +22,8 @@ pub trait GuestPages {
     /// The image that it holds.
     ghost image: { Self → Image };
 
-    /// Returns the table whose places have a content. The contract also says what a memory is: one
-    /// content of the page size for each place.
+    /// Returns the table of the memory. The contract also says that a memory has one content of the
+    /// page size for each place of it.
     fn table(&self) -> &Table<Self::Alloc>
         ensures value { result.now ≡ (image self.now).table }
         ensures image { IsImage (image self.now) };
@@ -49,9 +49,9 @@ impl<A: Allocator> GuestPages for Memory<A> {
     }
 }
 
-/// The memory of a guest into which pages are written: a `Memory`, or a `LentMemoryMut` of the
-/// caller's own bytes. A write allocates nothing, so it can't be refused. No call of the trait
-/// gives a page.
+/// Guest memory into which pages are written: a `Memory`, or a `LentMemoryMut` of the caller's own
+/// bytes. A write allocates nothing, so it can't be refused. The trait has no call that reads a
+/// page.
 pub trait GuestTarget {
     /// The allocator of the table.
     type Alloc: Allocator;
@@ -59,21 +59,21 @@ pub trait GuestTarget {
     /// The image that it holds.
     ghost image: { Self → Image };
 
-    /// Returns the table whose places have a content. The contract also says what a memory is: one
-    /// content of the page size for each place.
+    /// Returns the table of the memory. The contract also says that a memory has one content of the
+    /// page size for each place of it.
     fn table(&self) -> &Table<Self::Alloc>
         ensures value { result.now ≡ (image self.now).table }
         ensures image { IsImage (image self.now) };
 
-    /// Writes a complete page. `Table::holds` is the test of the place.
+    /// Writes a complete page. A caller tests the place by `Table::holds`.
     fn put_page(&mut self, place: Place, bytes: &[u8])
         requires place { IsPlace (image self.old).table place }
         requires bytes { length bytes.now ≡ (image self.old).table.page_size }
         ensures { image self.new ≡ with_page (image self.old) place bytes.now };
 
-    /// Makes a page zeros. Lent bytes that are zeros aren't written, and neither is a page of a
-    /// `Memory` that was never written. So such a page takes no memory from the system. No contract
-    /// says so.
+    /// Sets a page to zeros. Lent bytes that are zeros aren't written, and neither is a page of a
+    /// `Memory` that was never written. So such a page takes no memory from the system. The
+    /// contract doesn't say so.
     fn put_zero_page(&mut self, place: Place)
         requires { IsPlace (image self.old).table place }
         ensures { image self.new ≡ with_page (image self.old) place (zero_page (image self.old).table.page_size) };
@@ -97,11 +97,11 @@ impl<A: Allocator> GuestTarget for Memory<A> {
     }
 }
 
-/// The memory of a guest into which one call writes all pages of a round, by several threads.
+/// Guest memory into which one call writes all pages of a round, by several threads.
 pub trait ThreadedTarget: GuestTarget {
-    /// Writes the pages of a round by at most `threads` threads, the caller's thread among them.
-    /// All others have ended when the call returns. If a page comes more than once, the last one
-    /// counts. `Table::holds` is the test of each place.
+    /// Writes the pages of a round by at most `threads` threads, including the caller's. All others
+    /// have ended when the call returns. If a page comes more than once, the last one counts. A
+    /// caller tests each place by `Table::holds`.
     fn put_pages<R: Threads + Sync>(&mut self, rt: &R, threads: u64, pages: &[RoundPage<'_>])
         requires sync { IsSync R.row }
         requires threads { 0 < threads }

@@ -1,4 +1,4 @@
-//! A guest's memory whose bytes another owns, lent for reading. Callers of senders make one for
+//! A guest's memory in bytes that another owns, lent for reading. Callers of senders create one for
 //! each round of a paused guest.
 
 ghost use Rattle.std.specs.Prelude.{◌≡◌, ◌↔◌, IfSome, IsSome, IsTrue};
@@ -14,12 +14,24 @@ use std::marker::Model;
 
 /// The memory of a guest in bytes that its owner lends: one slice for each block, in the table's
 /// order, each with the block's pages one after another. Nothing is copied or allocated, so one can
-/// be made for each round.
+/// be created for each round.
 ///
-/// What is lent stays as it is while it is lent: nobody writes these bytes, neither this process
-/// nor a guest. So it serves for a guest that is paused, for a snapshot, or for pages that are
-/// write-protected meanwhile. If a guest runs on and writes its memory, let the loan end first, or
-/// copy each page and send it with `put_page` of a sender.
+/// While the bytes are lent nobody writes them, neither this process nor a guest. So a `LentMemory`
+/// is for a guest that is paused, for a snapshot, or for pages that are write-protected meanwhile.
+/// If the guest runs on and writes its memory, end the loan first, or copy each page and send it by
+/// `put_page` of a sender.
+///
+/// # Examples
+///
+/// A page of a guest with one block is sent from the guest's own bytes:
+///
+/// <!-- quoted from crates/mig_uses/src/by_turns.rt -->
+/// ```rust
+/// let blocks = [guest];
+/// let memory = LentMemory::new(table, &blocks).expect(rt, "a memory");
+/// let dirty = places_of(rt.alloc(), table, &[at(0, page)]).expect(rt, "a set");
+/// assert!(rt; sender.round(rt, &memory, &dirty, &OpenGate) == Ok(()));
+/// ```
 #[derive(Drop)]
 pub struct LentMemory<'a, A: Allocator = Global> {
     table: &'a Table<A>,
@@ -59,7 +71,7 @@ fn fit<A: Allocator>(table: &Table<A>, blocks: &[&[u8]]) -> bool
 }
 
 impl<'a, A: Allocator> LentMemory<'a, A> {
-    /// Returns the memory that these bytes are. None exactly if they don't fit the table.
+    /// Creates the memory of these bytes. Returns None exactly if they don't fit the table.
     pub fn new(table: &'a Table<A>, blocks: &'a [&'a [u8]]) -> Option<LentMemory<'a, A>>
         ensures image { IfSome result (λ m. m ≡ lent_image table.now (lent_bytes blocks.now)) }
         ensures fits { IsSome result ↔ FitTable table.now (lent_bytes blocks.now) }

@@ -19,8 +19,20 @@ use std::thread::Threads;
 /// one slice for each block, in the table's order, each with the block's pages one after another.
 /// Nothing is copied or allocated.
 ///
-/// What the bytes hold at first is the memory at first: it need not be zeros. While they are lent
-/// nobody else reads or writes them: the guest doesn't run yet.
+/// The memory begins with what the bytes hold: they need not be zeros. While they are lent nobody
+/// else reads or writes them: the guest doesn't run yet.
+///
+/// # Examples
+///
+/// The pages of a round are written into blocks, by up to `threads` threads:
+///
+/// <!-- quoted from crates/mig_low_tests/src/threaded.rt -->
+/// ```rust
+/// let mut memory = LentMemoryMut::new(table, blocks)
+///     .ok()
+///     .expect(rt, "a memory");
+/// memory.put_pages(rt, threads, pages);
+/// ```
 #[derive(Drop)]
 pub struct LentMemoryMut<'a, 'b, A: Allocator = Global> {
     table: &'a Table<A>,
@@ -60,7 +72,7 @@ fn fit<A: Allocator>(table: &Table<A>, blocks: &[&mut [u8]]) -> bool
 }
 
 impl<'a, 'b, A: Allocator> LentMemoryMut<'a, 'b, A> {
-    /// Returns the memory that these bytes are.
+    /// Creates the memory of these bytes.
     ///
     /// # Errors
     ///
@@ -79,14 +91,14 @@ impl<'a, 'b, A: Allocator> LentMemoryMut<'a, 'b, A> {
         Ok(LentMemoryMut { table, blocks })
     }
 
-    /// Writes the pages of a round by at most `threads` threads, the caller's thread among them.
-    /// All others have ended when the call returns.
+    /// Writes the pages of a round by at most `threads` threads, including the caller's. All others
+    /// have ended when the call returns.
     ///
     /// If a page comes more than once, the last one counts. A page whose place is outside the table
     /// isn't written.
     ///
     /// The blocks are written one after another. A thread has about 1,024 pages of a block or more,
-    /// and no more threads are used than the round has pages for. So a round or a block of fewer
+    /// and there are no more threads than the round has pages for. So a round or a block of fewer
     /// than 2,048 pages is written by the caller's thread alone. Each thread walks all pages of the
     /// round, once for each block.
     pub fn put_pages<R: Threads + Sync>(&mut self, rt: &R, threads: u64, pages: &[RoundPage<'_>])
@@ -100,8 +112,8 @@ impl<'a, 'b, A: Allocator> LentMemoryMut<'a, 'b, A> {
         put_blocks(rt, self.blocks, size, threads, pages);
     }
 
-    /// Returns slices whose bytes are the memory. They are those that `new` was passed, each in its
-    /// place, which no contract says.
+    /// Returns slices whose bytes are the memory. They are the slices that `new` was passed, in
+    /// their order. The contract doesn't say so.
     pub fn into_blocks(self) -> &'a mut [&'b mut [u8]]
         ensures image { self.entry ≡ lent_image self.entry.table (mut_lent_bytes result.now) }
         ensures fits { FitTable self.entry.table (mut_lent_bytes result.now) }

@@ -1,8 +1,8 @@
 //! Guest memory: the table of RAM blocks, the content of each page, and sets of pages.
 //!
-//! This is the lowest layer. It knows no format: what a stream or a packet holds is said in the
-//! crates above, over the definitions that stand in `specs/` here. A contract sees a `Table` as a
-//! `RamTable`, a `Memory` as an `Image` and a `Dirty` as a `PlaceSet`, and never how they are kept.
+//! This is the lowest layer. It knows no format: the crates above say what a stream or a packet
+//! holds, by the definitions in `specs/` here. Contracts see a `Table` as a `RamTable`, a `Memory`
+//! as an `Image` and a `Dirty` as a `PlaceSet`, and never how they are kept.
 #![tactic(auto)]
 
 mod comparing;

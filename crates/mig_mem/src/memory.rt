@@ -14,6 +14,22 @@ use std::fmt;
 use std::marker::Model;
 
 /// The memory of a guest: the content of each page of its table.
+///
+/// # Examples
+///
+/// A memory of zeros, in which one byte is set. The contract of `set` requires that the byte
+/// exists:
+///
+/// <!-- quoted from crates/mig_uses/src/first.rt -->
+/// ```rust
+/// let mut memory = Memory::zeroed(alloc, &table).ok()?;
+/// // shows that the byte of `set` exists
+/// let table = memory.table();
+/// if table.len() == 0 || 4101 >= table.pages(0) * table.page_size() {
+///     return None;
+/// }
+/// memory.set(0, 4101, 7);
+/// ```
 #[derive(Drop)]
 pub struct Memory<A: Allocator = Global> {
     table: Table<A>,
@@ -76,8 +92,8 @@ impl<A: Allocator + Copy> Memory<A> {
 }
 
 impl<A: Allocator> Memory<A> {
-    /// Returns the table whose places have a content. The contract also says what a memory keeps:
-    /// one content of the page size for each place.
+    /// Returns the table of the memory. The contract also says that a memory has one content of the
+    /// page size for each place of it.
     pub fn table(&self) -> &Table<A>
         ensures value { result.now ≡ self.now.table }
         ensures image { IsImage self.now }
@@ -113,7 +129,7 @@ impl<A: Allocator> Memory<A> {
         Some(self.page_in(place))
     }
 
-    /// Writes a complete page. `Table::holds` is the test of the place.
+    /// Writes a complete page. A caller tests the place by `Table::holds`.
     pub fn put_page(&mut self, place: Place, bytes: &[u8])
         requires place { IsPlace self.old.table place }
         requires bytes { length bytes.now ≡ self.old.table.page_size }
@@ -122,8 +138,8 @@ impl<A: Allocator> Memory<A> {
         self.blocks[place.block].put(place.page, bytes);
     }
 
-    /// Makes a page zeros. It takes less time than writing zeros: a page that was never written is
-    /// zeros already.
+    /// Sets a page to zeros. It takes less time than writing zeros: a page that was never written
+    /// is zeros already.
     pub fn put_zero_page(&mut self, place: Place)
         requires { IsPlace self.old.table place }
         ensures { self.new ≡ with_page self.old place (zero_page self.old.table.page_size) }

@@ -1,5 +1,5 @@
-//! The sizes that a guest's page may have. Every crate above takes them from here. `mig_packet`,
-//! which stands on no crate of this repository, has a module of its own for them.
+//! The sizes that a guest's page may have, for every crate above. `mig_packet` uses no crate of
+//! this repository, and has a module of its own for them.
 
 ghost use Rattle.std.specs.Prelude.{◌↔◌, IsTrue};
 ghost use Rattle.mig_mem.specs.PageSize.{IsPageSize};
@@ -12,7 +12,7 @@ pub const PAGE_SIZE_8K: u64 = 8192;
 
 const _: () = prove!(PAGE_SIZE_4K == 4096 && PAGE_SIZE_8K == 8192);
 
-/// Returns whether pages of `size` bytes are handled.
+/// Returns whether `size` bytes are a page size that is handled: 4096 or 8192.
 pub fn is_page_size(size: u64) -> bool
     ensures { IsTrue result ↔ IsPageSize size }
 {

@@ -1,5 +1,5 @@
-//! The pages of a block, of which only those have bytes that were written. `Memory` keeps one such
-//! value for each block.
+//! The pages of a block. Only pages that were written have bytes of their own. `Memory` keeps one
+//! such value for each block.
 
 ghost use Rattle.std.specs.Prelude.{◌≡◌, ◌+◌, ◌*◌, ◌^◌, ◌<◌, ◌≤◌, length, replicate, slice_set, IfOk, IsTrue, vec_capacity};
 ghost use Rattle.mig_mem.specs.PageSize.{IsPageSize};
@@ -16,16 +16,15 @@ use std::marker::Model;
 // A page of zeros, of the largest page size (8 KiB).
 const ZEROS: [u8; 8192] = [0; 8192];
 
-/// The pages of a block. A page has bytes of its own from the first time on that it is written.
-/// Until then it is zeros. The room for all pages is there from the start, and isn't touched before
-/// it is needed.
+/// The pages of a block. A page has bytes of its own from its first write on, and is zeros until
+/// then. The room for all pages is reserved from the start, and isn't touched before it is needed.
 #[derive(Drop)]
 pub(crate) struct Pages<A: Allocator> {
     size: u64,
-    // for each page which of those with bytes it is, from 1 on in the order of their first writes,
-    // or 0 where it has none
+    // for each page the slot of its bytes, from 1 on in the order of first writes, or 0 if it has
+    // none
     slots: Slots<A>,
-    // the pages that have bytes, one after another
+    // the bytes of the slots, one page after another
     bytes: Vec<u8, A>,
 }
 
@@ -58,7 +57,7 @@ fn front(zeros: &[u8], len: u64) -> &[u8]
     &zeros[..len as usize]
 }
 
-/// Makes a page of a block's bytes zeros. A page that is zeros isn't written.
+/// Sets a page of a block's bytes to zeros. A page that is zeros isn't written.
 pub(crate) fn clear_part(bytes: &mut [u8], size: u64, page: u64)
     requires size { IsPageSize size }
     requires room { page * size + size ≤ length bytes.old }
@@ -133,7 +132,7 @@ impl<A: Allocator> Pages<A> {
         }
     }
 
-    /// Makes a page zeros. It allocates nothing, and touches no page that was never written.
+    /// Sets a page to zeros. It allocates nothing, and touches no page that was never written.
     pub(crate) fn put_zeros(&mut self, i: u64)
         requires { i < length self.old.pages }
         ensures { self.new ≡ with_content self.old i (zero_page self.old.size) }

@@ -1,12 +1,12 @@
-//! A list in runs of one length, one after another. `Pages` keeps pages so, `Slots` leaves, and
-//! lent memory is read and written so.
+//! A list in parts of one length, one after another. `Pages` keeps pages so, and `Slots` leaves.
+//! Lent memory is read and written so.
 
 ghost use Rattle.std.specs.Prelude.{◌≡◌, ◌+◌, ◌*◌, ◌<◌, ◌≤◌, ◌++◌, length, slice_set, vec_capacity, vec_len};
 ghost use Rattle.mig_mem.specs.Parts.{part_at, ChangesPart};
 
 use std::alloc::Allocator;
 
-/// Returns a part of some items.
+/// Returns part `part` of `items`, each part of which has `size` of them.
 pub(crate) fn part_of<T>(items: &[T], size: u64, part: u64) -> &[T]
     requires { part * size + size ≤ length items.now }
     ensures { result.now ≡ part_at size items.now part }
@@ -15,7 +15,7 @@ pub(crate) fn part_of<T>(items: &[T], size: u64, part: u64) -> &[T]
     &items[start..start + size as usize]
 }
 
-/// Writes a part of some items.
+/// Writes part `part` of `items`.
 pub(crate) fn write_part<T: Copy>(items: &mut [T], size: u64, part: u64, content: &[T])
     requires room { part * size + size ≤ length items.old }
     requires len { length content.now ≡ size }
@@ -33,7 +33,7 @@ fn write_item<T: Copy>(items: &mut [T], at: u64, item: T)
     items[at as usize] = item;
 }
 
-/// Writes one item of a part.
+/// Writes one item of part `part`, `offset` items into it.
 pub(crate) fn write_in_part<T: Copy>(items: &mut [T], size: u64, part: u64, offset: u64, item: T)
     requires room { part * size + size ≤ length items.old }
     requires offset { offset < size }
@@ -42,7 +42,7 @@ pub(crate) fn write_in_part<T: Copy>(items: &mut [T], size: u64, part: u64, offs
     write_item(items, part * size + offset, item);
 }
 
-/// Appends items for which there is room.
+/// Appends `more`, for which `kept` has room.
 pub(crate) fn append<T: Copy, A: Allocator>(kept: &mut Vec<T, A>, more: &[T])
     requires { vec_len kept.old + length more.now ≤ vec_capacity kept.old }
     ensures items { kept.new.items ≡ kept.old.items ++ more.now }
@@ -52,7 +52,7 @@ pub(crate) fn append<T: Copy, A: Allocator>(kept: &mut Vec<T, A>, more: &[T])
     kept.extend_from_slice(more).unwrap();
 }
 
-/// Appends items for which there is room, with another one in the place of one of them.
+/// Appends `more`, for which `kept` has room, with `item` in the place of one of them.
 pub(crate) fn append_with<T: Copy, A: Allocator>(
     kept: &mut Vec<T, A>,
     more: &[T],

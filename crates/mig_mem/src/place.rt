@@ -1,4 +1,4 @@
-//! Where a page is: its block and its number there. Every crate names pages by it.
+//! Where a page is: its block, and its number in the block. Every crate names pages by it.
 
 ghost use Rattle.std.specs.Prelude.{◌≡◌};
 

@@ -1,8 +1,8 @@
-//! Writes the pages of a round into lent blocks by several threads. Each thread has a part of a
-//! block for itself.
+//! Writes the pages of a round into lent blocks by several threads. Each thread writes a part of a
+//! block that no other writes.
 //!
 //! Each thread walks all pages of the round, in their order, and writes those that lie in its part.
-//! So the pages need no sorting and no memory. Of a page that comes twice the last one counts.
+//! So the pages need no sorting and no memory. If a page comes twice, the last one counts.
 
 ghost use Rattle.std.specs.Prelude.{ℕ, [], ◌∷◌, ◌≡◌, ◌/◌, ◌<◌, ◌≤◌, ◌^◌, length, map, All};
 ghost use Rattle.mig_mem.specs.Lent.{mut_lent_bytes, bytes_of_block, lent_image, FitTable};
@@ -17,7 +17,7 @@ use crate::parts::write_part;
 use std::thread::Threads;
 use std::{fmt, thread};
 
-// To start a thread for fewer pages than these takes longer than to write them.
+// The fewest pages that are worth a thread: starting one takes longer than writing fewer.
 const FEWEST: u64 = 1024;
 
 /// A page of a round, as `LentMemoryMut::put_pages` takes it.
@@ -35,8 +35,8 @@ impl<'a> fmt::Debug for RoundPage<'a> {
     }
 }
 
-// Returns how many pages of a block each thread has: of a block of `pages` pages, for a round of
-// `round` pages.
+// Returns how many pages of a block each thread writes, if the block has `pages` pages and the
+// round `round`.
 fn pages_each(pages: u64, round: u64, threads: u64) -> u64
     requires { 0 < threads }
     ensures { (0 < result) × (result ≤ 2 ^ 40) }
@@ -45,7 +45,7 @@ fn pages_each(pages: u64, round: u64, threads: u64) -> u64
     pages.div_ceil(useful).max(1).min(1 << 40)
 }
 
-// Writes a page where it lies in a part of a block. The part begins at page `first` of the block.
+// Writes `page` if it lies in the part of `block` that begins at page `first`.
 fn put_one(part: &mut [u8], size: u64, block: usize, first: u64, page: &RoundPage<'_>)
     requires size { IsPageSize size }
     requires len { HasPageSize size page.now }
@@ -62,7 +62,7 @@ fn put_one(part: &mut [u8], size: u64, block: usize, first: u64, page: &RoundPag
     }
 }
 
-// Writes the pages that lie in a part of a block. The part begins at page `first` of the block.
+// Writes those of `pages` that lie in the part of `block` that begins at page `first`.
 fn put_within(part: &mut [u8], size: u64, block: usize, first: u64, pages: &[RoundPage<'_>])
     requires size { IsPageSize size }
     requires sizes { All (HasPageSize size) pages.now }
@@ -73,8 +73,8 @@ fn put_within(part: &mut [u8], size: u64, block: usize, first: u64, pages: &[Rou
     }
 }
 
-// Writes the pages that lie in a block, whose bytes are `bytes`, by a thread for each `count` pages
-// of the block.
+// Writes those of the round's pages that lie in one block, whose bytes are `bytes`. A thread writes
+// `count` pages of the block.
 fn put_block<R: Threads + Sync>(
     rt: &R,
     bytes: &mut [u8],
@@ -101,8 +101,7 @@ fn put_block<R: Threads + Sync>(
     );
 }
 
-/// Writes the pages that lie in the blocks, one block after another, each by at most `threads`
-/// threads.
+/// Writes the pages of a round, one block after another, each by at most `threads` threads.
 pub(crate) fn put_blocks<R: Threads + Sync>(
     rt: &R,
     blocks: &mut [&mut [u8]],

@@ -1,5 +1,4 @@
-//! Judges the list that is passed for a table, for `Table::new`; and what an id may be, which
-//! readers of streams ask too.
+//! Tests the list that `Table::new` is passed, and a block's id, which readers of streams test too.
 
 ghost use Rattle.std.specs.Prelude.{◌≡◌, ◌≤◌, ◌*◌, ◌^◌, length, map};
 ghost use Rattle.std.specs.List.{list_any, list_all, range_with_len};
@@ -19,7 +18,7 @@ fn is_printable(bytes: &[u8]) -> bool
     bytes.iter().all(|b| 0x20 <= *b && *b <= 0x7E)
 }
 
-/// Returns whether these bytes may be a block's id: 1 to 255 bytes of 0x20 to 0x7E.
+/// Returns whether `id` may be a block's id: 1 to 255 bytes, each from 0x20 to 0x7E.
 #[tactic(auto, unfolding(crate::specs::RamTable::is_id))]
 pub fn is_id(id: &[u8]) -> bool
     ensures { result ≡ is_id id.now }
@@ -42,7 +41,7 @@ fn has_id<A: Allocator>(list: &[(Vec<u8, A>, u64)], id: &[u8]) -> bool
     has_entry(list, id)
 }
 
-// Returns what is wrong with a block that stands after the entries before.
+// Returns what is wrong with an entry, given the entries before it.
 #[tactic(auto, unfolding(crate::specs::Refusal::block_refusal))]
 fn block_fault<A: Allocator>(
     before: &[(Vec<u8, A>, u64)],
@@ -88,7 +87,7 @@ fn total_pages<A: Allocator>(list: &[(Vec<u8, A>, u64)]) -> u128
     total
 }
 
-/// Returns the first reason why the list is no table, memory aside.
+/// Returns the first reason why the list is no table, or None. It doesn't look at memory.
 #[tactic(auto, unfolding(crate::specs::Refusal::refusal))]
 pub(crate) fn fault<A: Allocator>(page_size: u64, list: &[(Vec<u8, A>, u64)]) -> Option<TableFault>
     requires { IsPageSize page_size }

@@ -1,5 +1,5 @@
-//! A long list of numbers that allocates only where it was written. `Pages` keeps in it where each
-//! page's bytes are.
+//! A long list of numbers that takes memory only where it was written. `Pages` keeps in it where
+//! each page's bytes are.
 
 ghost use Rattle.std.specs.Prelude.{◌≡◌, ◌^◌, ◌<◌, ◌≤◌, length, replicate, slice_index, slice_set, IfOk};
 
@@ -14,15 +14,15 @@ const LEAF: u64 = 512;
 // A leaf of zeros.
 const ZEROS: [u64; 512] = [0; 512];
 
-/// Numbers that are 0 until they are written. The room for all of them is there from the start. A
-/// leaf of 512 of them isn't touched before one of its numbers is written.
+/// Numbers that are 0 until they are written, in leaves of 512. The room for all of them is
+/// reserved from the start. A leaf isn't touched before one of its numbers is written.
 #[derive(Drop)]
 pub(crate) struct Slots<A: Allocator> {
     count: u64,
-    // for each leaf which of those in memory it is, from 1 on in the order of their first writes,
-    // or 0 where it isn't
+    // for each leaf its slot in `numbers`, from 1 on in the order of first writes, or 0 if it has
+    // none
     leaves: Vec<u64, A>,
-    // the leaves in memory, one after another
+    // the leaves that were written, one after another
     numbers: Vec<u64, A>,
 }
 

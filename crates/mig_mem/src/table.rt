@@ -1,5 +1,5 @@
-//! The table of a guest's memory: its page size and its RAM blocks. Callers make one, or the reader
-//! of a stream does of its size list.
+//! The table of a guest's memory: its page size and its RAM blocks. Callers create one, or the
+//! reader of a stream creates one from the size list.
 
 ghost use Rattle.std.specs.Prelude.{◌≡◌, ◌*◌, ◌^◌, ◌<◌, ◌≤◌, ◌⊎◌, ◌↔◌, length, IfOk, IfErr, IfSome, OnOk, IsTrue, None, Some};
 ghost use Rattle.mig_mem.specs.PageSize.{IsPageSize};
@@ -38,15 +38,29 @@ struct Entry {
     block: usize,
 }
 
-/// The table of a guest's memory: what a migration knows of QEMU's `RAMBlock` list. Blocks are
-/// numbered from 0, in the order of the list.
+/// The table of a guest's memory: the page size and the RAM blocks (QEMU's `RAMBlock` list). Blocks
+/// are numbered from 0, in the order of the list.
+///
+/// # Examples
+///
+/// A table of two blocks, of one page and of two:
+///
+/// <!-- quoted from crates/mig_tests/src/lent.rt -->
+/// ```rust
+/// let first = Vec::from_slice(alloc, b"a").ok()?;
+/// let second = Vec::from_slice(alloc, b"b").ok()?;
+/// let mut blocks = Vec::new(alloc);
+/// blocks.push((first, 1)).ok()?;
+/// blocks.push((second, 2)).ok()?;
+/// Table::new(alloc, PAGE_SIZE_4K, blocks).ok()
+/// ```
 #[derive(Drop)]
 pub struct Table<A: Allocator = Global> {
     page_size: u64,
     ids: Vec<u8, A>,
     spans: Vec<Span, A>,
     // The blocks in the order of their ids' fronts, then of their ids. It says where to look for an
-    // id first, and no contract rests on it.
+    // id first. No contract relies on it.
     order: Vec<Entry, A>,
 }
 
@@ -79,8 +93,8 @@ fn id_of<'a>(ids: &'a [u8], spans: &[Span], i: usize) -> &'a [u8] {
     rest.get(..span.len).unwrap_or_default()
 }
 
-// Returns the first sixteen bytes of an id as one number. Ids share it only where both have sixteen
-// bytes and more: no byte of an id is zero, so a shorter one is a number with fewer bytes.
+// Returns the first sixteen bytes of an id as one number. Two ids share it only if both have
+// sixteen bytes or more: no byte of an id is zero, so a shorter id is a number with fewer bytes.
 fn front_of(id: &[u8]) -> u128 {
     match id.first_chunk::<16>() {
         Some(front) => u128::from_be_bytes(*front),
@@ -97,8 +111,8 @@ fn number_of(bytes: &[u8]) -> u128 {
     number
 }
 
-// Compares two ids that share a front: by their lengths, and where these are equal by eight bytes
-// at a time. The last eight bytes have all that the whole words leave.
+// Compares two ids that share a front: by their lengths, then by eight bytes at a time, and in the
+// end by their last eight bytes, which include those that the whole words leave.
 fn compare_ids(a: &[u8], b: &[u8]) -> Ordering {
     if a.len() != b.len() {
         return a.len().cmp(&b.len());
@@ -140,9 +154,9 @@ fn order_of<A: Allocator>(alloc: A, ids: &[u8], spans: &[Span]) -> Result<Vec<En
     Ok(order)
 }
 
-// Returns the place of the last block whose front is at most `front`, or the first place. It is
-// found digit by digit, the highest first. The number of steps is known, so this becomes code
-// without a loop and without branches on fronts, which no processor could foretell.
+// Returns the index in `order` of the last block whose front is at most `front`, or 0. It finds the
+// index digit by digit, the highest first. The number of steps is fixed, so this compiles to code
+// without a loop and without branches on fronts, which a processor couldn't predict.
 fn last_up_to(order: &[Entry], front: u128) -> usize {
     let mut place = 0;
     for digit in [128, 64, 32, 16, 8, 4, 2, 1] {
@@ -185,13 +199,13 @@ fn packed_from<A: Allocator + Copy>(
 }
 
 impl<A: Allocator + Copy> Table<A> {
-    /// Creates the table of a list of ids with their numbers of pages, in the list's order.
-    /// `is_page_size` is the test of the page size.
+    /// Creates a table of a list of ids with their numbers of pages, in the list's order. A caller
+    /// tests the page size by `is_page_size`.
     ///
     /// # Errors
     ///
-    /// The first fault that applies, in the order of `TableFault`, or in place of any `NoMemory`:
-    /// an allocation was refused. The list is dropped.
+    /// The first fault that applies, in the order of `TableFault`. `NoMemory` may take the place of
+    /// any: an allocation was refused. The list is dropped.
     pub fn new(
         alloc: A,
         page_size: u64,
@@ -210,7 +224,7 @@ impl<A: Allocator + Copy> Table<A> {
 }
 
 impl<A: Allocator> Table<A> {
-    /// Copies the table: the same page size and blocks, in memory of another allocator.
+    /// Copies the table, with the same page size and blocks, into memory of another allocator.
     ///
     /// # Errors
     ///
@@ -261,8 +275,8 @@ impl<A: Allocator> Table<A> {
         self.spans.len()
     }
 
-    /// Shows that the table keeps the limits: of its page size, of its blocks and of their ids. It
-    /// does nothing, and is called where a proof needs that.
+    /// Shows that the table keeps the limits on its page size, its blocks and their ids. It does
+    /// nothing, and is called where a proof needs that.
     pub fn keeps_limits(&self)
         ensures { IsTable self.now }
     {
@@ -300,14 +314,15 @@ impl<A: Allocator> Table<A> {
         }
     }
 
-    // Finds the block if it is the last one with the front of `id`. None says nothing.
+    // Returns the block if it is the last one with the front of `id`. None doesn't say that there
+    // is none.
     fn find_by_front(&self, front: u128, id: &[u8]) -> Option<usize>
         ensures { IfSome result (λ i. block_of self.now.blocks id.now ≡ Some i) }
     {
         self.block_at(last_up_to(&self.order, front), id)
     }
 
-    // Finds the block if it is another one with that front, or none.
+    // Returns the block: by halving `order`, and if that finds none by comparing each one.
     fn find_otherwise(&self, front: u128, id: &[u8]) -> Option<usize>
         ensures { result ≡ block_of self.now.blocks id.now }
     {
@@ -317,7 +332,7 @@ impl<A: Allocator> Table<A> {
         }
     }
 
-    // Finds the block by halving the order. None says nothing.
+    // Returns the block by halving `order`. None doesn't say that there is none.
     fn find_ordered(&self, front: u128, id: &[u8]) -> Option<usize>
         ensures { IfSome result (λ i. block_of self.now.blocks id.now ≡ Some i) }
     {
@@ -326,7 +341,7 @@ impl<A: Allocator> Table<A> {
         self.block_at(place.ok()?, id)
     }
 
-    // Returns the block at a place of the order, if its id is `id`.
+    // Returns the block at index `place` of `order`, if its id is `id`.
     fn block_at(&self, place: usize, id: &[u8]) -> Option<usize>
         ensures { IfSome result (λ i. block_of self.now.blocks id.now ≡ Some i) }
     {
@@ -337,7 +352,7 @@ impl<A: Allocator> Table<A> {
         None
     }
 
-    // Finds the block by asking each one.
+    // Returns the block by comparing each one.
     fn find_in_turn(&self, id: &[u8]) -> Option<usize>
         ensures { result ≡ block_of self.now.blocks id.now }
     {
@@ -349,7 +364,7 @@ impl<A: Allocator> Table<A> {
         None
     }
 
-    /// Returns whether the table has a page there.
+    /// Returns whether the table has a page at `place`.
     pub fn holds(&self, place: Place) -> bool
         ensures { IsTrue result ↔ IsPlace self.now place }
     {

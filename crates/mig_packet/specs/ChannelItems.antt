@@ -1,4 +1,4 @@
--- The items of a channel that has ended: what a relay passes on, one after another.
+-- The items of a channel that has ended, which a relay passes on, one after another.
 use Rattle.std.specs.Prelude.{◌≡◌, ℕ, true, List, [], ◌∷◌, ◌++◌, map, flat_map, Option, Some, None}
 use Rattle.mig_packet.specs.declared.fault.ChannelFault.{ChannelFault}
 use Rattle.mig_packet.specs.declared.state.ChannelState.{ChannelState}
@@ -7,8 +7,8 @@ use Rattle.mig_packet.specs.Packet.{Fields, fields_of}
 use Rattle.mig_packet.specs.Progress.{ChannelProgress, start}
 use Rattle.mig_packet.specs.Reading.{Reads, state_at, Settings}
 
--- an item: the id that the hello names, what a packet says, or the stop, with the fault of a
--- channel that isn't closed
+-- an item: the id in the hello, the fields of a packet, or the stop, with the fault of a channel
+-- that isn't closed
 pub data ChannelItem : Type 0 where
   Hello : ℕ → ChannelItem
   Page : Fields → ChannelItem
@@ -30,8 +30,8 @@ all_packets c = flat_map (λ round. round) c.rounds ++ c.packets
 abbrev pub items_of : ChannelProgress → ChannelState → List ChannelItem
 items_of c state = item_of_hello c.hello ++ map (λ packet. Page (fields_of c.page_size packet)) (all_packets c) ++ item_of_stop state
 
--- These are the items of a channel that has ended: its hello where that is in the front, each
--- packet of the front, then one stop.
+-- These are the items of a channel that has ended: its hello if that is in the front, each packet
+-- of the front, then one stop.
 pub record AreItems (given : Settings) (text : List ℕ) (items : List ChannelItem) : Type 0 where
   pub to : ChannelProgress
   pub rest : List ℕ

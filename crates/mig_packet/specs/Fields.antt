@@ -1,4 +1,4 @@
--- Big-endian numbers: how they are spelled, and how they are read at a place in some bytes.
+-- Big-endian numbers: how they are written, and how they are read at an offset of some bytes.
 use Rattle.std.specs.Prelude.{ℕ, ◌+◌, List, slice_range}
 use Rattle.std.specs.Int.{w32, w64, to_be_bytes, from_be_bytes}
 

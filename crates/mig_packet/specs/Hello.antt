@@ -1,4 +1,4 @@
--- The hello: the 64 bytes that each channel begins with. QEMU's `MultiFDInit_t`.
+-- The hello: the 64 bytes with which each channel begins. QEMU's `MultiFDInit_t`.
 use Rattle.std.specs.Prelude.{◌≡◌, ℕ, Bool, not, nat_le, ◌==◌, bytes_eq, if◌then◌else◌, List, [], ◌∷◌}
 use Rattle.std.specs.Prelude.{◌++◌, length, get_or, Option, None, slice_range, replicate}
 use Rattle.mig_packet.specs.declared.fault.ChannelFault.{ChannelFault}
@@ -22,8 +22,8 @@ pub record IsHello (uuid : List ℕ) (id : ℕ) (bytes : List ℕ) : Type 0 wher
 abbrev pub written_hello : List ℕ → ℕ → List ℕ
 written_hello uuid id = be32 0x11223344 ++ (be32 1 ++ (uuid ++ (id ∷ replicate 39 0)))
 
--- what may be wrong with a hello's bytes, where so many channels are expected under this UUID, in
--- the order of judging
+-- the faults of a hello's bytes, of one of `channels` channels under this UUID, in the order of the
+-- tests
 abbrev pub hello_faults : List ℕ → ℕ → List ℕ → List (Bool × ChannelFault)
 hello_faults uuid channels bytes =
     (not (be32_at 0 bytes == 0x11223344), fault.HelloMagic) ∷
@@ -31,6 +31,6 @@ hello_faults uuid channels bytes =
     (not (bytes_eq (slice_range bytes 8 24) uuid), fault.HelloUuid) ∷
     (nat_le channels (get_or bytes 24 0), fault.HelloId) ∷ []
 
--- the fault that is due: none before all bytes of a hello are there
+-- the fault that is known: none before all bytes of a hello are there
 abbrev pub due_hello_fault : List ℕ → ℕ → List ℕ → Option ChannelFault
 due_hello_fault uuid channels bytes = if nat_le hello_len (length bytes) then first_of (hello_faults uuid channels bytes) else None

@@ -11,11 +11,11 @@ use Rattle.mig_packet.specs.Reading.{Front, ChannelReading, Settings, IsReading}
 use Rattle.mig_packet.specs.Reader.{HasState, IsSettled, HasFront, IsValidUpTo}
 use Rattle.mig_packet.specs.ChannelItems.{ChannelItem, AreItems}
 
--- What is written for a UUID and an id is a hello of them.
+-- The bytes that are written for a UUID and an id are a hello with them.
 abbrev pub WrittenHellosAreHellos : Type 0
 WrittenHellosAreHellos = (uuid : List ℕ) (id : ℕ) → length uuid ≡ 16 → IsHello uuid id (written_hello uuid id)
 
--- What is written for some fields that a packet can say is a packet that says these fields.
+-- The bytes that are written for fields within the limits are a packet with these fields.
 abbrev pub WrittenPacketsArePackets : Type 0
 WrittenPacketsArePackets = (page_size number : ℕ) (sync : Bool) (id normal contents zero : List ℕ) → IsWritable page_size number id normal contents zero
     → IsPacket page_size (written_packet page_size number sync id normal contents zero) (written_fields page_size number sync id normal contents zero)
@@ -45,8 +45,8 @@ pub record EndsWithSync (round : List (List ℕ)) : Type 0 where
   pub is_last : IsTrue (is_sync last)
 
 -- Each complete round is packets of the page size, and ends with its only SYNC packet. There is
--- none without a hello. A channel that has ended stands closed or bad. It is closed by its end
--- alone, and not without a hello.
+-- none without a hello. A channel that has ended is closed or bad. It is closed by its end alone,
+-- and not without a hello.
 pub record KeepsLimits (page_size : ℕ) (ended : Bool) (reading : ChannelReading) : Type 0 where
   pub end_with_sync : All EndsWithSync reading.rounds
   pub are_packets : All (All (IsPacketText page_size)) reading.rounds
@@ -59,15 +59,15 @@ abbrev pub ReadingsKeepLimits : Type 0
 ReadingsKeepLimits = (given : Settings) (text : List ℕ) (ended : Bool) (reading : ChannelReading) → IsPageSize given.page_size
     → IsReading given text ended reading → KeepsLimits given.page_size ended reading
 
--- ---- up to where bytes are valid
+-- ---- up to which byte a channel is valid
 
--- Bytes are valid up to exactly one place, and none of their fronts is longer.
+-- Bytes are valid up to exactly one offset, and none of their fronts is longer.
 abbrev pub IsValidUpToOnePlace : Type 0
 IsValidUpToOnePlace = (given : Settings) (text : List ℕ)
     → (n : ℕ) × IsValidUpTo given text n × (n ≤ length text)
     × ((m : ℕ) → HasFront given text m → m ≤ n) × ((m : ℕ) → IsValidUpTo given text m → m ≡ n)
 
--- Bytes that follow leave it where it was, or move it on. Once the bytes have a fault, it stays.
+-- More bytes leave the offset as it was, or increase it. Once the bytes have a fault, it stays.
 abbrev pub LongerTextsStayValid : Type 0
 LongerTextsStayValid = (given : Settings) (text more : List ℕ) (m n : ℕ) → IsValidUpTo given text m → IsValidUpTo given (text ++ more) n
     → (m ≤ n) × (IsSettled given text → m ≡ n)
@@ -76,8 +76,7 @@ LongerTextsStayValid = (given : Settings) (text more : List ℕ) (m n : ℕ) →
 abbrev pub ClosedIsValid : Type 0
 ClosedIsValid = (given : Settings) (text : List ℕ) (n : ℕ) → HasState given text true Closed → IsValidUpTo given text n → n ≡ length text
 
--- complete items without a fault are the first n bytes, and in the bytes after them this fault is
--- due
+-- the first n bytes are complete items without a fault, and the bytes after them have this fault
 pub record HasFaultAt (given : Settings) (text : List ℕ) (n : ℕ) (fault : ChannelFault) : Type 0 where
   pub to : ChannelProgress
   pub front : List ℕ

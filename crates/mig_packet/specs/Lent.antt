@@ -1,4 +1,4 @@
--- What a packet says that lends its bytes.
+-- The fields of a packet that borrows its bytes.
 use Rattle.mig_packet.specs.declared.packet.Packet.{Packet}
 use Rattle.mig_packet.specs.Packet.{Fields, fields_of}
 

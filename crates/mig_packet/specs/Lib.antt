@@ -1,5 +1,4 @@
--- To read first, in this order: a hello, a packet, and the one packet that is written for some
--- fields.
+-- To read first, in this order: a hello, a packet, and the packet that is written for some fields.
 pub mod PageSize
 pub mod Fields
 pub mod Faults
@@ -9,8 +8,8 @@ pub mod PacketHead
 pub mod Written
 pub mod Lent
 pub mod FaultNumber
--- Then what stands at the beginning of bytes, how a channel's bytes are read, what a reader of them
--- stands for, and the laws.
+-- Then the hello or packet at the beginning of bytes, how a channel's bytes are read, what a reader
+-- of them stands for, and the laws.
 pub mod FrontRead
 pub mod Progress
 pub mod Reading
@@ -19,7 +18,7 @@ pub mod Paging
 pub mod Wanted
 pub mod ChannelItems
 pub mod Law
--- Of the inside: only contracts of private functions name these.
+-- Private: only contracts of private functions name these.
 pub mod Taking
 pub mod Later
 pub mod Filling

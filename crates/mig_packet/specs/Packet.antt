@@ -1,4 +1,4 @@
--- The layout of a packet, field by field at its place. QEMU's `MultiFDPacket_t`, with this
+-- The layout of a packet, field by field at its offset. QEMU's `MultiFDPacket_t`, with this
 -- project's count of zero pages.
 use Rattle.std.specs.Prelude.{◌≡◌, ◌≢◌, ℕ, ◌+◌, ◌*◌, ◌≤◌, Bool, not, nat_le, nat_lt, if◌then◌else◌, ◌==◌}
 use Rattle.std.specs.Prelude.{◌&&◌, List, [], ◌∷◌, length, map, Option, None, slice_range}
@@ -46,7 +46,7 @@ offset_at bytes i = be64_at (320 + 8 * i) bytes
 abbrev pub content_at : ℕ → List ℕ → ℕ → List ℕ
 content_at page_size bytes i = slice_range bytes (head_len page_size + i * page_size) (head_len page_size + i * page_size + page_size)
 
--- ---- what a packet says
+-- ---- the fields as one record
 
 -- a page by its offset in the block, with its content
 pub record NormalPage : Type 0 where
@@ -56,7 +56,7 @@ pub record NormalPage : Type 0 where
 pub record Fields : Type 0 where
   pub number : ℕ
   pub sync : Bool
-  -- the id of the block that all its pages are of
+  -- the id of the block of all its pages
   pub id : List ℕ
   pub normal : List NormalPage
   -- the offsets of the pages of zeros
@@ -71,8 +71,8 @@ fields_of page_size bytes = record {
   zero = map (offset_at bytes) (range_with_len (normal_count bytes) (zero_count bytes));
 }
 
--- Bytes are those of one packet. What this leaves out may be any bytes: pages_alloc,
--- next_packet_size where there are no normal pages, the reserved fields, what follows the id, and
+-- The bytes are those of one packet. Bytes that this doesn't name may have any values: pages_alloc,
+-- next_packet_size if there are no normal pages, the reserved fields, the bytes after the id, and
 -- the offsets that no page needs.
 pub record IsPacketText (page_size : ℕ) (bytes : List ℕ) : Type 0 where
   pub has_magic : be32_at 0 bytes ≡ 0x11223344
@@ -82,13 +82,13 @@ pub record IsPacketText (page_size : ℕ) (bytes : List ℕ) : Type 0 where
   pub has_size : normal_count bytes ≢ 0 → contents_len_in bytes ≡ normal_count bytes * page_size
   pub has_length : length bytes ≡ head_len page_size + normal_count bytes * page_size
 
--- Bytes are a packet that says this.
+-- The bytes are a packet with these fields.
 abbrev pub IsPacket : ℕ → List ℕ → Fields → Type 0
 IsPacket page_size bytes fields = IsPacketText page_size bytes × (fields ≡ fields_of page_size bytes)
 
--- ---- judging
+-- ---- tests
 
--- what may be wrong with a packet's head, in the order of judging
+-- the faults of a packet's head, in the order of the tests
 abbrev pub packet_faults : ℕ → List ℕ → List (Bool × ChannelFault)
 packet_faults page_size bytes =
     (not (be32_at 0 bytes == 0x11223344), fault.PacketMagic) ∷
@@ -97,6 +97,6 @@ packet_faults page_size bytes =
     (nat_lt (page_limit page_size) (normal_count bytes + zero_count bytes), fault.PageCount) ∷
     (not (normal_count bytes == 0) && not (contents_len_in bytes == normal_count bytes * page_size), fault.PacketSize) ∷ []
 
--- the fault that is due: none before the complete head is there, but also where pages are missing
+-- the fault that is known: none before the complete head is there; pages may be missing
 abbrev pub due_packet_fault : ℕ → List ℕ → Option ChannelFault
 due_packet_fault page_size bytes = if nat_le (head_len page_size) (length bytes) then first_of (packet_faults page_size bytes) else None

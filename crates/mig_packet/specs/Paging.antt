@@ -1,5 +1,5 @@
--- A reader of a channel that gives each page as soon as its bytes have come, before its packet and
--- its round are complete. What it stands for.
+-- A reader of a channel that gives each page once its bytes have come, before its packet and its
+-- round are complete; and what it stands for.
 use Rattle.std.specs.Prelude.{◌≡◌, ◌≢◌, ℕ, ◌+◌, ◌-◌, ◌*◌, ◌<◌, ◌≤◌, Bool, true, false, ◌==◌, if◌then◌else◌, List, [], ◌∷◌, ◌++◌}
 use Rattle.std.specs.Prelude.{length, map, Option, Some, None, IfSome, IsTrue, IsFalse, ⊤, ◌⊎◌}
 use Rattle.std.specs.List.{All, flat_map, range_with_len}
@@ -23,7 +23,7 @@ pub record OpenPacket : Type 0 where
   pub head : List ℕ
   pub pages : List NormalPage
 
--- The head is complete and without a fault, and the pages are the packet's first ones.
+-- The head is complete and without a fault, and the pages are the first of the packet.
 pub record IsOpenPacket (page_size : ℕ) (packet : OpenPacket) : Type 0 where
   pub is_head : IsPacketHead page_size packet.head
   pub has_few : length packet.pages ≤ normal_count packet.head
@@ -70,9 +70,9 @@ pub record PageHolder : Type 0 where
   pub packet : Option (List ℕ × ℕ)
   -- the bytes of the hello, the head or the page that isn't complete yet
   pub kept : List ℕ
-  -- the page that was given last, where the reader has its bytes
+  -- the page that was given last, if the reader has its bytes
   pub page : List ℕ
-  -- how the bytes taken stand, whether or not the channel was ended
+  -- the state of the bytes taken, whether or not the channel was ended
   pub found : ChannelState
   pub fed : ℕ
   pub ended : Bool
@@ -87,7 +87,7 @@ abbrev pub head_kept : Option (List ℕ × ℕ) → List ℕ
 head_kept None = []
 head_kept (Some packet) = packet.0
 
--- what was given once a reader gave this answer
+-- what was given, after this result
 abbrev pub with_came : Came → PageHolder → GivenSoFar → GivenSoFar
 with_came (came.Hello id) r so_far = record so_far { read = record so_far.read { hello = Some id } }
 with_came came.Head r so_far = record so_far { packet = Some (record { head = head_kept r.packet; pages = [] }) }
@@ -128,26 +128,26 @@ pub record Gives (given : Settings) (text : List ℕ) (so_far : GivenSoFar) (r :
   pub has_hello : r.hello ≡ so_far.read.hello
   pub has_packets : r.has_packets ≡ has_any so_far.read.packets
 
--- what is said of a reader by what it stands for alone
+-- a statement on a reader that depends on nothing else than what it stands for
 abbrev pub HolderTells : PageHolder → (Settings → List ℕ → GivenSoFar → Type 0) → Type 0
 HolderTells r says = (given : Settings) (text : List ℕ) (so_far : GivenSoFar) → Gives given text so_far r → says given text so_far
 
--- A call takes these bytes and gives this answer: whatever the reader gave before, it has given
--- that with the answer.
+-- A call takes these bytes and returns this result: what the reader gave before, it has given with
+-- the result added.
 abbrev pub GivesOn : List ℕ → Came → PageHolder → PageHolder → Type 0
 GivesOn taken answer old new = (given : Settings) (text : List ℕ) (so_far : GivenSoFar)
     → Gives given text so_far old → Gives given (text ++ taken) (with_came answer new so_far) new
 
--- ---- what an answer means
+-- ---- what a result means
 
--- The packet says this: its normal pages are those that were given.
+-- The packet has these fields: its normal pages are those that were given.
 pub record Completes (page_size : ℕ) (packet : OpenPacket) (sync : Bool) : Type 0 where
   pub said : Fields
   pub is_packet : IsPacket page_size (bytes_of packet) said
   pub has_sync : said.sync ≡ sync
   pub has_pages : said.normal ≡ packet.pages
 
--- what comes after what was given so far
+-- the result that follows what was given so far
 abbrev pub Comes : ℕ → Came → GivenSoFar → Type 0
 Comes page_size (came.Hello id) so_far = (so_far.read.hello ≡ None) × (so_far.packet ≡ None)
 Comes page_size came.Head so_far = (so_far.read.hello ≢ None) × (so_far.packet ≡ None)
@@ -167,7 +167,7 @@ abbrev pub IsShort : PageHolder → Option (List ℕ × ℕ) → Type 0
 IsShort r None = length r.kept < judged_len r.given.page_size r.hello
 IsShort r (Some packet) = (packet.1 < normal_count packet.0) × (length r.kept < r.given.page_size) × (r.hello ≢ None)
 
--- So nothing is held back that could be given.
+-- So all that can be given is given.
 abbrev pub NeedsMore : Came → PageHolder → Type 0
 NeedsMore came.More r = IsShort r r.packet
 NeedsMore other r = ⊤
@@ -177,7 +177,7 @@ abbrev pub IsWhole : Came → PageHolder → Type 0
 IsWhole (came.Page offset page) r = length (content_of page r) ≡ r.given.page_size
 IsWhole other r = ⊤
 
--- Only a page that a piece cut is copied: a page that lies complete in the piece is lent from it.
+-- Only a page that a piece cut is copied: a page that is complete in the piece is lent from it.
 abbrev pub CopiesCutPages : Came → List ℕ → PageHolder → Type 0
 CopiesCutPages (came.Page offset content.Kept) piece old = (old.kept ≢ []) ⊎ (length piece < old.given.page_size)
 CopiesCutPages other piece old = ⊤
@@ -188,7 +188,7 @@ abbrev pub one_if_begun : Option (List ℕ × ℕ) → ℕ
 one_if_begun None = 0
 one_if_begun (Some packet) = 1
 
--- at most so many calls give something, of so many bytes of a piece
+-- at most this many calls give something of the rest of a piece
 abbrev pub left : ℕ → PageHolder → ℕ
 left bytes r = 2 * bytes + one_if_begun r.packet
 
@@ -215,9 +215,9 @@ pub record HasReading (given : Settings) (text : List ℕ) (ended : Bool) (so_fa
   pub has_rounds : reading.rounds ≡ (read_to so_far.read so_far.packet).rounds
   pub has_state : reading.state ≡ state
 
--- ---- the inside
+-- ---- private
 
--- the first bytes of a page, where the bytes may be the page that was given before it
+-- the first bytes of a page; the kept bytes may be the page that was given before it
 abbrev pub begun_in : Bool → List ℕ → List ℕ
 begun_in true page = []
 begun_in false page = page
@@ -227,7 +227,7 @@ abbrev pub kept_in : Option ℕ → Bool → List ℕ → List ℕ → List ℕ
 kept_in None has_page head page = head
 kept_in (Some i) has_page head page = begun_in has_page page
 
--- the page that was given last, where it was gathered
+-- the page that was given last, if it was gathered
 abbrev pub page_in : Bool → List ℕ → List ℕ
 page_in true page = page
 page_in false page = []
@@ -236,8 +236,8 @@ abbrev pub packet_in : Option ℕ → List ℕ → Option (List ℕ × ℕ)
 packet_in None head = None
 packet_in (Some i) head = Some (head, i)
 
--- What is kept is a part of what comes next. A packet that was begun has its head, and so many of
--- its pages were given.
+-- What is kept is a part of what comes next. A packet that was begun has its head, and some of its
+-- pages were given.
 abbrev pub IsPart : ℕ → Option ℕ → Option ℕ → List ℕ → List ℕ → ChannelState → Type 0
 IsPart page_size hello None head kept found = found ≡ Reading → length kept < judged_len page_size hello
 IsPart page_size hello (Some i) head kept found =

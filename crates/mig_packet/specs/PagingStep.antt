@@ -1,4 +1,4 @@
--- What one call makes of what a reader of pages holds.
+-- How one call changes what a reader of pages holds.
 use Rattle.std.specs.Prelude.{◌≡◌, ◌≢◌, ℕ, ◌+◌, ◌<◌, ◌≤◌, Bool, true, false, not, ◌==◌, if◌then◌else◌, List, [], ◌∷◌, ◌++◌, length, get_or, take, Option, Some, None, ⊤, ◌⊎◌}
 use Rattle.mig_packet.specs.declared.state.ChannelState.{ChannelState}
 use Rattle.mig_packet.specs.declared.state.ChannelState.TheVariants.{Reading, Closed, Bad}
@@ -33,7 +33,7 @@ pub record IsFaulty (bytes : List ℕ) (fault : ChannelFault) (old new : PageHol
   pub has_fault : fault_of old.given old.hello bytes ≡ Some fault
   pub leaves : new ≡ record old { found = Bad fault; kept = bytes; fed = new.fed }
 
--- a page more is given
+-- one more page is given
 pub record IsPageOf (offset : ℕ) (content : List ℕ) (packet : List ℕ × ℕ) (old new : PageHolder) : Type 0 where
   pub is_begun : old.packet ≡ Some packet
   pub is_reading : old.found ≡ Reading
@@ -50,7 +50,7 @@ pub record IsLast (sync : Bool) (head : List ℕ) (old new : PageHolder) : Type 
   pub has_sync : sync ≡ is_sync head
   pub leaves : new ≡ record old { packet = None; kept = []; page = new.page; has_packets = not sync }
 
--- These bytes of a piece are taken, and this is answered.
+-- These bytes of a piece are taken, and this is returned.
 abbrev pub Moves : Came → List ℕ → PageHolder → PageHolder → Type 0
 Moves (came.Hello id) taken old new = (old.hello ≡ None) × IsJudged old (old.kept ++ taken) × (id ≡ get_or (old.kept ++ taken) 24 0)
     × (new ≡ record old { hello = Some id; kept = []; fed = new.fed })
@@ -68,7 +68,7 @@ Gains came.Head count = 0 < count
 Gains (came.Page offset page) count = 0 < count
 Gains other count = ⊤
 
--- What one call does, which takes so many bytes of a piece.
+-- What one call does, which takes `count` bytes of a piece.
 pub record Steps (answer : Came) (count : ℕ) (piece : List ℕ) (old new : PageHolder) : Type 0 where
   pub takes : count ≤ length piece
   pub gains : Gains answer count
@@ -85,7 +85,7 @@ IsTaken None bytes page size = (page ≡ bytes) × (length bytes < size)
 IsTaken (Some content.Kept) bytes page size = (page ≡ bytes) × (length bytes ≡ size)
 IsTaken (Some (content.Lent lent)) bytes page size = (lent.now ≡ bytes) × (page ≡ []) × (length bytes ≡ size)
 
--- a page is gathered only where bytes of it were there, or the piece is shorter
+-- a page is gathered only if bytes of it were there, or the piece is shorter
 abbrev pub IsCut : Option PageContent → List ℕ → List ℕ → ℕ → Type 0
 IsCut (Some content.Kept) kept piece size = (kept ≢ []) ⊎ (length piece < size)
 IsCut other kept piece size = ⊤

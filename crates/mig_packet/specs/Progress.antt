@@ -1,4 +1,4 @@
--- A channel's bytes, item by item: a hello, then packets. What items leave.
+-- A channel's bytes, item by item: a hello, then packets; and how far it has been read after each.
 use Rattle.std.specs.Prelude.{ℕ, ◌+◌, ◌*◌, Bool, nat_le, if◌then◌else◌, List, [], ◌∷◌, ◌++◌, length, get_or, Option, Some, None, All}
 use Rattle.mig_packet.specs.declared.fault.ChannelFault.{ChannelFault}
 use Rattle.mig_packet.specs.PageSize.{IsPageSize, head_len}
@@ -12,7 +12,7 @@ pub record ChannelProgress : Type 0 where
   -- the UUID and the number of channels that were passed
   pub uuid : List ℕ
   pub channels : ℕ
-  -- the id that the hello named: None before the hello
+  -- the id in the hello: None before the hello
   pub hello : Option ℕ
   -- the packets of the open round, each as its bytes
   pub packets : List (List ℕ)
@@ -30,12 +30,12 @@ pub record ArePackets (page_size : ℕ) (packets : List (List ℕ)) (rounds : Li
 
 -- ---- the item that comes next: the hello, and after it a packet with its pages
 
--- at how many bytes it is judged
+-- with how many bytes it is tested
 abbrev pub judged_len : ℕ → Option ℕ → ℕ
 judged_len page_size None = hello_len
 judged_len page_size (Some id) = head_len page_size
 
--- how many bytes it has, as its first bytes say
+-- how many bytes it has, by its first bytes
 abbrev pub item_len : ℕ → Option ℕ → List ℕ → ℕ
 item_len page_size None bytes = hello_len
 item_len page_size (Some id) bytes = head_len page_size + normal_count bytes * page_size
@@ -47,12 +47,11 @@ faults c (Some id) bytes = packet_faults c.page_size bytes
 abbrev pub first_fault : ChannelProgress → List ℕ → Option ChannelFault
 first_fault c bytes = first_of (faults c c.hello bytes)
 
--- the fault that is due: none before the bytes that are judged are there, but also where pages are
--- missing
+-- the fault that is known: none before the bytes that are tested are there; pages may be missing
 abbrev pub due_fault : ChannelProgress → List ℕ → Option ChannelFault
 due_fault c bytes = if nat_le (judged_len c.page_size c.hello) (length bytes) then first_fault c bytes else None
 
--- ---- what an item leaves
+-- ---- the progress after an item
 
 -- a SYNC packet completes the round
 abbrev pub after_packet : ChannelProgress → List ℕ → ChannelProgress

@@ -14,19 +14,19 @@ pub record Reader : Type 0 where
   pub progress : ChannelProgress
   -- the bytes after it: a part of an item
   pub pending : List ℕ
-  -- how the bytes fed stand, whether or not the channel has ended
+  -- the state of the bytes fed, whether or not the channel has ended
   pub found : ChannelState
   -- how many bytes fed are complete items without a fault
   pub valid_up_to : ℕ
   pub fed : ℕ
   pub ended : Bool
 
--- These bytes are a part of the item that comes next, not all of it, and no fault of it is due.
+-- These bytes are a part of the item that comes next, not all of it, and no fault of it is known.
 pub record IsUnfinished (c : ChannelProgress) (bytes : List ℕ) : Type 0 where
   pub has_no_fault : due_fault c bytes ≡ None
   pub is_short : judged_len c.page_size c.hello ≤ length bytes → length bytes < item_len c.page_size c.hello bytes
 
--- bytes are read to there, with so many left, and of an item that isn't complete these bytes are
+-- the bytes are read up to `to`; the rest isn't read, and its pending bytes, a part of an item, are
 -- kept
 pub record ReadsOn (from : ChannelProgress) (bytes : List ℕ) (to : ChannelProgress) (pending : List ℕ) (left : ℕ) (state : ChannelState) : Type 0 where
   pub rest : List ℕ
@@ -59,11 +59,11 @@ with_piece piece so_far = record so_far { text = so_far.text ++ piece }
 abbrev pub over : SoFar → SoFar
 over so_far = record so_far { ended = true }
 
--- a round more was taken
+-- one more round was taken
 abbrev pub one_taken : SoFar → SoFar
 one_taken so_far = record so_far { taken = so_far.taken + 1 }
 
--- A reader stands for what it was given so far, under these settings. The rounds that were taken
+-- A reader stands for what it was given so far, with these settings. The rounds that were taken
 -- come before those that it holds.
 pub record Stands (given : Settings) (so_far : SoFar) (r : Reader) : Type 0 where
   pub has_fed : r.fed ≡ length so_far.text
@@ -75,11 +75,11 @@ pub record Stands (given : Settings) (so_far : SoFar) (r : Reader) : Type 0 wher
   pub has_pending : r.found ≡ Reading → rest ≡ r.pending
   pub has_valid_up_to : r.valid_up_to + length rest ≡ length so_far.text
 
--- a step of a call: whatever the reader stood for before, it stands for that with the step done
+-- a step of a call: if the reader stood for something before, it stands for that with the step done
 abbrev pub StepsOn : (SoFar → SoFar) → Reader → Reader → Type 0
 StepsOn step old new = (given : Settings) (so_far : SoFar) → Stands given so_far old → Stands given (step so_far) new
 
--- what is said of a reader by what it stands for alone
+-- a statement on a reader that depends on nothing else than what it stands for
 abbrev pub Tells : Reader → (Settings → SoFar → Type 0) → Type 0
 Tells r says = (given : Settings) (so_far : SoFar) → Stands given so_far r → says given so_far
 
@@ -98,7 +98,7 @@ pub record IsPacketRound (page_size : ℕ) (packets : List (List ℕ)) : Type 0 
   pub has_page_size : IsPageSize page_size
   pub are_packets : All (IsPacketText page_size) packets
 
--- ---- what the reading of bytes says (its hello and its rounds don't depend on whether they ended)
+-- ---- the reading of bytes (its hello and its rounds don't depend on whether they ended)
 
 -- the state of bytes of a channel that may have ended
 abbrev pub HasState : Settings → List ℕ → Bool → ChannelState → Type 0
@@ -118,7 +118,7 @@ pub record HasFront (given : Settings) (text : List ℕ) (n : ℕ) : Type 0 wher
   pub leads : Front (start given.page_size given.uuid given.channels) front to
 
 -- The channel is read to its first n bytes: these are its longest front of complete items without a
--- fault. Where it is bad, the item at fault begins after them.
+-- fault. If it is bad, the item at fault begins after them.
 pub record IsValidUpTo (given : Settings) (text : List ℕ) (n : ℕ) : Type 0 where
   pub to : ChannelProgress
   pub rest : List ℕ
@@ -126,11 +126,11 @@ pub record IsValidUpTo (given : Settings) (text : List ℕ) (n : ℕ) : Type 0 w
   pub reads : Reads (start given.page_size given.uuid given.channels) text to rest found
   pub has_length : length reads.front ≡ n
 
--- the id that its hello names
+-- the id in its hello
 abbrev pub HasHello : Settings → List ℕ → Option ℕ → Type 0
 HasHello given text hello = (reading : ChannelReading) × IsReading given text false reading × (hello ≡ reading.hello)
 
--- the complete round of a number
+-- the complete round with a number
 abbrev pub HasRound : Settings → List ℕ → ℕ → List (List ℕ) → Type 0
 HasRound given text i round =
     (reading : ChannelReading) × IsReading given text false reading

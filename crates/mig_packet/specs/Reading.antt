@@ -1,5 +1,5 @@
--- The reading of a channel's bytes: their longest front of a hello and packets, and how the channel
--- stands after it.
+-- The reading of a channel's bytes: their longest front of a hello and packets, and the channel's
+-- state after it.
 use Rattle.std.specs.Prelude.{◌≡◌, ℕ, Bool, true, false, List, [], ◌∷◌, ◌++◌, length, Option, Some, None, ⊤}
 use Rattle.std.specs.List.{concat}
 use Rattle.mig_packet.specs.declared.state.ChannelState.{ChannelState}
@@ -27,22 +27,22 @@ pub record Front (from : ChannelProgress) (bytes : List ℕ) (to : ChannelProgre
   pub are_faultless : AreFaultless from items
   pub leads_to : to ≡ after_all from items
 
--- How a channel stands where these bytes follow a front: bad where a fault is due, and else to be
--- read on, where no complete item follows. No byte closes it.
+-- The state of a channel in which these bytes follow a front: bad if a fault is known, and
+-- otherwise, if no complete item follows, to be read on. No byte closes it.
 abbrev pub Ends : ChannelProgress → List ℕ → ChannelState → Type 0
 Ends c rest Reading = (due_fault c rest ≡ None) × ((item more : List ℕ) → rest ≡ item ++ more → IsItem c.page_size c.hello item → ⊥)
 Ends c rest Closed = ⊥
 Ends c rest (Bad fault) = due_fault c rest ≡ Some fault
 
--- Bytes are read from there on to here, with these bytes left, and the channel stands so. If it is
--- bad, the bytes from its faulty item on are left.
+-- Bytes are read from `from` to `to`, with these bytes left, and the channel has this state. If it
+-- is bad, the bytes from its faulty item on are left.
 pub record Reads (from : ChannelProgress) (text : List ℕ) (to : ChannelProgress) (rest : List ℕ) (state : ChannelState) : Type 0 where
   pub front : List ℕ
   pub has_text : text ≡ front ++ rest
   pub leads : Front from front to
   pub ends : Ends to rest state
 
--- How a channel without a fault stands once it has ended: closed where it has a hello and complete
+-- The state of a channel without a fault that has ended: closed if it has a hello and complete
 -- rounds, and nothing more.
 abbrev pub state_at_end : Option ℕ → List ℕ → List (List ℕ) → ChannelState
 state_at_end None rest packets = Bad Truncated
@@ -50,21 +50,21 @@ state_at_end (Some id) (byte ∷ rest) packets = Bad Truncated
 state_at_end (Some id) [] (packet ∷ packets) = Bad Unsynced
 state_at_end (Some id) [] [] = Closed
 
--- how a channel stands that is read to there, and may have ended
+-- the state of a channel that is read up to here, and may have ended
 abbrev pub state_at : Bool → ChannelProgress → List ℕ → ChannelState → ChannelState
 state_at true to rest Reading = state_at_end to.hello rest to.packets
 state_at true to rest Closed = Closed
 state_at true to rest (Bad fault) = Bad fault
 state_at false to rest state = state
 
--- what bytes say so far: the id that the hello names, the complete rounds, each as its packets'
--- bytes, and how the channel stands
+-- the reading so far: the id in the hello, the complete rounds, each as its packets' bytes, and the
+-- channel's state
 pub record ChannelReading : Type 0 where
   pub hello : Option ℕ
   pub rounds : List (List (List ℕ))
   pub state : ChannelState
 
--- what no bytes say: the size of a page, the UUID and the number of channels
+-- what isn't in the bytes: the page size, the UUID and the number of channels
 pub record Settings : Type 0 where
   pub page_size : ℕ
   pub uuid : List ℕ
@@ -74,7 +74,7 @@ pub record Settings : Type 0 where
 abbrev pub settings : ℕ → List ℕ → ℕ → Settings
 settings page_size uuid channels = record { page_size = page_size; uuid = uuid; channels = channels }
 
--- This is what a channel's bytes say, ended or not, where these settings were given.
+-- This is the reading of a channel's bytes, ended or not, with these settings.
 pub record IsReading (given : Settings) (text : List ℕ) (ended : Bool) (reading : ChannelReading) : Type 0 where
   pub to : ChannelProgress
   pub rest : List ℕ

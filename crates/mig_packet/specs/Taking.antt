@@ -1,4 +1,4 @@
--- What a run over bytes leaves where an allocation is refused.
+-- The progress after a run over bytes in which an allocation was refused.
 use Rattle.std.specs.Prelude.{◌≡◌, List, ℕ, ◌++◌}
 use Rattle.mig_packet.specs.Progress.{ChannelProgress}
 use Rattle.mig_packet.specs.Reading.{Front}

@@ -24,7 +24,7 @@ pub enum ChannelFault {
     PacketMagic,
     /// The version of the packet isn't 1.
     PacketVersion,
-    /// The flags of the packet are neither none nor `MULTIFD_FLAG_SYNC`; it carries them.
+    /// The flags of the packet are neither none nor `MULTIFD_FLAG_SYNC`; the fault carries them.
     PacketFlags(u32),
     /// The packet has more normal and zero pages than a packet may have.
     PageCount,
@@ -57,7 +57,7 @@ impl ChannelFault {
         }
     }
 
-    // Returns the fault in a few words, for messages.
+    // Returns the fault's message.
     fn words(self) -> &'static str {
         match self {
             ChannelFault::HelloMagic => "the hello doesn't begin with MULTIFD_MAGIC",
@@ -75,7 +75,7 @@ impl ChannelFault {
     }
 }
 
-/// Writes the fault's number and its words.
+/// Writes the fault's number and its message.
 impl Display for ChannelFault {
     fn fmt<W: fmt::Write>(&self, f: &mut Formatter<W>) -> fmt::Result {
         write!(f, "{}: {}", self.number(), self.words())?;
@@ -101,7 +101,7 @@ impl NoMemory {
     }
 }
 
-/// Writes the fault's number and its words.
+/// Writes the fault's number and its message.
 impl Display for NoMemory {
     fn fmt<W: fmt::Write>(&self, f: &mut Formatter<W>) -> fmt::Result {
         write!(f, "{}: an allocation was refused", self.number())

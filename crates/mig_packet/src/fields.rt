@@ -1,4 +1,5 @@
-//! Big-endian numbers at their places in a hello or a packet, for `front`, `packet` and `progress`.
+//! Big-endian numbers at their offsets in a hello or a packet, for `front`, `packet` and
+//! `progress`.
 
 ghost use Rattle.std.specs.Prelude.{◌≡◌, ◌+◌, ◌≤◌, length};
 ghost use Rattle.mig_packet.specs.Fields.{be32_at, be64_at};

@@ -1,5 +1,6 @@
-//! The numbers of multifd's format, by QEMU's names where it has them (`migration/multifd.h`).
-//! `specs/Hello`, `specs/Packet` and `specs/PageSize` have them for contracts, which tie the two.
+//! The numbers of multifd's format, by QEMU's names if it has them (`migration/multifd.h`).
+//! `specs/Hello`, `specs/Packet` and `specs/PageSize` have them for contracts, which relate the
+//! two.
 
 /// The first four bytes of a hello and of a packet.
 pub(crate) const MULTIFD_MAGIC: u32 = 0x1122_3344;

@@ -15,31 +15,30 @@ use crate::format::{HELLO_LEN, MULTIFD_FLAG_SYNC, MULTIFD_MAGIC, MULTIFD_VERSION
 use crate::packet::{Packet, head_len, page_limit};
 use uuid::Uuid;
 
-/// What stands at the beginning of bytes, where a hello is expected.
+/// The result of reading a hello at the beginning of bytes.
 #[derive(Clone, Copy, Debug, PartialEq, Eq)]
 pub enum HelloRead {
     /// A complete hello, with its channel id.
     Whole(u8),
-    /// Fewer than 64 bytes (`HELLO_LEN`), which aren't judged yet.
+    /// Fewer than 64 bytes (`HELLO_LEN`), which aren't tested yet.
     Cut,
     /// The hello's first fault.
     Bad(ChannelFault),
 }
 
-/// What stands at the beginning of bytes, where a packet is expected.
+/// The result of reading a packet at the beginning of bytes.
 #[derive(Clone, Copy, Debug)]
 pub enum PacketRead<'a> {
     /// A complete packet, and how many bytes it has.
     Whole(Packet<'a>, usize),
     /// The head isn't there yet, or it has no fault and pages are missing.
     Cut,
-    /// The first fault of the packet's head. It is returned as soon as the head is there, though
-    /// pages may be missing.
+    /// The first fault of the packet's head. It is returned once the head is there, even if pages
+    /// are missing.
     Bad(ChannelFault),
 }
 
-/// Reads the hello at the beginning of `bytes`, where `channels` channels are expected under
-/// `uuid`.
+/// Reads the hello at the beginning of `bytes`, of one of `channels` channels under `uuid`.
 pub fn read_hello(bytes: &[u8], uuid: &Uuid, channels: usize) -> HelloRead
     ensures reads { ReadsHello uuid.now channels bytes.now result }
     ensures found { (front more : List ℕ) (id : ℕ) → bytes.now ≡ front ++ more → IsHello uuid.now id front → id < channels → result ≡ hello_read.Whole id }
@@ -128,7 +127,7 @@ pub(crate) fn head_fault(page_size: u64, bytes: &[u8]) -> Option<ChannelFault>
     None
 }
 
-/// Returns how many bytes a packet has, as its head says.
+/// Returns how many bytes a packet has, by its head.
 pub(crate) fn packet_len(page_size: u64, bytes: &[u8]) -> usize
     requires page_size { IsPageSize page_size }
     requires head { head_len page_size ≤ length bytes.now }

@@ -40,8 +40,8 @@ impl<'a> PacketHead<'a> {
         sync_of(self.bytes)
     }
 
-    /// Returns the id of the block that its pages are of. It may be any bytes but 0. The id of a
-    /// packet without pages has no meaning.
+    /// Returns the id of the block of its pages. It may be any bytes but 0. The id of a packet
+    /// without pages has no meaning.
     pub fn id(&self) -> &'a [u8]
         ensures { result.now ≡ id_in self.now.bytes.now }
     {

@@ -1,22 +1,22 @@
 //! Laws of the definitions alone: what holds of hellos, packets and channels, whatever code writes
 //! and reads them.
 //!
-//! Each law is the clause of a function that does nothing. So it is proved with the crate, and
-//! callers can have it.
+//! Each law is the clause of a function that does nothing. So it is proved with the crate, and a
+//! caller who calls the function may use it.
 
 ghost use Rattle.mig_packet.specs.Law.{WrittenHellosAreHellos, WrittenPacketsArePackets, NoPacketBeginsAnother};
 ghost use Rattle.mig_packet.specs.Law.{HasOneReading, HasOneListOfItems, ReadingsKeepLimits};
 ghost use Rattle.mig_packet.specs.Law.{IsValidUpToOnePlace, LongerTextsStayValid, ClosedIsValid, BadIsValidBefore};
 
-/// What is written for a UUID and an id is a hello of them. So `read_hello` finds it, whatever
-/// bytes follow.
+/// The bytes that are written for a UUID and an id are a hello with them. So `read_hello` finds it,
+/// whatever bytes follow.
 pub fn written_hellos_are_hellos()
     ensures { WrittenHellosAreHellos }
 {}
 
-/// What is written for some fields is a packet that says these fields, where a packet can: an id of
-/// at most 255 bytes without a byte 0, offsets and a number below 2^64, complete contents. So
-/// `read_packet` gives them back, whatever bytes follow.
+/// The bytes that are written for some fields are a packet with these fields, within these limits:
+/// an id of at most 255 bytes without a byte 0, offsets and a number below 2^64, complete contents.
+/// So `read_packet` returns them, whatever bytes follow.
 pub fn written_packets_are_packets()
     ensures { WrittenPacketsArePackets }
 {}
@@ -26,8 +26,8 @@ pub fn no_packet_begins_another()
     ensures { NoPacketBeginsAnother }
 {}
 
-/// The bytes of a channel, ended or not, have exactly one reading. So whoever reads them, in
-/// whatever pieces, finds one and the same hello, rounds and first fault.
+/// The bytes of a channel, ended or not, have exactly one reading. So every reader of them, in any
+/// pieces, finds the same hello, rounds and first fault.
 pub fn text_has_one_reading()
     ensures { HasOneReading }
 {}
@@ -37,16 +37,16 @@ pub fn text_has_one_list_of_items()
     ensures { HasOneListOfItems }
 {}
 
-/// Each complete round of a channel is packets, of which the last one alone has SYNC. No round is
+/// Each complete round of a channel is packets, and the last one alone has SYNC. No round is
 /// complete before the hello is. A channel is closed by its end alone.
 pub fn readings_keep_limits()
     ensures { ReadingsKeepLimits }
 {}
 
-/// A channel's bytes are valid up to exactly one place, which `ChannelReader::valid_up_to` returns.
-/// So many of its bytes are complete items without a fault, and no more are. Bytes that follow only
-/// move the place on. Once the bytes have a fault, it stays where the item at fault begins. If the
-/// channel has ended and is closed, it is the end.
+/// A channel's bytes are valid up to exactly one offset, which `ChannelReader::valid_up_to`
+/// returns. That many of its bytes are complete items without a fault, and no more are. More bytes
+/// can only increase the offset. Once the bytes have a fault, it stays where the item at fault
+/// begins. If the channel has ended and is closed, it is the end.
 pub fn text_is_valid_up_to_one_place()
     ensures one { IsValidUpToOnePlace }
     ensures longer { LongerTextsStayValid }

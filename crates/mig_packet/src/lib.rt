@@ -1,24 +1,24 @@
 //! The channels of multifd: the hello that each begins with, and the packets that carry the pages.
 //!
-//! The definitions stand in `specs/`, apart from the code of both directions. Read them in this
+//! The definitions are in `specs/`, apart from the code of both directions. Read them in this
 //! order:
 //!
 //! - `Hello`, `Packet`: the layout of a hello and of a packet.
-//! - `Written`: the one packet that is written for some fields.
+//! - `Written`: the packet that is written for some fields.
 //! - `Progress`, `Reading`: how any bytes of a channel are read, with every fault by name.
 //! - `Reader`: what a reader stands for.
 //! - `ChannelItems`: the items of a channel that has ended.
 //! - `Law`: the laws between them.
 //!
-//! `PacketHead` and `Paging` are of a reader that gives pages before their packet is complete. Only
-//! contracts of private functions name `Taking`, `Later`, `Filling` and `PagingStep`.
+//! `PacketHead` and `Paging` are for a reader that gives pages before their packet is complete.
+//! Only contracts of private functions name `Taking`, `Later`, `Filling` and `PagingStep`.
 //!
 //! `hello`, `put_packet` and `PacketFields` write. `read_hello` and `read_packet` read at the
 //! beginning of bytes. A `ChannelReader` reads a channel that comes in pieces, and keeps its
-//! rounds. A `PageReader` gives each page as soon as its bytes have come, and keeps none.
+//! rounds. A `PageReader` gives each page once its bytes have come, and keeps none.
 //!
-//! Whether the packets of a round fit together, and what becomes of their pages, is for other
-//! crates. So are the threads that send and load.
+//! Other crates test whether the packets of a round fit together, apply their pages, and have the
+//! threads that send and load.
 #![tactic(auto)]
 
 mod fault;

@@ -1,5 +1,5 @@
-//! A packet, as it lies in bytes that somebody else holds. Readers and relays give packets, and
-//! `Target` applies them.
+//! A packet, in bytes that its reader owns. Readers and relays give packets, and `Target` applies
+//! them.
 
 ghost use Rattle.std.specs.Prelude.{◌≡◌, ◌+◌, ◌*◌, ◌<◌, ◌≤◌, ◌==◌, length};
 ghost use Rattle.std.specs.List.{before_first, position};
@@ -20,7 +20,7 @@ pub struct Packet<'a> {
     pub ghost is_packet: { IsPacketText page_size bytes.now },
 }
 
-// The guest's bytes aren't printed.
+// Guest memory isn't printed.
 impl fmt::Debug for Packet<'_> {
     fn fmt<W: fmt::Write>(&self, f: &mut fmt::Formatter<W>) -> fmt::Result {
         f.pad("Packet { .. }")
@@ -50,8 +50,8 @@ impl<'a> Packet<'a> {
         sync_of(self.bytes)
     }
 
-    /// Returns the id of the block that its pages are of. It may be any bytes but 0. The id of a
-    /// packet without pages has no meaning.
+    /// Returns the id of the block of its pages. It may be any bytes but 0. The id of a packet
+    /// without pages has no meaning.
     pub fn id(&self) -> &'a [u8]
         ensures { result.now ≡ id_in self.now.bytes.now }
     {
@@ -167,7 +167,7 @@ pub fn page_limit(page_size: u64) -> usize
     (MULTIFD_PACKET_SIZE / page_size) as usize
 }
 
-/// Returns how many bytes of a packet stand before its pages.
+/// Returns how many bytes a packet has before its pages.
 pub fn head_len(page_size: u64) -> usize
     requires { IsPageSize page_size }
     ensures { result ≡ head_len page_size }

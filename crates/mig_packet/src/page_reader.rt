@@ -1,9 +1,9 @@
-//! The reader of a channel that gives each page as soon as its bytes have come. A load that writes
-//! into memory that the caller lends has one for each channel, and keeps no round.
+//! The reader of a channel that gives each page once its bytes have come. A load into memory that
+//! the caller lends has one for each channel, and keeps no round.
 //!
 //! It keeps the head of the packet that is being read, and the first bytes of an incomplete hello,
-//! head or page. A page that lies complete in a piece is lent from it. All its memory is allocated
-//! when it is made. `ChannelReader` keeps complete rounds instead.
+//! head or page. A page that is complete in a piece is lent from it. All its memory is allocated
+//! when it is created. `ChannelReader` keeps complete rounds instead.
 
 ghost use Rattle.std.specs.Prelude.{◌≡◌, ◌≢◌, ◌+◌, ◌*◌, ◌<◌, ◌≤◌, ◌^◌, ◌++◌, ℕ, List, [], length, take, true};
 ghost use Rattle.std.specs.Prelude.{IsTrue, IsFalse, IsSome, None, Some, IfOk, IfSome, OnOk, vec_len, vec_capacity, IfNone, Bool};
@@ -26,7 +26,7 @@ use std::alloc::{Allocator, Global};
 use std::marker::Model;
 use uuid::Uuid;
 
-/// Where the content of a page lies that was given.
+/// Where the content of a given page is.
 #[derive(Clone, Copy, Debug)]
 pub enum PageContent<'b> {
     /// In the piece, complete.
@@ -35,15 +35,15 @@ pub enum PageContent<'b> {
     Kept,
 }
 
-/// What a call of `PageReader::read_on` came to.
+/// The result of a call of `PageReader::read_on`.
 #[derive(Clone, Copy, Debug)]
 pub enum Came<'b> {
     /// The hello is complete and has no fault. It named this channel id.
     Hello(u8),
     /// The head of the next packet is complete and has no fault: `PageReader::head` returns it.
     Head,
-    /// The packet's next normal page: its offset in the block, in bytes, and where its content
-    /// lies. `PageReader::content` returns the content.
+    /// The packet's next normal page: its offset in the block, in bytes, and where its content is.
+    /// `PageReader::content` returns the content.
     Page(u64, PageContent<'b>),
     /// The packet is complete: all its normal pages were given. The value says whether it ends the
     /// round.
@@ -54,7 +54,7 @@ pub enum Came<'b> {
     Over,
 }
 
-/// Reads a channel from pieces of its bytes, and gives each page as soon as its bytes have come.
+/// Reads a channel from pieces of its bytes, and gives each page once its bytes have come.
 #[derive(Drop)]
 pub struct PageReader<A: Allocator = Global> {
     pub(crate) page_size: u64,
@@ -71,7 +71,7 @@ pub struct PageReader<A: Allocator = Global> {
     pub(crate) page: Vec<u8, A>,
     // whether it is the page that was given last
     pub(crate) has_page: bool,
-    // how the bytes taken stand, whether or not the channel was ended
+    // the state of the bytes taken, whether or not the channel was ended
     pub(crate) found: ChannelState,
     pub(crate) fed: u64,
     pub(crate) ended: bool,
@@ -115,8 +115,8 @@ fn fill<A: Allocator>(kept: &mut Vec<u8, A>, len: usize, piece: &[u8]) -> usize
     missing
 }
 
-// Takes the rest of a page from a piece. Returns where its content lies, once it is complete, and
-// how many bytes were taken. `was_given` says that the bytes that are there are an earlier page's.
+// Takes the rest of a page from a piece. Returns where its content is, once it is complete, and how
+// many bytes were taken. `was_given` says that the kept bytes are an earlier page's.
 fn take_page<'b, A: Allocator>(
     page: &mut Vec<u8, A>,
     was_given: bool,
@@ -265,18 +265,19 @@ impl<A: Allocator> PageReader<A> {
         }
     }
 
-    // Returns the page that was given last, where it was gathered.
+    // Returns the page that was given last, if it was gathered.
     fn kept_page(&self) -> &[u8]
         ensures { result.now ≡ self.now.page }
     {
         if self.has_page { &self.page } else { &[] }
     }
 
-    /// Reads on in `piece`, the next bytes of the channel, up to what it returns. Also returns how
-    /// many bytes of the piece were taken: the next call goes on after these. It allocates nothing.
+    /// Reads on in `piece`, the next bytes of the channel, up to the result that it returns. Also
+    /// returns how many bytes of the piece were taken: the next call goes on after them. It
+    /// allocates nothing.
     ///
     /// `Came::Packet` takes no bytes. So call it until it returns `Came::More` or `Came::Over`,
-    /// also where no byte of the piece is left.
+    /// also if no byte of the piece is left.
     pub fn read_on<'b>(&mut self, piece: &'b [u8]) -> (Came<'b>, usize)
         requires room { self.old.fed + length piece.now < 2 ^ 64 }
         ensures taken { result.1 ≤ length piece.now }
@@ -293,7 +294,7 @@ impl<A: Allocator> PageReader<A> {
         self.step(piece)
     }
 
-    // Reads on, up to what it returns.
+    // Reads on, up to the result that it returns.
     fn step<'b>(&mut self, piece: &'b [u8]) -> (Came<'b>, usize)
         requires room { self.old.fed + length piece.now < 2 ^ 64 }
         ensures { Steps result.0 result.1 piece.now self.old self.new }
@@ -420,7 +421,7 @@ impl<A: Allocator> PageReader<A> {
         Came::Packet(sync)
     }
 
-    /// Returns how the bytes taken stand: to be read on, closed, or bad.
+    /// Returns the state of the bytes taken: more are needed, closed, or bad.
     pub fn state(&self) -> ChannelState
         ensures state { HolderTells self.now (λ given text so_far. HasState given text self.now.ended result) }
         ensures reading { HolderTells self.now (λ given text so_far. HasReading given text self.now.ended so_far result) }
@@ -432,7 +433,7 @@ impl<A: Allocator> PageReader<A> {
         }
     }
 
-    // Returns how bytes without a fault stand once the channel is ended.
+    // Returns the state of bytes without a fault once the channel is ended.
     fn state_at_end(&self) -> ChannelState
         ensures { result ≡ closing_state self.now }
     {
@@ -455,7 +456,7 @@ impl<A: Allocator> PageReader<A> {
         }
     }
 
-    // Returns whether the round is open that the last packet belongs to.
+    // Returns whether the round of the last packet is open.
     fn is_unsynced(&self) -> bool
         ensures { result ≡ is_unsynced self.now.has_packets self.now.packet }
     {

@@ -1,5 +1,4 @@
-//! How far a channel has been read: what its items leave, and how one is taken after another.
-//! `ChannelReader` keeps one.
+//! How far a channel has been read, and the loop over its items. `ChannelReader` keeps one.
 
 ghost use Rattle.std.specs.Prelude.{◌≡◌, ◌≢◌, ◌≤◌, ◌<◌, [], ◌∷◌, List, ℕ, None, slice_get, length, IsTrue, IsFalse, IfOk, IfErr, IfSome, IfNone, OnOk, OnErr};
 ghost use Rattle.mig_packet.specs.PageSize.{IsPageSize};
@@ -30,7 +29,7 @@ pub(crate) struct Progress<A: Allocator> {
     uuid: Uuid,
     channels: usize,
     hello: Option<u8>,
-    // the packets of the open round, and the complete rounds that were not given away
+    // the packets of the open round, and the complete rounds that were not taken
     packets: Packets<A>,
     rounds: VecDeque<Packets<A>, A>,
 }
@@ -52,7 +51,7 @@ impl<A: Allocator> Model for Progress<A> {
     ghost invariant = { λ c. ArePackets c.page_size c.packets c.rounds.items };
 }
 
-/// How far a channel had been read, to go back to. Its lists only grow.
+/// How far a channel had been read, to go back to. The lists of the progress only grow.
 #[derive(Clone, Copy)]
 pub(crate) struct Checkpoint {
     hello: Option<u8>,
@@ -103,7 +102,7 @@ impl<A: Allocator + Copy> Progress<A> {
     }
 
     /// Takes the packet that comes next, whose bytes it keeps where they are. An `Err` changes
-    /// nothing, and gives the packet back.
+    /// nothing, and returns the packet.
     pub(crate) fn take_packet(&mut self, packet: PacketText<A>) -> Result<(), PacketText<A>>
         requires { IsPacketText self.old.page_size packet }
         ensures ok { OnOk result (self.new ≡ after_packet self.old packet) }
@@ -122,8 +121,8 @@ impl<A: Allocator + Copy> Progress<A> {
         Ok(())
     }
 
-    /// Takes items from the beginning of `bytes`, as far as they are complete and without a fault.
-    /// Returns the bytes that are left, and how they stand. After an `Err` some items were taken.
+    /// Takes items from the beginning of `bytes`, as long as they are complete and without a fault.
+    /// Returns the bytes that are left, and their state. After an `Err` some items were taken.
     pub(crate) fn run<'a>(&mut self, bytes: &'a [u8]) -> Result<(&'a [u8], ChannelState), NoMemory>
         ensures ok { IfOk result (λ r. Reads self.old bytes.now self.new r.0.now r.1) }
         ensures err { OnErr result (HasTaken self.old bytes.now self.new) }
@@ -146,7 +145,7 @@ impl<A: Allocator + Copy> Progress<A> {
 }
 
 impl<A: Allocator> Progress<A> {
-    /// Returns the id that the hello named.
+    /// Returns the id in the hello.
     pub(crate) fn hello(&self) -> Option<u8>
         ensures { result ≡ self.now.hello }
     {
@@ -161,7 +160,7 @@ impl<A: Allocator> Progress<A> {
         self.packets.len() != 0
     }
 
-    /// Returns at how many bytes the next item is judged.
+    /// Returns with how many bytes the next item is tested.
     pub(crate) fn judged_len(&self) -> usize
         ensures len { result ≡ judged_len self.now.page_size self.now.hello }
         ensures page_size { IsPageSize self.now.page_size }
@@ -183,7 +182,7 @@ impl<A: Allocator> Progress<A> {
         }
     }
 
-    /// Returns how many bytes the next item has, as its first bytes say.
+    /// Returns how many bytes the next item has, by its first bytes.
     pub(crate) fn item_len(&self, bytes: &[u8]) -> usize
         requires { judged_len self.now.page_size self.now.hello ≤ length bytes.now }
         ensures { result ≡ item_len self.now.page_size self.now.hello bytes.now }
@@ -194,8 +193,8 @@ impl<A: Allocator> Progress<A> {
         }
     }
 
-    /// Returns how many bytes to make room for, of an item that isn't complete: all that it has, if
-    /// its bytes say how many these are.
+    /// Returns how many bytes to reserve for an item that isn't complete: its length, if its first
+    /// bytes have it.
     pub(crate) fn room(&self, bytes: &[u8]) -> usize
         ensures judged { length bytes.now < judged_len self.now.page_size self.now.hello → result ≡ judged_len self.now.page_size self.now.hello }
         ensures whole { judged_len self.now.page_size self.now.hello ≤ length bytes.now → result ≡ item_len self.now.page_size self.now.hello bytes.now }
@@ -207,7 +206,7 @@ impl<A: Allocator> Progress<A> {
         self.item_len(bytes)
     }
 
-    /// Takes the first complete round that was not given away.
+    /// Takes the first complete round that was not taken.
     pub(crate) fn take_round(&mut self) -> Option<PacketRound<A>>
         ensures none { IfNone result ((self.old.rounds ≡ []) × (self.new ≡ self.old)) }
         ensures some { IfSome result (λ r. self.old ≡ with_taken (r.packets ∷ []) self.new) }
@@ -219,7 +218,7 @@ impl<A: Allocator> Progress<A> {
         }
     }
 
-    /// Returns the mark of how far the channel was read.
+    /// Returns a checkpoint of how far the channel was read.
     pub(crate) fn checkpoint(&self) -> Checkpoint
         ensures { result ≡ checkpoint_of self.now }
     {

@@ -36,14 +36,14 @@ pub fn hello(uuid: &Uuid, id: u8) -> [u8; 64]
 }
 
 /// Appends one packet: a block's id, the offsets of its normal pages with their contents one after
-/// the other, and the offsets of its zero pages. All offsets are in bytes. The contents are copied
+/// another, and the offsets of its zero pages. All offsets are in bytes. The contents are copied
 /// once.
 ///
-/// A byte 0 in the id would cut it short for whoever reads the packet.
+/// A byte 0 in the id would cut it short for a reader of the packet.
 ///
 /// # Errors
 ///
-/// `NoMemory`: `out` has too little room, and more was refused. It keeps its bytes.
+/// `NoMemory`: `out` has too little room, and its growth was refused. It keeps its bytes.
 pub fn put_packet<A: Allocator>(
     page_size: u64,
     out: &mut Vec<u8, A>,
@@ -69,12 +69,12 @@ pub fn put_packet<A: Allocator>(
     Ok(())
 }
 
-/// Appends what stands before the pages of a packet. The caller appends the contents of its normal
-/// pages himself, in the order of their offsets.
+/// Appends the bytes before the pages of a packet. The caller appends the contents of its normal
+/// pages, in the order of their offsets.
 ///
 /// # Errors
 ///
-/// `NoMemory`: `out` has too little room, and more was refused. It keeps its bytes.
+/// `NoMemory`: `out` has too little room, and its growth was refused. It keeps its bytes.
 pub fn put_packet_head<A: Allocator>(
     page_size: u64,
     out: &mut Vec<u8, A>,
@@ -97,7 +97,7 @@ pub fn put_packet_head<A: Allocator>(
     Ok(())
 }
 
-// Appends what stands before the pages. Here and in each function below the room is there.
+// Appends the bytes before the pages. Here and in each function below the room is there.
 fn append_head<A: Allocator>(
     page_size: u64,
     out: &mut Vec<u8, A>,
@@ -176,7 +176,7 @@ fn append_id<A: Allocator>(out: &mut Vec<u8, A>, id: &[u8])
     append(out, zeros_of(256 - id.len()));
 }
 
-// Appends all offsets, and zeros up to the room for as many as a packet may have.
+// Appends all offsets, and zeros up to the most offsets of a packet.
 #[tactic(auto, unfolding(crate::specs::Written::written_offsets))]
 fn append_all_offsets<A: Allocator>(
     page_size: u64,

@@ -2,9 +2,9 @@
 //! channel.
 //!
 //! It keeps what was read as a `Progress`. Of the channel's bytes it keeps only those of an item
-//! that isn't complete yet. A piece is read in place, but for the bytes that complete such an item.
-//! A packet that comes in pieces is kept where its bytes were gathered. So each byte of a packet is
-//! copied once.
+//! that isn't complete yet. It reads a piece in place, but for the bytes that complete such an
+//! item. A packet that comes in pieces is kept where its bytes were gathered. So each byte of a
+//! packet is copied once.
 
 ghost use Rattle.std.specs.Prelude.{◌≡◌, ◌≢◌, ◌+◌, ◌<◌, ◌≤◌, ◌^◌, ◌++◌, ℕ, List, [], length, take, true};
 ghost use Rattle.std.specs.Prelude.{IsTrue, IsFalse, IsOk, None, IfOk, IfSome, IfNone, OnOk, OnErr};
@@ -25,14 +25,14 @@ use std::marker::Model;
 use std::{fmt, mem};
 use uuid::Uuid;
 
-/// Reads a channel from pieces of its bytes. What it returns is the reading of all bytes fed,
-/// however they were cut.
+/// Reads a channel from pieces of its bytes. It returns the reading of all bytes fed, however they
+/// were cut.
 #[derive(Drop)]
 pub struct ChannelReader<A: Allocator = Global> {
     progress: Progress<A>,
     // the bytes of the item that isn't complete yet
     pending: Vec<u8, A>,
-    // how the bytes fed stand, whether or not the channel has ended
+    // the state of the bytes fed, whether or not the channel has ended
     found: ChannelState,
     // how many of the bytes fed are complete items without a fault
     valid_up_to: u64,
@@ -52,16 +52,16 @@ impl<A: Allocator> Model for ChannelReader<A> {
     ghost invariant = { λ r. r.found ≡ state.Reading → IsUnfinished r.progress r.pending.items };
 }
 
-// The guest's bytes aren't printed.
+// Guest memory isn't printed.
 impl<A: Allocator> fmt::Debug for ChannelReader<A> {
     fn fmt<W: fmt::Write>(&self, f: &mut fmt::Formatter<W>) -> fmt::Result {
         f.pad("ChannelReader { .. }")
     }
 }
 
-/// What a piece made of the item that wasn't complete.
+/// The incomplete item after a piece.
 pub(crate) enum Filled<'a> {
-    /// The item is complete and without a fault. This is left of the piece.
+    /// The item is complete and without a fault. These bytes of the piece are left.
     Whole(&'a [u8]),
     /// The item isn't complete yet.
     Unfinished,
@@ -92,7 +92,7 @@ fn append_up_to<'a, A: Allocator>(
     Ok(rest)
 }
 
-// Fills the pending item up from the beginning of a piece.
+// Completes the pending item from the beginning of a piece.
 fn fill_up<'a, A: Allocator>(
     progress: &Progress<A>,
     pending: &mut Vec<u8, A>,
@@ -134,8 +134,8 @@ fn keep<A: Allocator>(kept: &mut Vec<u8, A>, bytes: &[u8], room: usize) -> Resul
     Ok(())
 }
 
-// Reads bytes in place, and keeps those of an item that isn't complete. Returns how the channel
-// stands, and how many bytes are left. After an `Err` some items were taken.
+// Reads bytes in place, and keeps those of an item that isn't complete. Returns the state of the
+// channel, and how many bytes are left. After an `Err` some items were taken.
 fn read_in_place<A: Allocator + Copy>(
     progress: &mut Progress<A>,
     pending: &mut Vec<u8, A>,
@@ -305,8 +305,8 @@ impl<A: Allocator> ChannelReader<A> {
         }
     }
 
-    /// Ends the channel. If it has no fault, it is closed from now on where it has a hello and
-    /// complete rounds and nothing more, and else bad. A second call changes nothing.
+    /// Ends the channel. If it has no fault, it is closed from now on if it has a hello and
+    /// complete rounds and nothing more, and otherwise bad. A second call changes nothing.
     pub fn end(&mut self)
         ensures value { self.new ≡ record self.old { ended = true } }
         ensures stands { StepsOn over self.old self.new }
@@ -328,7 +328,7 @@ impl<A: Allocator> ChannelReader<A> {
         self.fed
     }
 
-    /// Returns how the bytes fed stand: still to be read on, closed, or bad.
+    /// Returns the state of the bytes fed: more are needed, closed, or bad.
     pub fn state(&self) -> ChannelState
         ensures { Tells self.now (λ given so_far. HasState given so_far.text so_far.ended result) }
     {
@@ -344,14 +344,14 @@ impl<A: Allocator> ChannelReader<A> {
     /// complete begins there, if bytes follow.
     ///
     /// A channel that was ended too early is bad as well: `Truncated` begins there, and `Unsynced`
-    /// stands after the last byte.
+    /// is after the last byte.
     pub fn valid_up_to(&self) -> u64
         ensures { Tells self.now (λ given so_far. IsValidUpTo given so_far.text result) }
     {
         self.valid_up_to
     }
 
-    // Returns how a channel without a fault stands once it has ended.
+    // Returns the state of a channel without a fault once it has ended.
     fn state_at_end(&self) -> ChannelState
         ensures { result ≡ state_at_end self.now.progress.hello self.now.pending self.now.progress.packets }
     {

@@ -84,8 +84,8 @@ impl<A: Allocator> Packets<A> {
         self.items.len()
     }
 
-    /// Adds a packet, whose bytes it keeps where they are. An `Err` changes nothing, and gives the
-    /// packet back.
+    /// Adds a packet, whose bytes it keeps where they are. An `Err` changes nothing, and returns
+    /// the packet.
     pub(crate) fn push(&mut self, packet: PacketText<A>) -> Result<(), PacketText<A>>
         ensures ok { OnOk result (self.new ≡ self.old ++ packet ∷ []) }
         ensures err { OnErr result (self.new ≡ self.old) }
@@ -111,7 +111,7 @@ impl<A: Allocator> Packets<A> {
 }
 
 impl<A: Allocator + Copy> Packets<A> {
-    // Returns the packets, which lend these bytes.
+    // Returns the packets, which borrow these bytes.
     fn lend(&self, page_size: u64) -> Result<Vec<Packet<'_>, A>, NoMemory>
         requires { IsPacketRound page_size self.now }
         ensures texts { IfOk result (λ v. map (λ p. p.bytes.now) v.items ≡ self.now) }
@@ -146,7 +146,7 @@ impl<A: Allocator> Model for PacketRound<A> {
     ghost invariant = { λ r. IsPacketRound r.page_size r.packets };
 }
 
-// The guest's bytes aren't printed.
+// Guest memory isn't printed.
 impl<A: Allocator> fmt::Debug for PacketRound<A> {
     fn fmt<W: fmt::Write>(&self, f: &mut fmt::Formatter<W>) -> fmt::Result {
         f.pad("PacketRound { .. }")
@@ -163,7 +163,7 @@ impl<A: Allocator> PacketRound<A> {
 }
 
 impl<A: Allocator + Copy> PacketRound<A> {
-    /// Returns the packets. They lend the round's bytes, and copy none.
+    /// Returns the packets. They borrow the round's bytes, and copy none.
     ///
     /// # Errors
     ///

@@ -2,7 +2,7 @@
 
 use crate::ChannelFault;
 
-/// How far a channel has come.
+/// The state of a channel.
 #[derive(Clone, Copy, Debug, PartialEq, Eq)]
 pub enum ChannelState {
     /// More bytes are needed, or the call that ends the channel.

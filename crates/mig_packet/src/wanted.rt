@@ -1,5 +1,5 @@
-//! What the next bytes of a channel are: so a caller reads the content of a page straight to where
-//! it belongs, and copies nothing. QEMU's threads for channels read so.
+//! The next bytes of a channel, so that a caller reads the content of a page straight to its
+//! destination, and copies nothing. QEMU's threads for channels read that way.
 
 ghost use Rattle.std.specs.Prelude.{◌≡◌, IsFalse};
 ghost use Rattle.std.specs.Option.{IsSomeAnd};
@@ -12,14 +12,14 @@ use crate::packet::{head_len, normal_count_of, offset_of};
 use crate::page_reader::PageReader;
 use std::alloc::Allocator;
 
-/// What the next bytes of a channel are.
+/// The next bytes of a channel.
 #[derive(Clone, Copy, Debug, PartialEq, Eq)]
 pub enum Wanted {
     /// The content of the page at this offset in the block of the packet's head, in bytes, from its
     /// first byte on. The second number says how many normal pages of the packet are still to come,
     /// this one among them. Their contents follow one another.
     Page(u64, usize),
-    /// So many bytes, at least 1, complete a hello, a head or a page.
+    /// This many bytes, at least 1, complete a hello, a head or a page.
     Bytes(usize),
     /// No more bytes, before the next call of `PageReader::read_on`: a packet is complete, the
     /// channel was ended, or its bytes have a fault.
@@ -28,8 +28,8 @@ pub enum Wanted {
 
 impl<A: Allocator> PageReader<A> {
     /// Returns what the next bytes of the channel are. A caller that has `Bytes` reads no more than
-    /// those. One that has a `Page` reads its content to where it belongs; `read_on` of the content
-    /// there then lends it, and copies nothing.
+    /// those. A caller that has a `Page` reads its content to its destination; `read_on` of the
+    /// content there then lends it, and copies nothing.
     pub fn wanted(&self) -> Wanted
         ensures { IsWanted result self.now }
     {
@@ -42,7 +42,7 @@ impl<A: Allocator> PageReader<A> {
         }
     }
 
-    // Returns at how many bytes the next hello or head is judged.
+    // Returns with how many bytes the next hello or head is tested.
     fn judged_len(&self) -> usize
         ensures { result ≡ judged_len self.now.given.page_size self.now.hello }
     {

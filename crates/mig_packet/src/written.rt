@@ -10,24 +10,24 @@ use crate::put::put_packet;
 use std::alloc::Allocator;
 use std::fmt;
 
-/// What a packet says: the fields by which one is written.
+/// The fields of a packet, by which one is written.
 #[derive(Clone, Copy)]
 pub struct PacketFields<'a> {
     pub number: u64,
     /// Whether it ends its channel's round: `MULTIFD_FLAG_SYNC`.
     pub sync: bool,
-    /// The id of the block that its pages are of. A byte 0 in it would cut it short for whoever
-    /// reads the packet.
+    /// The id of the block of its pages. A byte 0 in it would cut it short for a reader of the
+    /// packet.
     pub id: &'a [u8],
     /// The offsets of its normal pages, in bytes.
     pub normal: &'a [u64],
-    /// The contents of those pages, one after the other.
+    /// The contents of those pages, one after another.
     pub contents: &'a [u8],
     /// The offsets of its pages of zeros.
     pub zero: &'a [u64],
 }
 
-// The guest's bytes aren't printed.
+// Guest memory isn't printed.
 impl fmt::Debug for PacketFields<'_> {
     fn fmt<W: fmt::Write>(&self, f: &mut fmt::Formatter<W>) -> fmt::Result {
         f.pad("PacketFields { .. }")
@@ -39,7 +39,7 @@ impl PacketFields<'_> {
     ///
     /// # Errors
     ///
-    /// `NoMemory`: `out` has too little room, and more was refused. It keeps its bytes.
+    /// `NoMemory`: `out` has too little room, and its growth was refused. It keeps its bytes.
     pub fn put<A: Allocator>(&self, page_size: u64, out: &mut Vec<u8, A>) -> Result<(), NoMemory>
         requires page_size { IsPageSize page_size }
         requires few { length self.now.normal.now + length self.now.zero.now ≤ page_limit page_size }

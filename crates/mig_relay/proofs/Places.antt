@@ -60,8 +60,8 @@ same_settings c packet =
       | false ↦ (refl, refl, refl, refl)
     ]
 
--- How a front lies: the hello, and then the packets, one after the other. Before the hello there
--- are none.
+-- How a front lies: the hello, and then the packets, one after another. Before the hello there are
+-- none.
 record IsLaid (page_size : ℕ) (c : ChannelProgress) (front : List ℕ) : Type 0 where
   has_page_size : c.page_size ≡ page_size
   hello : List ℕ

@@ -1,4 +1,4 @@
--- A place in a channel's bytes, and the messages before it.
+-- An offset in a channel's bytes, and the messages before it.
 use Rattle.std.specs.Prelude.{◌≡◌, ◌≢◌, ℕ, ◌+◌, ◌≤◌, true, false, List, [], ◌∷◌, ◌++◌, length, drop, None}
 use Rattle.std.specs.List.{concat}
 use Rattle.mig_packet.specs.Hello.{hello_len}
@@ -19,8 +19,8 @@ text_of k text = with_settings k.page_size k.uuid k.channels text
 abbrev pub place_behind : ChannelProgress → ℕ
 place_behind c = hello_len + length (concat (all_packets c))
 
--- Before the place lie these messages. The reading of the bytes goes on from there: it comes as far
--- as that of all bytes.
+-- These messages are before the cursor. The reading of the bytes goes on from there, and ends as
+-- that of all bytes.
 pub record IsBehind (k : Cursor) (text : List ℕ) (done : List Message) : Type 0 where
   pub c : ChannelProgress
   pub has_page_size : c.page_size ≡ k.page_size
@@ -38,7 +38,7 @@ pub record IsBehind (k : Cursor) (text : List ℕ) (done : List Message) : Type 
   pub goes_on : Reads c (drop k.at text) to rest found
   pub whole : Reads (start k.page_size k.uuid k.channels) text to rest found
 
--- this is the message that comes next, and the place after it
+-- this is the message that comes next, and the cursor after it
 pub record Finds (k : Cursor) (text : List ℕ) (message : Message) (behind : Cursor) : Type 0 where
   pub next : (done : List Message) → IsBehind k text done → BeginsMessages (text_of k text) (done ++ message ∷ [])
   pub goes_on : is_last message ≡ false → (done : List Message) → IsBehind k text done → IsBehind behind text (done ++ message ∷ [])

@@ -1,4 +1,4 @@
--- What the two ends of a channel's queue keep to.
+-- The invariants of the two ends of a channel's queue.
 use Rattle.std.specs.Prelude.{◌≡◌, ℕ, ◌≤◌, Bool, true, List, length, map, All}
 use Rattle.mig_packet.specs.PageSize.{IsPageSize}
 use Rattle.mig_relay.specs.declared.cursor.Cursor.{Cursor}
@@ -9,7 +9,7 @@ use Rattle.mig_relay.specs.Messages.{AreMessages, BeginsMessages}
 use Rattle.mig_relay.specs.Queue.{feeding, collecting, items_in}
 use Rattle.mig_relay.specs.Cursor.{text_of, IsBehind}
 
--- a feeder that stands there, after so many items, with a pass that knows this
+-- a feeder at this cursor, after `count` items, with a pass that knows this
 pub record IsFeeding (k : Cursor) (text : List ℕ) (count : ℕ) (v : Log) : Type 0 where
   pub has_page_size : IsPageSize k.page_size
   pub within : k.at ≤ length text

@@ -1,4 +1,4 @@
--- The items of a channel as places in its bytes: what passes through the channel's queue.
+-- The items of a channel as offsets in its bytes, which pass through the channel's queue.
 use Rattle.std.specs.Prelude.{◌≡◌, ℕ, ◌+◌, ◌≤◌, Bool, true, false, List, [], ◌∷◌, ◌++◌, length, take, drop, Option, None, Some, ⊤}
 use Rattle.mig_packet.specs.declared.state.ChannelState.{ChannelState}
 use Rattle.mig_packet.specs.declared.state.ChannelState.TheVariants as state
@@ -28,7 +28,7 @@ abbrev pub hello_message : Option ℕ → List Message
 hello_message None = []
 hello_message (Some id) = message.Hello id ∷ []
 
--- packets that lie one after the other from there on
+-- packets one after another, from an offset on
 abbrev pub places : ℕ → List (List ℕ) → List Message
 places at [] = []
 places at (packet ∷ packets) = message.Page at (length packet) ∷ places (at + length packet) packets
@@ -42,7 +42,7 @@ stop_message state.Reading = []
 abbrev pub front_messages : ChannelProgress → List Message
 front_messages c = hello_message c.hello ++ places hello_len (all_packets c)
 
--- These are the channel's messages: its hello where that is in the front, each packet of the front,
+-- These are the channel's messages: its hello if that is in the front, each packet of the front,
 -- then one stop.
 pub record AreMessages (source : ChannelText) (messages : List Message) : Type 0 where
   pub to : ChannelProgress
@@ -57,7 +57,7 @@ BeginsMessages source front = (more : List Message) × AreMessages source (front
 
 -- ---- one message
 
--- the message's bytes lie in the channel's, and are a packet
+-- the message's bytes are in the channel, and are a packet
 abbrev pub IsMessageIn : ℕ → List ℕ → Message → Type 0
 IsMessageIn page_size text (message.Hello id) = ⊤
 IsMessageIn page_size text (message.Page at len) = (at + len ≤ length text) × IsPacketText page_size (take len (drop at text))

@@ -1,5 +1,5 @@
--- The load of what a relay brings, from a complete main stream: the answer on the channels of the
--- relay, or that where memory was refused.
+-- The load of a relay's items with a complete main stream: the answer on the channels of the relay,
+-- or that after a refused allocation.
 use Rattle.std.specs.Prelude.{ℕ, List}
 use Rattle.mig_mem.specs.PageSize.{IsPageSize}
 use Rattle.mig_single_load.specs.declared.settings.LoadSettings.{LoadSettings}

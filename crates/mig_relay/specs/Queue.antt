@@ -14,7 +14,7 @@ use Rattle.mig_relay.specs.Messages.{item_of_message, BeginsMessages}
 abbrev pub log : Bool → Bool → ChannelText → List Message → Log
 log feeds collects source done = record { feeds = feeds; collects = collects; source = source; done = done }
 
--- a channel of no bytes, as long as the pass knows of none
+-- a channel without bytes, before the pass knows one
 abbrev pub no_channel_text : ChannelText
 no_channel_text = with_settings 4096 [] 0 []
 
@@ -36,14 +36,14 @@ items_in v = map (item_of_message v.source) v.done
 
 -- ---- the rule
 
--- what this pass knows is so, where these passes push and pop
+-- what this pass knows holds, if these passes push and pop
 abbrev pub LogHolds : ℕ → ℕ → ChannelText → List Message → List Message → ℕ → Log → Type 0
 LogHolds feeder collector source pushed popped pass v =
     (v.feeds ≡ true → (pass ≡ feeder) × (v.source ≡ source) × (v.done ≡ pushed))
     × (v.collects ≡ true → (pass ≡ collector) × (v.source ≡ source) × (v.done ≡ popped))
 
--- One pass pushes, and one pops. What was popped, and then what the queue holds, is what was
--- pushed, which begins the channel's messages.
+-- One pass pushes, and one pops. The messages popped, and then those in the queue, are those
+-- pushed, which are the first of the channel.
 abbrev pub IsInOrder : List Message → List Log → Type 0
 IsInOrder items views = (feeder : ℕ) × (collector : ℕ) × (source : ChannelText) × (pushed : List Message) × (popped : List Message)
     × (pushed ≡ popped ++ items) × BeginsMessages source pushed

@@ -6,8 +6,7 @@ use Rattle.mig_relay.specs.declared.feeder.FeederStep.TheVariants.{More, Ended}
 use Rattle.mig_relay.specs.declared.log.ChannelText.{ChannelText}
 use Rattle.mig_relay.specs.RelayItems.{with_settings, QueueEnd, one_more, BeginsItems, IsThrough, IsOnTheWay}
 
--- One item more was pushed. The feeder goes on where a further one is left, and else it was the
--- stop.
+-- One more item was pushed. The feeder goes on if a further one is left; otherwise it was the stop.
 abbrev pub PushesOne : {A : Type 0} → QueueEnd → FeederStep A → Type 0
 PushesOne p (More next) = (next_item : ChannelItem) × (next ≡ one_more p next_item) × IsOnTheWay next
 PushesOne p (Ended fed) = (next_item : ChannelItem) × (fed ≡ one_more p next_item) × IsThrough fed
@@ -17,7 +16,7 @@ abbrev pub Takes : QueueEnd → QueueEnd → Bool → Type 0
 Takes p q true = (next_item : ChannelItem) × (q ≡ one_more p next_item) × BeginsItems q.source q.passed
 Takes p q false = (q ≡ p) × IsThrough p
 
--- the same of one channel, and the others stay
+-- one channel does so, and the others are unchanged
 abbrev pub TakesAt : ℕ → List QueueEnd → List QueueEnd → Bool → Type 0
 TakesAt j old new more = (p : QueueEnd) × (q : QueueEnd) × (slice_get old j ≡ Some p) × (new ≡ slice_set old j q) × Takes p q more
 

@@ -1,4 +1,4 @@
--- What a relay passes on: the items of each channel, as its contracts see them.
+-- The items of each channel, which a relay passes on, as its contracts see them.
 use Rattle.std.specs.Prelude.{◌≡◌, ℕ, List, [], ◌∷◌, ◌++◌, Option, None, Some, ⊤}
 use Rattle.atomic_table.specs.Seated.{TableId}
 use Rattle.mig_packet.specs.declared.fault.ChannelFault.{ChannelFault}
@@ -22,7 +22,7 @@ as_channel_item (item.Hello id) = Hello id
 as_channel_item (item.Page packet) = Page (fields packet)
 as_channel_item (item.Stop end) = Stop (end_fault end)
 
--- the size of its pages, where it is a packet
+-- the page size of the item, if it is a packet
 abbrev pub IsOfPageSize : ℕ → Item → Type 0
 IsOfPageSize page_size (item.Hello id) = ⊤
 IsOfPageSize page_size (item.Page packet) = packet.page_size ≡ page_size
@@ -56,7 +56,7 @@ pub record QueueEnd : Type 0 where
 abbrev pub queue_end : TableId → ChannelText → List ChannelItem → QueueEnd
 queue_end queue source passed = record { queue = queue; source = source; passed = passed }
 
--- with one item more that was pushed or popped
+-- with one more item that was pushed or popped
 abbrev pub one_more : QueueEnd → ChannelItem → QueueEnd
 one_more p next_item = queue_end p.queue p.source (p.passed ++ next_item ∷ [])
 

@@ -1,4 +1,4 @@
--- A load of what a relay brings: what it takes of each channel, and the round that is judged.
+-- A load of a relay's items: what it takes of each channel, and the round that is judged.
 use Rattle.std.specs.Prelude.{◌≡◌, ◌≢◌, ◌⊎◌, ℕ, ◌+◌, ◌<◌, ◌≤◌, Bool, true, List, [], ◌∷◌, ◌++◌, length, map, take, slice_get, slice_set, Option, Some, None, IsTrue, All, Result, ⊤, ◌==◌, ◌^◌, if◌then◌else◌, get_or, is_ok}
 use Rattle.std.specs.List.{AllZip}
 use Rattle.mig_mem.specs.PageSize.{IsPageSize}
@@ -34,7 +34,7 @@ use Rattle.mig_answer.specs.Putting.{HasLoaded}
 
 -- ---- the relay of some channels
 
--- these are the ends that pop of the queues of these channels, at pages of this size and under this
+-- these are the ends that pop of the queues of these channels, with pages of this size and this
 -- UUID
 pub record IsRelayOf (page_size : ℕ) (uuid : List ℕ) (texts : List (List ℕ)) (ends : List QueueEnd) : Type 0 where
   pub has_some : 1 ≤ length texts
@@ -51,14 +51,14 @@ pub record IsRelay (ends : List QueueEnd) : Type 0 where
 abbrev pub received_of : List QueueEnd → List (List ChannelItem)
 received_of ends = map (λ p. p.passed) ends
 
--- the queue and the channel stay, and what was taken begins with what was taken before
+-- the queue and the channel are unchanged, and what was taken begins with what was taken before
 pub record Continues (old new : QueueEnd) : Type 0 where
   pub same_queue : new.queue ≡ old.queue
   pub same_source : new.source ≡ old.source
   pub begins : IsFront old.passed new.passed
 
--- What a load has taken that counts so many rounds: their SYNC packets at least, and where it is
--- done the stop.
+-- What a load that counts `rounds` rounds has taken: their SYNC packets at least, and the stop if
+-- it is done.
 pub record HasReceived (rounds : ℕ) (done : Bool) (old new : QueueEnd) : Type 0 where
   pub continues : Continues old new
   pub has_rounds : rounds ≤ round_count new.passed
@@ -66,7 +66,7 @@ pub record HasReceived (rounds : ℕ) (done : Bool) (old new : QueueEnd) : Type 
 
 -- ---- one channel, processed item by item
 
--- the status that a stop gives
+-- the status by a stop
 abbrev pub stop_status : ChannelEnd → Status
 stop_status channel_end.Clean = Clean
 stop_status (channel_end.Bad f) = Bad (fault.Channel f)
@@ -92,16 +92,16 @@ pub record IsAtRound (k at : ℕ) (passed : List ChannelItem) : Type 0 where
 abbrev pub HasEnough : ℕ → QueueEnd → Type 0
 HasEnough k p = BeginsItems p.source p.passed × ((k < round_count p.passed) ⊎ IsThrough p)
 
--- Round k of a channel was processed, up to there: how the channel stands at it, and the packets
--- where it is complete.
+-- Round k of a channel was processed, up to index `to`: the channel's status at it, and the packets
+-- if it is complete.
 pub record HasGone (k to : ℕ) (p : QueueEnd) (status : Status) (packets : List Fields) : Type 0 where
   pub is_told : HasEnough k p
   pub has_status : status ≡ status_in k p.passed
   pub has_packets : status ≡ Whole → packets ≡ channel_packets_in k p.passed
   pub goes_on : status ≡ Whole → IsAtRound (k + 1) to p.passed
 
--- Item `at` of channel j is this item, which was taken where it wasn't yet. The other channels
--- stay.
+-- Item `at` of channel j is this item, which was taken if it wasn't yet. The other channels are
+-- unchanged.
 pub record GivesItem (j at : ℕ) (old new : List QueueEnd) (item : Item) : Type 0 where
   pub before : QueueEnd
   pub behind : QueueEnd
@@ -114,8 +114,8 @@ pub record GivesItem (j at : ℕ) (old new : List QueueEnd) (item : Item) : Type
   pub is_page_size : IsPageSize before.source.page_size
   pub has_page_size : IsOfPageSize before.source.page_size item
 
--- Channel j was processed from one place to another, and brought these packets. The other channels
--- stay.
+-- Channel j was processed from one index to another, with these packets. The other channels are
+-- unchanged.
 pub record GoesThrough (j at : ℕ) (old new : List QueueEnd) (to : ℕ) (status : Status) (packets : List Packet) : Type 0 where
   pub before : QueueEnd
   pub behind : QueueEnd
@@ -131,8 +131,8 @@ pub record GoesThrough (j at : ℕ) (old new : List QueueEnd) (to : ℕ) (status
 abbrev pub AreAtRound : ℕ → List ℕ → List QueueEnd → Type 0
 AreAtRound k places ends = AllZip (λ (at : ℕ) (p : QueueEnd). IsAtRound k at p.passed) places ends
 
--- Round k of all channels was processed: how they stand at it, and where it is complete of each the
--- packets of all.
+-- Round k of all channels was processed: their statuses at it, and the packets of all if it is
+-- complete in each.
 pub record HaveGone (k : ℕ) (places : List ℕ) (ends : List QueueEnd) (statuses : List Status) (packets : List Fields) : Type 0 where
   pub are_told : All (HasEnough k) ends
   pub has_statuses : statuses ≡ map (status_in k) (received_of ends)
@@ -145,7 +145,7 @@ pub record HaveGone (k : ℕ) (places : List ℕ) (ends : List QueueEnd) (status
 abbrev pub repeated_at : ℕ → List QueueEnd → Option ℕ
 repeated_at k ends = if k == 0 then repeated_hello (map hello_in (received_of ends)) else None
 
--- what a load on channels is of, and what the sources say
+-- the setting of a load on channels, and the readings of its sources
 pub record Load : Type 0 where
   pub given : LoadSettings
   pub uuid : List ℕ
@@ -162,7 +162,7 @@ pub record Loading (l : Load) (k : ℕ) (places : List ℕ) (ends : List QueueEn
   pub have_passed : (j : ℕ) → j < k → IsTrue (passes j l.readings)
   pub are_at : AreAtRound k places ends
 
--- What the sources say at round k: a verdict, which is the load's, or that all have the round, with
+-- The sources at round k: they give a verdict, which is the load's, or all have the round, with
 -- these packets.
 pub record ToldAt (l : Load) (k : ℕ) (main : Status) (told : Option Verdict) (places : List ℕ) (ends : List QueueEnd) (packets : List Fields) : Type 0 where
   pub stops : (verdict : Verdict) → told ≡ Some verdict → IsFirstStop l.readings k × (verdict_at k l.readings ≡ verdict) × (verdict ≢ Running)
@@ -182,7 +182,7 @@ IsAnswered l k verdict = (IsFirstStop l.readings k × (verdict_at k l.readings �
 abbrev pub HaveRounds : ℕ → List QueueEnd → Type 0
 HaveRounds k ends = All (λ p. k ≤ round_count p.passed) ends
 
--- What a load leaves that ends at round k: its verdict, and what it took of the channels.
+-- The result of a load that ends at round k: its verdict, and what it took of the channels.
 pub record HasEnded (l : Load) (k : ℕ) (verdict : Result ⊤ LoadFault) (ends : List QueueEnd) : Type 0 where
   pub is_answered : IsAnswered l k verdict
   pub have_rounds : HaveRounds k ends
@@ -199,8 +199,8 @@ pub record ComesToRound (l : Load) (target : LoadTarget) (places : List ℕ) (en
   pub is_round : round.records ≡ get_or l.readings.main.rounds target.rounds []
   pub fits : FitsTable target.memory.table round
 
--- What the judging of a round leaves. With None it is applied, and the next one is due. Else the
--- load has ended, and the memory stays.
+-- The result of judging a round. With None it is applied, and the next one comes. Otherwise the
+-- load has ended, and the memory is unchanged.
 abbrev pub HasJudged : Load → LoadTarget → Option (Result ⊤ LoadFault) → LoadTarget → List ℕ → List QueueEnd → Type 0
 HasJudged l old None new places ends =
     Loading l (old.rounds + 1) places ends × HasLoaded (old.rounds + 1) l.readings new × (new.base ≤ 2 ^ 63)

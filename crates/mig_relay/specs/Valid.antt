@@ -1,4 +1,4 @@
--- Up to where the source is valid in which a load of several channels found a fault.
+-- The valid prefix of the source in which a load of several channels found a fault.
 use Rattle.std.specs.Prelude.{ℕ, ◌≡◌, List, length, slice_get, Option, None, Some}
 use Rattle.mig_stream.specs.Reader as stream
 use Rattle.mig_packet.specs.Reader as channel
@@ -8,13 +8,13 @@ use Rattle.mig_single_load.specs.declared.settings.LoadSettings.{LoadSettings}
 use Rattle.mig_single_load.specs.declared.fault.Origin.{Origin}
 use Rattle.mig_single_load.specs.declared.fault.Origin.TheVariants as origin
 
--- a channel is valid up to there; None where there is no such channel
+-- the length of a channel's valid prefix; None if there is no such channel
 abbrev pub IsChannelValidUpTo : ℕ → List ℕ → ℕ → Option (List ℕ) → Option ℕ → Type 0
 IsChannelValidUpTo page_size uuid channels None n = n ≡ None
 IsChannelValidUpTo page_size uuid channels (Some text) n = (at : ℕ) × (n ≡ Some at) × channel.IsValidUpTo (settings page_size uuid channels) text at
 
--- The bytes of an origin are valid up to there: of a fault that a load found in them, the item at
--- fault begins there. For what is found in no one source it is None.
+-- The length of the valid prefix of a fault's source: the item at fault begins there. It is None
+-- for a fault that isn't in a single source.
 abbrev pub IsOriginValidUpTo : LoadSettings → List ℕ → List ℕ → List (List ℕ) → Origin → Option ℕ → Type 0
 IsOriginValidUpTo given uuid main channels origin.Main n = (at : ℕ) × (n ≡ Some at) × stream.IsValidUpTo (main_of given) main at
 IsOriginValidUpTo given uuid main channels (origin.Channel j) n = IsChannelValidUpTo given.page_size uuid (length channels) (slice_get channels j) n

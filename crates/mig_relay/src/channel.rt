@@ -13,8 +13,8 @@ use std::alloc::{Allocator, Global};
 use std::marker::Model;
 use std::sync::Wait;
 
-/// The items of one channel as they come. Contracts see its queue, its bytes, and the items that it
-/// has popped.
+/// The items of one channel as they come. Contracts see its queue, its bytes, and the items that
+/// were popped.
 #[derive(Drop)]
 pub struct Channel<'a, A: Allocator = Global> {
     pub(crate) page_size: u64,
@@ -43,7 +43,7 @@ impl<'a, A: Allocator> Model for Channel<'a, A> {
 }
 
 impl<'a, A: Allocator> Channel<'a, A> {
-    /// Returns the number of bytes of a page of its packets.
+    /// Returns the page size of its packets, in bytes.
     pub(crate) fn page_size(&self) -> u64
         ensures value { result ≡ self.now.source.page_size }
         ensures page_size { IsPageSize result }
@@ -78,7 +78,7 @@ impl<'a, A: Allocator> Channel<'a, A> {
         Ok(true)
     }
 
-    /// Pops and drops what still comes, up to the stop.
+    /// Pops and drops all further items, up to the stop.
     pub(crate) fn drain<R: Wait>(self, wait: &R) {
         let Channel {
             page_size: _,

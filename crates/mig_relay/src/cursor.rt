@@ -1,5 +1,5 @@
-//! A place in a channel's bytes, between two items, and how the next item is found. A feeder keeps
-//! one.
+//! An offset in a channel's bytes, between two items, and how the next item is found. A feeder
+//! keeps one.
 
 ghost use Rattle.std.specs.Prelude.{◌≡◌, ◌≤◌, true, false, length};
 ghost use Rattle.mig_packet.specs.PageSize.{IsPageSize};
@@ -15,23 +15,23 @@ use uuid::Uuid;
 // how many bytes a hello has
 const HELLO_LEN: usize = 64;
 
-/// A place between two items of a channel that has ended, and the settings by which its bytes are
+/// An offset between two items of a channel that has ended, and the settings by which its bytes are
 /// read.
 #[derive(Clone, Copy)]
 pub(crate) struct Cursor {
     pub(crate) page_size: u64,
     pub(crate) uuid: Uuid,
     pub(crate) channels: usize,
-    // how many bytes lie before it
+    // how many bytes are before it
     pub(crate) at: usize,
-    // whether the hello does
+    // whether the hello is before it
     pub(crate) greeted: bool,
-    // whether packets lie between the last SYNC packet and it
+    // whether packets are between the last SYNC packet and it
     pub(crate) unsynced: bool,
 }
 
 impl Cursor {
-    /// Reads the next item. Returns it, and the place after it.
+    /// Reads the next item. Returns it, and the cursor after it.
     pub(crate) fn read(self, text: &[u8]) -> (Message, Cursor)
         requires page_size { IsPageSize self.page_size }
         requires within { self.at ≤ length text.now }

@@ -12,7 +12,7 @@ use std::fmt::{self, Debug, Formatter};
 use std::marker::Model;
 use std::sync::Wait;
 
-/// Pushes the items of one channel. Contracts see its queue, its bytes, and the items that it has
+/// Pushes the items of one channel. Contracts see its queue, its bytes, and the items that were
 /// pushed.
 #[derive(Drop)]
 pub struct Feeder<'a, A: Allocator = Global> {
@@ -41,7 +41,7 @@ impl<'a, A: Allocator> Model for Feeder<'a, A> {
     ghost invariant = { λ a. IsSeatAt (sends_on a.sender) a.pass × IsFeeding a.cursor a.text.now a.count (known a.pass) };
 }
 
-/// Opaque: it borrows a guest's bytes.
+/// Prints an opaque value: it borrows guest memory.
 impl<'a, A: Allocator> Debug for Feeder<'a, A> {
     fn fmt<W: fmt::Write>(&self, f: &mut Formatter<W>) -> fmt::Result {
         f.write_str("Feeder { .. }")
@@ -49,7 +49,7 @@ impl<'a, A: Allocator> Debug for Feeder<'a, A> {
 }
 
 /// What is left of a feeder that has pushed its channel's stop. Contracts see its queue, its bytes,
-/// and the items that it has pushed.
+/// and the items that were pushed.
 #[derive(Drop)]
 pub struct Fed<A: Allocator = Global> {
     sender: Sender<A>,
@@ -68,14 +68,14 @@ impl<A: Allocator> Model for Fed<A> {
     ghost view = { λ a. queue_end a.pass.table_id (known a.pass).source (items_in (known a.pass)) };
 }
 
-/// Opaque: it holds the end of a queue.
+/// Prints an opaque value: it holds the end of a queue.
 impl<A: Allocator> Debug for Fed<A> {
     fn fmt<W: fmt::Write>(&self, f: &mut Formatter<W>) -> fmt::Result {
         f.write_str("Fed { .. }")
     }
 }
 
-/// What a step of a feeder leaves.
+/// The result of a step of a feeder.
 #[derive(Drop)]
 pub enum FeederStep<'a, A: Allocator = Global> {
     /// A feeder that has items to push.
@@ -84,7 +84,7 @@ pub enum FeederStep<'a, A: Allocator = Global> {
     Ended(Fed<A>),
 }
 
-/// Opaque, but for which of the two it is.
+/// Prints which of the two it is, and no more.
 impl<'a, A: Allocator> Debug for FeederStep<'a, A> {
     fn fmt<W: fmt::Write>(&self, f: &mut Formatter<W>) -> fmt::Result {
         match self {

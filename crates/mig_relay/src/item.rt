@@ -1,14 +1,13 @@
-//! What a channel brings: its items, one after another. Feeders push them, and the collector gives
-//! them.
+//! The items of a channel, one after another. Feeders push them, and the collector gives them.
 
 use mig_packet::{ChannelFault, Packet};
 
-/// How a channel stands once it has ended.
+/// The state of a channel that has ended.
 #[derive(Clone, Copy, Debug, PartialEq, Eq)]
 pub enum ChannelEnd {
-    /// After its hello and complete rounds, and nothing more.
+    /// It ended after its hello and complete rounds.
     Clean,
-    /// With this fault.
+    /// It has this fault.
     Bad(ChannelFault),
 }
 

@@ -1,9 +1,9 @@
 //! Loads complete streams on several channels, through a relay between threads.
 //!
 //! A relay passes the items of each channel from a thread that reads them to the one that loads.
-//! Each channel has a `Feeder`, a queue, and its place in the one `Collector`. `mig_packet` defines
-//! the items, and `specs/Relay.antt` what the two ends promise. `load_relayed` loads what a relay
-//! brings. `load_multi` starts the relay and its workers too. `mig_answer` defines what they
+//! Each channel has a `Feeder`, a queue, and an entry in the one `Collector`. `mig_packet` defines
+//! the items, and `specs/Relay.antt` what the two ends promise. `load_relayed` loads the items of a
+//! relay. `load_multi` also starts the relay and its workers. `mig_answer` defines what they
 //! return.
 //!
 //! Definitions, in reading order: `RelayItems`, `Relay`, `Relayed`, `Multi`, `Valid` (`specs/`).

@@ -1,7 +1,8 @@
-//! The rule of a channel's queue, and the kinds of steps that are made under it, for `queue`.
+//! The rule of a channel's queue, and the kinds of steps under it, for `queue`.
 //!
-//! Nothing here runs. At each step, `crossbeam_channel` asks that the step keeps the rule, whatever
-//! the queue holds and all passes know by then. It answers with what the kind of step promises.
+//! Nothing here runs. `crossbeam_channel` requires of each step that it keeps the rule, for any
+//! contents of the queue and any knowledge of the passes. In return the step has what its kind
+//! promises.
 //!
 //! The steps are: the queue is made with one pass; this pass is split in two, one to push and one
 //! to pop; a push; a pop.
@@ -29,9 +30,9 @@ pub struct Log {
     pub done: LinkedList<Message>,
 }
 
-/// What holds of a queue and its passes between any two steps. What was popped, and then what the
-/// queue holds, is what was pushed, and this begins the channel's messages. One pass pushes, and
-/// one pops.
+/// What holds of a queue and its passes between any two steps. The messages popped, and then those
+/// in the queue, are those pushed, which are the first of the channel. One pass pushes, and one
+/// pops.
 pub struct InOrder;
 
 impl Protocol<Message, Log> for InOrder {
@@ -42,7 +43,7 @@ impl Protocol<Message, Log> for InOrder {
     ghost first = { fresh };
 }
 
-/// Names the channel whose items a queue is to carry.
+/// Names the channel whose items a queue carries.
 pub trait Carries {
     ghost use Rattle.mig_relay.specs.declared.log.ChannelText.{ChannelText};
 
@@ -55,7 +56,7 @@ impl Carries for Brand {
     ghost source = { no_channel_text };
 }
 
-/// The step that makes the pass that pops out of a queue's first one, which pushes from then on.
+/// The step that splits the pass that pops off a queue's first pass, which pushes from then on.
 /// Each of the two knows the channel.
 pub struct Cut<Q>(PhantomData<Q>);
 
@@ -83,8 +84,8 @@ impl Lesson<Message, Log> for Pushed {
     ghost fact = { λ v items. ⊤ };
 }
 
-/// The step of a pop: the pass has popped one message more, and all that it popped begins the
-/// channel's messages.
+/// The step of a pop: the pass has popped one message more, and all that it popped are the first
+/// messages of the channel.
 pub struct Popped;
 
 impl Outcome<Message, Log> for Popped {

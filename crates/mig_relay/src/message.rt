@@ -1,5 +1,5 @@
 //! An item as it passes through a channel's queue: numbers alone, which say where in the channel's
-//! bytes it lies. A cursor makes them, and the popping end makes items of them.
+//! bytes it is. A cursor creates them, and the popping end turns them into items.
 
 ghost use Rattle.std.specs.Prelude.{◌≡◌};
 ghost use Rattle.mig_packet.specs.PageSize.{IsPageSize};
@@ -9,7 +9,7 @@ ghost use Rattle.mig_relay.specs.Messages.{IsMessageIn, is_last, item_in};
 use crate::item::{ChannelEnd, Item};
 use mig_packet::{PacketRead, read_packet};
 
-/// Where an item lies in its channel's bytes.
+/// Where an item is in its channel's bytes.
 #[derive(Clone, Copy)]
 pub enum Message {
     /// The hello, with its channel id.
@@ -29,7 +29,7 @@ impl Message {
     }
 }
 
-/// Returns the item that lies there.
+/// Returns the item at that place.
 pub(crate) fn item_of<'a>(page_size: u64, text: &'a [u8], message: Message) -> Item<'a>
     requires page_size { IsPageSize page_size }
     requires lies { IsMessageIn page_size text.now message }

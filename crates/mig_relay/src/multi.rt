@@ -116,7 +116,7 @@ pub fn load_multi_in<
     load(rt, alloc, feeders, collector, main, settings, gate)
 }
 
-// Starts a worker for each feeder, loads what they bring, and ends them all.
+// Starts a worker for each feeder, loads their items, and ends them all.
 fn load<'a, R: Threads + Wait + Sync, A: Allocator + Copy + Send + Sync, G: Gate + Sync>(
     rt: &R,
     alloc: A,

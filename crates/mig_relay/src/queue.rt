@@ -24,7 +24,7 @@ pub(crate) type Receiver<A> = RuledReceiver<Message, Log, InOrder, A>;
 
 pub(crate) type LogPass = Pass<Message, Log>;
 
-// Makes the pass that pops, and lets it and the first pass know the channel.
+// Creates the pass that pops. It and the first pass then know the channel.
 fn cut<Q: Carries, A: Allocator>(
     sender: &Sender<A>,
     pass: &mut LogPass,
@@ -66,7 +66,7 @@ pub(crate) fn queue_for<A: Allocator + Copy>(
     Ok((sender, pass, receiver, other))
 }
 
-/// Pushes the message. If the pass that pops is gone, it sleeps for ever.
+/// Pushes the message. If the pass that pops was dropped, it sleeps for ever.
 pub(crate) fn push<A: Allocator, R: Wait>(
     rt: &R,
     sender: &Sender<A>,
@@ -85,7 +85,7 @@ pub(crate) fn push<A: Allocator, R: Wait>(
     }
 }
 
-/// Pops a message. If the pass that pushes is gone and nothing is left, it sleeps for ever.
+/// Pops a message. If the pass that pushes was dropped and the queue is empty, it sleeps for ever.
 pub(crate) fn pop<A: Allocator, R: Wait>(
     rt: &R,
     receiver: &Receiver<A>,

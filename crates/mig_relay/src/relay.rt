@@ -40,19 +40,19 @@ impl<'a, A: Allocator> Model for Collector<'a, A> {
     ghost invariant = { λ a. IsRelay a.channels.items };
 }
 
-/// Opaque: its items borrow a guest's bytes.
+/// Prints an opaque value: its items borrow guest memory.
 impl<'a, A: Allocator> Debug for Collector<'a, A> {
     fn fmt<W: fmt::Write>(&self, f: &mut Formatter<W>) -> fmt::Result {
         f.write_str("Collector { .. }")
     }
 }
 
-/// Makes feeders and their collector.
+/// Creates feeders and their collector.
 #[derive(Debug)]
 pub struct Relay;
 
 impl Relay {
-    /// Makes a feeder for each complete channel of `texts`, and the collector of their items. The
+    /// Creates a feeder for each complete channel of `texts`, and the collector of their items. The
     /// pages of packets have `page_size` bytes, and hellos name `uuid`. Each channel has a queue of
     /// its own, which holds up to `capacity` items.
     ///
@@ -91,7 +91,7 @@ impl Relay {
     }
 }
 
-// Makes the two ends of one channel, whose cursor is at the start of its bytes.
+// Creates the two ends of one channel, whose cursor is at the start of its bytes.
 fn open<'a, A: Allocator + Copy>(
     alloc: A,
     j: usize,
@@ -177,7 +177,7 @@ impl<'a, A: Allocator> Collector<'a, A> {
         channel.next(wait)
     }
 
-    /// Takes and drops what channels 0 to `started` - 1 still bring, up to their stops. It
+    /// Takes and drops all further items of channels 0 to `started` - 1, up to their stops. It
     /// allocates nothing.
     pub fn drain<R: Wait>(self, wait: &R, started: usize)
         requires { started ≤ length self }

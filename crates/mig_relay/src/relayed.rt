@@ -1,4 +1,4 @@
-//! The load of what a relay brings, round by round. `load_multi` calls it beside its workers, and
+//! The load of the items of a relay, round by round. `load_multi` calls it beside its workers, and
 //! so may callers with a relay of their own.
 
 ghost use Rattle.std.specs.Prelude.{ℕ, ◌≡◌, ◌≢◌, ◌<◌, ◌≤◌, ◌^◌, [], List, None, map, replicate, is_ok, IsTrue, All, IfOk, OnOk};
@@ -33,8 +33,8 @@ fn repeated_at<A: Allocator>(round: u64, collector: &Collector<'_, A>) -> Option
     None
 }
 
-// Takes a round of all channels, and gathers its packets. Returns the verdict that the sources give
-// there. If all have the round, and no hello comes again, returns None.
+// Takes a round of all channels, and gathers its packets. Returns the verdict of the sources there.
+// If all have the round, and no hello comes again, returns None.
 fn told_at<'a, R: Wait, A: Allocator + Copy>(
     wait: &R,
     alloc: A,
@@ -167,7 +167,7 @@ fn load_rounds<'a, R: Wait, A: Allocator + Copy>(
     )
 }
 
-// Returns a list of places, each at the start of one of `channels` channels.
+// Returns a list of indices, each of the first item of one of `channels` channels.
 fn starts<A: Allocator>(alloc: A, channels: usize) -> Result<Vec<usize, A>, NoMemory>
     ensures { IfOk result (λ v. v.items ≡ replicate channels 0) }
 {
@@ -209,10 +209,10 @@ fn load_all<'a, R: Wait, A: Allocator + Copy>(
     }
 }
 
-/// Loads a guest from a complete main stream and the channels of a relay. It takes no more of a
-/// channel than up to the round that is judged. It begins with what was taken before, and waits for
-/// the feeders. The blocks may have `limit` bytes together. If a feeder was dropped before its
-/// stop, the call may wait for ever.
+/// Loads a guest from a complete main stream and the channels of a relay. It takes the items of a
+/// channel up to the round that is judged. It begins with those taken before, and waits for the
+/// feeders. The blocks may have `limit` bytes together. If a feeder was dropped before its stop,
+/// the call may wait for ever.
 ///
 /// # Errors
 ///

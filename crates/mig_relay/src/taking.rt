@@ -1,4 +1,4 @@
-//! Takes a round of what a relay brings, of one channel and of all, for `load_relayed`.
+//! Takes the items of a round from a relay, of one channel and of all, for `load_relayed`.
 
 ghost use Rattle.std.specs.Prelude.{ℕ, ◌≡◌, ◌<◌, ◌^◌, ◌++◌, [], List, length, map, slice_get, All, IfSome, IfOk, OnOk};
 ghost use Rattle.std.specs.List.{AllZip};
@@ -15,7 +15,7 @@ use mig_single_load::Fault;
 use std::alloc::Allocator;
 use std::sync::Wait;
 
-// Returns item `at` of channel `j`, which is taken if it wasn't yet.
+// Returns item `at` of channel `j`, and takes it if it wasn't taken yet.
 fn item_at<'a, R: Wait, A: Allocator>(
     wait: &R,
     collector: &mut Collector<'a, A>,
@@ -68,8 +68,8 @@ fn take_of_channel<'a, R: Wait, A: Allocator, B: Allocator>(
     unreachable!()
 }
 
-/// Takes a round of every channel, each from its place on. Gathers the packets, and appends each
-/// channel's status. After an `Err` some channels were processed.
+/// Takes a round of every channel, each from its next item on. Gathers the packets, and appends
+/// each channel's status. After an `Err` some channels were processed.
 pub(crate) fn take_of_all<'a, R: Wait, A: Allocator, B: Allocator>(
     wait: &R,
     collector: &mut Collector<'a, A>,
@@ -93,7 +93,7 @@ pub(crate) fn take_of_all<'a, R: Wait, A: Allocator, B: Allocator>(
     Ok(())
 }
 
-// Returns how a channel stands after its complete rounds, as its stop says.
+// Returns the status of a channel after its complete rounds, by its stop.
 fn stop_status(end: ChannelEnd) -> Status
     ensures { result ≡ stop_status end }
 {

@@ -21,12 +21,11 @@ use uuid::Uuid;
 /// byte on. If `load_multi_in` finds a fault of that source (`Fault::Stream`, `Fault::Channel`) in
 /// the same bytes, the item at fault begins after them.
 ///
-/// `HelloTwice`, `Extra` and `Short` are faults of what several sources say together: no item of
-/// the source is at fault. What is found in the round (54 to 60) belongs to no one source, and the
-/// result is None. For a channel that doesn't exist it is None, too.
+/// `HelloTwice`, `Extra` and `Short` are faults of several sources together: no item of the source
+/// is at fault. Faults of a round (54 to 60) belong to no one source, and the result is None. For a
+/// channel that doesn't exist it is None, too.
 ///
-/// The call reads that source alone, once. Of a channel it holds a copy of its packets until it
-/// returns.
+/// The call reads that source alone, once. It holds a copy of a channel's packets until it returns.
 ///
 /// # Errors
 ///
@@ -58,7 +57,7 @@ pub fn multi_valid_up_to<A: Allocator + Copy, B: Allocator>(
     }
 }
 
-// Returns up to where a main stream is valid.
+// Returns up to which byte a main stream is valid.
 fn main_valid_up_to<A: Allocator + Copy>(
     alloc: A,
     settings: LoadSettings,
@@ -80,7 +79,7 @@ fn main_valid_up_to<A: Allocator + Copy>(
     Ok(reader.valid_up_to())
 }
 
-// Returns up to where a channel is valid.
+// Returns up to which byte a channel is valid.
 fn channel_valid_up_to<A: Allocator + Copy>(
     alloc: A,
     page_size: u64,

@@ -1,9 +1,9 @@
 //! The rounds of a case, sent on its channels, each with a worker on a thread of its own.
 //!
-//! Threads decide which packets a channel has, and so these differ from run to run. The answer is
-//! the same in all runs: lengths, counts, and the packets of all channels in the order of their
-//! numbers. What each channel has to keep to, whatever its packets, is tested on the way: a channel
-//! that doesn't is reported.
+//! The threads' schedule decides which packets a channel has, so they differ from run to run. The
+//! answer is the same in all runs: lengths, counts, and the packets of all channels in the order of
+//! their numbers. The rules that each channel keeps, whatever its packets, are tested as well: a
+//! channel that breaks them is reported.
 
 use crate::rounds::Rounds;
 use mig_cases::{Case, Done, Guest, Trouble, Words, put_packet, reader_of_channel};
@@ -56,7 +56,7 @@ impl Rounds {
         Ok(())
     }
 
-    // Returns the streams of the rounds. A fault is trouble.
+    // Returns the streams of the rounds. A fault is an error.
     fn sent_on_channels<R: Threads + Sync>(
         &mut self,
         rt: &R,
@@ -66,7 +66,7 @@ impl Rounds {
         finish(sender.ok().ok_or(Trouble::Line)?)
     }
 
-    /// `multi LIMIT`: what the rounds make on all channels together, or the fault that is returned.
+    /// `multi LIMIT`: the content of all channels together, or the fault that is returned.
     pub fn multi<R: Threads + Sync>(&mut self, out: &mut String, rt: &R, mut words: Words) -> Done {
         match sender_of(rt, &mut self.case, &self.rounds, words.size()?)? {
             Ok(sender) => put_sender(out, &self.case, self.rounds.len(), sender),
@@ -75,7 +75,7 @@ impl Rounds {
     }
 }
 
-// Writes down what a sender has sent, which is to be `count` rounds.
+// Writes the content that a sender has sent, which has to be `count` rounds.
 fn put_sender(out: &mut String, case: &Case, count: usize, sender: MultiSender) -> Done {
     let (rounds, base) = (sender.rounds(), sender.base());
     let Sent { main, channels } = finish(sender)?;
@@ -134,8 +134,8 @@ fn rounds_of(alloc: Global, reader: &mut ChannelReader) -> Result<Vec<PacketRoun
     Err(Trouble::Line)
 }
 
-// Writes down the packets that all channels have in a round, in the order of their numbers. Reports
-// a channel whose own order is another.
+// Writes the packets that all channels have in a round, in the order of their numbers. Reports a
+// channel whose numbers don't rise.
 fn put_round(out: &mut String, channels: &[Vec<PacketRound>], round: usize) -> Done {
     let mut packets = Vec::new(*out.allocator());
     for (channel, rounds) in channels.iter().enumerate() {
@@ -152,7 +152,7 @@ fn put_round(out: &mut String, channels: &[Vec<PacketRound>], round: usize) -> D
     put_packets(out, &packets)
 }
 
-// Returns whether a channel's packets have rising numbers, and the last one alone is a SYNC packet.
+// Returns whether a channel's packets have rising numbers, and only the last one is a SYNC packet.
 fn is_in_order(packets: &[Packet<'_>]) -> bool {
     let mut before = None;
     let mut is_over = false;
@@ -166,8 +166,8 @@ fn is_in_order(packets: &[Packet<'_>]) -> bool {
     is_over
 }
 
-// Writes down packets in a row. SYNC packets without pages, whose numbers follow one another, are
-// one entry, `#2-4 sync`.
+// Writes packets in a row. SYNC packets without pages and with consecutive numbers are one entry,
+// `#2-4 sync`.
 fn put_packets(out: &mut String, packets: &[Packet<'_>]) -> Done {
     let mut run = None;
     for packet in packets {
@@ -196,7 +196,7 @@ fn is_bare(packet: &Packet<'_>) -> bool {
     packet.sync() && packet.id().is_empty() && !has_page
 }
 
-// Writes down the SYNC packets with the numbers from one to another.
+// Writes the SYNC packets with the numbers from one to another.
 fn put_run(out: &mut String, run: Option<(u64, u64)>) -> Done {
     match run {
         Some((first, last)) if first < last => write!(out, " #{first}-{last} sync")?,

@@ -11,11 +11,11 @@ use mig_packet::{Packet, PacketRead, read_packet};
 use mig_stream::{Mode, StreamReader, StreamRound};
 use std::alloc::Global;
 
-/// Up to so many packets are applied in every order; more of them in the order of the stream and in
-/// reverse.
+/// Up to this many packets are applied in every order. More are applied in the order of the stream
+/// and in reverse.
 const MOST_IN_EVERY_ORDER: usize = 5;
 
-// Returns how many orders there are of `count` packets.
+// Returns the number of orders of `count` packets.
 fn orders(count: usize) -> usize {
     let mut orders = 1usize;
     for n in 1..=count {
@@ -110,7 +110,7 @@ fn put_round(
 }
 
 /// The streams of rounds, read: stream 0 is a single stream, and each further one has the packets
-/// of a round. A round's page records are those of the PART of its number, where there is one.
+/// of a round. A round's page records are those of the PART with its number, if there is one.
 #[derive(Drop)]
 struct Rounds<'a> {
     records: Vec<StreamRound<'static>>,
@@ -162,7 +162,7 @@ impl<'a> Rounds<'a> {
     }
 }
 
-// Applies all rounds to a memory, and writes down what comes of each.
+// Applies all rounds to a memory, and writes the result of each.
 fn put_all(
     out: &mut String,
     alloc: Global,
@@ -189,13 +189,13 @@ fn put_all(
     put_target(out, target)
 }
 
-// Writes down what a memory holds after its rounds.
+// Writes a memory's content after its rounds.
 fn put_target(out: &mut String, target: &Target) -> Done {
     write!(out, "rounds {} base {};", target.rounds(), target.base())?;
     put_memory(out, target.memory())
 }
 
-// Applies a section to a memory, and writes down what comes of it.
+// Applies a section to a memory, and writes the result.
 fn put_section(out: &mut String, target: &mut Target, section: &StreamRound) -> Done {
     if !target.fits(section) || target.rounds() > 1000 {
         return Ok(out.push_str("no fit; ")?);
@@ -213,8 +213,8 @@ fn reader_of_single(case: &Case, text: &[u8]) -> Result<StreamReader<'static>, T
     Ok(reader)
 }
 
-/// Writes down what comes of the sections of the last stream, applied one after another to a memory
-/// of the guest's table.
+/// Writes the results of the sections of the last stream, applied one after another to a memory of
+/// the guest's table.
 pub fn sections(out: &mut String, case: &mut Case) -> Done {
     let sections = sections_of(case)?;
     put_sections(out, case.guest()?.image.table(), &sections)
@@ -235,7 +235,7 @@ fn put_sections(out: &mut String, table: &Table, sections: &[StreamRound]) -> Do
     put_memory(out, &target.into_memory())
 }
 
-// Returns what comes of the rounds with their packets in order `order`.
+// Returns the result of the rounds with their packets in order `order`.
 fn answer_in(
     alloc: Global,
     table: &Table,
@@ -248,7 +248,7 @@ fn answer_in(
     Ok(answer)
 }
 
-// Writes down what comes of the rounds in every order.
+// Writes the result of the rounds in every order.
 fn judge_all(out: &mut String, alloc: Global, table: &Table, rounds: &Rounds<'_>) -> Done {
     let wanted = answer_in(alloc, table, rounds, 0)?;
     for order in (0..rounds.orders).step_by(rounds.step.max(1)) {
@@ -261,7 +261,7 @@ fn judge_all(out: &mut String, alloc: Global, table: &Table, rounds: &Rounds<'_>
     Ok(out.push_str(&wanted)?)
 }
 
-/// Writes down what comes of the rounds, which is to be the same in every order.
+/// Writes the result of the rounds, which has to be the same in every order.
 pub fn judge(out: &mut String, case: &Case) -> Done {
     let (stream, texts) = case.texts.split_first().ok_or(Trouble::Line)?;
     let mut reader = reader_of_single(case, stream)?;

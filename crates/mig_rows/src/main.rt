@@ -1,14 +1,15 @@
-//! Worked examples as data: it reads files of cases, makes the streams that they describe, asks the
-//! calls, and reports where an answer isn't the one that stands beside it.
+//! Worked examples as data: it reads files of cases, makes the streams that they describe, makes
+//! the calls, and reports an answer that isn't the expected one.
 //!
-//! Its arguments are the files' names. Without arguments it reads its input. A case is some lines
-//! (`docs/EXAMPLES.md` has them all): what builds a guest and streams, and questions, each with ` =
-//! ` and its answer. A question that has no answer beside it has its answer printed, one a line. So
-//! another implementation can be compared with this one over many cases in one run.
+//! Its arguments are the files' names. Without arguments it reads its input. A case consists of
+//! lines (`docs/EXAMPLES.md` has them all): lines that build a guest and streams, and questions,
+//! each with ` = ` and its answer. For a question without an expected answer, the answer is
+//! printed, one a line. So another implementation can be compared with this one over many cases in
+//! one run.
 //!
-//! It ends with the number of cases and answers, and with status 1 if an answer was wrong. What
-//! guest memory and packets answer, and what a case is, `mig_cases` has. It is no part of the
-//! product.
+//! It ends with the number of cases and answers, and with exit status 1 if an answer was wrong.
+//! `mig_cases` has the cases, and the questions about guest memory and packets. This crate isn't
+//! part of the product.
 #![tactic(auto)]
 
 mod channels;

@@ -1,4 +1,4 @@
-//! The rounds of a case: the senders that they go to, and the streams that these make of them.
+//! The rounds of a case: the senders that send them, and the senders' streams.
 
 ghost use Rattle.std.specs.Prelude.{All, IfOk};
 ghost use Rattle.mig_send.specs.Batches.{IsBatch};
@@ -11,7 +11,7 @@ use std::alloc::Global;
 use std::rt::Files;
 use std::thread::Threads;
 
-/// A writer and a sender are given the same rounds; a FLUSH goes to the writer alone.
+/// A writer and a sender are passed the same rounds; a FLUSH is passed to the writer only.
 #[derive(Drop)]
 struct Senders {
     writer: Option<StreamWriter>,
@@ -22,7 +22,7 @@ struct Senders {
 #[derive(Drop)]
 pub struct Rounds {
     pub case: Case,
-    /// What the guest was at each round, with the marks that it then had.
+    /// The guest's memory at each round, with its marks.
     pub rounds: Vec<Guest>,
     senders: Option<Senders>,
 }
@@ -36,7 +36,7 @@ impl Rounds {
         })
     }
 
-    /// Takes a line that builds something. Returns false if the line is no such line.
+    /// Takes a line that builds something. Returns false if the line is another one.
     pub fn take<R: Files + Threads + Sync>(
         &mut self,
         rt: &R,
@@ -75,7 +75,7 @@ impl Rounds {
         self.senders.as_mut().ok_or(Trouble::Line)
     }
 
-    // `round`: of the marked pages, which aren't marked afterwards
+    // `round`: sends the marked pages, and clears the marks
     fn round(&mut self) -> Done {
         let _ = self.senders()?;
         let alloc = self.case.alloc;
@@ -104,7 +104,7 @@ impl Rounds {
         Ok(())
     }
 
-    // `stream`: what the writer made of the rounds
+    // `stream`: the writer's stream of the rounds
     fn stream(&mut self) -> Done {
         let writer = self.senders()?.writer.take().ok_or(Trouble::Line)?;
         match writer.finish() {
@@ -114,7 +114,7 @@ impl Rounds {
         Ok(())
     }
 
-    // `sent`: what the sender made of the rounds
+    // `sent`: the sender's stream of the rounds
     fn sent(&mut self) -> Done {
         let sender = self.senders()?.sender.take().ok_or(Trouble::Line)?;
         match sender.finish() {
@@ -135,7 +135,7 @@ impl Rounds {
         Ok(())
     }
 
-    /// `batches LIMIT`: the marked pages, cut.
+    /// `batches LIMIT`: the marked pages, cut into batches.
     pub fn batches(&mut self, out: &mut String, mut words: Words) -> Done {
         let limit = words.size()?;
         let alloc = self.case.alloc;
@@ -184,7 +184,7 @@ fn put_packets(text: &mut Vec<u8>, guest: &Guest, limit: usize, first: u64) -> D
     Ok(())
 }
 
-// Writes down ascending numbers, those that follow one another as a range.
+// Writes ascending numbers; consecutive ones are a range.
 fn put_numbers(out: &mut String, numbers: &[u64]) -> Done {
     let mut before = None;
     let mut is_range = false;

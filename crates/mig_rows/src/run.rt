@@ -1,4 +1,4 @@
-//! Plays a file of cases with rounds: what each line builds, or asks.
+//! Runs a file of cases with rounds: each line builds something, or is a question.
 
 use crate::judge::{judge, sections};
 use crate::rounds::Rounds;
@@ -14,7 +14,7 @@ use std::rt::Files;
 use std::sync::Wait;
 use std::thread::Threads;
 
-/// Plays the cases of a file.
+/// Runs the cases of a file.
 pub fn play_file<R: Files + Threads + Wait + Sync, W: Write>(
     rt: &R,
     alloc: Global,
@@ -34,7 +34,7 @@ pub fn play_file<R: Files + Threads + Wait + Sync, W: Write>(
     Ok(())
 }
 
-// Follows the lines of a case, up to one that can't be followed.
+// Runs the lines of a case, up to one that can't be run.
 fn play_case<R: Files + Threads + Wait + Sync, W: Write>(
     rt: &R,
     alloc: Global,
@@ -58,7 +58,7 @@ fn play_case<R: Files + Threads + Wait + Sync, W: Write>(
     Ok(())
 }
 
-// Follows a line: writes down the answer to what it asks. Returns false if it asks nothing.
+// Runs a line: writes the answer to its question. Returns false if it isn't a question.
 fn follow<R: Files + Threads + Wait + Sync>(
     out: &mut String,
     rt: &R,
@@ -80,7 +80,7 @@ fn follow<R: Files + Threads + Wait + Sync>(
     Ok(true)
 }
 
-// Writes down the answer to a question, whatever the answer that stands beside it.
+// Writes the answer to a question, whatever the expected one.
 fn ask<R: Files + Threads + Wait + Sync>(
     out: &mut String,
     rt: &R,
@@ -104,13 +104,13 @@ fn ask<R: Files + Threads + Wait + Sync>(
     Ok(())
 }
 
-// Writes down the answer to a question about the last stream. Returns false if it is no such
-// question, or there is no stream.
+// Writes the answer to a question about the last stream. Returns false if the question is another
+// one, or if there is no stream.
 fn ask_text(out: &mut String, case: &Case, name: &str) -> Result<bool, Trouble> {
     Ok(!case.texts.is_empty() && (ask_packets(out, case, name)? || ask_stream(out, case, name)?))
 }
 
-// Writes down the answer to a question about the guest. Returns false if it is no such question.
+// Writes the answer to a question about the guest. Returns false if the question is another one.
 fn ask_guest(
     out: &mut String,
     built: &mut Rounds,
@@ -127,7 +127,7 @@ fn ask_guest(
     Ok(true)
 }
 
-// Asks about a case and another one, which the lines of a name build.
+// Answers a question about a case and another one, which the lines of a name build.
 fn ask_other<R: Files + Threads + Wait + Sync>(
     out: &mut String,
     rt: &R,
@@ -141,7 +141,7 @@ fn ask_other<R: Files + Threads + Wait + Sync>(
     difference(out, case, &mut other.case, question)
 }
 
-// Follows the lines of a name, which are to build something.
+// Runs the lines of a name, each of which has to build something.
 fn build<R: Files + Threads + Wait + Sync>(
     rt: &R,
     book: &Book<'_>,
@@ -158,8 +158,8 @@ fn build<R: Files + Threads + Wait + Sync>(
     Ok(())
 }
 
-// `each FIRST LAST QUESTION`: asked of the prefixes of the stream with so many bytes. The first
-// answer that is another than expected is written down, or else the last one.
+// `each FIRST LAST QUESTION`: asked of the prefixes of the stream with these lengths. Writes the
+// first answer that isn't the expected one, or else the last one.
 fn each(out: &mut String, case: &mut Case, mut words: Words, wanted: Option<&str>) -> Done {
     let first = words.size()?;
     let last = words.size()?;
@@ -178,7 +178,7 @@ fn each(out: &mut String, case: &mut Case, mut words: Words, wanted: Option<&str
     Ok(())
 }
 
-// Writes down alone the answer on the front of the stream, which replaces the stream.
+// Writes only the answer on the prefix of the stream, which replaces the stream.
 fn ask_front(out: &mut String, case: &mut Case, front: &[u8], name: &str) -> Done {
     *case.text()? = Vec::from_slice(case.alloc, front)?;
     out.clear();

@@ -10,7 +10,7 @@ use mig_stream::Frame;
 use std::sync::Wait;
 use std::thread::Threads;
 
-/// Writes down what loading the streams answers: the first is the main stream, and each further one
+/// Writes the result of loading the streams: the first is the main stream, and each further one is
 /// a channel.
 pub fn load_several<R: Threads + Wait + Sync>(out: &mut String, rt: &R, case: &Case) -> Done {
     let Some((main, channels)) = case.texts.split_first() else {

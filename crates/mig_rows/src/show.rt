@@ -1,4 +1,4 @@
-//! How answers about streams, rounds and loads are written down.
+//! Formats answers about streams, rounds and loads.
 
 use mig_assemble::RoundFault;
 use mig_cases::{Done, Pages, put_memory};
@@ -38,7 +38,7 @@ pub fn put_stream_state(out: &mut String, state: StreamState) -> Done {
     Ok(())
 }
 
-/// Writes down the page records of a round, in the order of the stream.
+/// Writes the page records of a round, in the order of the stream.
 pub fn put_records(out: &mut String, round: &StreamRound) -> Done {
     let alloc = *out.allocator();
     let mut pages = Pages::new(alloc, 1);
@@ -68,7 +68,7 @@ fn put_load_fault(out: &mut String, fault: LoadFault) -> Done {
     Ok(())
 }
 
-/// Writes down what a load answers: the verdict, the number of rounds, and the memory.
+/// Writes the result of a load: the verdict, the number of rounds, and the memory.
 pub fn put_loaded(out: &mut String, loaded: &Loaded) -> Done {
     match loaded.verdict {
         Ok(()) => out.push_str("ok")?,

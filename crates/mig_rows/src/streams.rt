@@ -7,7 +7,7 @@ use mig_single_load::{LoadSettings, SingleLoader, load_single, load_single_in, s
 use mig_stream::{Frame, Mode, StreamReader, StreamRound, StreamState};
 use std::alloc::Global;
 
-/// Writes down the answer to such a question. Returns false if it is none of them.
+/// Writes the answer to such a question. Returns false if the question is another one.
 pub fn ask_stream(out: &mut String, case: &Case, name: &str) -> Result<bool, Trouble> {
     let text: &[u8] = case.texts.last().ok_or(Trouble::Line)?;
     let answered = match name {
@@ -34,8 +34,8 @@ fn load(out: &mut String, case: &Case, text: &[u8]) -> Done {
     put_loaded(out, &loaded)
 }
 
-// Writes down where the bytes are closed as a single stream: by themselves, and by a loader that is
-// fed them in pieces.
+// Writes the byte at which the stream is closed as a single stream: by the complete bytes, and by a
+// loader that is fed in pieces.
 fn closed(out: &mut String, case: &Case, text: &[u8]) -> Done {
     for len in &case.pieces {
         let len = if *len == 0 { text.len().max(1) } else { *len };
@@ -52,7 +52,7 @@ fn closed(out: &mut String, case: &Case, text: &[u8]) -> Done {
     agree_of_text(out, &answer)
 }
 
-// Writes down where a loader finds the stream closed that is fed it in pieces of `len` bytes.
+// Writes the byte at which a loader that is fed in pieces of `len` bytes finds the stream closed.
 fn closed_in_pieces(out: &mut String, case: &Case, text: &[u8], len: usize) -> Done {
     if !is_page_size(case.page_size) || case.limit > MAX_TOTAL {
         return Err(Trouble::Line);
@@ -68,7 +68,7 @@ fn closed_in_pieces(out: &mut String, case: &Case, text: &[u8], len: usize) -> D
     put_place_closed(out, loader.closed_at())
 }
 
-// Writes down how many bytes a stream has, or `none`.
+// Writes the length of a stream, or `none`.
 fn put_place_closed(out: &mut String, closed_at: Option<u64>) -> Done {
     match closed_at {
         Some(len) => Ok(write!(out, "{len}")?),
@@ -76,7 +76,7 @@ fn put_place_closed(out: &mut String, closed_at: Option<u64>) -> Done {
     }
 }
 
-// Returns what a stream is read as.
+// Returns the frame that a stream is read in.
 fn frame_of(case: &Case) -> Frame {
     if case.is_machine {
         Frame::Machine
@@ -130,7 +130,7 @@ fn read(out: &mut String, case: &Case, mode: Mode, text: &[u8]) -> Done {
     agree_of_text(out, &answer)
 }
 
-// Keeps the answer if a reader that is made of the complete stream gives it too.
+// Keeps the answer if a reader that is made of the complete stream returns it, too.
 fn agree_of_text(wanted: &mut String, answer: &str) -> Done {
     if wanted.as_str() != answer {
         write!(wanted, ", but of the text itself {answer}")?;
@@ -138,8 +138,8 @@ fn agree_of_text(wanted: &mut String, answer: &str) -> Done {
     Ok(())
 }
 
-// Writes down what a reader finds that is made of the complete stream, and whose rounds lend the
-// pages from it.
+// Writes the content found by a reader that is made of the complete stream, and whose rounds lend
+// the stream's pages.
 fn read_of_text(out: &mut String, case: &Case, mode: Mode, text: &[u8]) -> Done {
     if !is_page_size(case.page_size) || case.limit > MAX_TOTAL {
         return Err(Trouble::Line);
@@ -156,7 +156,7 @@ fn read_of_text(out: &mut String, case: &Case, mode: Mode, text: &[u8]) -> Done 
     put_reader(out, case, &mut reader, text)
 }
 
-// Writes down what a reader finds that is fed the stream in pieces of `len` bytes.
+// Writes the content found by a reader that is fed the stream in pieces of `len` bytes.
 fn read_in_pieces(out: &mut String, case: &Case, mode: Mode, text: &[u8], len: usize) -> Done {
     let mut reader = reader_of(case, mode)?;
     for piece in text.chunks(len.max(1)) {
@@ -165,7 +165,7 @@ fn read_in_pieces(out: &mut String, case: &Case, mode: Mode, text: &[u8], len: u
     put_reader(out, case, &mut reader, text)
 }
 
-// Writes down what a reader of a stream has found, which has ended if the case says so.
+// Writes the content that a reader of a stream has found. The reader has ended if the case says so.
 fn put_reader(out: &mut String, case: &Case, reader: &mut StreamReader, text: &[u8]) -> Done {
     if case.is_over {
         reader.end();
@@ -177,7 +177,7 @@ fn put_reader(out: &mut String, case: &Case, reader: &mut StreamReader, text: &[
     put_fed(out, reader.fed(), text)
 }
 
-// Writes down where a reader closed a stream, unless that is after its last byte.
+// Writes the byte at which a reader closed a stream, unless that is after its last byte.
 fn put_closed_at(out: &mut String, reader: &StreamReader, text: &[u8]) -> Done {
     let is_closed = reader.state() == StreamState::Closed;
     match reader.closed_at() {
@@ -188,7 +188,7 @@ fn put_closed_at(out: &mut String, reader: &StreamReader, text: &[u8]) -> Done {
     }
 }
 
-// Writes down the table and the rounds that a reader of a stream has found.
+// Writes the table and the rounds that a reader of a stream has found.
 fn put_stream(out: &mut String, reader: &mut StreamReader) -> Done {
     match reader.table() {
         Some(table) => put_table(out, table)?,

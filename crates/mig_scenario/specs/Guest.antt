@@ -1,4 +1,4 @@
--- What a scenario makes of a guest: images, with the pages that are marked in each.
+-- The guest of a scenario: images, with the pages that are marked in each.
 use Rattle.std.specs.Prelude.{ℕ, ◌/◌, ◌++◌, List, [], ◌∷◌, replicate}
 use Rattle.std.specs.List.{fold}
 use Rattle.mig_mem.specs.RamTable.{RamTable}
@@ -17,7 +17,7 @@ pub record ScenarioGuest : Type 0 where
   pub dirty : PlaceSet
   pub snapshots : List Snapshot
 
--- zeros, without a mark
+-- a guest whose memory is zeros, with no page marked
 abbrev pub new_guest : RamTable → ScenarioGuest
 new_guest table = record { image = zero_image table; dirty = record { table = table; marked = [] }; snapshots = [] }
 
@@ -47,7 +47,7 @@ after_line g (BlockLine pages id) = g
 abbrev pub played : RamTable → List ScenarioLine → ScenarioGuest
 played table ls = fold after_line (new_guest table) ls
 
--- what a scenario sends, and the rounds that are made of it
+-- the snapshots that a scenario sends, and their rounds
 abbrev pub snapshots_from : ℕ → List ScenarioLine → List Snapshot
 snapshots_from page_size ls = (played (table_of page_size ls) ls).snapshots
 

@@ -1,10 +1,10 @@
--- How the guest that is kept between two lines is seen as a guest of a scenario.
+-- The relation of the guest that the code keeps between two lines to the guest of a scenario.
 use Rattle.std.specs.Prelude.{◌≡◌}
 use Rattle.mig_scenario.specs.declared.guest.Guest.{Guest}
 use Rattle.mig_scenario.specs.Guest.{ScenarioGuest}
 use Rattle.mig_scenario.specs.Playing.{AreSendersOf, HaveSent}
 
--- its parts are of one table
+-- its memory, its marks and its senders are of one table
 pub record AreOneTable {A : Type 0} (kept : Guest A) : Type 0 where
   pub same_dirty : kept.dirty.table ≡ kept.image.table
   pub same_senders : AreSendersOf kept.image.table kept.senders

@@ -1,4 +1,4 @@
--- How the rounds of a scenario are laid out: the size of pages, and the room of a packet.
+-- The layout of a scenario's rounds: the page size, and the room of a packet.
 use Rattle.std.specs.Prelude.{ℕ, ◌<◌, ◌≤◌}
 use Rattle.mig_packet.specs.PageSize.{page_limit}
 use Rattle.mig_scenario.specs.declared.layout.Layout.{Layout}
@@ -10,6 +10,6 @@ abbrev pub bytes_in : PageSize → ℕ
 bytes_in Small = 4096
 bytes_in Large = 8192
 
--- a batch has a page, and at most as many as a packet has room for
+-- a batch has at least one page, and at most as many as a packet has room for
 abbrev pub HasRoom : Layout → Type 0
 HasRoom layout = (0 < layout.batch) × (layout.batch ≤ page_limit (bytes_in layout.page_size))

@@ -1,6 +1,6 @@
--- To read first, in this order: what a line says; why an input is no scenario; what a scenario
--- makes of a guest, and the law on it. Then how its rounds are sent, and how the code's lines are
--- seen. The guest that is kept between two lines is of the inside.
+-- Read first, in this order: the meaning of a line; why an input isn't a scenario; the guest of a
+-- scenario, and the law on it. Then the sending of its rounds, and the code's lines as a
+-- scenario's. The guest that is kept between two lines is private.
 pub mod Line
 pub mod Scenario
 pub mod FaultNumber

@@ -9,7 +9,7 @@ use Rattle.std.specs.Str.Parse.{digits_value}
 use Rattle.mig_scenario.specs.declared.line.Step.{Step}
 use Rattle.mig_scenario.specs.declared.line.Step.TheVariants.{Set, Fill, Touch, Round}
 
--- what a line says: nothing, a block's number of pages and its id, or a step
+-- a parsed line: an empty one, a block's number of pages and its id, or a step
 pub data ScenarioLine : Type 0 where
   EmptyLine : ScenarioLine
   BlockLine : ℕ → List ℕ → ScenarioLine
@@ -30,7 +30,7 @@ is_number word = nat_le 1 (length word) && nat_le (length word) 18 && list_all (
 abbrev pub number : List ℕ → Option ℕ
 number word = then_some (is_number word) (digits_value 10 word)
 
--- the numbers that some words are, None where one of them is no number
+-- parses words as numbers; None if one of them isn't a number
 abbrev pub numbers : List (List ℕ) → Option (List ℕ)
 numbers [] = Some []
 numbers (word ∷ rest) = option_and_then (λ n. option_map (λ ns. n ∷ ns) (numbers rest)) (number word)
@@ -53,7 +53,7 @@ form_of [] = None
 form_of (name ∷ fields) =
     if bytes_eq name (codes "block") then block_of fields else option_map StepLine (option_and_then (step_of name) (numbers fields))
 
--- what a line says, None where it has another form
+-- parses a line; None if it has none of the forms
 abbrev pub line_of : List ℕ → Option ScenarioLine
 line_of [] = Some EmptyLine
 line_of (byte ∷ bytes) = form_of (words (byte ∷ bytes))

@@ -1,4 +1,5 @@
--- What the senders of a scenario's rounds have sent, and what they wrote.
+-- The senders of a scenario's rounds: the snapshots that they have sent, and the streams that they
+-- wrote.
 use Rattle.std.specs.Prelude.{◌≡◌, ℕ, List, [], map, length, None, is_some, MatchOption, IsSomeAnd, IfSome}
 use Rattle.mig_mem.specs.RamTable.{RamTable}
 use Rattle.mig_mem.specs.Tracking.{Snapshot, rounds_of}
@@ -36,23 +37,23 @@ pub record IsNewSender (table : RamTable) (uuid : List ℕ) (layout : Layout) (s
 
 -- ---- all senders
 
--- the senders are of this table
+-- the senders have this table
 pub record AreSendersOf {A : Type 0} (table : RamTable) (senders : Senders A) : Type 0 where
   pub single_table : IfSome senders.single (λ s. s.table ≡ table)
   pub several_table : IfSome senders.several (λ s. s.main.table ≡ table)
 
--- each sender that there is has sent these snapshots
+-- each of the senders has sent these snapshots
 pub record HaveSent {A : Type 0} (senders : Senders A) (snapshots : List Snapshot) : Type 0 where
   pub single_sent : IfSome senders.single (λ s. HasSent s (rounds_of snapshots))
   pub several_sent : IfSome senders.several (λ s. HasDealt s snapshots)
 
--- the same senders, with their settings, whatever they have sent
+-- the two have senders of the same kinds with the same settings, whatever they have sent
 pub record AreLike {A : Type 0} (old new : Senders A) : Type 0 where
   pub single_like : is_some new.single ≡ is_some old.single
   pub several_like : MatchOption old.several (new.several ≡ None) (λ s. IsSomeAnd new.several (λ t. KeepsSetting s t))
 
--- What each sender wrote, where there is one: the stream of these snapshots' rounds, and a sending
--- of them.
+-- The streams of the senders that there are: the single stream of these snapshots' rounds, and a
+-- sending of the snapshots on channels.
 pub record AreTexts {A : Type 0} (table : RamTable) (senders : Senders A) (snapshots : List Snapshot) (texts : Texts A) : Type 0 where
   pub single_text : MatchOption senders.single (texts.single ≡ None) (λ s. IsSomeAnd texts.single (λ text. text.items ≡ single table (rounds_of snapshots)))
   pub several_texts : MatchOption senders.several (texts.several ≡ None)

@@ -1,4 +1,4 @@
--- What a scenario is refused for.
+-- The faults for which an input is refused as a scenario.
 use Rattle.std.specs.Prelude.{ℕ, suc, ◌+◌, ◌-◌, ◌*◌, ◌&&◌, nat_lt, not, List, [], ◌∷◌, length, map, drop, position, Bool, true, false, Option, None, Some, is_none}
 use Rattle.std.specs.List.{after_last}
 use Rattle.std.specs.Option.{option_map, option_and_then}
@@ -11,13 +11,13 @@ use Rattle.mig_scenario.specs.declared.fault.ScenarioFault.{ScenarioFault}
 use Rattle.mig_scenario.specs.declared.fault.ScenarioFault.TheVariants as fault
 use Rattle.mig_scenario.specs.Line.{ScenarioLine, EmptyLine, BlockLine, StepLine, lines, line_of}
 
--- the lines that have a form
+-- the lines that have one of the forms
 abbrev pub known : List (Option ScenarioLine) → List ScenarioLine
 known [] = []
 known (None ∷ rest) = known rest
 known (Some line ∷ rest) = line ∷ known rest
 
--- what the lines of an input say
+-- the parsed lines of an input
 abbrev pub forms : List ℕ → List (Option ScenarioLine)
 forms text = map line_of (lines text)
 
@@ -43,7 +43,7 @@ blocks_of (BlockLine pages id ∷ rest) = record { id = id; pages = pages } ∷ 
 blocks_of (EmptyLine ∷ rest) = blocks_of rest
 blocks_of (StepLine step ∷ rest) = blocks_of rest
 
--- the table of these, with pages of this size
+-- the table of the lines' blocks, with pages of this size
 abbrev pub table_of : ℕ → List ScenarioLine → RamTable
 table_of page_size ls = record { page_size = page_size; blocks = blocks_of ls }
 
@@ -69,11 +69,11 @@ abbrev pub is_within : RamTable → ScenarioLine → Bool
 is_within table (StepLine step) = is_step_within table step
 is_within table other = true
 
--- the first step after the last round, or of all where there is no round
+-- the first step after the last round, or the first step if there is no round
 abbrev pub unsent : List ScenarioLine → Option ℕ
 unsent ls = let rest = after_last is_round ls in option_map (λ i. length ls - length rest + suc i) (position is_step rest)
 
--- Why an input is no scenario of pages of this size: the first that applies.
+-- Why an input isn't a scenario with pages of this size: the first fault that applies.
 abbrev pub refusal : ℕ → List ℕ → Option ScenarioFault
 refusal page_size text = let ls = lines_of text in first_some (
     option_map fault.Syntax (first_line is_none (forms text))

@@ -1,4 +1,4 @@
--- How the lines that the tool keeps are seen as lines of a scenario.
+-- The lines that the tool keeps, as lines of a scenario.
 use Rattle.std.specs.Prelude.{ℕ, List, [], Option, None, Some}
 use Rattle.std.specs.Borrow.{Bor}
 use Rattle.mig_scenario.specs.declared.line.Line.{Line}
@@ -10,7 +10,7 @@ seen kept.Empty = EmptyLine
 seen (kept.Block pages id) = BlockLine pages id.now
 seen (kept.Step step) = StepLine step
 
--- the words of what follows a line's first word, if anything does
+-- the words after a line's first word, if there are any
 abbrev pub words_of : Option (Bor (List ℕ)) → List (List ℕ)
 words_of None = []
 words_of (Some fields) = words fields.now

@@ -1,29 +1,29 @@
-//! Why an input is no scenario, by name and number.
+//! Why an input isn't a scenario, by name and number.
 
 ghost use Rattle.std.specs.Prelude.{◌≡◌};
 ghost use Rattle.mig_scenario.specs.FaultNumber.{scenario_number};
 
 use mig_mem::{NoMemory, TableFault};
 
-/// Why an input is no scenario. A line is reported by its number, from 1.
+/// Why an input isn't a scenario. A line is reported by its number, from 1.
 #[derive(Clone, Copy, Debug, PartialEq, Eq)]
 pub enum ScenarioFault {
-    /// A line has no form.
+    /// A line has none of the forms.
     Syntax(usize),
-    /// A block stands after a step.
+    /// A block's line follows a step.
     Order(usize),
-    /// The blocks make no table.
+    /// The blocks don't make a table.
     Table(TableFault),
-    /// A line names a block, a page, an offset or a byte that there isn't.
+    /// A line names a block, a page, an offset or a byte that is out of range.
     Range(usize),
-    /// A step stands after the last round.
+    /// A step follows the last round.
     Unsent(usize),
     /// An allocation was refused.
     NoMemory,
 }
 
 impl ScenarioFault {
-    /// Returns the fault's number, as documents and the tool's output have it.
+    /// Returns the fault's number, which documents and the tool's output use.
     pub fn number(self) -> u8
         ensures { result ≡ scenario_number self }
     {

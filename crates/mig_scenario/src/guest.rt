@@ -1,4 +1,4 @@
-//! The guest of a scenario: it plays the lines, and sends each round as it comes.
+//! The guest of a scenario: it executes the lines in order, and sends each round.
 
 ghost use Rattle.std.specs.Prelude.{◌≡◌, map, replicate, [], All, IsTrue, IfOk, OnOk};
 ghost use Rattle.mig_mem.specs.Place.{place_at, IsPlace};
@@ -25,14 +25,14 @@ struct Guest<A: Allocator = Global> {
     senders: Senders<A>,
 }
 
-/// What became of a scenario: the guest's memory in the end, and the streams of its rounds.
+/// The result of a scenario: the guest's memory at the end, and the streams of its rounds.
 #[derive(Drop)]
 pub struct Played<A: Allocator = Global> {
     pub image: Memory<A>,
     pub texts: Texts<A>,
 }
 
-// Returns as many bytes `byte` as the largest page has.
+// Returns an array of the largest page's size, filled with `byte`.
 fn bytes_of(byte: u8) -> [u8; PAGE_SIZE_8K as usize]
     ensures { result ≡ replicate 8192 byte }
 {
@@ -56,7 +56,7 @@ fn fill_page<A: Allocator>(image: &mut Memory<A>, place: Place, byte: u8)
 }
 
 impl<A: Allocator + Copy + Send + Sync> Guest<A> {
-    // Creates a guest of zeros, without a mark and without a round.
+    // Creates a guest whose memory is zeros, with no page marked and no round sent.
     fn new(alloc: A, table: &Table<A>, senders: Senders<A>) -> Result<Guest<A>, NoMemory>
         requires table { AreSendersOf table.now senders }
         requires fresh { HaveSent senders [] }
@@ -70,7 +70,7 @@ impl<A: Allocator + Copy + Send + Sync> Guest<A> {
         })
     }
 
-    // Takes a step. After an `Err` a part of it may be done.
+    // Executes a step. After an `Err` a part of it may be done.
     fn take<H: Threads + Sync>(&mut self, rt: &H, step: Step) -> Result<(), NoMemory>
         requires within { IsTrue (is_step_within self.old.image.table step) }
         requires one_table { AreOneTable self.old }
@@ -125,7 +125,7 @@ impl<A: Allocator + Copy + Send + Sync> Guest<A> {
     }
 }
 
-/// Plays the lines of a scenario, and sends its rounds.
+/// Executes the lines of a scenario, and sends its rounds.
 ///
 /// # Errors
 ///

@@ -11,14 +11,14 @@ use crate::line::{Line, Step, lines_of};
 use mig_mem::{NoMemory, Table, TableFault};
 use std::alloc::{Allocator, Global};
 
-/// A scenario that has no fault.
+/// A scenario without a fault.
 #[derive(Drop)]
 pub struct Scenario<'a, A: Allocator = Global> {
     pub table: Table<A>,
     pub lines: Vec<Line<'a>, A>,
 }
 
-// Returns the number of the first block after a step.
+// Returns the line number of the first block after a step.
 fn late_block(lines: &[Line]) -> Option<usize>
     ensures { result ≡ late_block (map seen lines.now) }
 {
@@ -64,7 +64,7 @@ fn copied<A: Allocator>(alloc: A, bytes: &[u8]) -> Result<Vec<u8, A>, NoMemory>
     Ok(Vec::from_slice(alloc, bytes)?)
 }
 
-// Returns whether a step names a block, and a page or an offset of it, and a byte.
+// Returns whether a step's block, its page or offset in the block, and its byte are in range.
 fn is_step_within<A: Allocator>(table: &Table<A>, step: Step) -> bool
     ensures { result ≡ is_step_within table.now step }
 {
@@ -113,7 +113,7 @@ fn unsent(lines: &[Line]) -> Option<usize>
     first
 }
 
-// Returns what a table's fault is for the scenario.
+// Returns the scenario's fault for a table's fault.
 fn fault_of(fault: TableFault) -> ScenarioFault
     ensures memory { fault ≡ TableFault.NoMemory → result ≡ ScenarioFault.NoMemory }
     ensures other { (fault ≡ TableFault.NoMemory) ⊎ (result ≡ ScenarioFault.Table fault) }
@@ -124,7 +124,7 @@ fn fault_of(fault: TableFault) -> ScenarioFault
     }
 }
 
-/// Returns the scenario that `text` is, with pages of `page_size` bytes, or why it is none.
+/// Parses `text` as a scenario with pages of `page_size` bytes.
 ///
 /// # Errors
 ///

@@ -1,9 +1,9 @@
-//! A law of the definitions alone: what follows from what a scenario is, whatever code plays it.
+//! A law of the definitions alone: it follows from what a scenario is, whatever code executes it.
 
 ghost use Rattle.mig_scenario.specs.Law.{ScenariosMakeTheirImage};
 
-/// The rounds of a scenario that isn't refused make the memory that its guest has in the end. So
-/// the report of it may say that the memory is the same.
+/// Loading the rounds of a valid scenario gives the memory that its guest has at the end. So its
+/// report may say that the memory is the same.
 pub fn scenarios_make_their_image()
     ensures { ScenariosMakeTheirImage }
 {}

@@ -30,7 +30,7 @@ impl PageSize {
         }
     }
 
-    /// Returns how many pages a packet has room for.
+    /// Returns the most pages of a packet.
     pub fn pages_of_a_packet(self) -> usize
         ensures { result ≡ page_limit (bytes_in self) }
     {
@@ -38,8 +38,8 @@ impl PageSize {
     }
 }
 
-/// How many channels there are, how many pages a packet has at most, and how large these are.
-/// Without channels there is a single stream.
+/// The number of channels, the most pages of a packet, and the page size. With 0 channels there is
+/// a single stream.
 #[derive(Clone, Copy, Debug, PartialEq, Eq)]
 pub struct Layout {
     pub page_size: PageSize,

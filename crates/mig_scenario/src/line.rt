@@ -1,4 +1,4 @@
-//! The lines of a scenario, for `judge` and `guest`: what an input says, line by line.
+//! Parses the lines of a scenario, for `judge` and `guest`.
 
 ghost use Rattle.std.specs.Prelude.{◌≡◌, ◌<◌, ◌==◌, [], ◌∷◌, ◌⊎◌, length, map, Some, IfOk, IfErr, MatchOption, is_none};
 ghost use Rattle.std.specs.List.{slice_split};
@@ -10,21 +10,21 @@ ghost use Rattle.mig_scenario.specs.Seen.{seen, words_of};
 use crate::fault::ScenarioFault;
 use std::alloc::Allocator;
 
-/// What a line does to the guest. Its numbers are those of the line, in the order of the line; they
-/// are in no range yet.
+/// A line's effect on the guest. The numbers are the line's, in its order; their ranges aren't
+/// checked yet.
 #[derive(Clone, Copy, Debug, PartialEq, Eq)]
 pub enum Step {
-    /// Block, offset in it, and the byte that is written.
+    /// The block, the offset in the block, and the byte that is written.
     Set(u64, u64, u64),
-    /// Block, page, and the byte that the page is filled with.
+    /// The block, the page, and the byte that the page is filled with.
     Fill(u64, u64, u64),
-    /// Block and page that is marked.
+    /// The block and the page that is marked dirty.
     Touch(u64, u64),
-    /// A round of the marked pages.
+    /// Sends the marked pages as a round.
     Round,
 }
 
-/// What a line says.
+/// A parsed line.
 #[derive(Clone, Copy, Debug, PartialEq, Eq)]
 pub enum Line<'a> {
     Empty,
@@ -33,7 +33,8 @@ pub enum Line<'a> {
     Step(Step),
 }
 
-// Returns what stands before the first such byte, and what stands after it, if there is one.
+// Splits `bytes` at the first `byte`: returns what precedes it, and what follows it if there is
+// one.
 fn cut(bytes: &[u8], byte: u8) -> (&[u8], Option<&[u8]>)
     ensures { let pieces = slice_split (λ b. b == byte) in
         MatchOption result.1 (pieces bytes.now ≡ result.0.now ∷ [])
@@ -45,7 +46,7 @@ fn cut(bytes: &[u8], byte: u8) -> (&[u8], Option<&[u8]>)
     }
 }
 
-// Returns the number that a word is.
+// Parses a decimal number.
 fn number(word: &[u8]) -> Option<u64>
     ensures { result ≡ number_said word.now }
 {
@@ -62,7 +63,7 @@ fn number(word: &[u8]) -> Option<u64>
     Some(value)
 }
 
-// Returns the step of a name, two numbers and what follows these.
+// Returns the step with this name, two numbers and the optional third field.
 fn step_with(name: &[u8], block: u64, second: u64, third: Option<&[u8]>) -> Option<Step>
     ensures { result ≡ option_and_then (λ ns. step_said name.now (block ∷ second ∷ ns)) (numbers (words_of third.entry)) }
 {
@@ -84,7 +85,7 @@ fn step_with(name: &[u8], block: u64, second: u64, third: Option<&[u8]>) -> Opti
     }
 }
 
-// Returns the step of a name and its fields.
+// Returns the step with this name and these fields.
 fn step_of(name: &[u8], fields: Option<&[u8]>) -> Option<Step>
     ensures { result ≡ option_and_then (step_said name.now) (numbers (words_of fields.entry)) }
 {
@@ -100,7 +101,7 @@ fn step_of(name: &[u8], fields: Option<&[u8]>) -> Option<Step>
     step_with(name, number(block)?, number(second)?, third)
 }
 
-// Returns the block of a line's fields.
+// Returns the block line with these fields.
 fn block_of(fields: Option<&[u8]>) -> Option<Line<'_>>
     ensures { option_map seen result ≡ block_said (words_of fields.entry) }
 {
@@ -108,7 +109,7 @@ fn block_of(fields: Option<&[u8]>) -> Option<Line<'_>>
     Some(Line::Block(number(pages)?, id?))
 }
 
-/// Returns what a line says. None if it has no form.
+/// Parses a line. Returns `None` if it has none of the forms.
 pub(crate) fn line_of(line: &[u8]) -> Option<Line<'_>>
     ensures { option_map seen result ≡ line_said line.now }
 {
@@ -122,7 +123,7 @@ pub(crate) fn line_of(line: &[u8]) -> Option<Line<'_>>
     Some(Line::Step(step_of(name, fields)?))
 }
 
-/// Returns what all lines of an input say, or the number of the first one that has no form.
+/// Parses all lines of an input. An `Err` has the number of the first line with none of the forms.
 pub(crate) fn lines_of<A: Allocator>(
     alloc: A,
     text: &[u8],

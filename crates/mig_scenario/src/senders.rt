@@ -15,21 +15,21 @@ use std::alloc::{Allocator, Global};
 use std::thread::Threads;
 use uuid::Uuid;
 
-/// A sender of a single stream, one on several channels, both or none.
+/// A sender of a single stream, a sender on several channels, both or none.
 #[derive(Drop)]
 pub struct Senders<A: Allocator = Global> {
     pub single: Option<SingleSender<A>>,
     pub several: Option<MultiSender<A>>,
 }
 
-/// What they wrote.
+/// The bytes that they wrote.
 #[derive(Drop)]
 pub struct Texts<A: Allocator = Global> {
     pub single: Option<Vec<u8, A>>,
     pub several: Option<Sent<A>>,
 }
 
-// Creates a sender on several channels, if there are any.
+// Creates a sender on several channels, or none if there are no channels.
 fn several<A: Allocator + Copy>(
     alloc: A,
     table: &Table<A>,
@@ -51,7 +51,7 @@ fn several<A: Allocator + Copy>(
 }
 
 impl<A: Allocator + Copy> Senders<A> {
-    /// Creates no sender, for a guest whose rounds go nowhere.
+    /// Creates no sender, for a guest whose rounds aren't sent.
     pub fn none() -> Senders<A>
         ensures { (result.single ≡ None) × (result.several ≡ None) }
     {
@@ -61,7 +61,7 @@ impl<A: Allocator + Copy> Senders<A> {
         }
     }
 
-    /// Creates a sender on the channels, or of a single stream if there are no channels.
+    /// Creates a sender on the channels, or a sender of a single stream if there are no channels.
     ///
     /// # Errors
     ///
@@ -84,7 +84,7 @@ impl<A: Allocator + Copy> Senders<A> {
         Ok(Senders { single, several })
     }
 
-    /// Creates a sender of a single stream, and one on the channels if there are any.
+    /// Creates a sender of a single stream, and a sender on the channels if there are any.
     ///
     /// # Errors
     ///
@@ -109,7 +109,7 @@ impl<A: Allocator + Copy> Senders<A> {
 }
 
 impl<A: Allocator + Copy + Send + Sync> Senders<A> {
-    /// Sends a round. After an `Err` one of them may have sent it.
+    /// Sends a round. After an `Err` one of the two may have sent it.
     pub(crate) fn round<H: Threads + Sync>(
         &mut self,
         rt: &H,
@@ -133,7 +133,7 @@ impl<A: Allocator + Copy + Send + Sync> Senders<A> {
     }
 }
 
-// Returns whether a sender of the guest's own table sent a round.
+// Turns the answer of a sender with the guest's own table into `Ok` or `NoMemory`.
 fn was_sent(answer: Result<(), SendFault>) -> Result<(), NoMemory>
     requires fault { IfErr answer IsRoundFault }
     requires table { answer ≢ Err SendFault.OtherTable }

@@ -51,7 +51,7 @@ pub cut_all : (limit : ℕ) (places : List Place) (batches : List BatchOfPages) 
 cut_all limit places batches cut =
     record { has_all = sym (cut.has_all ∙ append-nil (flat_map batch_places batches)); has_sizes = cut.has_sizes; are_full = cut.are_full }
 
--- what holds of two lists, one after the other, holds of the second
+-- what holds of two lists, one after another, holds of the second
 pub All-behind : (P : Place → Type 0) (xs ys : List Place) → All P (xs ++ ys) → All P ys
 All-behind P [] ys all = all
 All-behind P (x ∷ xs) ys all = All-behind P xs ys (All-tail P x (xs ++ ys) all)

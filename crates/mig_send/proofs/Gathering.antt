@@ -1,4 +1,4 @@
--- What the workers of a round leave, one after the other.
+-- What the workers of a round leave, one after another.
 use Rattle.std.proofs.Common.{ℕ, ◌≡◌, ◌<◌, List, [], ◌∷◌, ◌++◌, length, map, get_or, suc, zero, arith, refl, sym, ap, subst, ◌∙◌, append-nil, append_assoc}
 use Rattle.std.specs.Prelude.{Result, Vec, Ok, Err, IsOk, OnOk, reverse}
 use Rattle.std.specs.List.{All, AllZip}

@@ -90,7 +90,7 @@ contents_back test m b (n ∷ pages) some = elim (cases_Bool (test (content_at m
   | inr t ↦ rw t (contents_back test m b pages some)
 ]
 
--- ---- pages of one size, one after the other
+-- ---- pages of one size, one after another
 
 abbrev HasSize : ℕ → Page → Type 0
 HasSize size page = length page.content ≡ size

@@ -1,4 +1,4 @@
--- A worker's draws, one after the other.
+-- A worker's draws, one after another.
 use Rattle.std.proofs.Common.{ℕ, ◌≡◌, ◌<◌, ◌≤◌, ◌-◌, List, [], ◌∷◌, ◌++◌, length, map, get_or, refl}
 use Rattle.std.proofs.Common.{sym, ap, ◌∙◌, arith, suc, subst, IfOk, append_assoc}
 use Rattle.std.specs.Prelude.{Result, Vec, Ok, Err, IsOk, OnOk, flat_map}

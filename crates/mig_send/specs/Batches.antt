@@ -8,7 +8,7 @@ use Rattle.mig_packet.specs.PageSize.{page_limit}
 
 -- ---- batches
 
--- some pages of one block, by their numbers in it
+-- pages of one block, by their numbers in it
 pub record BatchOfPages : Type 0 where
   pub block : ℕ
   pub pages : List ℕ
@@ -26,8 +26,8 @@ pub record IsBatch (table : RamTable) (batch : BatchOfPages) : Type 0 where
 
 -- ---- cutting
 
--- The batches of some places: all of the places, in their order. In each batch are at least one, of
--- one block, and at most so many. A batch that another of its block follows is full.
+-- The batches of some places: all of the places, in their order. Each batch has at least one place,
+-- of one block, and at most `limit`. A batch that another of its block follows is full.
 pub record IsCut (limit : ℕ) (places : List Place) (batches : List BatchOfPages) : Type 0 where
   pub has_all : flat_map batch_places batches ≡ places
   pub has_sizes : All (λ batch. (0 < length batch.pages) × (length batch.pages ≤ limit)) batches
@@ -39,7 +39,7 @@ HasOneCut = (limit : ℕ) (places : List Place) (some others : List BatchOfPages
 
 -- ---- the walk over a set of places
 
--- where the walk stands: at one of the places, or after all of them
+-- the position of the walk: at one of the places, or after all of them
 abbrev pub IsInSet : List Place → Option Place → Type 0
 IsInSet places None = Unit {0}
 IsInSet places (Some next) = has_place places next ≡ true
@@ -49,7 +49,7 @@ abbrev pub places_from : List Place → Option Place → List Place
 places_from places None = []
 places_from places (Some next) = filter (λ place. not (place_lt place next)) places
 
--- The first batch of some places, and the places after it: where these go on with its block, it is
+-- The first batch of some places, and the places after it. If these go on with its block, it is
 -- full.
 pub record IsFirstBatch (limit : ℕ) (places : List Place) (batch : BatchOfPages) (behind : List Place) : Type 0 where
   pub has_all : places ≡ batch_places batch ++ behind

@@ -1,5 +1,5 @@
 -- A worker of one channel that its caller steps: what it shares with the other workers of its
--- round, what it has in hand, and what its channel's bytes have of the round.
+-- round, its state, and what its channel's bytes have of the round.
 use Rattle.std.specs.Prelude.{ℕ, ◌≡◌, ◌<◌, ◌≤◌, List, [], ◌∷◌, ◌++◌, length, flat_map, All, AllPairs, Result, OnOk, OnErr, ⊤}
 use Rattle.mig_mem.specs.RamTable.{RamTable}
 use Rattle.mig_mem.specs.Image.{Image}
@@ -18,16 +18,16 @@ pub record RoundTerms : Type 0 where
   pub table : RamTable
   pub batches : List BatchOfPages
 
--- a worker: what it shares, its channel, what it has in hand, and the bytes that weren't drained
+-- a worker: what it shares, its channel, its state, and the bytes that weren't drained
 pub record ChannelWork : Type 0 where
   pub terms : RoundTerms
   pub channel : ℕ
   pub hand : Hand
   pub text : List ℕ
 
--- ---- what is in hand
+-- ---- the state of a worker
 
--- what of the worker's seat it has
+-- the worker's seat, if it has one
 abbrev pub seats_of : Hand → List SeatView
 seats_of (Drawing seat) = seat ∷ []
 seats_of (Claimed seat number) = seat ∷ []
@@ -43,7 +43,7 @@ claims_of (Ending spent last) = []
 claims_of (Ended spent) = []
 claims_of Moving = []
 
--- a seat of the deal is in hand, and what is claimed is a batch of it
+-- the worker has a seat of the deal, and the claimed number is that of a batch
 pub record IsHand (deal : DealView) (hand : Hand) : Type 0 where
   pub own : All (λ seat. seat.deal ≡ deal) (seats_of hand)
   pub claim_batches : All (λ number. (deal.base ≤ number) × (number < end_of_work deal)) (claims_of hand)
@@ -57,8 +57,8 @@ HasEnded (Ending spent last) = ⊥
 HasEnded (Ended spent) = ⊤
 HasEnded Moving = ⊥
 
--- A worker that had no number in hand has drawn one of the deal: that of a batch, or its last one.
--- What it had in hand stays.
+-- A worker that had no number has drawn one of the deal: that of a batch, or its last one. A number
+-- that it had stays.
 abbrev pub HasClaimed : DealView → Hand → Hand → Type 0
 HasClaimed deal (Drawing seat) (Claimed next number) = HasDrawn deal seat number next × (number < end_of_work deal)
 HasClaimed deal (Drawing seat) (Ending spent last) = HasDrawn deal seat last spent × (end_of_work deal ≤ last)
@@ -70,7 +70,7 @@ HasClaimed deal (Ending spent last) after = after ≡ Ending spent last
 HasClaimed deal (Ended spent) after = after ≡ Ended spent
 HasClaimed deal Moving after = after ≡ Moving
 
--- a number is in hand whose packet isn't written yet
+-- the worker has a number whose packet isn't written yet
 abbrev pub HasNumber : Hand → Type 0
 HasNumber (Drawing seat) = ⊥
 HasNumber (Claimed seat number) = ⊤
@@ -78,8 +78,8 @@ HasNumber (Ending spent last) = ⊤
 HasNumber (Ended spent) = ⊥
 HasNumber Moving = ⊥
 
--- the packet of what is in hand: that of the batch that its number claims, or a SYNC packet of the
--- last number
+-- the packet of the worker's number: that of the batch that it claims, or a SYNC packet of the last
+-- number
 abbrev pub hand_bytes : Image → RoundTerms → Hand → List ℕ
 hand_bytes image terms (Drawing seat) = []
 hand_bytes image terms (Claimed seat number) = (claimed_packet terms.deal.base image terms.batches number).bytes
@@ -87,7 +87,7 @@ hand_bytes image terms (Ending spent last) = sync_packet image.table.page_size l
 hand_bytes image terms (Ended spent) = []
 hand_bytes image terms Moving = []
 
--- what is in hand once that packet is written
+-- the worker's state after that packet is written
 abbrev pub after_packet : Hand → Hand
 after_packet (Drawing seat) = Drawing seat
 after_packet (Claimed seat number) = Drawing seat
@@ -97,8 +97,8 @@ after_packet Moving = Moving
 
 -- ---- a step
 
--- One step: the worker has a number in hand, and writes its packet; or, for want of memory, it
--- keeps that number in hand. Once it has written its SYNC packet, a step changes nothing, and isn't
+-- One step: the worker has a number, and writes its packet; or, after a refused allocation, it
+-- keeps that number. Once it has written its SYNC packet, a step changes nothing, and isn't
 -- refused.
 pub record IsStep (image : Image) (terms : RoundTerms) (made : Result (Unit {0}) NoMemory) (old new : Hand) (before after : List ℕ) : Type 0 where
   pub in_hand : Hand
@@ -123,13 +123,13 @@ pub record HasPackedSoFar (image : Image) (terms : RoundTerms) (seat : SeatView)
   pub rise : AllPairs (λ a b. a < b) numbers
   pub has_text : whole ≡ before ++ flat_map (λ number. (claimed_packet terms.deal.base image terms.batches number).bytes) numbers
 
--- as that, where the seat has drawn one number more, which is in hand
+-- as `HasPackedSoFar`, and the seat has drawn one number more, whose packet isn't written yet
 pub record HasOneInHand (image : Image) (terms : RoundTerms) (seat : SeatView) (number : ℕ) (before whole : List ℕ) : Type 0 where
   pub earlier : SeatView
   pub has_packed : HasPackedSoFar image terms earlier before whole
   pub has_drawn : HasDrawn terms.deal earlier number seat
 
--- What is sent of a whole share stands in the channel.
+-- The channel has all that is sent of a share.
 pub record HasPackedShare (image : Image) (terms : RoundTerms) (spent : SeatView) (before whole : List ℕ) : Type 0 where
   pub share : Share
   pub has_share : HasShare (new_seat terms.deal) spent share

@@ -1,4 +1,4 @@
--- A round dealt out to workers: which of them has which number, and what each of them sends.
+-- A round dealt to workers: which of them has which number, and what each of them sends.
 use Rattle.std.specs.Prelude.{ℕ, ◌≡◌, ◌+◌, ◌<◌, true, List, [], ◌++◌, length, map, flat_map, All, AllPairs, IsOk, IfOk}
 use Rattle.std.specs.List.{AllZip}
 use Rattle.mig_mem.specs.Image.{Image}
@@ -9,9 +9,9 @@ use Rattle.mig_send.specs.Batches.{BatchOfPages}
 use Rattle.mig_send.specs.Packing.{PackedBatch}
 use Rattle.mig_send.specs.Work.{Share, HasWorked, claimed_packet}
 
--- A dealing of so many batches whose numbers begin at a base. The number of each batch is in one of
--- the shares, once. The numbers after these, as many as there are shares, are the last ones, each
--- of one share. In each share numbers rise. Any share may have any batch.
+-- A dealing of `batches` batches whose numbers begin at a base. The number of each batch is in one
+-- of the shares, once. The numbers after these, as many as there are shares, are the last ones,
+-- each of one share. In each share numbers rise. Any share may have any batch.
 pub record IsDealing (base batches : ℕ) (shares : List Share) : Type 0 where
   pub has_batches : HasEachOnce base (base + batches) (flat_map (λ (share : Share). share.numbers) shares)
   pub has_lasts : HasEachOnce (base + batches) (base + batches + length shares) (map (λ (share : Share). share.last) shares)
@@ -29,26 +29,26 @@ abbrev pub share_text : ℕ → Image → List BatchOfPages → Share → List �
 share_text base image batches share =
     flat_map (λ number. (claimed_packet base image batches number).bytes) share.numbers ++ sync_packet image.table.page_size share.last
 
--- what is sent of a worker's answer: its packets, in their order, and a SYNC packet of its last
+-- what is sent of a worker's result: its packets, in their order, and a SYNC packet of its last
 -- number
 abbrev pub answer_text : ℕ → List PackedBatch → ℕ → List ℕ
 answer_text page_size packets last = flat_map (λ packed. packed.bytes) packets ++ sync_packet page_size last
 
--- a worker's answer is what is sent of a share
+-- a worker's result is what is sent of a share
 abbrev pub IsSent : {A : Type 0} → ℕ → Image → List BatchOfPages → Share → Worked A → Type 0
 IsSent base image batches share worked =
     IfOk worked.packets (λ packets. answer_text image.table.page_size packets.items worked.last ≡ share_text base image batches share)
 
--- Workers' answers deal a round's batches from a base on: what is sent of them are the shares of a
+-- Workers' results deal a round's batches from a base on: what is sent of them are the shares of a
 -- dealing.
 pub record MakeADealing {A : Type 0} (base : ℕ) (image : Image) (batches : List BatchOfPages) (answers : List (Worked A)) : Type 0 where
   pub shares : List Share
   pub is_dealing : IsDealing base (length batches) shares
   pub are_sent : AllZip (IsSent base image batches) shares answers
 
--- Workers' answers are a dealing under these conditions. There are as many workers as a deal has
+-- Workers' results are a dealing under these conditions. There are as many workers as a deal has
 -- seats. They began with seats that had drawn nothing, and all of them returned packets. Their
--- spent seats hold together each number of the deal once, as its end says.
+-- spent seats together hold each number of the deal once, by its end.
 abbrev pub WorkersMakeADealing : Type 0 → Type 0
 WorkersMakeADealing A = (deal : DealView) (image : Image) (batches : List BatchOfPages) (answers : List (Worked A))
     → All (HasWorked image batches (new_seat deal)) answers → All (λ (worked : Worked A). IsOk worked.packets) answers

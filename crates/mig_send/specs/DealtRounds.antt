@@ -1,4 +1,4 @@
--- Rounds that are dealt over several channels, and the streams that are made of them.
+-- Rounds that are dealt over several channels, and their streams.
 use Rattle.std.specs.Prelude.{ℕ, ◌≡◌, ◌+◌, ◌^◌, ◌≤◌, ◌<◌, List, [], ◌∷◌, ◌++◌, length, map, flat_map, replicate, get_or, sum_by, All, Option, ⊤}
 use Rattle.std.specs.List.{range_with_len}
 use Rattle.mig_mem.specs.RamTable.{RamTable, IsTable}
@@ -24,7 +24,7 @@ pub record DealtRound : Type 0 where
   pub shares : List Share
 
 -- The image and the dirty places are of the table, the batches are those of these places, and the
--- shares deal them over so many channels.
+-- shares deal them over `channels` channels.
 pub record IsDealtRound (table : RamTable) (limit channels : ℕ) (round : DealtRound) : Type 0 where
   pub has_image : IsImage round.snapshot.image
   pub has_table : round.snapshot.image.table ≡ table
@@ -37,7 +37,7 @@ pub record IsDealtRound (table : RamTable) (limit channels : ℕ) (round : Dealt
 abbrev pub packet_count : DealtRound → ℕ
 packet_count round = length round.batches + length round.shares
 
--- packets are numbered on from round to round
+-- packets are numbered consecutively from round to round
 abbrev pub AreNumbered : ℕ → List DealtRound → Type 0
 AreNumbered from [] = ⊤
 AreNumbered from (round ∷ rounds) = (round.base ≡ from) × AreNumbered (from + packet_count round) rounds
@@ -61,8 +61,8 @@ channel_texts uuid channels rounds = map (channel_text uuid rounds) (range_with_
 
 -- ---- a sending
 
--- What a sender is made with: a lawful table, a UUID of 16 bytes, 1 to 255 channels, and a batch
--- limit for which a packet has room.
+-- The setting of a sender: a lawful table, a UUID of 16 bytes, 1 to 255 channels, and a batch limit
+-- for which a packet has room.
 pub record IsSetting (table : RamTable) (uuid : List ℕ) (channels limit : ℕ) : Type 0 where
   pub has_table : IsTable table
   pub has_uuid : length uuid ≡ 16
@@ -80,8 +80,8 @@ pub record IsSending (table : RamTable) (uuid : List ℕ) (limit channels : ℕ)
   pub has_main : main_text ≡ main table (length rounds)
   pub has_texts : texts ≡ channel_texts uuid channels rounds
 
--- The streams of some rounds where the main stream is a machine's of this name, up to the footer of
--- RAM's END: the channels carry what they carry of a sending.
+-- The streams of some rounds with a machine's main stream of this name, up to the footer of RAM's
+-- END. The channels carry what they carry of a sending.
 pub record IsMachineSending (name : Option (List ℕ)) (table : RamTable) (uuid : List ℕ) (limit channels : ℕ) (rounds : List DealtRound) (main_text : List ℕ) (texts : List (List ℕ)) : Type 0 where
   pub is_sending : IsSending table uuid limit channels rounds (main table (length rounds)) texts
   pub has_main : main_text ≡ machine_written name table (replicate (length rounds) FlushPart)

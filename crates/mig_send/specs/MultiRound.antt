@@ -70,7 +70,7 @@ pub record IsRoundSoFar (image : Image) (drained : ℕ → List ℕ) (old : Mult
 
 -- ---- its calls
 
--- The round of a dirty set is begun: no worker was given out.
+-- The round of a dirty set was begun: no worker was given out.
 pub record HasBegun (dirty : PlaceSet) (old : MultiSending) (round : OpenMulti) : Type 0 where
   pub same_table : dirty.table ≡ old.main.table
   pub of_table : round.terms.table ≡ old.main.table
@@ -80,7 +80,7 @@ pub record HasBegun (dirty : PlaceSet) (old : MultiSending) (round : OpenMulti) 
   pub none_back : round.spents ≡ []
   pub has_come : (image : Image) (drained : ℕ → List ℕ) → IsRoundSoFar image drained old round
 
--- why a round isn't begun: the first that applies
+-- why a round can't be begun: the first reason that applies
 abbrev pub IsBeginFault : RamTable → RamTable → SendFault → Type 0
 IsBeginFault table other Channels = ⊥
 IsBeginFault table other Limit = ⊥
@@ -97,7 +97,7 @@ pub record IsDealtTo (base : ℕ) (table : RamTable) (batches : List BatchOfPage
   pub as_many : terms.deal.seats ≡ workers
   pub are_seats : seats ≡ replicate workers (new_seat terms.deal)
 
--- And these are the batches of a dirty set, for a sender's channels.
+-- The workers share the batches of a dirty set, for a sender's channels.
 pub record IsDealtOut (dirty : PlaceSet) (sender : MultiSending) (terms : RoundTerms) (seats : List SeatView) : Type 0 where
   pub are_cut : IsCut sender.limit dirty.marked terms.batches
   pub is_dealt : IsDealtTo sender.base sender.main.table terms.batches (length sender.channels) terms seats
@@ -130,7 +130,7 @@ pub record TakesBack (worker : ChannelWork) (old new : OpenMulti) : Type 0 where
 abbrev pub with_channels : Drained → (ℕ → List ℕ) → Drained
 with_channels drained more = record drained { channel = λ channel. drained.channel channel ++ more channel }
 
--- As `HasSentOne`, where these bytes of the channels were drained in the round.
+-- As `HasSentOne`, with these bytes of the channels drained in the round.
 pub record HasSentRound (drained : ℕ → List ℕ) (snapshot : Snapshot) (old new : MultiSending) : Type 0 where
   pub round : DealtRound
   pub is_of : round.snapshot ≡ snapshot
@@ -141,8 +141,8 @@ pub record HasSentRound (drained : ℕ → List ℕ) (snapshot : Snapshot) (old 
   pub has_sent : (before : Drained) (rounds : List DealtRound) → HasSentRounds before old rounds
       → HasSentRounds (with_channels before drained) new (rounds ++ round ∷ [])
 
--- The round is ended: where it was begun by a sender and came so far, that sender has sent it, as
--- `MultiSender::round` sends one.
+-- The round is ended: if it was begun by a sender and came this far, that sender has sent it, as
+-- `MultiSender::round` does.
 pub record EndsRound (round : OpenMulti) (sender : MultiSending) : Type 0 where
   pub same_setting : KeepsSetting round.sender sender
   pub has_sent : (image : Image) (drained : ℕ → List ℕ) (old : MultiSending) → IsImage image → image.table ≡ round.sender.main.table

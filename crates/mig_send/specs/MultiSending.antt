@@ -12,8 +12,8 @@ use Rattle.mig_send.specs.DealtRounds.{DealtRound, IsDealtRound, AreNumbered, Is
 
 -- ---- the sender
 
--- A sender: the main stream's writer, what it was made with, the bytes that it holds of the
--- channels, and its counts of packets and rounds.
+-- A sender: the main stream's writer, its setting, the bytes that it holds of the channels, and its
+-- counts of packets and rounds.
 pub record MultiSending : Type 0 where
   pub main : Writer
   pub uuid : List ℕ
@@ -22,11 +22,11 @@ pub record MultiSending : Type 0 where
   pub base : ℕ
   pub rounds : ℕ
 
--- what some buffers hold
+-- the contents of some buffers
 abbrev pub texts_of : {A : Type 0} → List (Vec ℕ A) → List (List ℕ)
 texts_of channels = map (λ text. text.items) channels
 
--- channels' bytes, each cut to the length of its place
+-- channels' bytes, each cut to the length with its index
 abbrev pub cut_texts : List ℕ → List (List ℕ) → List (List ℕ)
 cut_texts [] texts = texts
 cut_texts (len ∷ lens) [] = []
@@ -70,7 +70,7 @@ pub record KeepsSetting (old new : MultiSending) : Type 0 where
   pub same_limit : new.limit ≡ old.limit
   pub as_many : length new.channels ≡ length old.channels
 
--- A sender that was drained keeps what it was made with, and its counts of packets and rounds.
+-- A sender that was drained keeps its setting, and its counts of packets and rounds.
 pub record KeepsCounts (old new : MultiSending) : Type 0 where
   pub same_setting : KeepsSetting old new
   pub same_base : new.base ≡ old.base
@@ -83,7 +83,7 @@ with_main drained bytes = record drained { main = drained.main ++ bytes }
 abbrev pub with_channel : Drained → ℕ → List ℕ → Drained
 with_channel drained channel bytes = record drained { channel = λ other. if other == channel then drained.channel other ++ bytes else drained.channel other }
 
--- The sender has sent one round more, of this image and its dirty places. It was dealt over its
+-- The sender has sent one more round, of this image and its dirty places. It was dealt over its
 -- channels. Its packets are numbered from the sender's count of packets on, and that count rises by
 -- a packet for each batch and one for each channel.
 pub record HasSentOne (snapshot : Snapshot) (old new : MultiSending) : Type 0 where
@@ -97,7 +97,7 @@ pub record HasSentOne (snapshot : Snapshot) (old new : MultiSending) : Type 0 wh
 
 -- ---- refusals
 
--- Why a sender isn't made of so many channels with a limit: the first that applies.
+-- Why no sender can be created with these channels and this limit: the first reason that applies.
 abbrev pub IsRefused : RamTable → ℕ → ℕ → SendFault → Type 0
 IsRefused table channels limit Channels = (channels ≡ 0) ⊎ (255 < channels)
 IsRefused table channels limit Limit = (0 < channels) × (channels ≤ 255) × ((limit ≡ 0) ⊎ (page_limit table.page_size < limit))

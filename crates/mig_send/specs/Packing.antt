@@ -23,11 +23,11 @@ zeros_of pages = filter (λ page. is_zero page.content) pages
 abbrev pub offsets_of : ℕ → List Page → List ℕ
 offsets_of page_size pages = map (λ page. page.place.page * page_size) pages
 
--- the contents of pages, one after the other
+-- the contents of pages, one after another
 abbrev pub contents_of : List Page → List ℕ
 contents_of pages = flat_map (λ page. page.content) pages
 
--- the packet of a number with some pages of one block, which has this id
+-- the packet with a number and some pages of one block, which has this id
 abbrev pub packet_of : ℕ → ℕ → List ℕ → List Page → List ℕ
 packet_of page_size number id pages =
     written_packet page_size number false id (offsets_of page_size (normals_of pages)) (contents_of (normals_of pages)) (offsets_of page_size (zeros_of pages))
@@ -39,7 +39,7 @@ normal_offsets image places = offsets_of image.table.page_size (normals_of (roun
 abbrev pub zero_offsets : Image → List Place → List ℕ
 zero_offsets image places = offsets_of image.table.page_size (zeros_of (round_of image places))
 
--- the contents at some offsets in a block of a memory, one after the other
+-- the contents at some offsets in a block of a memory, one after another
 abbrev pub contents_at : Image → ℕ → List ℕ → List ℕ
 contents_at image b offsets = flat_map (λ offset. content_at image (place_at b (offset / image.table.page_size))) offsets
 

@@ -33,8 +33,8 @@ pub record HasShare (seat spent : SeatView) (share : Share) : Type 0 where
   pub rise : AllPairs (λ a b. a < b) share.numbers
   pub claims_none : (end_of_work seat.deal ≤ share.last) × (share.last < end_of_deal seat.deal)
 
--- What a worker returns: the share that it drew, and, where it returns packets, those that the
--- share's numbers claim, in their order.
+-- What a worker returns: the share that it drew, and, if it returns packets, those that the share's
+-- numbers claim, in their order.
 pub record HasWorked {A : Type 0} (image : Image) (batches : List BatchOfPages) (seat : SeatView) (worked : Worked A) : Type 0 where
   pub share : Share
   pub has_share : HasShare seat worked.spent share

@@ -14,8 +14,8 @@ use Rattle.mig_send.specs.DealtRounds.{no_share}
 
 -- ---- one worker
 
--- What a worker leaves that began with some bytes: these, and after them, where there was memory,
--- what is sent of the share that the worker drew; else a part of it, if any.
+-- The result of a worker that began with some bytes: these, and after them what is sent of the
+-- share that the worker drew. If an allocation was refused, a part of it, or none.
 pub record HasWritten {A : Type 0} (image : Image) (batches : List BatchOfPages) (seat : SeatView) (before : List ℕ) (written : Written A) : Type 0 where
   pub share : Share
   pub has_share : HasShare seat written.spent share
@@ -30,13 +30,13 @@ IsReady deal (Waiting seat text) = seat ≡ new_seat deal
 IsReady deal Running = ⊥
 IsReady deal (Done written) = ⊥
 
--- the bytes that stand here
+-- the bytes in the slot
 abbrev pub slot_text : {A : Type 0} → Slot A → List ℕ
 slot_text (Waiting seat text) = text.items
 slot_text Running = []
 slot_text (Done written) = written.text.items
 
--- a worker has left its answer here
+-- a worker has left its result here
 abbrev pub IsAnswer : {A : Type 0} → Slot A → Type 0
 IsAnswer (Waiting seat text) = ⊥
 IsAnswer Running = ⊥

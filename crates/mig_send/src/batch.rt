@@ -11,7 +11,7 @@ use std::alloc::{Allocator, Global};
 use std::fmt::{self, Debug, Formatter};
 use std::marker::Model;
 
-/// Some pages of one block, by their numbers in it, ascending.
+/// Pages of one block, by their numbers in it, ascending.
 #[derive(Drop)]
 pub struct Batch<A: Allocator = Global> {
     pub block: usize,

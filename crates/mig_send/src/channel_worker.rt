@@ -1,7 +1,7 @@
 //! A worker of one channel, for callers with threads of their own: its caller steps it, and each
 //! step writes one packet. `MultiRound` gives out a worker for each channel of a sender.
 //!
-//! A worker starts no thread and waits for nobody. It shares the round's deal with the other
+//! A worker starts no thread and waits for no other. It shares the round's deal with the other
 //! workers, and nothing else that is written.
 
 ghost use Rattle.std.specs.Prelude.{◌≡◌, ◌↔◌, ◌++◌, [], List, ℕ, IsTrue, OnOk, OnErr};
@@ -20,7 +20,7 @@ use std::marker::Model;
 use std::mem;
 use std::sync::Arc;
 
-/// What a worker has in hand.
+/// The state of a worker.
 #[derive(Drop)]
 pub(crate) enum Hand {
     /// A seat to draw with.
@@ -37,8 +37,7 @@ pub(crate) enum Hand {
 
 /// Packs batches of one round for one channel, a packet at each step. Several workers of a round
 /// run at once, each on a thread of its own; each holds the bytes of its channel until they are
-/// drained. Whoever drops a worker gives up the sender's streams, since the round can't be ended
-/// then.
+/// drained. If a worker is dropped, the round can't be ended, and the sender's streams are lost.
 #[derive(Drop)]
 pub struct ChannelWorker<A: Allocator = Global> {
     pub(crate) shared: Arc<RoundWork<A>, A>,
@@ -65,7 +64,7 @@ impl<A: Allocator> Debug for ChannelWorker<A> {
     }
 }
 
-// Draws a number, if none is in hand and one is left to draw.
+// Draws a number, if the worker has none and one is left to draw.
 fn claimed<A: Allocator>(deal: &Deal<A>, hand: Hand) -> Hand
     requires { IsHand deal.now hand }
     ensures hand { IsHand deal.now result }
@@ -83,7 +82,8 @@ fn claimed<A: Allocator>(deal: &Deal<A>, hand: Hand) -> Hand
     }
 }
 
-// Appends the packet of what is in hand, if anything is. After an `Err` a part of it may stand.
+// Appends the packet of the worker's number, if it has one. After an `Err` a part of it may have
+// been appended.
 fn put_in_hand<A: Allocator, M: GuestPages>(
     work: &RoundWork<A>,
     hand: &Hand,
@@ -109,7 +109,7 @@ fn put_in_hand<A: Allocator, M: GuestPages>(
     }
 }
 
-// Returns what is in hand once the packet of `hand` is written.
+// Returns the state of the worker after the packet of `hand` is written.
 fn written(hand: Hand) -> Hand
     ensures { result ≡ after_packet hand }
 {
@@ -122,7 +122,7 @@ fn written(hand: Hand) -> Hand
     }
 }
 
-// Takes one step, on the parts of a worker.
+// Takes one step, on the fields of a worker.
 fn step_parts<A: Allocator, M: GuestPages>(
     work: &RoundWork<A>,
     hand: &mut Hand,
@@ -151,7 +151,7 @@ fn step_parts<A: Allocator, M: GuestPages>(
 }
 
 impl<A: Allocator> ChannelWorker<A> {
-    /// Returns the table whose pages it sends.
+    /// Returns the table whose pages the worker sends.
     pub fn table(&self) -> &Table<A>
         ensures { result.now ≡ self.now.terms.table }
     {
@@ -173,7 +173,7 @@ impl<A: Allocator> ChannelWorker<A> {
     }
 
     /// Writes one packet: that of the next batch that no worker of the round has, or, if none is
-    /// left, the channel's SYNC packet. All steps of a round take one and the same memory.
+    /// left, the channel's SYNC packet. All steps of a round must be passed the same memory.
     ///
     /// # Errors
     ///

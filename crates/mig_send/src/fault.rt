@@ -1,4 +1,4 @@
-//! Why a sender isn't made, or a round isn't sent, by name and number.
+//! Why a sender can't be created, or a round can't be sent, by name and number.
 
 ghost use Rattle.std.specs.Prelude.{◌≡◌};
 ghost use Rattle.mig_send.specs.SendFaultNumber.{fault_number};
@@ -7,12 +7,12 @@ use mig_mem::NoMemory;
 use std::error::Error;
 use std::fmt::{self, Display, Formatter};
 
-/// Why a sender was not made, or a round not sent.
+/// Why a sender was not created, or a round not sent.
 #[derive(Clone, Copy, Debug, PartialEq, Eq)]
 pub enum SendFault {
     /// There is no channel, or there are more than 255.
     Channels,
-    /// The batch limit is 0, or above what a packet has room for.
+    /// The batch limit is 0, or above the pages that a packet has room for.
     Limit,
     /// The image or the dirty set is of another table than the sender's.
     OtherTable,
@@ -44,7 +44,7 @@ impl From<NoMemory> for SendFault {
     }
 }
 
-/// Writes the fault's number and its words.
+/// Writes the fault's number and its message.
 impl Display for SendFault {
     fn fmt<W: fmt::Write>(&self, f: &mut Formatter<W>) -> fmt::Result {
         match self {

@@ -1,14 +1,14 @@
-//! Laws of the definitions alone: what the streams of a sending are read as, whatever code writes
+//! Laws of the definitions alone: the readings of the streams of a sending, whatever code writes
 //! and reads them.
 //!
-//! Each law is the clause of a function that has no work of its own. So it is proved with the
-//! crate, and callers can have it.
+//! Each law is the clause of a function that does nothing itself. So it is proved with the crate,
+//! and a caller who calls the function may use it.
 
 ghost use Rattle.mig_send.specs.ReadBack.{SendingsAreReadBack, MachineSendingsAreReadBack, SayTheirPages};
 
 /// What a sender on several channels writes is read back. The main stream is read as its table and
 /// as many rounds without a record as were sent. Each channel is read, at once or piece by piece,
-/// as its hello and the packets that it carries of each round. Of a round the last packet alone has
+/// as its hello and the packets that it carries of each round. The last packet of a round alone has
 /// SYNC. So each reader finds the channel closed, with as many rounds.
 pub fn sendings_are_read_back()
     ensures { SendingsAreReadBack }
@@ -27,8 +27,8 @@ pub fn machine_sendings_are_read_back()
     sendings_are_read_back();
 }
 
-/// What the packets say. That of a batch says its number, its block's id and the batch's pages,
-/// those that aren't zeros with their contents. A SYNC packet says its number alone.
+/// The fields of the packets. That of a batch has its number, its block's id and the batch's pages,
+/// those that aren't zeros with their contents. A SYNC packet has its number alone.
 pub fn packets_say_their_pages()
     ensures { SayTheirPages }
 {}

@@ -3,18 +3,18 @@
 //!
 //! `SingleSender` writes all rounds into one stream. `MultiSender` sends them on several channels
 //! beside a main stream: it cuts the dirty pages of a round into batches (`cut`), and runs a worker
-//! for each channel. A worker draws numbers from the round's deal, and appends the packets of the
-//! batches that these claim to its channel.
+//! for each channel. A worker draws numbers from the round's deal, and appends to its channel the
+//! packets of the batches that these claim.
 //!
 //! A caller with threads of its own begins a round by `MultiSender::begin_round`, and steps the
-//! workers that the `MultiRound` gives out, each a packet at a time. `work` is a worker whose
-//! packets are returned as a list. `pack` makes a single packet.
+//! workers that the `MultiRound` gives out, each a packet at a time. `work` is a worker that
+//! returns its packets as a list. `pack` creates a single packet.
 //!
-//! What the streams look like is `mig_stream`'s and `mig_packet`'s. Which pages are dirty, and when
-//! a round is sent, is for the caller.
+//! `mig_stream` and `mig_packet` define the streams. The caller knows which pages are dirty, and
+//! when to send a round.
 //!
 //! Definitions to read first, in this order: `Sending`, `Batches`, `Packing`, `Work`, `Dealing`,
-//! `DealtRounds`, `MultiSending`; of workers that are stepped `ChannelWork` and `MultiRound`
+//! `DealtRounds`, `MultiSending`; for workers that are stepped `ChannelWork` and `MultiRound`
 //! (`specs/`).
 #![tactic(auto)]
 

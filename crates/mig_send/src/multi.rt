@@ -32,6 +32,25 @@ pub(crate) const LAST_BASE: u64 = 1 << 63;
 /// Sends the rounds of one guest on several channels beside a main stream (QEMU's multifd
 /// migration, without compression). Each round is dealt to as many workers as there are channels,
 /// each on a thread of its own.
+///
+/// # Examples
+///
+/// Three rounds of one page each are sent on two channels. `send_page` calls `round`, and `pass_on`
+/// drains the streams into the connections:
+///
+/// <!-- quoted from crates/mig_uses/src/by_turns.rt -->
+/// ```rust
+/// let made = MultiSender::new(rt.alloc(), &table, Uuid::nil(), 2, 128);
+/// let mut sender = made.expect(rt, "a sender");
+/// let mut guest = [0u8; PAGES * 4096];
+/// for (page, byte) in [(0u64, 5u8), (2, 6), (0, 7)] {
+///     let first = page.wrapping_mul(4096) as usize;
+///     *guest.get_mut(first).expect(rt, "a byte") = byte;
+///     send_page(rt, &mut sender, &table, &guest, page);
+///     pass_on(rt, &mut sender, &mut connections);
+/// }
+/// let Sent { main, channels: _ } = sender.finish().ok().expect(rt, "streams");
+/// ```
 #[derive(Drop)]
 pub struct MultiSender<A: Allocator = Global> {
     pub(crate) alloc: A,
@@ -120,7 +139,7 @@ fn lengths<A: Allocator>(alloc: A, texts: &[Vec<u8, A>]) -> Result<Vec<usize, A>
     Ok(lens)
 }
 
-// Cuts each channel's bytes to the length of the same place in `lens`.
+// Cuts each channel's bytes to the length with its index in `lens`.
 fn cut_back<A: Allocator>(channels: &mut Vec<Vec<u8, A>, A>, lens: &[usize])
     requires { length lens.now ≡ vec_len channels.old }
     ensures { texts_of channels.new.items ≡ cut_texts lens.now (texts_of channels.old.items) }
@@ -137,7 +156,7 @@ impl<A: Allocator + Copy> MultiSender<A> {
     /// # Errors
     ///
     /// - `Channels`: there is no channel, or there are more than 255.
-    /// - `Limit`: `limit` is 0, or above what a packet has room for.
+    /// - `Limit`: `limit` is 0, or above the pages that a packet has room for.
     /// - `NoMemory`: an allocation was refused.
     pub fn new<B: Allocator>(
         alloc: A,
@@ -182,7 +201,7 @@ impl<A: Allocator + Copy> MultiSender<A> {
         Ok((first, sender))
     }
 
-    // Creates the sender whose main stream `main` writes, which was given no part yet.
+    // Creates the sender whose main stream `main` writes. `main` was given no part yet.
     fn of_writer(
         alloc: A,
         main: StreamWriter<A>,
@@ -214,8 +233,8 @@ impl<A: Allocator + Copy + Send + Sync> MultiSender<A> {
     /// appends its packets, and after them a SYNC packet, to its channel. The main stream gets a
     /// FLUSH.
     ///
-    /// The call returns when all workers are done. If no thread can be made, a worker runs on the
-    /// caller's.
+    /// The call returns when all workers are done. If no thread can be started, a worker runs on
+    /// the caller's.
     ///
     /// # Errors
     ///
@@ -267,21 +286,21 @@ impl<A: Allocator + Copy + Send + Sync> MultiSender<A> {
 }
 
 impl<A: Allocator> MultiSender<A> {
-    /// Returns the table whose pages it sends.
+    /// Returns the table whose pages the sender sends.
     pub fn table(&self) -> &Table<A>
         ensures { result.now ≡ self.now.main.table }
     {
         self.main.table()
     }
 
-    /// Returns how many channels it has.
+    /// Returns the number of channels.
     pub fn channels(&self) -> usize
         ensures { result ≡ length self.now.channels }
     {
         self.channels.len()
     }
 
-    /// Returns how many packets all channels have so far. It is the number of the next one.
+    /// Returns how many packets all channels have so far: the number of the next one.
     pub fn base(&self) -> u64
         ensures { result ≡ self.now.base }
     {
@@ -357,8 +376,8 @@ impl<A: Allocator> MultiSender<A> {
 
     /// Ends RAM's sections of the main stream without the stream's end byte, and returns of each
     /// stream the bytes that weren't drained. The caller goes on with the sections of devices and
-    /// the end byte on the main stream. That is a machine's then, up to the footer of RAM's END.
-    /// With a configuration after the file header, it is that of a machine of that name.
+    /// the end byte on the main stream. The main stream is then a machine's, up to the footer of
+    /// RAM's END. With a configuration after the file header, it is that of a machine of that name.
     ///
     /// # Errors
     ///

@@ -24,8 +24,8 @@ use std::mem;
 use std::sync::Arc;
 
 /// A round that is being sent on several channels, by workers on threads of the caller's. It has
-/// the sender until the round is ended. Whoever drops it drops the sender too, and so gives up the
-/// streams.
+/// the sender until the round is ended. If it is dropped, the sender is dropped too, and the
+/// streams are lost.
 #[derive(Drop)]
 pub struct MultiRound<A: Allocator = Global> {
     sender: MultiSender<A>,
@@ -86,7 +86,7 @@ impl<A: Allocator + Copy> MultiSender<A> {
     ///
     /// # Errors
     ///
-    /// Gives the sender back as it was, with:
+    /// The sender as it was, with:
     ///
     /// - `OtherTable`: `dirty` is of another table than the sender's.
     /// - `NoMemory`: an allocation was refused, or more than 2^63 packets were numbered.
@@ -132,7 +132,7 @@ impl<A: Allocator + Copy> MultiSender<A> {
         deal_out(self.alloc, self.base, table, batches, self.channels.len())
     }
 
-    // Takes the bytes that it holds of a channel.
+    // Takes the bytes of a channel that the round holds.
     fn take_channel(&mut self, channel: usize) -> Vec<u8, A>
         requires { channel < length self.old.channels }
         ensures text { result.items ≡ get_or self.old.channels channel [] }
@@ -144,7 +144,7 @@ impl<A: Allocator + Copy> MultiSender<A> {
 }
 
 impl<A: Allocator> MultiSender<A> {
-    // Sets the bytes that it holds of a channel. What it held is dropped.
+    // Sets the bytes of a channel that the round holds. What it held is dropped.
     fn put_channel(&mut self, channel: usize, text: Vec<u8, A>)
         requires { channel < length self.old.channels }
         ensures { self.new ≡ record self.old { channels = slice_set self.old.channels channel text.items } }
@@ -154,8 +154,8 @@ impl<A: Allocator> MultiSender<A> {
 }
 
 impl<A: Allocator + Copy> MultiRound<A> {
-    /// Gives out the worker of the next channel, beginning with channel 0. Its bytes begin with
-    /// those of its channel that the sender wrote before and that weren't drained.
+    /// Gives out the worker of the next channel, from channel 0 on. Its bytes begin with those of
+    /// its channel that the sender wrote before and that weren't drained.
     ///
     /// # Errors
     ///
@@ -186,7 +186,7 @@ impl<A: Allocator + Copy> MultiRound<A> {
 }
 
 impl<A: Allocator> MultiRound<A> {
-    /// Returns the table whose pages it sends.
+    /// Returns the table whose pages the round sends.
     pub fn table(&self) -> &Table<A>
         ensures { result.now ≡ self.now.sender.main.table }
     {
@@ -207,15 +207,15 @@ impl<A: Allocator> MultiRound<A> {
         self.seats.len()
     }
 
-    /// Returns how many workers were given back. It is the channel of the next one that is.
+    /// Returns how many workers were given back: the channel of the next one to give back.
     pub fn given_back(&self) -> usize
         ensures { result ≡ length self.now.spents }
     {
         self.spents.len()
     }
 
-    /// Takes back a worker that has ended: workers come back in the order of their channels. Bytes
-    /// that it didn't drain are the sender's again.
+    /// Takes back a worker that has ended. Workers are given back in the order of their channels.
+    /// Bytes that it didn't drain are the sender's again.
     ///
     /// # Errors
     ///

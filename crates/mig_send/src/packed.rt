@@ -1,4 +1,4 @@
-//! Packing: the packet of a batch, alone for `worker`, and after a channel's bytes for `share`.
+//! Packs batches: into a packet of its own for `worker`, and after a channel's bytes for `share`.
 
 ghost use Rattle.std.specs.Prelude.{◌≡◌, ◌+◌, ◌<◌, ◌≤◌, ◌++◌, length, map, All, IfOk, OnOk};
 ghost use Rattle.mig_mem.specs.RamTable.{IsTable};
@@ -17,8 +17,8 @@ use std::alloc::{Allocator, Global};
 use std::fmt::{self, Debug, Formatter};
 use std::marker::Model;
 
-/// The packet of a batch. The type keeps what its bytes show, so that nobody who sends it on has to
-/// test it again.
+/// The packet of a batch. The type's contract keeps that its bytes are one, so that a caller who
+/// sends it need not test it again.
 #[derive(Drop)]
 pub struct Packed<A: Allocator = Global> {
     page_size: u64,
@@ -53,7 +53,7 @@ impl<A: Allocator> Packed<A> {
     }
 }
 
-/// Shows the packet's number, and not its bytes.
+/// Prints the packet's number, and not its bytes.
 impl<A: Allocator> Debug for Packed<A> {
     fn fmt<W: fmt::Write>(&self, f: &mut Formatter<W>) -> fmt::Result {
         f.debug_struct("Packed")
@@ -77,7 +77,7 @@ pub fn pack<A: Allocator + Copy, M: GuestPages, C: Allocator>(
     requires { IsBatch (M.image memory.now).table batch.now }
     ensures { IfOk result (λ packed. packed ≡ packed_of (M.image memory.now) batch.now number) }
 {
-    // its ids, page numbers and page size are such that its packets can be written
+    // shows that packets of the table can be written: its ids, page numbers and page size
     memory.table().keeps_limits();
     let mut bytes = Vec::new(alloc);
     append_packet(&mut bytes, &mut Offsets::new(alloc), memory, batch, number)?;
@@ -89,7 +89,7 @@ pub fn pack<A: Allocator + Copy, M: GuestPages, C: Allocator>(
 }
 
 /// The offsets of some pages of a block, in bytes: of those that aren't zeros, and of those that
-/// are. Who packs several batches keeps one, so that the lists' memory is used again.
+/// are. A caller that packs several batches keeps one, so that the lists' memory is reused.
 #[derive(Drop)]
 pub(crate) struct Offsets<A: Allocator> {
     normal: Vec<u64, A>,
@@ -97,7 +97,7 @@ pub(crate) struct Offsets<A: Allocator> {
 }
 
 impl<A: Allocator + Copy> Offsets<A> {
-    /// Creates the offsets of no page.
+    /// Creates empty lists.
     pub(crate) fn new(alloc: A) -> Offsets<A> {
         Offsets {
             normal: Vec::new(alloc),
@@ -156,7 +156,7 @@ fn put_offsets<A: Allocator, M: GuestPages>(
     Ok(())
 }
 
-// Returns whether a page is of zeros. A place that the memory lacks is one of no bytes at all.
+// Returns whether a page is zeros. A place outside the memory counts as one of no bytes.
 fn is_zero_page<M: GuestPages>(memory: &M, place: Place) -> bool
     ensures { result ≡ zero_test (content_at (M.image memory.now) place) }
 {

@@ -15,7 +15,7 @@ use mig_mem::{GuestPages, NoMemory};
 use mig_packet::{Gate, Step, put_packet};
 use std::alloc::Allocator;
 
-/// What a worker leaves: its channel's bytes, whether there was memory for all of its share, and
+/// The result of a worker: its channel's bytes, whether there was memory for all of its share, and
 /// what is left of its seat.
 pub(crate) struct Written<A: Allocator> {
     pub(crate) text: Vec<u8, A>,
@@ -51,7 +51,7 @@ pub(crate) fn write_share<A: Allocator + Copy, M: GuestPages, C: Allocator, D: A
     Written { text, made, spent }
 }
 
-// The bytes of a channel, and the lists that the packing of its batches uses again.
+// The bytes of a channel, and the lists that packing its batches reuses.
 struct ChannelText<A: Allocator> {
     text: Vec<u8, A>,
     offsets: Offsets<A>,
@@ -78,7 +78,7 @@ impl<A: Allocator> Sink for ChannelText<A> {
     }
 }
 
-// Appends the SYNC packet of a number, or nothing if an allocation was refused before.
+// Appends the SYNC packet with a number, or nothing if an allocation was refused before.
 fn end<A: Allocator, M: GuestPages>(
     made: Result<(), NoMemory>,
     text: &mut Vec<u8, A>,
@@ -93,7 +93,7 @@ fn end<A: Allocator, M: GuestPages>(
     put_sync(text, memory, number)
 }
 
-/// Appends the SYNC packet of a number. After an `Err` a part of it may have been appended.
+/// Appends the SYNC packet with a number. After an `Err` a part of it may have been appended.
 pub(crate) fn put_sync<A: Allocator, M: GuestPages>(
     text: &mut Vec<u8, A>,
     memory: &M,

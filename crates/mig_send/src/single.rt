@@ -20,6 +20,17 @@ use std::fmt::{self, Debug, Formatter};
 use std::marker::Model;
 
 /// Sends the rounds of one guest as one stream (QEMU's precopy RAM migration without multifd).
+///
+/// # Examples
+///
+/// A round of all pages is sent, and the stream ended:
+///
+/// <!-- quoted from crates/mig_tests/src/lent.rt -->
+/// ```rust
+/// let mut sender = SingleSender::new(alloc, &table).ok()?;
+/// sender.round(&lent, &all(alloc, &table)?).ok()?;
+/// sender.finish().ok()
+/// ```
 #[derive(Drop)]
 pub struct SingleSender<A: Allocator = Global> {
     writer: StreamWriter<A>,
@@ -120,9 +131,9 @@ impl<A: Allocator> SingleSender<A> {
         }
     }
 
-    /// Returns the bytes that were written and not drained yet. All that stands of the stream so
-    /// far is what was drained in all. The pieces that were drained, and then what `finish`
-    /// returns, are the stream. It allocates nothing.
+    /// Returns the bytes that were written and not drained yet. All bytes drained are the stream so
+    /// far: the drained pieces, and then what `finish` returns, are the stream. It allocates
+    /// nothing.
     pub fn drain(&mut self) -> Vec<u8, A>
     where
         A: Copy,
@@ -136,7 +147,7 @@ impl<A: Allocator> SingleSender<A> {
     }
 
     /// Drains into `bytes`, as `drain` does. What the buffer held is dropped, and its room is used
-    /// for what is written next. So two buffers serve for a stream of any length.
+    /// for what is written next. So two buffers suffice for a stream of any length.
     pub fn drain_into(&mut self, bytes: &mut Vec<u8, A>)
         ensures table { self.new.table ≡ self.old.table }
         ensures all { (drained : List ℕ) (rounds : List (List Page)) → HasSentDrained drained self.old rounds
@@ -187,9 +198,9 @@ impl<A: Allocator> SingleSender<A> {
     }
 }
 
-/// A round that is being sent, page after page, with what its caller read of a guest that runs on.
-/// It has the sender until the round is ended or cancelled. Whoever drops it drops the sender too,
-/// and so gives up the stream.
+/// A round that is sent page after page, with the contents that its caller read of a guest that
+/// runs on. It has the sender until the round is ended or cancelled. If it is dropped, the sender
+/// is dropped too, and the stream is lost.
 #[derive(Drop)]
 pub struct OpenRound<A: Allocator = Global> {
     part: OpenPart<A>,
@@ -210,15 +221,15 @@ impl<A: Allocator> Debug for OpenRound<A> {
 }
 
 impl<A: Allocator> OpenRound<A> {
-    /// Returns the table whose pages it sends.
+    /// Returns the table whose pages the round sends.
     pub fn table(&self) -> &Table<A>
         ensures { result.now ≡ self.now.before.table }
     {
         self.part.table()
     }
 
-    /// Sends a page: a place of the table, for which `Table::holds` is the test, and its bytes.
-    /// Places come in any order. Of several pages at one place the last one counts.
+    /// Sends a page: a place of the table, which a caller tests by `Table::holds`, and its bytes.
+    /// Places come in any order. If a place comes more than once, the last page counts.
     ///
     /// # Errors
     ///
@@ -234,7 +245,7 @@ impl<A: Allocator> OpenRound<A> {
         self.part.put_page(place, bytes)
     }
 
-    /// Ends the round. It has the pages that were put, in the order in which they were.
+    /// Ends the round. It has the pages that were put, in their order.
     ///
     /// # Errors
     ///
@@ -251,7 +262,7 @@ impl<A: Allocator> OpenRound<A> {
         }
     }
 
-    /// Leaves out the round, and returns the sender as it was before.
+    /// Cancels the round, and returns the sender as it was before.
     pub fn cancel(self) -> SingleSender<A>
         ensures { result ≡ self.before }
     {

@@ -15,10 +15,10 @@ use std::alloc::Allocator;
 
 /// Holds a worker's packets, one after another: a list of packets, or the bytes of a channel.
 pub(crate) trait Sink {
-    /// What it is a list of: packets, or bytes.
+    /// The type of its entries: packets, or bytes.
     type Entry;
 
-    /// What it holds.
+    /// The entries that it holds.
     ghost held: { Self → List Self.Entry };
 
     /// The entries of one packet.
@@ -28,7 +28,7 @@ pub(crate) trait Sink {
     ///
     /// # Errors
     ///
-    /// `NoMemory` if an allocation is refused. A part of the packet may have been appended.
+    /// `NoMemory`: an allocation was refused. A part of the packet may have been appended.
     fn add<M: GuestPages, C: Allocator, G: Gate>(
         &mut self,
         memory: &M,
@@ -42,8 +42,8 @@ pub(crate) trait Sink {
         ensures prefix { IsPrefix (held self.old) (held self.new) };
 }
 
-/// What a worker leaves beside its sink: whether there was memory for all of its packets, its last
-/// number, and what is left of its seat.
+/// The result of a worker beside its sink: whether there was memory for all of its packets, its
+/// last number, and what is left of its seat.
 pub(crate) struct Filled {
     pub(crate) made: Result<(), NoMemory>,
     pub(crate) last: u64,

@@ -1,9 +1,9 @@
-//! Workers whose packets stand alone, for callers with threads of their own. Each draws numbers
-//! from the deal of a round, and packs the batches that these claim. `MultiSender::round` runs
-//! those of `share`, over the same loop (`sink`).
+//! Workers that return their packets as a list, for callers with threads of their own. Each draws
+//! numbers from the deal of a round, and packs the batches that these claim. `MultiSender::round`
+//! runs those of `share`, over the same loop (`sink`).
 //!
-//! A worker starts no thread and waits for nobody. Who runs several of them gives each a seat of
-//! its own.
+//! A worker starts no thread and waits for no other. A caller that runs several of them gives each
+//! a seat of its own.
 
 ghost use Rattle.std.specs.Prelude.{◌≡◌, ◌∷◌, [], IfOk, IsOk};
 ghost use Rattle.mig_send.specs.Work.{ClaimsBatches, HasWorked};
@@ -20,7 +20,7 @@ use std::fmt::{self, Debug, Formatter};
 
 /// What a worker returns: its packets in the order of their numbers, or `NoMemory`; its last
 /// number, which claims no batch; and what is left of its seat. `Deal::close` and
-/// `Deal::end_number` take that of each worker, so where one is dropped, neither can be called.
+/// `Deal::end_number` take that of each worker. If one is dropped, neither can be called.
 #[derive(Drop)]
 pub struct Worked<A: Allocator = Global> {
     pub packets: Result<Vec<Packed<A>, A>, NoMemory>,
@@ -103,7 +103,7 @@ impl<A: Allocator + Copy> Sink for Vec<Packed<A>, A> {
     }
 }
 
-/// What workers return makes a dealing, under these conditions. Each worker had a seat of one deal
+/// What workers return is a dealing, under these conditions. Each worker had a seat of one deal
 /// that had drawn nothing. All seats were used. All workers returned packets. The deal had as many
 /// batches as there are.
 ///

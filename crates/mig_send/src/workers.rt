@@ -54,7 +54,7 @@ fn run_one<A: Allocator + Copy, M: GuestPages, G: Gate>(
     }
 }
 
-// Runs the workers of all slots, each on a thread of its own. A slot's place is its worker's
+// Runs the workers of all slots, each on a thread of its own. A slot's index is its worker's
 // channel.
 fn run_all<
     R: Threads + Sync,
@@ -87,7 +87,7 @@ fn run_all<
     );
 }
 
-// Adds to a list that has room, so it allocates nothing.
+// Appends to a list that has room, so it allocates nothing.
 fn put<T, A: Allocator>(list: &mut Vec<T, A>, item: T)
     requires { vec_len list.old < vec_capacity list.old }
     ensures items { list.new.items ≡ list.old.items ++ item ∷ [] }

@@ -17,12 +17,12 @@ use Rattle.mig_session.specs.Session.{LoadSession, answer_in, feed_step, end_ste
 abbrev pub piece_limit : ℕ
 piece_limit = 65536
 
--- what a read gave that wasn't at the end
+-- the piece of a read that wasn't at the end
 pub record IsPiece (piece : List ℕ) : Type 0 where
   pub is_some : 0 < length piece
   pub is_short : length piece ≤ piece_limit
 
--- What the reader's counts say of an answer. Ok: one read was an end, and none failed. Read: one
+-- What the reader's counts say of a result. Ok: one read was an end, and none failed. Read: one
 -- failed, and none was an end. TooManyTurns: there were all the reads that were allowed, and each
 -- gave bytes. NoMemory: each gave bytes.
 abbrev pub Explains : ℕ → ReadsSoFar → ReadsSoFar → Result ℕ PumpFault → Type 0
@@ -31,7 +31,7 @@ Explains turns old new (Err Read) = (new.ends ≡ old.ends) × (new.failed ≡ o
 Explains turns old new (Err TooManyTurns) = (new.reads ≡ old.reads + turns) × (new.ends ≡ old.ends) × (new.failed ≡ old.failed)
 Explains turns old new (Err NoMemory) = (new.ends ≡ old.ends) × (new.failed ≡ old.failed)
 
--- the reads of so many pieces: one for each, and then the one that found the end, or failed
+-- the reads of some pieces: one for each, and then the one that found the end, or failed
 abbrev pub reads_after : ReadsSoFar → ℕ → Result ℕ PumpFault → ReadsSoFar
 reads_after old pieces (Ok len) = after_end (after_pieces old pieces)
 reads_after old pieces (Err Read) = after_failure (after_pieces old pieces)
@@ -53,7 +53,7 @@ abbrev pub piece_steps : Source → List (List ℕ) → Texts → Texts
 piece_steps source [] texts = texts
 piece_steps source (piece ∷ pieces) texts = piece_steps source pieces (feed_step source piece texts)
 
--- the same, and the source ended where the end of its input was found
+-- with these pieces fed, and the source ended if the end of its input was found
 abbrev pub pump_step : Source → List (List ℕ) → Result ℕ PumpFault → Texts → Texts
 pump_step source pieces (Ok len) texts = end_step source (piece_steps source pieces texts)
 pump_step source pieces (Err fault) texts = piece_steps source pieces texts
@@ -68,15 +68,16 @@ pub record HasRunOut (source : Source) (pieces : List (List ℕ)) (old new : Loa
   pub runs_out : RunsOut (piece_steps source pieces) old new
   pub has_verdict : new.verdict ≡ failed_without_memory (answer_in new).rounds
 
--- What a pump that fed these pieces makes of the streams that a session stands for. At NoMemory it
--- ran out in the last piece, or the pump's buffer was refused, and nothing has changed.
+-- The effect of a pump that fed these pieces on the streams that a session stands for. With
+-- NoMemory an allocation was refused in the last piece, or the pump's buffer was refused, and
+-- nothing has changed.
 abbrev pub PumpsOn : Source → List (List ℕ) → Result ℕ PumpFault → LoadSession → LoadSession → Type 0
 PumpsOn source pieces (Ok len) old new = StepsOn (pump_step source pieces (Ok len)) old new
 PumpsOn source pieces (Err Read) old new = StepsOn (piece_steps source pieces) old new
 PumpsOn source pieces (Err TooManyTurns) old new = StepsOn (piece_steps source pieces) old new
 PumpsOn source pieces (Err NoMemory) old new = HasRunOut source pieces old new ⊎ ((pieces ≡ []) × (new ≡ old))
 
--- These pieces were fed, in this order, and the source was ended at Ok.
+-- These pieces were fed, in this order, and with Ok the source was ended.
 pub record FeedsPieces (source : Source) (pieces : List (List ℕ)) (result : Result ℕ PumpFault) (old new : LoadSession) : Type 0 where
   pub stands : PumpsOn source pieces result old new
   pub lacking : StillLacks (pump_step source pieces result) old new

@@ -30,11 +30,11 @@ use Rattle.mig_session.specs.Sources.{Counts, Places, FedSources, counts_of, Hol
 pub record LoadSession : Type 0 where
   -- how much of each stream has come
   pub counts : Counts
-  -- up to where each was valid, as far as it was read; None after a refused allocation
+  -- up to which byte each was valid, as far as it was read; None after a refused allocation
   pub places : Option Places
-  -- what is kept of each source, as long as the load runs
+  -- what is kept of each source, while the load runs
   pub sources : Option FedSources
-  -- None before the size list is whole, or where no memory was found for it
+  -- None before the size list is complete, or if the memory couldn't be allocated
   pub target : Option LoadTarget
   pub verdict : Verdict
 
@@ -42,13 +42,13 @@ pub record LoadSession : Type 0 where
 abbrev pub rounds_loaded : Option LoadTarget → ℕ
 rounds_loaded target = option_map_or (λ t. t.rounds) target 0
 
--- what a session answers
+-- the answer of a session
 abbrev pub answer_in : LoadSession → Answer
 answer_in s = record { memory = option_map (λ t. t.memory) s.target; rounds = rounds_loaded s.target; verdict = s.verdict }
 
 -- ---- its sources
 
--- the main stream, or a channel that there is
+-- the main stream, or one of the channels
 abbrev pub HasSource : Counts → Source → Type 0
 HasSource counts source.Main = ⊤
 HasSource counts (source.Channel j) = j < length counts.channels
@@ -93,24 +93,24 @@ feed_step from piece texts = at_source from (with_piece piece) texts
 abbrev pub end_step : Source → Texts → Texts
 end_step from texts = at_source from over texts
 
--- the number that the next round's first packet is to have
+-- the number that the next round's first packet must have
 pub record HasBase (given : LoadSettings) (uuid : List ℕ) (texts : Texts) (t : LoadTarget) : Type 0 where
   pub has_base : (readings : Readings) → AreReadings given uuid texts readings → t.base ≡ base_at t.rounds readings
   pub is_few : t.base ≤ 2 ^ 63
 
--- As long as a load runs, all of the streams was read, and the rounds that it counts were judged.
+-- While a load runs, all of the streams was read, and the rounds that it counts were judged.
 pub record IsRunning (given : LoadSettings) (uuid : List ℕ) (texts : Texts) (target : Option LoadTarget) (sources : FedSources) : Type 0 where
   pub holds : Holds given uuid (rounds_loaded target) texts sources
   pub has_base : IfSome target (HasBase given uuid texts)
 
--- ---- up to where the streams are valid
+-- ---- up to which byte the streams are valid
 
--- that of a source, None for a channel that there isn't
+-- that of a source, None for a channel that doesn't exist
 abbrev pub place_of : Places → Source → Option ℕ
 place_of places source.Main = Some places.main
 place_of places (source.Channel j) = slice_get places.channels j
 
--- These are the places up to which the streams are valid, and where the main stream is closed.
+-- These are the offsets up to which the streams are valid, and where the main stream is closed.
 pub record HasPlaces (given : LoadSettings) (uuid : List ℕ) (texts : Texts) (places : Places) : Type 0 where
   pub main : stream.IsValidUpTo (main_of given) texts.main.bytes places.main
   pub closed : stream.HasClosedAt (main_of given) texts.main.bytes places.closed_at
@@ -127,11 +127,11 @@ IsSourceValidUpTo given uuid texts source.Main (Some n) = stream.IsValidUpTo (ma
 IsSourceValidUpTo given uuid texts (source.Channel j) (Some n) =
     channel.IsValidUpTo (settings given.page_size uuid (length texts.channels)) (get_or texts.channels j no_text).bytes n
 
--- ---- the streams, and how the session stands at them
+-- ---- the streams, and the session's answer on them
 
--- The session was made with these settings and UUID, and so much of the streams has come. It gives
--- their answer. It has read all of them as long as it runs. Once it doesn't, it has read so much as
--- its answer rests on.
+-- The session was made with these settings and UUID, and these bytes of the streams have come. It
+-- has their answer. While it runs, it has read all of them. After that, it has read as much as its
+-- answer rests on.
 pub record StandsFor (given : LoadSettings) (uuid : List ℕ) (texts : Texts) (s : LoadSession) : Type 0 where
   pub is_page_size : IsPageSize given.page_size
   pub has_counts : s.counts ≡ counts_in texts
@@ -143,27 +143,27 @@ pub record StandsFor (given : LoadSettings) (uuid : List ℕ) (texts : Texts) (s
   pub is_answer_there : IsAnswer given uuid read (answer_in s)
   pub have_places : HavePlaces given uuid read s.places
 
--- The session read so much of the streams: all of them as long as it runs, and later so much as its
+-- The session read these bytes of the streams: all of them while it runs, and later as much as its
 -- answer rests on.
 pub record HasRead (given : LoadSettings) (uuid : List ℕ) (texts : Texts) (s : LoadSession) (read : Texts) : Type 0 where
   pub goes_on : GoOn read texts
   pub has_read_all : s.verdict ≡ Running → read ≡ texts
   pub is_answer : IsAnswer given uuid read (answer_in s)
 
--- This is so of the streams as far as the session read them.
+-- This holds of the streams as far as the session read them.
 abbrev pub AsRead : LoadSettings → List ℕ → Texts → LoadSession → (Texts → Type 0) → Type 0
 AsRead given uuid texts s IsSo = (read : Texts) × HasRead given uuid texts s read × IsSo read
 
--- The session stands for these streams where an allocation was refused: the answer is the one for
--- that, and stays.
+-- The session stands for these streams after a refused allocation: its answer is the one for that,
+-- and stays.
 pub record LacksMemory (given : LoadSettings) (uuid : List ℕ) (texts : Texts) (s : LoadSession) : Type 0 where
   pub is_page_size : IsPageSize given.page_size
   pub has_counts : s.counts ≡ counts_in texts
   pub is_without : IsWithoutMemory given uuid texts (answer_in s)
   pub has_no_places : s.places ≡ None
 
--- A call takes this step: whatever streams the session stood for before it, it stands for those
--- with the step done.
+-- A call takes this step: if the session stood for some streams before it, it stands for them with
+-- the step done.
 abbrev pub StepsOn : (Texts → Texts) → LoadSession → LoadSession → Type 0
 StepsOn step old new = (given : LoadSettings) (uuid : List ℕ) (texts : Texts) → StandsFor given uuid texts old → StandsFor given uuid (step texts) new
 
@@ -175,12 +175,12 @@ RunsOut step old new = (given : LoadSettings) (uuid : List ℕ) (texts : Texts) 
 abbrev pub StillLacks : (Texts → Texts) → LoadSession → LoadSession → Type 0
 StillLacks step old new = (given : LoadSettings) (uuid : List ℕ) (texts : Texts) → LacksMemory given uuid texts old → LacksMemory given uuid (step texts) new
 
--- the rounds that were counted stay counted, and a memory that was found stays
+-- the rounds that were counted stay counted, and a memory that was allocated stays
 pub record KeepsRounds (old new : LoadSession) : Type 0 where
   pub more_rounds : rounds_loaded old.target ≤ rounds_loaded new.target
   pub has_memory : old.target ≢ None → new.target ≢ None
 
--- ---- the inside
+-- ---- private
 
 pub record StandsForSome (s : LoadSession) : Type 0 where
   pub given : LoadSettings
@@ -188,8 +188,8 @@ pub record StandsForSome (s : LoadSession) : Type 0 where
   pub texts : Texts
   pub stands : StandsFor given uuid texts s
 
--- It keeps its sources as long as it runs. Their readers were given what it counts, and it stands
--- for some streams.
+-- It keeps its sources while it runs. Their readers were given what it counts, and it stands for
+-- some streams.
 pub record IsSession (s : LoadSession) : Type 0 where
   pub is_open : s.verdict ≡ Running → s.sources ≢ None
   pub is_settled : s.verdict ≢ Running → s.sources ≡ None
@@ -204,7 +204,7 @@ LoadsSent s = (table : RamTable) (uuid : List ℕ) (limit : ℕ) (rounds : List 
     → IsSentInAnyOrder table uuid rounds main channels → total_bytes table ≤ limit
     → StandsFor (ram_settings table.page_size limit) uuid (ended_texts main channels) s → answer_in s ≡ sent_answer table rounds
 
--- So is what it has sent with a machine's main stream, whatever follows RAM's END.
+-- What the sender has sent with a machine's main stream is loaded too, whatever follows RAM's END.
 abbrev pub LoadsMachineSent : LoadSession → Type 0
 LoadsMachineSent s = (given : LoadSettings) (table : RamTable) (uuid : List ℕ) (rounds : List DealtRound) (main : List ℕ) (channels : List (List ℕ))
     → given.frame ≡ Machine → given.waiting ≡ None → table.page_size ≡ given.page_size → total_bytes table ≤ given.limit → IsMachineSentInAnyOrder table uuid rounds main channels

@@ -1,4 +1,4 @@
--- What a session keeps of each source: its reader, and the whole round that is judged next.
+-- What a session keeps of each source: its reader, and the complete round that is judged next.
 use Rattle.std.specs.Prelude.{ℕ, ◌≡◌, ◌≢◌, ◌+◌, ◌<◌, List, [], length, map, Option, None, Some, IfSome, IfNone, All}
 use Rattle.std.specs.List.{AllZip, flat_map}
 use Rattle.std.specs.Option.{option_map_or}
@@ -26,7 +26,7 @@ use Rattle.mig_answer.specs.MultiLoad.{main_at, channels_at, hello_ids, repeated
 
 pub record FedMain : Type 0 where
   pub reader : stream_reader.Reader
-  -- the round that is judged next, where it is whole
+  -- the round that is judged next, if it is complete
   pub round : Option RoundOfRecords
 
 pub record FedChannel : Type 0 where
@@ -42,7 +42,7 @@ pub record Counts : Type 0 where
   pub main : Count
   pub channels : List Count
 
--- up to where each source is valid, and where the main stream is closed
+-- up to which byte each source is valid, and where the main stream is closed
 pub record Places : Type 0 where
   pub main : ℕ
   pub closed_at : Option ℕ
@@ -59,7 +59,7 @@ counts_of s = record { main = main_count s.main; channels = map channel_count s.
 
 -- ---- what is kept of one source, whose first k rounds were judged
 
--- so many, and the one that was taken from the reader where there is one
+-- a number of rounds, and the one that was taken from the reader, if there is one
 abbrev pub with_one : {X : Type 0} → ℕ → Option X → ℕ
 with_one k None = k
 with_one k (Some round) = k + 1
@@ -76,8 +76,8 @@ pub record IsMainRound (given : stream.Settings) (k : ℕ) (text : List ℕ) (ro
   pub has_records : stream_reader.HasRound given text k round.records
   pub has_places : (table : RamTable) → stream_reader.HasTable given text (Some table) → All (λ x. IsPlace table x.place) round.records
 
--- Of the main stream so much has come, and its first k rounds were judged; the next one is here, or
--- isn't complete.
+-- This much of the main stream has come, and its first k rounds were judged; the next one is here,
+-- or isn't complete.
 pub record HoldsMain (given : stream.Settings) (k : ℕ) (text : Text) (m : FedMain) : Type 0 where
   pub stands : stream_reader.Stands given (main_so_far text (with_one k m.round)) m.reader
   pub has_round : IfSome m.round (IsMainRound given k text.bytes)
@@ -88,21 +88,21 @@ pub record IsChannelRound (given : channel.Settings) (k : ℕ) (text : List ℕ)
   pub has_page_size : round.page_size ≡ given.page_size
   pub has_packets : channel_reader.HasRound given text k round.packets
 
--- Of a channel so much has come, and its first k rounds were judged; the next one is here, or isn't
--- complete.
+-- This much of a channel has come, and its first k rounds were judged; the next one is here, or
+-- isn't complete.
 pub record HoldsChannel (given : channel.Settings) (k : ℕ) (text : Text) (c : FedChannel) : Type 0 where
   pub stands : channel_reader.Stands given (channel_so_far text (with_one k c.round)) c.reader
   pub has_round : IfSome c.round (IsChannelRound given k text.bytes)
   pub has_none : IfNone c.round ((i : ℕ) (packets : List (List ℕ)) → channel_reader.HasRound given text.bytes i packets → i < k)
 
--- of each source so much has come, and the first k rounds were judged
+-- this much of each source has come, and the first k rounds were judged
 pub record Holds (given : LoadSettings) (uuid : List ℕ) (k : ℕ) (texts : Texts) (s : FedSources) : Type 0 where
   pub main : HoldsMain (main_of given) k texts.main s.main
   pub channels : AllZip (HoldsChannel (channel.settings given.page_size uuid (length texts.channels)) k) texts.channels s.channels
 
--- ---- what a source says
+-- ---- the status of a source
 
--- this is how it stands at the round that is judged next
+-- this is its status at the round that is judged next
 abbrev pub TellsMainStatus : FedMain → Status → Type 0
 TellsMainStatus m status = (given : LoadSettings) (k : ℕ) (text : Text) (reading : stream.StreamReading) → IsPageSize given.page_size
     → HoldsMain (main_of given) k text m → IsMainReading given text reading → status ≡ main_status k reading
@@ -111,12 +111,12 @@ abbrev pub TellsChannelStatus : FedChannel → Status → Type 0
 TellsChannelStatus c status = (given : channel.Settings) (k : ℕ) (text : Text) (reading : channel.ChannelReading) → IsPageSize given.page_size
     → HoldsChannel given k text c → channel.IsReading given text.bytes text.ended reading → status ≡ channel_status k reading
 
--- this is the id that its hello names
+-- this is the id in its hello
 abbrev pub TellsHello : FedChannel → Option ℕ → Type 0
 TellsHello c hello = (given : channel.Settings) (k : ℕ) (text : Text) (reading : channel.ChannelReading) → IsPageSize given.page_size
     → HoldsChannel given k text c → channel.IsReading given text.bytes text.ended reading → hello ≡ reading.hello
 
--- this is the sources' verdict at round k; None where all have it, and no hello comes again
+-- this is the sources' verdict at round k; None if all have it, and no hello comes again
 abbrev pub TellsAll : ℕ → FedSources → Option Verdict → Type 0
 TellsAll k s told = (given : LoadSettings) (uuid : List ℕ) (texts : Texts) (readings : Readings) → IsPageSize given.page_size
     → Holds given uuid k texts s → AreReadings given uuid texts readings
@@ -129,7 +129,7 @@ pub record HaveRound (s : FedSources) : Type 0 where
   pub main : s.main.round ≢ None
   pub channels : All (λ c. c.round ≢ None) s.channels
 
--- what the packets of a channel's round say, none where it isn't here
+-- the fields of the packets of a channel's round, none if it isn't here
 abbrev pub packets_of : FedChannel → List Fields
 packets_of c = option_map_or (λ round. map (fields_of round.page_size) round.packets) c.round []
 
@@ -147,6 +147,6 @@ TakesMain old new = (given : stream.Settings) (k : ℕ) (text : Text) → stream
 abbrev pub TakesChannel : FedChannel → FedChannel → Type 0
 TakesChannel old new = (given : channel.Settings) (k : ℕ) (text : Text) → channel_reader.Stands given (channel_so_far text k) old.reader → HoldsChannel given k text new
 
--- how many whole rounds of the main stream aren't judged yet
+-- how many complete rounds of the main stream aren't judged yet
 abbrev pub main_waiting : FedMain → ℕ
 main_waiting m = with_one (stream_reader.waiting m.reader) m.round

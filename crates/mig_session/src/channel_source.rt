@@ -16,11 +16,11 @@ use std::alloc::{Allocator, Global};
 use std::marker::Model;
 use uuid::Uuid;
 
-/// A channel as far as it has come.
+/// A channel, as far as its bytes have come.
 #[derive(Drop)]
 pub(crate) struct ChannelSource<A: Allocator = Global> {
     reader: ChannelReader<A>,
-    // where it is complete
+    // if it is complete
     round: Option<PacketRound<A>>,
 }
 
@@ -115,7 +115,7 @@ impl<A: Allocator> ChannelSource<A> {
         channel_end(self.reader.state())
     }
 
-    /// Returns up to where the channel is valid.
+    /// Returns up to which byte the channel is valid.
     pub(crate) fn valid_up_to(&self) -> u64
         ensures { (given : Settings) (k : ℕ) (text : Text) → HoldsChannel given k text self.now → IsValidUpTo given text.bytes result }
     {

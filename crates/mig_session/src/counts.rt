@@ -1,4 +1,4 @@
-//! How much of each source has come, for `Session`. It returns these counts also once it has
+//! How much of each source has come, for `Session`. It also returns these counts after it has
 //! dropped its readers.
 
 ghost use Rattle.std.specs.Prelude.{◌≡◌, ◌+◌, ◌<◌, ◌≤◌, ◌^◌, IfOk, length, replicate};

@@ -1,12 +1,12 @@
 //! Loads several channels whose bytes are fed in pieces, in any order of the sources.
 //!
-//! A `Session` answers at any time for the bytes so far, as `mig_answer` defines it. It starts no
-//! thread. `pump` reads one source to its end and feeds a session what it reads, from a
-//! `PieceReader`, mostly a `Counted` over a reader of the caller's.
+//! A `Session` has at any time the answer on the bytes so far, as `mig_answer` defines it. It
+//! starts no thread. `pump` reads one source to its end and feeds a session what it reads, from a
+//! `PieceReader`, in most cases a `Counted` over a reader of the caller's.
 //!
 //! Definitions, in reading order: `Session`, with the counts of `Sources`; for pumps `Reads`,
-//! `Pumping`, `PumpFaultNumber` (`specs/`). `Advancing` and the rest of `Sources` are internal:
-//! only contracts of private functions name them.
+//! `Pumping`, `PumpFaultNumber` (`specs/`). `Advancing` and the rest of `Sources` are private: only
+//! contracts of private functions name them.
 #![tactic(auto)]
 
 mod channel_source;

@@ -17,11 +17,11 @@ use mig_stream::{Mode, StreamReader, StreamRound};
 use std::alloc::{Allocator, Global};
 use std::marker::Model;
 
-/// The main stream as far as it has come.
+/// The main stream, as far as its bytes have come.
 #[derive(Drop)]
 pub(crate) struct MainSource<A: Allocator = Global> {
     reader: StreamReader<'static, A>,
-    // where it is complete
+    // if it is complete
     round: Option<StreamRound<'static, A>>,
 }
 
@@ -104,14 +104,14 @@ impl<A: Allocator> MainSource<A> {
         stream_end(self.reader.state())
     }
 
-    /// Returns the table, as soon as the size list is complete.
+    /// Returns the table, once the size list is complete.
     pub(crate) fn table(&self) -> Option<&Table<A>>
         ensures { (given : Settings) (k : ℕ) (text : Text) → HoldsMain given k text self.now → HasTable given text.bytes (option_copied result) }
     {
         self.reader.table()
     }
 
-    /// Returns up to where the stream is valid.
+    /// Returns up to which byte the stream is valid.
     pub(crate) fn valid_up_to(&self) -> u64
         ensures { (given : Settings) (k : ℕ) (text : Text) → HoldsMain given k text self.now → IsValidUpTo given text.bytes result }
     {

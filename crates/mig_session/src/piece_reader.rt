@@ -1,5 +1,5 @@
-//! Readers of pieces: where a pump has its bytes from. Callers pass one, mostly a `Counted` over a
-//! reader of theirs.
+//! Readers of pieces, from which a pump has its bytes. Callers pass one, in most cases a `Counted`
+//! over a reader of theirs.
 
 ghost use Rattle.std.specs.Prelude.{ℕ, ◌≡◌, ◌+◌, ◌<◌, ◌≤◌, ◌^◌, List, length, Option, None, IfOk};
 ghost use Rattle.std.specs.Io.KnownBytes.{ReadConsumes};
@@ -9,16 +9,16 @@ use std::fmt::{self, Debug, Formatter};
 use std::io::Read;
 use std::marker::Model;
 
-/// A read failed. Why isn't reported.
+/// A read failed. The reason isn't reported.
 #[derive(Clone, Copy, Debug, PartialEq, Eq)]
 pub struct ReadFailed;
 
 /// A reader of pieces, which may be read 2^63 times.
 pub trait PieceReader {
-    // How often it was read, how many of these reads failed, and how many found the end.
+    // How often the reader was read, how many of these reads failed, and how many found the end.
     ghost reads: { Self → ReadsSoFar };
 
-    // The bytes that are still to come, where they are known.
+    // The bytes that are still to come, if they are known.
     ghost remaining: { Self → Option (List ℕ) } = { λ _. None };
 
     /// Reads into the beginning of `piece`, and returns the number of bytes. It is 0 at the end of
@@ -35,7 +35,7 @@ pub trait PieceReader {
         ensures bytes { ReadConsumes (remaining self.old) (remaining self.new) result piece.new };
 }
 
-// What the reads of a reader were.
+// The counts of a reader's reads.
 #[derive(Drop)]
 struct ReadCounts {
     reads: u64,
@@ -84,7 +84,7 @@ pub struct Counted<R> {
     counts: ReadCounts,
 }
 
-/// Opaque: its reader may hold a guest's bytes.
+/// Prints an opaque value: its reader may hold guest memory.
 impl<R> Debug for Counted<R> {
     fn fmt<W: fmt::Write>(&self, f: &mut Formatter<W>) -> fmt::Result {
         f.write_str("Counted { .. }")

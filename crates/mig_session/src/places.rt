@@ -1,4 +1,4 @@
-//! Up to where each source is valid, for `Session`. It returns these places also once it has
+//! Up to which byte each source is valid, for `Session`. It also returns these offsets after it has
 //! dropped its readers.
 
 ghost use Rattle.std.specs.Prelude.{◌≡◌, None, IfOk, replicate, slice_set};
@@ -9,7 +9,7 @@ use mig_mem::NoMemory;
 use std::alloc::{Allocator, Global};
 use std::marker::Model;
 
-/// Up to where each source is valid, and where the main stream is closed.
+/// Up to which byte each source is valid, and where the main stream is closed.
 #[derive(Drop)]
 pub(crate) struct SourcePlaces<A: Allocator = Global> {
     main: u64,
@@ -26,7 +26,7 @@ impl<A: Allocator> Model for SourcePlaces<A> {
 }
 
 impl<A: Allocator> SourcePlaces<A> {
-    /// Creates the places of a main stream and `channels` channels of which nothing was read.
+    /// Creates the offsets of a main stream and `channels` channels of which nothing was read.
     pub(crate) fn new(alloc: A, channels: usize) -> Result<SourcePlaces<A>, NoMemory>
         ensures { IfOk result (λ p. p ≡ record { main = 0; closed_at = None; channels = replicate channels 0 }) }
     {
@@ -37,7 +37,7 @@ impl<A: Allocator> SourcePlaces<A> {
         })
     }
 
-    /// Sets the main stream's place.
+    /// Sets the main stream's offsets.
     pub(crate) fn set_main(&mut self, valid_up_to: u64, closed_at: Option<u64>)
         ensures { self.new ≡ record self.old { main = valid_up_to; closed_at = closed_at } }
     {
@@ -45,7 +45,7 @@ impl<A: Allocator> SourcePlaces<A> {
         self.closed_at = closed_at;
     }
 
-    /// Sets the place of channel `j`, if there is one.
+    /// Sets the offset of channel `j`, if there is one.
     #[tactic(auto, using(crate::proofs::KeptSources::set_beyond))]
     pub(crate) fn set_channel(&mut self, j: usize, valid_up_to: u64)
         ensures { self.new ≡ record self.old { channels = slice_set self.old.channels j valid_up_to } }
@@ -55,7 +55,7 @@ impl<A: Allocator> SourcePlaces<A> {
         }
     }
 
-    /// Returns up to where `source` is valid. None for a channel that doesn't exist.
+    /// Returns up to which byte `source` is valid. None for a channel that doesn't exist.
     pub(crate) fn of(&self, source: Source) -> Option<u64>
         ensures { result ≡ place_of self.now source }
     {

@@ -18,7 +18,7 @@ use std::fmt::{self, Display, Formatter};
 pub enum PumpFault {
     /// The reader returned an error.
     Read,
-    /// None of the reads found the end, and there were as many as were allowed.
+    /// As many reads as allowed, none of which found the end.
     TooManyTurns,
     /// An allocation was refused: one of the session's, or that of the pump's buffer, before the
     /// first read.
@@ -38,7 +38,7 @@ impl PumpFault {
     }
 }
 
-/// Writes the fault's number and its words.
+/// Writes the fault's number and its message.
 impl Display for PumpFault {
     fn fmt<W: fmt::Write>(&self, f: &mut Formatter<W>) -> fmt::Result {
         match self {

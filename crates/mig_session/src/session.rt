@@ -31,21 +31,43 @@ use uuid::Uuid;
 /// Loads a guest from the pieces of a main stream and of its channels, as they come.
 ///
 /// A round is checked and applied when its last source completes it, and its buffers are freed. So
-/// between calls a session holds the guest. It also buffers of each source what came of the rounds
-/// that not every source has completed yet.
+/// between calls a session holds the guest. It also buffers the rounds that not every source has
+/// completed yet.
 ///
 /// Until an allocation is refused, what it returns depends on the bytes so far, and on which
 /// sources have ended. It doesn't depend on where the streams were cut, nor on the order in which
 /// the sources were fed.
+///
+/// # Examples
+///
+/// All bytes of a source are fed in pieces of `len` bytes, and the source is ended:
+///
+/// <!-- quoted from crates/mig_captures/src/load.rt -->
+/// ```rust
+/// for piece in text.chunks(len.max(1)) {
+///     if !session.has(source) {
+///         return Err(Trouble::Input);
+///     }
+///     if session.ended(source) || !session.has_room(source, piece.len()) {
+///         return Err(Trouble::Input);
+///     }
+///     session.feed(source, piece)?;
+/// }
+/// if !session.has(source) {
+///     return Err(Trouble::Input);
+/// }
+/// session.end(source);
+/// ```
 #[derive(Drop)]
 pub struct Session<A: Allocator = Global> {
     alloc: A,
     counts: SourceCounts<A>,
-    // up to where each source was valid, as far as it was read; None after a refused allocation
+    // up to which byte each source was valid, as far as it was read; None after a refused
+    // allocation
     places: Option<SourcePlaces<A>>,
-    // as long as it runs
+    // while it runs
     sources: Option<Sources<A>>,
-    // made as soon as the table is there
+    // created once the table is there
     target: Option<Target<A>>,
     verdict: Verdict,
 }
@@ -114,7 +136,7 @@ fn judge_rounds<A: Allocator + Copy>(
     }
 }
 
-// Makes the memory as soon as the table is there. An `Err` changes nothing.
+// Creates the memory once the table is there. An `Err` changes nothing.
 fn make_target<A: Allocator + Copy>(
     alloc: A,
     sources: &Sources<A>,
@@ -170,7 +192,7 @@ fn advance<A: Allocator + Copy>(
     }
 }
 
-// Notes up to where `source` is valid, as long as no allocation was refused.
+// Notes up to which byte `source` is valid, unless an allocation was refused.
 fn note<A: Allocator>(sources: &Sources<A>, source: Source, places: &mut Option<SourcePlaces<A>>)
     requires { HasSource (counts_of sources.now) source }
     ensures { (given : LoadSettings) (uuid : List ℕ) (k : ℕ) (step : Text → Text) (texts : Texts) → Holds given uuid k (at_source source step texts) sources.now
@@ -232,7 +254,7 @@ fn keep<A: Allocator>(sources: &mut Option<Sources<A>>, verdict: Verdict)
     }
 }
 
-/// Opaque: a session holds a guest's bytes.
+/// Prints an opaque value: a session holds guest memory.
 impl<A: Allocator> Debug for Session<A> {
     fn fmt<W: fmt::Write>(&self, f: &mut Formatter<W>) -> fmt::Result {
         f.write_str("Session { .. }")
@@ -422,11 +444,11 @@ impl<A: Allocator> Session<A> {
 
     /// Returns how many bytes of `source` are complete items without a fault, from the first byte
     /// on. If the verdict is a fault of that source (`Fault::Stream`, `Fault::Channel`), the item
-    /// at fault begins after them. `HelloTwice`, `Extra` and `Short` are faults of what several
-    /// sources say together, and 54 to 59 of a round: they belong to no item.
+    /// at fault begins after them. `HelloTwice`, `Extra` and `Short` are faults of several sources
+    /// together, and 54 to 59 of a round: they belong to no item.
     ///
     /// A session reads no more of its sources once its verdict isn't `Running`: the bytes after
-    /// that aren't looked at. None after a refused allocation.
+    /// that aren't read. None after a refused allocation.
     pub fn valid_up_to(&self, source: Source) -> Option<u64>
         requires { HasSource self.now.counts source }
         ensures stands { (given : LoadSettings) (uuid : List ℕ) (texts : Texts) → StandsFor given uuid texts self.now
@@ -439,7 +461,7 @@ impl<A: Allocator> Session<A> {
         }
     }
 
-    /// Returns how the load stands on the bytes so far.
+    /// Returns the verdict on the bytes so far.
     ///
     /// What a sender on several channels has sent is done, with the memory after its rounds, once
     /// all sources were fed and ended. They may be fed in any pieces and in any order. The session

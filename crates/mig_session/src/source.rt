@@ -5,6 +5,6 @@
 pub enum Source {
     /// The main stream.
     Main,
-    /// A channel, by its place among the channels, from 0. Its hello may name another id.
+    /// A channel, by its index among the channels, from 0. Its hello may have another id.
     Channel(usize),
 }

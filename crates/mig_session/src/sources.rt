@@ -1,5 +1,5 @@
 //! What a session keeps of all its sources, and their verdict at the round that is judged next.
-//! `Session` has it as long as it runs.
+//! `Session` has it while it runs.
 
 ghost use Rattle.std.specs.Prelude.{ℕ, ◌≡◌, ◌≢◌, ◌+◌, ◌<◌, ◌≤◌, ◌^◌, ◌++◌, List, [], None, IsFalse, IfOk, OnOk, OnErr, All, length, map, replicate, vec_len, vec_capacity};
 ghost use Rattle.std.specs.List.{AllZip};
@@ -28,13 +28,13 @@ use std::alloc::{Allocator, Global};
 use std::marker::Model;
 use uuid::Uuid;
 
-/// All sources as far as they have come.
+/// All sources, as far as their bytes have come.
 #[derive(Drop)]
 pub(crate) struct Sources<A: Allocator = Global> {
     alloc: A,
     main: MainSource<A>,
     channels: Vec<ChannelSource<A>, A>,
-    // the channels' statuses, as looked at last, with room for all of them
+    // the channels' last statuses, with room for all of them
     statuses: Vec<Status, A>,
     hellos: Vec<Option<u8>, A>,
 }
@@ -69,7 +69,7 @@ fn no_channels<A: Allocator + Copy>(
     Ok(sources)
 }
 
-// Looks at the channels' statuses for the round that is judged next.
+// Puts the channels' statuses for the round that is judged next into `statuses`.
 fn look_at_statuses<A: Allocator>(channels: &[ChannelSource<A>], statuses: &mut Vec<Status, A>)
     requires room { length channels.now ≤ vec_capacity statuses.old }
     ensures told { AllZip TellsChannelStatus channels.now statuses.new.items }
@@ -81,7 +81,7 @@ fn look_at_statuses<A: Allocator>(channels: &[ChannelSource<A>], statuses: &mut 
     }
 }
 
-// Looks at the ids that the channels' hellos name.
+// Puts the ids in the channels' hellos into `hellos`.
 fn look_at_hellos<A: Allocator>(channels: &[ChannelSource<A>], hellos: &mut Vec<Option<u8>, A>)
     requires room { length channels.now ≤ vec_capacity hellos.old }
     ensures told { AllZip TellsHello channels.now hellos.new.items }
@@ -219,7 +219,7 @@ impl<A: Allocator> Sources<A> {
         verdict_told(round, main, &self.statuses, repeated_id(&self.hellos))
     }
 
-    /// Notes up to where `source` is valid, and where a main stream is closed.
+    /// Notes up to which byte `source` is valid, and where a main stream is closed.
     pub(crate) fn note(&self, source: Source, places: &mut SourcePlaces<A>)
         requires { HasSource (counts_of self.now) source }
         ensures { (given : LoadSettings) (uuid : List ℕ) (k : ℕ) (step : Text → Text) (texts : Texts) → Holds given uuid k (at_source source step texts) self.now
@@ -234,7 +234,7 @@ impl<A: Allocator> Sources<A> {
         }
     }
 
-    /// Returns the main stream's table, as soon as the size list is complete.
+    /// Returns the main stream's table, once the size list is complete.
     pub(crate) fn table(&self) -> Option<&Table<A>>
         ensures { (given : LoadSettings) (uuid : List ℕ) (k : ℕ) (texts : Texts) → Holds given uuid k texts self.now
             → HasTable (main_of given) texts.main.bytes (option_copied result) }

@@ -1,4 +1,4 @@
-//! A session whose calls' conditions are asserted as a test runs.
+//! A session that asserts the conditions of its calls as a test runs.
 
 ghost use Rattle.std.specs.Prelude.{◌≡◌, IsTrue, length};
 ghost use Rattle.mig_session.specs.Sources.{Counts};
@@ -15,7 +15,7 @@ use uuid::Uuid;
 
 const LIMIT: u64 = 1 << 40;
 
-/// A session under the UUID of zeros, and how many channels it has.
+/// A session with a UUID of zeros, and the number of its channels.
 #[derive(Drop)]
 pub(crate) struct CheckedSession<A: Allocator = Global> {
     session: Session<A>,
@@ -69,7 +69,7 @@ impl<A: Allocator + Copy> CheckedSession<A> {
 }
 
 impl<A: Allocator + Copy> CheckedSession<A> {
-    /// Pumps from a reader that was not read by a pump yet.
+    /// Pumps from a reader that no pump has read yet.
     pub(crate) fn pump<R: Read + Drop>(
         &mut self,
         rt: &impl Abort,

@@ -1,7 +1,7 @@
 //! Guests from a seeded generator, each of a seed of its own: one to three blocks, pages of either
-//! size, up to four rounds, 1 to 8 or 255 channels, and any batch limit. What the sender on several
-//! channels wrote of each, its channels in some order, is loaded to the guest's memory, and so is
-//! the single stream of the same rounds.
+//! size, up to four rounds, 1 to 8 or 255 channels, and any batch limit. Loading the streams that
+//! the sender on several channels wrote, its channels in some order, gives the guest's memory, and
+//! so does loading the single stream of the same rounds.
 
 use crate::guests::{LIMIT, Senders, Sendings, below, load, write_page};
 use crate::telling::is_same;
@@ -45,7 +45,7 @@ fn write_some(rt: &impl Abort, memory: &mut Memory, dirty: &mut Dirty, random: &
     }
 }
 
-// Returns a number of channels: mostly few, and now and then as many as there may be.
+// Returns a number of channels: usually few, sometimes the most that there may be.
 fn random_channels(random: &mut Pcg32) -> usize {
     match below(random, 20) {
         0 => 255,
@@ -94,7 +94,7 @@ fn send<R: AllocGlobal + Abort + Threads + Sync>(
     senders.finish(rt, memory)
 }
 
-// Brings streams into some order.
+// Permutes streams.
 fn shuffle(texts: &mut [Vec<u8>], random: &mut Pcg32) {
     for i in 0..texts.len() {
         let j = below(random, texts.len() as u64) as usize;

@@ -1,5 +1,5 @@
-//! Streams that a load refuses: a session returns of them what the load of the complete streams
-//! returns.
+//! Streams that a load refuses: a session returns the same fault as the load of the complete
+//! streams.
 
 use crate::checked::CheckedSession;
 use crate::feeding::{feed_text, source_at, text_of};
@@ -33,8 +33,8 @@ fn load<R: AllocGlobal + Abort + Threads + Wait + Sync>(rt: &R, texts: &Sent) ->
     )
 }
 
-// Feeds a session the streams one after the other, from source number `first` on, in pieces of
-// `len` bytes, and ends each.
+// Feeds a session the streams one after another, from source number `first` on, in pieces of `len`
+// bytes, and ends each.
 fn assert_fed(
     rt: &(impl AllocGlobal + Abort),
     texts: &Sent,
@@ -55,7 +55,8 @@ fn assert_fed(
     assert_as_loaded(rt, &session, loaded);
 }
 
-// Asserts that the load of the complete streams and each session's fail so, in this round.
+// Asserts that the load of the complete streams and each session fail with this fault in this
+// round.
 fn assert_fault<R: AllocGlobal + Abort + Threads + Wait + Sync>(
     rt: &R,
     texts: Sent,
@@ -100,8 +101,8 @@ fn main_stream_of_fewer_and_of_more_rounds(rt: HostRuntime) {
     }
 }
 
-// One byte of the channel is another: of the SYNC packet's number, of the block's id, and of the
-// offsets of both pages.
+// One byte of the channel is changed: in the SYNC packet's number, in the block's id, or in the
+// offsets of the two pages.
 #[test]
 fn round_that_is_not_lawful(rt: HostRuntime) {
     let rows = [

@@ -1,4 +1,4 @@
-//! Feeding streams to a session, piece by piece.
+//! Feeds streams to a session, piece by piece.
 
 use crate::checked::CheckedSession;
 use mig_mem::NoMemory;
@@ -23,7 +23,7 @@ pub(crate) fn text_of<'a>(rt: &impl Abort, texts: &'a Sent, source: Source) -> &
     }
 }
 
-/// Feeds the next bytes of a source's stream, at most `len`. Returns false if all of it has come.
+/// Feeds the next bytes of a source's stream, at most `len`. Returns false if all of it was fed.
 pub(crate) fn feed_next<A: Allocator + Copy>(
     rt: &impl Abort,
     session: &mut CheckedSession<A>,

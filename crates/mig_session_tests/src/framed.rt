@@ -1,5 +1,6 @@
 //! Sessions with settings: the main stream of RAM's sections alone and that of a machine, in
-//! pieces, with each allocation refused; and which sources and how long pieces a session takes.
+//! pieces, with each allocation refused. Also tests of the sources and the lengths of pieces that a
+//! session takes.
 
 use crate::feeding::text_of;
 use crate::texts::{main_of, page_and_zeros, put_sync};
@@ -45,7 +46,7 @@ fn new_session<A: Allocator + Copy>(alloc: A, frame: Frame) -> Result<Session<A>
     Session::new_in(alloc, settings, &Uuid::nil(), 1)
 }
 
-// Feeds a piece of a source that the session has, where it has room.
+// Feeds a piece of a source that the session has, if the count has room for it.
 fn feed<A: Allocator + Copy>(
     rt: &impl Abort,
     session: &mut Session<A>,
@@ -99,8 +100,8 @@ fn fed_in_both_frames(rt: HostRuntime) {
     }
 }
 
-// A machine's stream read as RAM's sections fails at its first COMMAND, byte 15, where the channel
-// has its round. RAM's sections alone are a machine's stream as well.
+// A machine's stream read as RAM's sections fails at its first COMMAND, byte 15, although the
+// channel has its round. RAM's sections alone are a machine's stream as well.
 #[test]
 fn fed_in_another_frame(rt: HostRuntime) {
     let texts = texts_in(&rt, Frame::Machine);
@@ -124,8 +125,8 @@ fn fed_in_another_frame(rt: HostRuntime) {
     assert_done(&rt, &mut session);
 }
 
-// Makes and feeds a session, where the caller may have an allocation refused. Returns whether there
-// was no such allocation.
+// Makes and feeds a session; the caller may have set an allocation to be refused. Returns whether
+// there was no such allocation.
 fn is_done_with<A: Allocator + Copy>(
     rt: &impl Abort,
     alloc: A,
@@ -167,8 +168,8 @@ fn each_allocation_refused(rt: HostRuntime) {
     }
 }
 
-// A session of 3 channels has the main stream and channels 0 to 2. A source of which 10 bytes came
-// has room for a piece of 2^64 - 11 bytes, and for none that is longer.
+// A session of 3 channels has the main stream and channels 0 to 2. A source of which 10 bytes were
+// fed has room for a piece of 2^64 - 11 bytes, and not for a longer one.
 #[test]
 fn sources_and_room(rt: HostRuntime) {
     let settings = LoadSettings::new(4096, 1 << 40);
@@ -190,8 +191,8 @@ fn sources_and_room(rt: HostRuntime) {
 }
 
 // Two rounds of a guest of three pages, each with a record of page 2 as zeros in the main stream
-// before its FLUSH: the round of `page_and_zeros`, and one without packets but SYNC's. The FLUSHes
-// begin with bytes 61 and 87 of a main stream without records.
+// before its FLUSH: the round of `page_and_zeros`, and a round that has only SYNC packets. The
+// FLUSHes begin with bytes 61 and 87 of a main stream without records.
 fn texts_with_records(rt: &(impl AllocGlobal + Abort)) -> Sent {
     const RECORD: &[u8] = b"\x00\x00\x00\x00\x00\x00\x20\x02\x01a\x00";
     let mut texts = page_and_zeros(rt);
@@ -209,8 +210,8 @@ fn texts_with_records(rt: &(impl AllocGlobal + Abort)) -> Sent {
     texts
 }
 
-// Where one record may wait each round has room for its own, since a FLUSH ends the round before.
-// Where none may, the first is a fault.
+// If one record may wait, each round has room for its own, since a FLUSH ends the round before. If
+// none may wait, the first one is a fault.
 #[test]
 fn page_records_that_may_wait(rt: HostRuntime) {
     let texts = texts_with_records(&rt);

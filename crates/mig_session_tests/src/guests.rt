@@ -1,6 +1,6 @@
-//! Guests from a seeded generator: what the sender on several channels wrote of each, in pieces and
-//! in a random order of the sources. Small guests in random pieces, and guests whose rounds have
-//! several MiB in pieces as a reader of files or of sockets gives them.
+//! Guests from a seeded generator: the streams of the sender on several channels are fed in pieces
+//! and in a random order of the sources. Small guests are fed in random pieces, and guests whose
+//! rounds have several MiB in the pieces of a reader of files or sockets.
 
 ghost use Rattle.std.specs.Prelude.{◌≡◌, ◌<◌, ◌⊎◌};
 
@@ -22,15 +22,16 @@ use std::sync::Wait;
 use std::thread::Threads;
 use uuid::Uuid;
 
-/// The limit of the blocks' bytes together: 1 TiB.
+/// The limit of the sum of the blocks' lengths: 1 TiB.
 pub(crate) const LIMIT: u64 = 1 << 40;
 
-// What kind of random guests are made, and in what pieces their streams are fed.
+// The kind of the random guests, and of the pieces in which their streams are fed.
 #[derive(Clone, Copy)]
 struct Kind {
     // The pages of the guest's blocks.
     pages: [u64; 2],
-    // The fewest writes before a round. At random fewer than `more` are made beside them.
+    // The fewest writes before a round. A random number of others, less than `more`, are made in
+    // addition.
     least: u64,
     more: u64,
     // The batch limit is at random from 1 to this number.
@@ -60,16 +61,16 @@ const LARGE: Kind = Kind {
     piece: Some(65_536),
 };
 
-/// Returns a number below `n`; 0 where `n` is 0.
+/// Returns a number below `n`; 0 if `n` is 0.
 pub(crate) fn below(random: &mut Pcg32, n: u64) -> u64
     ensures { (result < n) ⊎ (result ≡ 0) }
 {
     random.next_u64().checked_rem(n).unwrap_or(0)
 }
 
-// ---- what a guest's rounds are sent as
+// ---- the streams of a guest's rounds
 
-/// A guest's memory after its rounds, and what they were sent as.
+/// A guest's memory after its rounds, and the streams of the rounds.
 #[derive(Drop)]
 pub(crate) struct Sendings {
     pub(crate) memory: Memory,
@@ -111,7 +112,7 @@ impl Senders {
         assert!(rt; self.several.round(rt, memory, dirty, &OpenGate).is_ok());
     }
 
-    /// Returns what was sent, of a guest with this memory now.
+    /// Returns the streams that were sent, with the guest's memory now.
     pub(crate) fn finish(self, rt: &impl Abort, memory: Memory) -> Sendings {
         Sendings {
             memory,
@@ -121,8 +122,8 @@ impl Senders {
     }
 }
 
-// Returns the place of the page of this number, where the blocks' pages are numbered one block
-// after the other.
+// Returns the place of the page with this number. The pages are numbered through all blocks, in
+// their order.
 fn place_of(kind: Kind, number: u64) -> Place {
     match number.checked_sub(kind.pages[0]) {
         None => at(0, number),
@@ -211,8 +212,8 @@ pub(crate) fn load<R: AllocGlobal + Abort + Threads + Wait + Sync>(
     )
 }
 
-// Returns the length of a piece: that of the kind, or else often short, and now and then as long as
-// several packets.
+// Returns the length of a piece: the kind's, or a random one that is often short and sometimes as
+// long as several packets.
 fn length_of_piece(kind: Kind, random: &mut Pcg32) -> usize {
     if let Some(len) = kind.piece {
         return len;
@@ -255,7 +256,7 @@ fn feed_randomly<A: Allocator + Copy>(
     panic!(rt; "a source that isn't over");
 }
 
-// Returns how many bytes the channels have together.
+// Returns the sum of the channels' lengths.
 fn bytes_of(texts: &Sent) -> u64 {
     let mut bytes = 0u64;
     for text in texts.channels.iter() {

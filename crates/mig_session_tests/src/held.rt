@@ -1,4 +1,4 @@
-//! What a session holds while it runs, and once it has settled.
+//! The bytes that a session holds while it runs, and after its verdict.
 
 use crate::checked::CheckedSession;
 use crate::feeding::source_at;
@@ -14,7 +14,7 @@ const ROUNDS: u64 = 200;
 
 const PAGES: u64 = 4;
 
-// Feeds what a channel has of a round: two of the four pages, and a SYNC packet. Each round has six
+// Feeds a channel's part of a round: two of the four pages, and a SYNC packet. Each round has six
 // packets.
 fn feed_round(
     rt: &(impl AllocGlobal + Abort),
@@ -45,7 +45,7 @@ fn feed_round(
 }
 
 // Feeds the part of the main stream that ends with a round's flush, which is byte 69 for the first
-// one and 26 bytes more for each other one.
+// round and 26 bytes more for each further round.
 fn feed_main(rt: &impl Abort, session: &mut CheckedSession<&TestHeap>, main: &[u8], round: u64) {
     let to = round.wrapping_mul(26).wrapping_add(69) as usize;
     let from = session.fed(rt, Source::Main) as usize;
@@ -53,8 +53,8 @@ fn feed_main(rt: &impl Abort, session: &mut CheckedSession<&TestHeap>, main: &[u
     assert!(rt; session.feed(rt, Source::Main, part) == Ok(()));
 }
 
-// Ends all three sources after the rounds. The session is done, and holds the guest and small lists
-// alone.
+// Ends all three sources after the rounds. The session is done, and holds only the guest's memory
+// and small lists.
 fn assert_given_back(
     rt: &impl Abort,
     heap: &TestHeap,
@@ -88,7 +88,7 @@ fn assert_given_back(
     assert!(rt; heap.held() == 0);
 }
 
-// Each round comes of both channels and then of the main stream.
+// Each round is fed on both channels and then on the main stream.
 #[test]
 fn rounds_one_by_one(rt: HostRuntime) {
     let main = main_of(&rt, PAGES, ROUNDS);

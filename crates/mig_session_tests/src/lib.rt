@@ -1,6 +1,7 @@
 //! Tests of a load on several channels that is fed in pieces: worked streams byte by byte, streams
-//! with a fault, guests from a seeded generator in random pieces, each allocation refused, and what
-//! is held meanwhile. And tests of guests from the same generator whose streams are loaded whole.
+//! with a fault, guests from a seeded generator in random pieces, each allocation refused, and the
+//! bytes that are held meanwhile. Also tests of guests from the same generator whose complete
+//! streams are loaded.
 #![tactic(auto)]
 
 #[cfg(test)]

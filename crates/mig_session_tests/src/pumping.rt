@@ -1,5 +1,5 @@
-//! Pumps of the worked streams from readers that give little, that don't end, and that fail, and
-//! with each allocation refused.
+//! Pumps of the worked streams from readers with short reads, readers that don't end and readers
+//! that fail, and with each allocation refused.
 
 use crate::checked::CheckedSession;
 use crate::feeding::{feed_text, source_at, text_of};
@@ -15,12 +15,12 @@ use std::alloc::{AllocGlobal, Allocator};
 use std::io::{self, Read};
 use std::process::Abort;
 
-// A reader that gives `len` bytes, and with each further read `more` bytes more. It fails once, at
-// read `fails_at`, counted from 1; at none if that is 0.
+// A reader that returns `len` bytes from the first read, and `more` bytes more from each further
+// one. It fails once, at read `fails_at`, counted from 1; at none if that is 0.
 #[derive(Drop)]
 struct Slow {
     text: Vec<u8>,
-    // how many bytes it gave
+    // the number of bytes that it returned
     given: usize,
     len: usize,
     more: usize,
@@ -54,7 +54,7 @@ fn reader_of(rt: &(impl AllocGlobal + Abort), text: &[u8], len: usize) -> Slow {
     }
 }
 
-// Returns a session that has all of the other source.
+// Returns a session that was fed all of the other source.
 fn start<A: Allocator + Copy>(
     rt: &impl Abort,
     alloc: A,
@@ -67,7 +67,8 @@ fn start<A: Allocator + Copy>(
     session
 }
 
-// Asserts how much of the main stream has come, that it hasn't ended, and what the session returns.
+// Asserts the number of bytes fed of the main stream, that it hasn't ended, and the session's
+// verdict.
 fn assert_stopped<A: Allocator>(rt: &impl Abort, session: &CheckedSession<A>, fed: u64) {
     assert!(rt; session.fed(rt, Source::Main) == fed && !session.ended(rt, Source::Main));
     let verdict = if fed < 101 {
@@ -122,8 +123,8 @@ fn each_read_failing(rt: HostRuntime) {
     }
 }
 
-// Asserts that a source is pumped to its end by just `turns` reads of `len` bytes and ever one
-// more, and that the load is done.
+// Asserts that a source is pumped to its end by exactly `turns` reads, of `len` bytes and one more
+// with each read, and that the load is done.
 fn assert_whole(
     rt: &(impl AllocGlobal + Abort),
     texts: &Sent,
@@ -150,8 +151,8 @@ fn assert_whole(
     }
 }
 
-// Reads of 1, 2, 3 and more bytes, and all in one read, each time with the read that finds the end.
-// One read has room for 65,536 bytes.
+// Reads of 1, 2, 3 and more bytes, and one read of all bytes, each with the read that finds the
+// end. One read has room for 65,536 bytes.
 #[test]
 fn reads_of_many_lengths(rt: HostRuntime) {
     let texts = page_and_zeros(&rt);
@@ -167,7 +168,8 @@ fn reads_of_many_lengths(rt: HostRuntime) {
 }
 
 // Pumps a source with allocation `nth` refused, and returns whether it was. The first allocation is
-// the buffer's, which leaves the session as it was. Each other one is a piece's, which counts.
+// the buffer's, which leaves the session as it was. Each other allocation is a piece's, whose bytes
+// count.
 fn is_refused<A: Refuses>(
     rt: &impl Abort,
     heap: A,
@@ -198,8 +200,8 @@ fn is_refused<A: Refuses>(
     true
 }
 
-// Pumps a source, with allocation `nth` refused, into a session that has all of the other source.
-// Returns whether it was refused. If it wasn't, the load is done.
+// Pumps a source, with allocation `nth` refused, into a session that was fed all of the other
+// source. Returns whether it was refused. If it wasn't, the load is done.
 fn is_pump_refused<A: Refuses>(
     rt: &impl Abort,
     heap: A,

@@ -14,10 +14,10 @@ use mig_single_load::{Fault, Origin};
 use std::alloc::{AllocGlobal, Allocator};
 use std::process::Abort;
 
-// What fills the only page after each number of rounds.
+// The bytes that fill the only page after each number of rounds.
 const BYTES: [u8; 3] = [0, 7, 0];
 
-// Returns whether a session could be made. It then was fed nothing.
+// Returns whether a session could be made. It has no bytes yet.
 fn is_made<A: Allocator + Copy>(rt: &impl Abort, alloc: A) -> bool {
     let Ok(session) = CheckedSession::new(rt, alloc, 4096, 3) else {
         return false;
@@ -41,8 +41,8 @@ fn new_with_each_allocation_refused(rt: HostRuntime) {
     panic!(rt; "each run had a refusal");
 }
 
-// Asserts what a session returns once an allocation was refused: the memory is that after the
-// rounds counted. Before the first round there may be none.
+// Asserts the result of a session after a refused allocation: the memory is that after the rounds
+// counted. Before the first round there may be no memory.
 fn assert_no_memory<A: Allocator>(rt: &impl Abort, session: &CheckedSession<A>) {
     let rounds = session.rounds();
     let fault = failed(rounds, Origin::Round, Fault::NoMemory);
@@ -55,7 +55,7 @@ fn assert_no_memory<A: Allocator>(rt: &impl Abort, session: &CheckedSession<A>) 
 }
 
 // Feeds the next piece of a source, with at most `len` bytes, and returns whether it was refused.
-// Its bytes count all the same.
+// Its bytes count even then.
 fn is_refused<A: Allocator + Copy>(
     rt: &impl Abort,
     session: &mut CheckedSession<A>,
@@ -118,7 +118,7 @@ fn assert_stays<A: Refuses>(
 }
 
 // Feeds a session the streams of two rounds with allocation `nth` refused. Returns the rounds of a
-// session that was refused it. The others are done.
+// session to which it was refused. A session without a refusal is done.
 fn rounds_when_refused<A: Refuses>(
     rt: &impl Abort,
     heap: A,
@@ -144,7 +144,7 @@ fn rounds_when_refused<A: Refuses>(
 }
 
 // Each allocation is refused in turn, up to the first session that has no refusal. Some of the
-// refused ones have the first round.
+// refused sessions have the first round.
 fn assert_allocations(rt: &(impl AllocGlobal + Abort), texts: &Sent, len: usize) {
     let heap = TestHeap::new(rt.alloc());
     let mut most = 0u64;
@@ -161,7 +161,8 @@ fn assert_allocations(rt: &(impl AllocGlobal + Abort), texts: &Sent, len: usize)
     panic!(rt; "each run had a refusal");
 }
 
-// In pieces that end inside items, and as complete streams, which bring both rounds with one piece.
+// In pieces that end inside items, and as complete streams, of which one piece completes both
+// rounds.
 #[test]
 fn feed_with_each_allocation_refused(rt: HostRuntime) {
     for len in [9usize, 1000, 100_000] {

@@ -3,13 +3,13 @@
 use mig_fixtures::TestHeap;
 use std::alloc::Allocator;
 
-/// A reference to an allocator that refuses one allocation. What is generic in it the checker's
-/// borrow rules cover, and not what names `&TestHeap`.
+/// A reference to an allocator that refuses one allocation. The checker's borrow rules cover code
+/// that is generic in it, and not code that names `&TestHeap`.
 pub(crate) trait Refuses: Allocator + Copy {
     /// Refuses allocation number `nth` from here on, and none if `nth` is 0.
     fn refuse(&self, nth: u64);
 
-    /// Returns whether the refusal hasn't come yet.
+    /// Returns whether the refusal is still to happen.
     fn is_waiting(&self) -> bool;
 }
 

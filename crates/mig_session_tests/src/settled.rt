@@ -1,4 +1,4 @@
-//! Sessions whose verdict has fallen: further pieces are only counted, and need no memory.
+//! Sessions with a final verdict: further pieces are only counted, and need no memory.
 
 use crate::checked::CheckedSession;
 use crate::feeding::{feed_text, text_of};
@@ -14,7 +14,7 @@ use mig_session::Source;
 use mig_single_load::{Fault, Origin};
 use std::process::Abort;
 
-/// Feeds a source of a settled session on, and ends it, where nothing can be allocated.
+/// Feeds a source of a settled session further, and ends it, while every allocation is refused.
 pub(crate) fn assert_only_counted<A: Refuses>(
     rt: &impl Abort,
     heap: A,

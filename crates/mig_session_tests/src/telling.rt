@@ -1,4 +1,4 @@
-//! What tests ask of what a session returns.
+//! Assertions on the results of a session.
 
 use crate::checked::CheckedSession;
 use mig_answer::Verdict;
@@ -17,7 +17,7 @@ pub(crate) fn failed(round: u64, source: Origin, fault: Fault) -> Verdict {
     })
 }
 
-/// Asserts what a session returns beside its memory.
+/// Asserts a session's results other than its memory.
 pub(crate) fn assert_tells<A: Allocator>(
     rt: &impl Abort,
     session: &CheckedSession<A>,
@@ -49,7 +49,7 @@ pub(crate) fn assert_page_and_zeros<A: Allocator>(rt: &impl Abort, session: &Che
     assert!(rt; is_full(memory, at(0, 0), 0) && has_byte(memory, at(0, 1), 0, 9));
 }
 
-/// Returns whether two memories are of the same table, and hold the same.
+/// Returns whether two memories have the same table and the same bytes.
 pub(crate) fn is_same<A: Allocator, B: Allocator>(a: &Memory<A>, b: &Memory<B>) -> bool {
     a.table().same(b.table()) && first_difference(a, b).is_none()
 }

@@ -1,5 +1,5 @@
-//! Streams of complete migrations by hand: the UUID is that of zeros, pages have 4096 bytes, and
-//! the only block is `a`.
+//! Streams of complete migrations, made by hand: the UUID is zeros, pages have 4096 bytes, and the
+//! only block is `a`.
 
 use mig_fixtures::{put_page_and_zeros, table};
 use mig_packet::{hello, put_packet};
@@ -26,7 +26,7 @@ pub(crate) fn main_of(rt: &(impl AllocGlobal + Abort), pages: u64, rounds: u64) 
     text
 }
 
-/// Returns a channel of a hello alone.
+/// Returns a channel with a hello and no packets.
 pub(crate) fn hello_of(rt: &(impl AllocGlobal + Abort), id: u8) -> Vec<u8> {
     Vec::from_slice(rt.alloc(), &hello(&Uuid::nil(), id)).expect(rt, "a hello")
 }
@@ -70,7 +70,7 @@ pub(crate) fn two(
 }
 
 /// Returns one round of two pages on one channel: page 0 as zeros, and page 1 with the first byte
-/// 9. The main stream names its table in its first 43 bytes, and its round is complete with byte
+/// 9. The main stream has its table in its first 43 bytes, and its round is complete with byte
 /// 69. The channel's last packet has 1344 bytes.
 pub(crate) fn page_and_zeros(rt: &(impl AllocGlobal + Abort)) -> Sent {
     let mut channel = hello_of(rt, 0);
@@ -91,8 +91,8 @@ pub(crate) fn sevens_then_zeros(rt: &(impl AllocGlobal + Abort)) -> Sent {
     one(rt, main_of(rt, 1, 2), channel)
 }
 
-/// Returns two rounds of the only page on two channels, filled with 7, and then zeros. The one
-/// channel has the page of the first round, the other that of the second.
+/// Returns two rounds of the only page on two channels, filled with 7, and then zeros. One channel
+/// has the page of the first round, the other has the page of the second.
 pub(crate) fn sevens_then_zeros_on_two(rt: &(impl AllocGlobal + Abort)) -> Sent {
     let mut first = hello_of(rt, 0);
     put_page(rt, &mut first, 0, 0, 7);
@@ -105,8 +105,8 @@ pub(crate) fn sevens_then_zeros_on_two(rt: &(impl AllocGlobal + Abort)) -> Sent 
     two(rt, main_of(rt, 1, 2), first, second)
 }
 
-/// Returns one round of 129 pages, each filled with 7, on two channels: the one has 128 of them,
-/// the other the last. The main stream's round is complete with byte 69.
+/// Returns one round of 129 pages, each filled with 7, on two channels: one has 128 of them, the
+/// other has the last. The main stream's round is complete with byte 69.
 pub(crate) fn sevens_on_two(rt: &(impl AllocGlobal + Abort)) -> Sent {
     let mut offsets = Vec::new(rt.alloc());
     for page in 0..128u64 {

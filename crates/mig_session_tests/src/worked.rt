@@ -12,8 +12,8 @@ use mig_stream::StreamFault;
 use std::alloc::AllocGlobal;
 use std::process::Abort;
 
-// Asserts what the session returns after `main` bytes of the main stream, and all of the channel or
-// too little of it.
+// Asserts the session's result after `main` bytes of the main stream, and the complete channel or a
+// part of it.
 fn assert_worked(rt: &impl Abort, session: &CheckedSession, main: u64, has_channel: bool) {
     let has_round = has_channel && main >= 69;
     let is_done = main == 101 && session.ended(rt, Source::Channel(0));
@@ -32,7 +32,7 @@ fn assert_worked(rt: &impl Abort, session: &CheckedSession, main: u64, has_chann
     }
 }
 
-// Feeds a source in pieces of `len` bytes, and asserts what is returned after each.
+// Feeds a source in pieces of `len` bytes, and asserts the result after each.
 fn feed_worked(
     rt: &impl Abort,
     session: &mut CheckedSession,
@@ -48,7 +48,7 @@ fn feed_worked(
     }
 }
 
-// It is done with main's last byte, before main is ended.
+// The load is done with the main stream's last byte, before that stream is ended.
 #[test]
 fn bytes_of_the_channel_and_then_of_main(rt: HostRuntime) {
     let texts = page_and_zeros(&rt);
@@ -90,7 +90,7 @@ fn main_and_then_the_channel(rt: HostRuntime) {
 }
 
 // Returns a session that was fed the streams of 129 pages in pieces of `len` bytes, the main stream
-// first. Channel 1's hello is of another UUID, and the main stream is cut after `main` bytes.
+// first. Channel 1's hello has another UUID, and the main stream is cut after `main` bytes.
 fn fed_of_another_uuid(rt: &(impl AllocGlobal + Abort), main: usize, len: usize) -> CheckedSession {
     let mut texts = sevens_on_two(rt);
     texts.main.truncate(main);
@@ -105,14 +105,14 @@ fn fed_of_another_uuid(rt: &(impl AllocGlobal + Abort), main: usize, len: usize)
     session
 }
 
-// Asserts the fault that decides the load: nothing does before, and nothing changes it.
+// Asserts the fault that decides the load: there is no verdict before it, and it never changes.
 fn assert_failed(rt: &impl Abort, session: &CheckedSession, source: Origin, fault: Fault) {
     assert_tells(rt, session, 0, failed(0, source, fault));
     assert_full(rt, session, 129, 0);
 }
 
-// The main stream is cut inside its round. As long as it may go on nothing is reported of the
-// channel, and then its own fault comes first.
+// The main stream is cut inside its round. While the main stream may continue, the channel's fault
+// isn't reported; after its end its own fault is first.
 #[test]
 fn bad_channel_beside_a_main_stream_that_is_cut(rt: HostRuntime) {
     let truncated = Fault::Stream(StreamFault::Truncated);
@@ -132,8 +132,7 @@ fn bad_channel_beside_a_main_stream_that_is_cut(rt: HostRuntime) {
     }
 }
 
-// The main stream has its round, and so has channel 0: nothing more is needed to know that the
-// other is bad.
+// The main stream and channel 0 have their rounds, so the fault of the other channel decides.
 #[test]
 fn bad_channel_beside_a_main_stream_that_has_the_round(rt: HostRuntime) {
     let other_uuid = Fault::Channel(ChannelFault::HelloUuid);

@@ -286,7 +286,7 @@ answered given l text a size memory rounds (inr both) =
           (rounds ∙ ap (λ (o : Option LoadTarget). sections_loaded (loader l.reader o)) w.has_no_memory) both.1,
     )
 
--- where an allocation was refused before any section
+-- if an allocation was refused before any section
 pub none_put : {A : Type 0} (given : LoadSettings) (text : List ℕ) → IsPageSize given.page_size → IsSingleWithoutMemory given text (unloaded {A = A})
 none_put given text size =
     let one = one_reading_law (single_of given) text size in record {

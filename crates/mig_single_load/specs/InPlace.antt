@@ -15,11 +15,11 @@ use Rattle.mig_single_load.specs.SingleLoad.{at_main, verdict_of}
 abbrev pub settings_of : Image → LoadSettings → Settings
 settings_of m given = single_of (for_table m.table given)
 
--- the stream is of the memory's table, as far as it has one
+-- the stream has the memory's table, if its table is known
 abbrev pub IsOfOwnTable : Image → StreamReading → Type 0
 IsOfOwnTable m reading = (reading.table ≡ None) ⊎ (reading.table ≡ Some m.table)
 
--- it is of another table
+-- it has another table
 abbrev pub IsOfOtherTable : Image → StreamReading → Type 0
 IsOfOtherTable m reading = (table : RamTable) × (reading.table ≡ Some table) × (table ≢ m.table)
 
@@ -47,8 +47,7 @@ pub record HasSectionsOnto (given : LoadSettings) (first : Image) (text : List �
   pub own : IsOfOwnTable first reading → (memory ≡ with_rounds first (map (pages_on first) reading.rounds)) × (sections ≡ length reading.rounds)
   pub other : IsOfOtherTable first reading → (memory ≡ first) × (sections ≡ 0)
 
--- the verdict on a stream so far, as if it ended here; and `OtherTable` where it is of another
--- table
+-- the verdict on a stream so far, as if it ended here; or `OtherTable` if it has another table
 pub record HasVerdictOnto (given : LoadSettings) (first : Image) (text : List ℕ) (verdict : Result ⊤ LoadFault) : Type 0 where
   pub reading : StreamReading
   pub is_reading : IsReading (settings_of first given) text reading

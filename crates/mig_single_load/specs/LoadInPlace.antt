@@ -48,7 +48,7 @@ SentIsLoadedInPlace = (limit : ℕ) (first : Image) (rounds : List (List Page)) 
 -- ---- what such a load keeps
 
 pub record LoadInPlace : Type 0 where
-  -- where the stream is read on, as long as it is
+  -- the pause after which the stream is read on, if it is
   pub pause : Option Paused
   pub state : LoadState
   -- the memory's table, and how many sections are complete
@@ -81,15 +81,14 @@ pub record PausesOnto (given : LoadSettings) (first : Image) (text : List ℕ) (
   pub has_memory : memory ≡ with_round first (given_pages first so_far)
   pub has_sections : sections ≡ length so_far.sections
 
--- the state that a reading of the stream gives: it goes on, is closed, has a fault, or has another
--- table
+-- the state by a reading of the stream: it goes on, is closed, has a fault, or has another table
 abbrev pub IsInState : Image → StreamReading → Option Paused → LoadState → Type 0
 IsInState first reading (Some p) (load_state.Stream found at) = IsOfOwnTable first reading × (found ≡ state.Reading) × (reading.state ≡ found)
 IsInState first reading None (load_state.Stream found at) = IsOfOwnTable first reading × (found ≢ state.Reading) × (reading.state ≡ found)
 IsInState first reading None load_state.OtherTable = IsOfOtherTable first reading
 IsInState first reading pause other = ⊥
 
--- up to where the stream is valid, as long as the load reads it as that of its memory
+-- up to which byte the stream is valid, as long as the load reads it as that of its memory
 abbrev pub IsReadTo : LoadSettings → Image → List ℕ → LoadState → Type 0
 IsReadTo given first text (load_state.Stream found at) = IsValidUpTo (settings_of first given) text at
 IsReadTo given first text other = ⊤
@@ -103,7 +102,7 @@ pub record StandsOnto (given : LoadSettings) (first : Image) (text : List ℕ) (
   pub is_read_to : IsReadTo given first text found
 
 -- A load that was made for the memory `first` with these settings, and fed this stream, which may
--- have ended. The memory is now what all page records of the stream make of `first`.
+-- have ended. The memory is now `first` with all page records of the stream applied.
 pub record LoadsInPlace (memory : Image) (given : LoadSettings) (first : Image) (s : LoadInPlace) (text : List ℕ) (ended : Bool) : Type 0 where
   pub is_table : IsTable first.table
   pub is_image : IsImage first
@@ -127,7 +126,7 @@ LoadsOnto given first l text ended = LoadsInPlace l.memory given first l.load te
 
 -- ---- where the stream is closed, and up to where it is valid
 
--- what the state of a load says of these places
+-- the offsets by the state of a load
 abbrev pub closed_place : LoadState → Option ℕ
 closed_place (load_state.Stream state.Closed at) = Some at
 closed_place (load_state.Stream state.Reading at) = None
@@ -140,24 +139,24 @@ valid_place (load_state.Stream found at) = Some at
 valid_place load_state.OtherTable = None
 valid_place load_state.NoMemory = None
 
--- Where the stream is closed, if it is. Of a stream of another table it is None.
+-- Where the stream is closed, if it is. None for a stream of another table.
 pub record HasClosedAtOnto (given : LoadSettings) (first : Image) (text : List ℕ) (n : Option ℕ) : Type 0 where
   pub reading : StreamReading
   pub is_reading : IsReading (settings_of first given) text reading
   pub own : IsOfOwnTable first reading → HasClosedAt (settings_of first given) text n
   pub other : IsOfOtherTable first reading → n ≡ None
 
--- Up to where the stream is valid. Of a stream of another table it is None.
+-- Up to which byte the stream is valid. None for a stream of another table.
 pub record IsValidUpToOnto (given : LoadSettings) (first : Image) (text : List ℕ) (n : Option ℕ) : Type 0 where
   pub reading : StreamReading
   pub is_reading : IsReading (settings_of first given) text reading
   pub own : IsOfOwnTable first reading → (at : ℕ) × (n ≡ Some at) × IsValidUpTo (settings_of first given) text at
   pub other : IsOfOtherTable first reading → n ≡ None
 
--- ---- where an allocation was refused
+-- ---- after a refused allocation
 
--- The memory has the first of the stream's page records, in their order, on top of what it held
--- first. Those of the sections counted are among them.
+-- The memory has the first of the stream's page records, in their order, on top of what it held.
+-- Those of the sections counted are among them.
 pub record HasSomeOnto (given : LoadSettings) (first : Image) (text : List ℕ) (memory : Image) (sections : ℕ) : Type 0 where
   pub so_far : GivenSoFar
   pub reader : Giver
@@ -229,7 +228,7 @@ PutsAll gave r memory sections found s after more = (given : LoadSettings) (firs
     → memory ≡ with_round first (given_pages first so_far)
     → (then : GivenSoFar) × GaveAll given first.table text then found s more × (after ≡ with_round first (given_pages first then))
 
--- Of these records the first were written: where an allocation was refused.
+-- The first of these records were written: an allocation was refused.
 abbrev pub PutsSome : Given → Giver → Image → ℕ → Image → ℕ → Type 0
 PutsSome gave r memory sections after more = (given : LoadSettings) (first : Image) (text : List ℕ) (so_far : GivenSoFar) → PutsNext given first.table text so_far gave r sections
     → memory ≡ with_round first (given_pages first so_far) → HasSomeOnto given first text after more

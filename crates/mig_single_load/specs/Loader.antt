@@ -37,7 +37,7 @@ sections_loaded l = option_map_or (λ t. t.rounds) l.target 0
 
 -- ---- the sections of a stream
 
--- All complete sections of the stream are in the memory, which is there exactly where the stream's
+-- All complete sections of the stream are in the memory, which is there exactly if the stream's
 -- size list is complete.
 pub record HasAllSections (given : LoadSettings) (l : Loader) (text : List ℕ) : Type 0 where
   pub reading : StreamReading
@@ -45,8 +45,8 @@ pub record HasAllSections (given : LoadSettings) (l : Loader) (text : List ℕ) 
   pub has_memory : memory_of l ≡ memory_after given.page_size reading.table reading.rounds
   pub has_rounds : sections_loaded l ≡ length reading.rounds
 
--- The stream has a table, and the loader no memory, since it couldn't be allocated: all sections
--- wait.
+-- The stream has a table, and the loader has no memory, since it couldn't be allocated: all
+-- sections wait.
 pub record Waits (given : LoadSettings) (l : Loader) (text : List ℕ) : Type 0 where
   pub table : RamTable
   pub has_table : HasTable (single_of given) text (Some table)
@@ -71,20 +71,19 @@ pub record HasVerdict (given : LoadSettings) (text : List ℕ) (verdict : Result
   pub is_reading : IsReading (single_of given) text reading
   pub is_verdict : verdict ≡ verdict_of (length reading.rounds) reading.state
 
--- the verdict of a loader: that on its stream; or `NoMemory`, where its sections wait
+-- the verdict of a loader: that on its stream; or `NoMemory`, if its sections wait
 abbrev pub Judges : LoadSettings → Loader → List ℕ → Result ⊤ LoadFault → Type 0
 Judges given l text verdict =
     (HasAllSections given l text × HasVerdict given text verdict) ⊎ (Waits given l text × (verdict ≡ no_memory_at 0))
 
--- the answer of a loader: that on its stream; or `NoMemory`, where its sections wait
+-- the answer of a loader: that on its stream; or `NoMemory`, if its sections wait
 abbrev pub Answers : {A : Type 0} → LoadSettings → Loader → List ℕ → Loaded A → Type 0
 Answers given l text a =
     (HasAllSections given l text × IsSingleAnswer given text a) ⊎ (Waits given l text × (a ≡ unloaded))
 
--- ---- in the midst of a call
+-- ---- during a call
 
--- The first sections of the stream are in the memory, on top of what it held at first: as many as
--- it counts.
+-- The first sections of the stream are in the memory, on top of what it held: as many as it counts.
 pub record HasFirst (given : LoadSettings) (first : Image) (text : List ℕ) (t : LoadTarget) : Type 0 where
   pub has_table : HasTable (single_of given) text (Some first.table)
   pub has_memory : (reading : StreamReading) → IsReading (single_of given) text reading
@@ -105,7 +104,7 @@ pub record HasPutSectionsSome (r : Reader) (t : LoadTarget) : Type 0 where
   pub is_short : length text < 2 ^ 63
   pub has_put : HasPutSections given first text ended r t
 
--- No section waits: all whole ones are in the memory.
+-- No section waits: all complete ones are in the memory.
 pub record HasPutAllSections (given : LoadSettings) (first : Image) (text : List ℕ) (t : LoadTarget) : Type 0 where
   pub reading : StreamReading
   pub is_reading : IsReading (single_of given) text reading

@@ -8,8 +8,8 @@ use Rattle.mig_stream.specs.Text.{total_bytes}
 use Rattle.mig_stream.specs.Written.{RoundPart}
 use Rattle.mig_stream.specs.MachineWritten.{machine_written}
 
--- These bytes begin with what a sender writes of a table and rounds in a machine's stream, with a
--- machine's name or without one. The table is within a limit.
+-- These bytes begin with those that a sender writes of a table and rounds in a machine's stream,
+-- with a machine's name or without one. The table is within a limit.
 pub record IsMachineSent (limit : ℕ) (table : RamTable) (rounds : List (List Page)) (text : List ℕ) : Type 0 where
   pub is_table : IsTable table
   pub has_limit : total_bytes table ≤ limit

@@ -1,4 +1,5 @@
--- What a caller passes to a load beside its streams, and what the readers of these have of it.
+-- The settings that a caller passes to a load beside its streams, and those of the streams'
+-- readers.
 use Rattle.std.specs.Prelude.{ℕ, None}
 use Rattle.mig_mem.specs.RamTable.{RamTable}
 use Rattle.mig_stream.specs.declared.item.Frame.TheVariants.{Ram}

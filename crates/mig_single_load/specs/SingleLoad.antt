@@ -1,4 +1,4 @@
--- What the load of a single stream answers: one function of the stream.
+-- The answer of the load of a single stream: one function of the stream.
 use Rattle.std.specs.Prelude.{◌≡◌, ◌⊎◌, ◌≤◌, ◌+◌, ℕ, List, map, length, take, Option, None, Some, Result, Ok, Err, ⊤}
 use Rattle.std.specs.Option.{option_map}
 use Rattle.mig_mem.specs.RamTable.{RamTable}
@@ -21,23 +21,23 @@ use Rattle.mig_single_load.specs.declared.fault.Fault.TheVariants as fault
 abbrev pub memory_after : ℕ → Option RamTable → List (List PageRecord) → Option Image
 memory_after page_size table sections = option_map (λ t. after t (map (map (page_of page_size)) sections)) table
 
--- the fault of a stream, after so many complete sections
+-- the fault of a stream, after some complete sections
 abbrev pub at_main : ℕ → Fault → Result ⊤ LoadFault
 at_main rounds fault = Err (record { round = rounds; source = origin.Main; fault = fault })
 
--- Ok where the stream has its end byte, else its fault; a stream that ends before it was cut short
+-- Ok if the stream has its end byte, else its fault; a stream that ends before it was cut short
 abbrev pub verdict_of : ℕ → StreamState → Result ⊤ LoadFault
 verdict_of rounds Closed = Ok _
 verdict_of rounds (Bad f) = at_main rounds (fault.Stream f)
 verdict_of rounds Reading = at_main rounds (fault.Stream Truncated)
 
--- a refused allocation, after so many sections
+-- a refused allocation, after some sections
 abbrev pub no_memory_at : ℕ → Result ⊤ LoadFault
 no_memory_at rounds = Err (record { round = rounds; source = origin.Round; fault = fault.NoMemory })
 
--- The answer on a stream: the memory is that after its complete sections, None where its size list
--- isn't complete, and `rounds` is the number of them. It is Ok where the stream has its end byte,
--- and else the stream's first fault.
+-- The answer on a stream: the memory is that after its complete sections, None if its size list
+-- isn't complete, and `rounds` is the number of them. It is Ok if the stream has its end byte, and
+-- else the stream's first fault.
 pub record IsSingleAnswer {A : Type 0} (given : LoadSettings) (text : List ℕ) (a : Loaded A) : Type 0 where
   pub reading : StreamReading
   pub is_reading : IsReading (single_of given) text reading
@@ -45,8 +45,8 @@ pub record IsSingleAnswer {A : Type 0} (given : LoadSettings) (text : List ℕ) 
   pub has_rounds : a.rounds ≡ length reading.rounds
   pub has_verdict : a.verdict ≡ verdict_of a.rounds reading.state
 
--- The answer where an allocation was refused: the memory is that after the sections counted, which
--- the stream has, or None where none was counted.
+-- The answer after a refused allocation: the memory is that after the sections counted, which the
+-- stream has, or None if none was counted.
 pub record IsSingleWithoutMemory {A : Type 0} (given : LoadSettings) (text : List ℕ) (a : Loaded A) : Type 0 where
   pub reading : StreamReading
   pub is_reading : IsReading (single_of given) text reading
@@ -54,11 +54,11 @@ pub record IsSingleWithoutMemory {A : Type 0} (given : LoadSettings) (text : Lis
   pub has_rounds : a.rounds ≤ length reading.rounds
   pub has_memory : (a.memory ≡ memory_after given.page_size reading.table (take a.rounds reading.rounds)) ⊎ ((a.memory ≡ None) × (a.rounds ≡ 0))
 
--- the answer where an allocation was refused before any section
+-- the answer after a refused allocation before any section
 abbrev pub unloaded : {A : Type 0} → Loaded A
 unloaded = record { memory = None; rounds = 0; verdict = no_memory_at 0 }
 
--- The answer on the stream that a sender made of a table and rounds: the memory after these rounds.
--- START and END count as a section each.
+-- The answer on the stream that a sender wrote of a table and rounds: the memory after these
+-- rounds. START and END count as a section each.
 abbrev pub loaded : {A : Type 0} → RamTable → List (List Page) → Loaded A
 loaded table rounds = record { memory = Some (after table rounds); rounds = length rounds + 2; verdict = Ok _ }

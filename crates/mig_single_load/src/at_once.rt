@@ -1,7 +1,7 @@
 //! The load of a single stream without a fault in one pass over its bytes, for `load_single`.
 //!
-//! A page is copied as soon as it was read, so that no record waits for its section to end. What a
-//! stream with a fault leaves can't be found so: `load_single` reads it again, section by section.
+//! A page is copied once it was read, so that no record waits for its section to end. A stream with
+//! a fault can't be loaded that way: `load_single` reads it again, section by section.
 
 ghost use Rattle.std.specs.Prelude.{◌≡◌, ◌≤◌, ◌^◌, Some, IfSome, Ok, IfOk};
 ghost use Rattle.mig_mem.specs.PageSize.{IsPageSize};

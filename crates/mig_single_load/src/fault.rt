@@ -1,4 +1,4 @@
-//! Why a load didn't come to its end, by name and number, and where: what every loader returns.
+//! Why a load failed, by name and number, and where: what every loader returns.
 
 ghost use Rattle.std.specs.Prelude.{◌≡◌};
 ghost use Rattle.mig_mem.specs.Refusal.{no_memory_number};
@@ -16,14 +16,13 @@ use std::fmt::{self, Display, Formatter};
 pub enum Origin {
     /// In the stream: the single stream, or the main stream of multifd.
     Main,
-    /// In a channel, by its place among the channels that were passed.
+    /// In a channel, by its index among the channels that were passed.
     Channel(usize),
-    /// In no one source: what all sources bring of a round together, and refused allocations, are
-    /// reported there.
+    /// In no one source: a round of all sources together, or a refused allocation.
     Round,
 }
 
-/// What a load found.
+/// The fault of a load.
 #[derive(Clone, Copy, Debug, PartialEq, Eq)]
 pub enum Fault {
     /// The stream's fault.
@@ -35,9 +34,9 @@ pub enum Fault {
     Round(RoundFault),
     /// The channel's hello names the id of an earlier channel.
     HelloTwice,
-    /// The channel goes on where the main stream has ended.
+    /// The channel goes on after the main stream has ended.
     Extra,
-    /// The channel has ended where the main stream goes on.
+    /// The channel has ended before the main stream.
     Short,
     /// The stream is of another table than the memory that was passed for it. Only loads in place
     /// report it.
@@ -67,7 +66,7 @@ impl Fault {
 /// Why a load ended before its sources did.
 #[derive(Clone, Copy, Debug, PartialEq, Eq)]
 pub struct LoadFault {
-    /// How many rounds were counted before it: the number of the round that it is in, from 0.
+    /// How many rounds were counted before it: the number of its round, from 0.
     pub round: u64,
     /// Where the fault is.
     pub source: Origin,
@@ -85,7 +84,7 @@ impl Display for Origin {
     }
 }
 
-/// Writes the fault's number and its words.
+/// Writes the fault's number and its message.
 impl Display for Fault {
     fn fmt<W: fmt::Write>(&self, f: &mut Formatter<W>) -> fmt::Result {
         match self {
@@ -119,7 +118,7 @@ impl Display for Fault {
 
 impl Error for Fault {}
 
-/// Writes where the fault is, and its words.
+/// Writes where the fault is, and its message.
 impl Display for LoadFault {
     fn fmt<W: fmt::Write>(&self, f: &mut Formatter<W>) -> fmt::Result {
         write!(
@@ -154,7 +153,7 @@ impl FeedFault {
     }
 }
 
-/// Writes the fault's number and its words.
+/// Writes the fault's number and its message.
 impl Display for FeedFault {
     fn fmt<W: fmt::Write>(&self, f: &mut Formatter<W>) -> fmt::Result {
         match self {
@@ -192,7 +191,7 @@ impl InPlaceFault {
     }
 }
 
-/// Writes the fault's number and its words.
+/// Writes the fault's number and its message.
 impl Display for InPlaceFault {
     fn fmt<W: fmt::Write>(&self, f: &mut Formatter<W>) -> fmt::Result {
         match self {

@@ -1,4 +1,5 @@
-//! The memory that a single stream is loaded into, with the number of sections in it, for `settle`.
+//! The memory into which a single stream is loaded, with the number of sections in it, for
+//! `settle`.
 
 ghost use Rattle.std.specs.Prelude.{◌≡◌, ◌+◌, ◌<◌, ◌^◌, IfOk};
 ghost use Rattle.mig_mem.specs.Round.{with_round};
@@ -10,8 +11,8 @@ use mig_stream::StreamRound;
 use std::alloc::{Allocator, Global};
 use std::marker::Model;
 
-/// The memory that a single stream is loaded into, and the number of sections in it. A `Target` has
-/// marks beside, which only packets need: eight times what a memory takes that holds zeros alone.
+/// The memory into which a single stream is loaded, and the number of sections in it. A `Target`
+/// also has marks, which only packets need. They take eight times what a memory of zeros takes.
 #[derive(Drop)]
 pub(crate) struct Filling<A: Allocator = Global> {
     memory: Memory<A>,

@@ -1,5 +1,5 @@
-//! The loader of a single stream that comes in pieces, into memory that is there already: for
-//! hypervisors that lend their blocks.
+//! The loader of a single stream that comes in pieces, into existing memory: for hypervisors that
+//! lend their blocks.
 
 ghost use Rattle.std.specs.Prelude.{◌≡◌, ◌≢◌, ◌+◌, ◌<◌, ◌≤◌, ◌^◌, ◌++◌, ℕ, Bool, List, [], length, true, false, IsFalse, IsOk, OnOk, OnErr, IfOk, IfErr};
 ghost use Rattle.mig_mem.specs.Image.{Image};
@@ -24,6 +24,18 @@ use std::marker::Model;
 /// The records of a section that isn't complete are in the memory, too. They stay there if the
 /// stream turns out to be bad or cut. The stream must have the memory's table: the same blocks in
 /// the same order. Of a stream of another table nothing is written, and the verdict is `OtherTable`.
+///
+/// # Examples
+///
+/// A guest is loaded into a memory. `send` feeds what a sender drains:
+///
+/// <!-- quoted from crates/mig_tests/src/in_place.rt -->
+/// ```rust
+/// let mut loader = InPlaceLoader::new(alloc, memory, MAX_TOTAL).ok()?;
+/// send(alloc, guest, dirty, most, &mut loader)?;
+/// loader.end();
+/// Some((loader.rounds(), loader.verdict()))
+/// ```
 #[derive(Drop)]
 pub struct InPlaceLoader<A: Allocator = Global, M: GuestTarget = Memory<A>> {
     state: InPlaceState<A>,
@@ -41,7 +53,7 @@ impl<A: Allocator, M: GuestTarget> Model for InPlaceLoader<A, M> {
     ghost invariant = { λ l. (M.image l.memory).table ≡ l.state.table };
 }
 
-/// Opaque: it holds a guest's bytes.
+/// Prints an opaque value: it holds guest memory.
 impl<A: Allocator, M: GuestTarget> Debug for InPlaceLoader<A, M> {
     fn fmt<W: fmt::Write>(&self, f: &mut Formatter<W>) -> fmt::Result {
         f.write_str("InPlaceLoader { .. }")
@@ -49,9 +61,9 @@ impl<A: Allocator, M: GuestTarget> Debug for InPlaceLoader<A, M> {
 }
 
 impl<A: Allocator + Copy, M: GuestTarget> InPlaceLoader<A, M> {
-    /// Creates a loader that was fed nothing, into `memory`. It takes a copy of the table. A stream
-    /// whose blocks have more than `limit` bytes together is refused, so `limit` must be at least
-    /// what the memory's blocks have together.
+    /// Creates a loader into `memory`, whose table it copies. No bytes were fed. A stream whose
+    /// blocks have more than `limit` bytes together is refused, so `limit` must be at least the
+    /// memory's own total.
     ///
     /// # Errors
     ///
@@ -68,9 +80,9 @@ impl<A: Allocator + Copy, M: GuestTarget> InPlaceLoader<A, M> {
         InPlaceLoader::new_in(alloc, memory, LoadSettings::new(page_size, limit))
     }
 
-    /// Creates a loader that was fed nothing, into `memory`. It takes a copy of the table. Of
-    /// `settings` all but the page size counts: the pages have the size that the memory has. The
-    /// limit must be at least what the memory's blocks have together.
+    /// Creates a loader into `memory`, whose table it copies, with `settings`. No bytes were fed.
+    /// The page size of the settings doesn't count: pages have the size that the memory has. The
+    /// limit must be at least the memory's own total.
     ///
     /// # Errors
     ///

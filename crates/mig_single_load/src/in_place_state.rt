@@ -28,8 +28,8 @@ use std::marker::Model;
 /// The state of a load in place.
 #[derive(Clone, Copy)]
 pub(crate) enum LoadState {
-    /// That of the stream, and how many of its bytes are complete items without a fault. Only while
-    /// it is `Reading` is more of it read.
+    /// The state of the stream, and how many of its bytes are complete items without a fault. More
+    /// of it is read only while the state is `Reading`.
     Stream(StreamState, u64),
     /// The stream has another table than the memory, and isn't read further.
     OtherTable,
@@ -49,6 +49,23 @@ pub(crate) enum LoadState {
 /// Each piece is fed with the memory as the piece before left it. The stream must have the memory's
 /// table: the same blocks in the same order. Of a stream of another table nothing is written, and
 /// the verdict is `OtherTable`.
+///
+/// # Examples
+///
+/// A stream is fed in pieces of `len` bytes. After each piece the memory has the page records so
+/// far. `feed` tests what the contract of `InPlaceState::feed` requires:
+///
+/// <!-- quoted from crates/mig_load_tests/src/in_place.rt -->
+/// ```rust
+/// let mut state = InPlaceState::new(rt.alloc(), memory.table(), LIMIT).expect(rt, "a load");
+/// for piece in text.chunks(len.max(1)) {
+///     assert!(rt; feed(rt, &mut state, &mut memory, piece) == Ok(()));
+///     let fed = state.fed();
+///     assert!(rt; bytes_of(rt, &memory) == bytes_after(fed));
+///     assert!(rt; (state.rounds(), state.verdict()) == (sections_after(fed), verdict_after(fed)));
+/// }
+/// assert!(rt; state.fed() == LEN && state.verdict() == Ok(()));
+/// ```
 #[derive(Drop)]
 pub struct InPlaceState<A: Allocator = Global> {
     // where the next piece is read on; None once no more is read
@@ -72,15 +89,14 @@ impl<A: Allocator> Model for InPlaceState<A> {
     ghost invariant = { λ s. IsLoadInPlace (load_in_place s.pause s.state s.table s.rounds s.fed s.ended) };
 }
 
-/// Opaque: it holds a guest's bytes.
+/// Prints an opaque value: it holds guest memory.
 impl<A: Allocator> Debug for InPlaceState<A> {
     fn fmt<W: fmt::Write>(&self, f: &mut Formatter<W>) -> fmt::Result {
         f.write_str("InPlaceState { .. }")
     }
 }
 
-// Reads until the table is known, or to the end of what is there. Returns what the reader gave
-// last.
+// Reads until the table is known, or to the end of the bytes. Returns what the reader gave last.
 fn find_table<A: Allocator + Copy>(reader: &mut RecordReader<'_, A>) -> Result<Given, NoMemory>
     requires { reader.old.given.records ≡ [] }
     ensures gave { IfOk result (λ gave. (given : LoadSettings) (table : RamTable) (text : List ℕ) (so_far : GivenSoFar) → Gives (settings_for table given) text so_far reader.old
@@ -174,7 +190,7 @@ fn closed_in(state: LoadState) -> Option<u64>
     }
 }
 
-// Returns up to where the stream is valid, as long as it is read as one of the memory's table.
+// Returns up to which byte the stream is valid, as long as it is read as one of the memory's table.
 fn valid_in(state: LoadState) -> Option<u64>
     ensures { result ≡ valid_place state }
 {
@@ -185,9 +201,8 @@ fn valid_in(state: LoadState) -> Option<u64>
 }
 
 impl<A: Allocator + Copy> InPlaceState<A> {
-    /// Creates a load into a memory of `table`, of which it takes a copy. A stream whose blocks
-    /// have more than `limit` bytes together is refused, so `limit` must be at least what the
-    /// table's blocks have together.
+    /// Creates a load into a memory of `table`, which it copies. A stream whose blocks have more
+    /// than `limit` bytes together is refused, so `limit` must be at least the table's own total.
     ///
     /// # Errors
     ///
@@ -206,9 +221,9 @@ impl<A: Allocator + Copy> InPlaceState<A> {
         InPlaceState::new_in(alloc, table, LoadSettings::new(table.page_size(), limit))
     }
 
-    /// Creates a load into a memory of `table`, of which it takes a copy. Of `settings` all but the
-    /// page size counts: the pages have the size that `table` has. The limit must be at least what
-    /// the table's blocks have together.
+    /// Creates a load into a memory of `table`, which it copies, with `settings`. Their page size
+    /// doesn't count: pages have the size that `table` has. The limit must be at least the table's
+    /// own total.
     ///
     /// # Errors
     ///
@@ -363,7 +378,7 @@ impl<A: Allocator> InPlaceState<A> {
     ///
     /// # Errors
     ///
-    /// - the stream's first fault; `Truncated` where there is none, and the end byte is missing;
+    /// - the stream's first fault, or `Truncated` if there is none and the end byte is missing;
     /// - `OtherTable` if the size list is complete and names another table than the memory's;
     /// - `NoMemory` if an allocation was refused in a `feed`.
     pub fn verdict(&self) -> Result<(), LoadFault>

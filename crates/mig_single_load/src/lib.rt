@@ -1,6 +1,6 @@
-//! Loads single streams: makes a guest's memory from the bytes of one migration stream.
+//! Loads single streams: builds a guest's memory from the bytes of one migration stream.
 //!
-//! What a load answers is a function of the stream's bytes and the settings (`LoadSettings`): the
+//! The answer of a load is a function of the stream's bytes and the settings (`LoadSettings`): the
 //! memory after the complete sections, how many these are, and the first fault after them. The
 //! exception is a refused allocation. `mig_stream` defines the format, and `mig_assemble` how a
 //! section is applied. No sender is needed here.
@@ -10,8 +10,8 @@
 //! `InPlaceLoader`, which keeps the memory too. Each has a constructor for RAM's sections alone, and one for any settings, whose
 //! name ends with `_in`.
 //!
-//! `LoadFault` and `Loaded` are of every load, also on several channels: those crates stand on this
-//! one.
+//! `LoadFault` and `Loaded` are those of every load, also on several channels: those crates use
+//! this one.
 //!
 //! Definitions, in reading order: `Settings`, `SingleLoad`, `LoadFaultNumber`, `Loader`, `InPlace`,
 //! `LoadInPlace` (`specs/`).

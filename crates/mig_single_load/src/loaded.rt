@@ -17,7 +17,7 @@ pub struct Loaded<A: Allocator = Global> {
     pub verdict: Result<(), LoadFault>,
 }
 
-/// Opaque: it holds a guest's bytes.
+/// Prints an opaque value: it holds guest memory.
 impl<A: Allocator> Debug for Loaded<A> {
     fn fmt<W: fmt::Write>(&self, f: &mut Formatter<W>) -> fmt::Result {
         f.write_str("Loaded { .. }")

@@ -24,12 +24,30 @@ use std::marker::Model;
 ///
 /// So between calls a loader holds the guest and the pages of one section, which isn't complete. If
 /// an allocation was refused it may also hold sections that wait. In a call it also holds the pages
-/// that the piece brings.
+/// of the piece.
+///
+/// # Examples
+///
+/// A machine's stream is loaded in pieces of `len` bytes:
+///
+/// <!-- quoted from crates/mig_captures/src/load.rt -->
+/// ```rust
+/// let settings = LoadSettings::new(PAGE_SIZE_4K, MAX_TOTAL).with_frame(Frame::Machine);
+/// let mut loader = SingleLoader::new_in(alloc, settings);
+/// for piece in text.chunks(len) {
+///     if loader.ended() || loader.fed() > MAX_TOTAL || piece.len() as u64 > MAX_TOTAL {
+///         return Err(Trouble::Input);
+///     }
+///     loader.feed(piece).ok().ok_or(Trouble::NoMemory)?;
+/// }
+/// let closed_at = loader.closed_at();
+/// let loaded = loader.finish();
+/// ```
 #[derive(Drop)]
 pub struct SingleLoader<A: Allocator = Global> {
     alloc: A,
     reader: StreamReader<'static, A>,
-    // made as soon as the table is there
+    // created once the table is there
     target: Option<Filling<A>>,
 }
 
@@ -43,7 +61,7 @@ impl<A: Allocator> Model for SingleLoader<A> {
     ghost invariant = { λ l. LoadsSome (loader l.reader l.target) };
 }
 
-/// Opaque: it holds a guest's bytes.
+/// Prints an opaque value: it holds guest memory.
 impl<A: Allocator> Debug for SingleLoader<A> {
     fn fmt<W: fmt::Write>(&self, f: &mut Formatter<W>) -> fmt::Result {
         f.write_str("SingleLoader { .. }")
@@ -64,7 +82,7 @@ impl<A: Allocator + Copy> SingleLoader<A> {
         SingleLoader::new_in(alloc, LoadSettings::new(page_size, limit))
     }
 
-    /// Creates a loader that was fed nothing, of a stream that is read with `settings`.
+    /// Creates a loader of a stream that is read with `settings`. No bytes were fed.
     pub fn new_in(alloc: A, settings: LoadSettings) -> SingleLoader<A>
         requires page_size { IsPageSize settings.page_size }
         requires limit { settings.limit ≤ 2 ^ 40 }
@@ -193,7 +211,7 @@ impl<A: Allocator> SingleLoader<A> {
         }
     }
 
-    /// Returns the verdict that `finish` would give now: Ok if the end byte was read, else the
+    /// Returns the verdict that `finish` would return now: Ok if the end byte was read, else the
     /// stream's first fault. If it has no fault so far, that is `Truncated`. While sections wait it
     /// is `NoMemory`.
     ///

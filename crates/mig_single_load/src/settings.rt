@@ -1,11 +1,27 @@
-//! What a caller passes to a load beside its streams. The constructors that end with `_in` take it.
+//! The settings that a caller passes to a load beside its streams. The constructors that end with
+//! `_in` take them.
 
 ghost use Rattle.std.specs.Prelude.{◌≡◌};
 ghost use Rattle.mig_single_load.specs.Settings.{ram_settings};
 
 use mig_stream::Frame;
 
-/// The settings of a load. They are the caller's own, since no stream has them.
+/// The settings of a load. The caller passes them, since they aren't in the stream.
+///
+/// # Examples
+///
+/// A machine's stream is loaded at once. `single_closed_at` finds its end:
+///
+/// <!-- quoted from crates/mig_captures/src/load.rt -->
+/// ```rust
+/// let settings = LoadSettings::new(PAGE_SIZE_4K, MAX_TOTAL).with_frame(Frame::Machine);
+/// let loaded = load_single_in(alloc, settings, text);
+/// Ok(Answer {
+///     fault: loaded.verdict.err(),
+///     closed_at: single_closed_at(alloc, settings, text)?,
+///     sum: loaded.memory.as_ref().map(|memory| sum_of(memory)),
+/// })
+/// ```
 #[derive(Clone, Copy, Debug, PartialEq, Eq)]
 pub struct LoadSettings {
     /// The number of bytes of a page.
@@ -15,10 +31,10 @@ pub struct LoadSettings {
     pub limit: u64,
     /// What the stream is read as: RAM's sections alone, or a machine's stream.
     pub frame: Frame,
-    /// The most page records that a section of a single stream may have, or a round of a main
-    /// stream: so many wait until it is complete. One more is the fault `StreamFault::Waiting`.
-    /// `None` is any number. Every load judges it, also those that keep no records, so that all give
-    /// one answer. The packets of channels aren't counted.
+    /// The most page records of a section of a single stream, or of a round of a main stream: these
+    /// wait until it is complete. One more is the fault `StreamFault::Waiting`. `None` is any
+    /// number. Every load tests it, also one that keeps no records, so that all have one result.
+    /// The packets of channels aren't counted.
     pub waiting: Option<u64>,
 }
 

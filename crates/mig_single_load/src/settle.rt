@@ -1,6 +1,6 @@
-//! Applies the complete sections of a reader, and answers by reader and memory: for `SingleLoader`,
-//! and for `load_single` on a stream with a fault. Loads in place and on several channels take
-//! their verdicts from here, and have loops of their own.
+//! Applies the complete sections of a reader, and returns the answer of reader and memory: for
+//! `SingleLoader`, and for `load_single` on a stream with a fault. Loads in place and on several
+//! channels take their verdicts from here, and have loops of their own.
 
 ghost use Rattle.std.specs.Prelude.{◌≡◌, ℕ, Bool, List, None, Some, OnOk, OnErr};
 ghost use Rattle.mig_single_load.specs.declared.settings.LoadSettings.{LoadSettings};
@@ -28,8 +28,8 @@ pub(crate) fn put_sections<A: Allocator>(reader: &mut StreamReader<'_, A>, targe
     }
 }
 
-/// Applies the complete sections that wait to the memory, which is made as soon as the table is
-/// there. An `Err` changes nothing.
+/// Applies the complete sections that wait to the memory, which is created once the table is there.
+/// An `Err` changes nothing.
 pub(crate) fn settle<A: Allocator + Copy>(
     alloc: A,
     reader: &mut StreamReader<'_, A>,
@@ -57,7 +57,7 @@ pub(crate) fn settle<A: Allocator + Copy>(
     Ok(())
 }
 
-/// Returns how a stream stands, as a verdict after `rounds` complete sections.
+/// Returns the state of a stream, as a verdict after `rounds` complete sections.
 pub(crate) fn verdict_at(rounds: u64, state: StreamState) -> Result<(), LoadFault>
     ensures { result ≡ verdict_of rounds state }
 {

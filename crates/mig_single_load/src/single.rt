@@ -21,13 +21,13 @@ use mig_stream::{Mode, StreamReader};
 use std::alloc::Allocator;
 
 /// Loads a guest from the complete single stream `text`, whose pages have `page_size` bytes, and
-/// whose blocks may have `limit` bytes together. What follows the end byte isn't looked at. A
-/// stream without a fault is read once. Any other is read a second time, into a new memory.
+/// whose blocks may have `limit` bytes together. The bytes after the end byte aren't read. A stream
+/// without a fault is read once. Any other is read a second time, into a new memory.
 ///
 /// # Errors
 ///
-/// The verdict of what is returned is a fault of the stream (`Fault::Stream`, 11 to 34), or
-/// `NoMemory`, if an allocation was refused. It is no other `Fault`.
+/// A failed verdict has a fault of the stream (`Fault::Stream`, 11 to 34), or `NoMemory`, if an
+/// allocation was refused, and no other `Fault`.
 pub fn load_single<A: Allocator + Copy>(
     alloc: A,
     page_size: u64,
@@ -43,17 +43,17 @@ pub fn load_single<A: Allocator + Copy>(
     load_single_in(alloc, LoadSettings::new(page_size, limit), text)
 }
 
-/// Loads a guest from the complete single stream `text`, read with `settings`. What follows the
-/// stream isn't looked at: the bytes after its end byte, or in a machine's stream those after the
-/// footer of RAM's END. A stream without a fault is read once. Any other is read a second time,
-/// into a new memory.
+/// Loads a guest from the complete single stream `text`, read with `settings`. The bytes after the
+/// stream aren't read: those after its end byte, or in a machine's stream those after the footer of
+/// RAM's END. A stream without a fault is read once. Any other is read a second time, into a new
+/// memory.
 ///
 /// # Errors
 ///
 /// A failed verdict has one of these, and no other `Fault`:
 ///
 /// - `Fault::Stream`: a fault of the stream, 11 to 34, in a machine's stream also 46 to 49, and 64
-///   where a section has more page records than `settings.waiting`.
+///   if a section has more page records than `settings.waiting`.
 /// - `NoMemory`: an allocation was refused.
 pub fn load_single_in<A: Allocator + Copy>(
     alloc: A,

@@ -1,4 +1,4 @@
--- Bytes are read to an end byte exactly where a front of them is a stream.
+-- Bytes are read to an end byte exactly if a front of them is a stream.
 use Rattle.std.proofs.Common.{◌≡◌, ℕ, ◌≤◌, ◌^◌, ◌<◌, List, Some, refl, sym, subst}
 use Rattle.std.specs.Prelude.{All}
 use Rattle.mig_mem.specs.PageSize.{IsPageSize}
@@ -36,7 +36,7 @@ closed_from_laws spelled read mode limit bytes table rounds size small all =
 pub closed_law : ClosedIsText
 closed_law = closed_from_laws spelled_law read_law
 
--- Bytes are read closed as a machine's stream exactly where they begin with one.
+-- Bytes are read closed as a machine's stream exactly if they begin with one.
 pub machine_closed_law : MachineClosedIsText
 machine_closed_law mode limit bytes table rounds size small all = (to_text, of_text)
   where

@@ -70,7 +70,7 @@ head_found p item len fits = sym (be64_found item len fits) ∙ ap (to_be_bytes 
 
 -- ---- the flags of a kind
 
--- of two tests one after the other: the first has found it, or the others have
+-- of two tests one after another: the first has found it, or the others have
 found_first : (b : Bool) (flags : ℕ) (kind k : RecordKind) (others : Option RecordKind) → eqb flags (flags_of k) ≡ b → (others ≡ Some kind → flags ≡ flags_of kind)
     → cond b (Some k) others ≡ Some kind → flags ≡ flags_of kind
 found_first true flags kind k others test later e = let same : k ≡ kind = cc in eqb-true flags (flags_of k) test ∙ ap flags_of same

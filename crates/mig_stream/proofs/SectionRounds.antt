@@ -1,5 +1,5 @@
 -- The rounds that the records of sections make, as a stream says it and as they are read one after
--- the other.
+-- another.
 use Rattle.std.proofs.Common.{◌≡◌, Bool, List, [], ◌∷◌, ◌++◌, map, flat_map, refl, sym, ap, ◌∙◌, inl, inr, append_assoc, append-nil}
 use Rattle.std.specs.List.{AllByRecursion}
 use Rattle.std.proofs.lemmas.List.Elements.{All-from_recursion, recursion_from_All}
@@ -9,7 +9,7 @@ use Rattle.mig_stream.specs.PageRecord.{PageRecord}
 use Rattle.mig_stream.specs.Text.{Record, PageOf, FlushMark, all_records, page_records, HasNoFlush, AreRounds}
 use Rattle.mig_stream.proofs.After.{records_after, rounds_after, records_behind, rounds_behind, FlushesFit, HasNoTail}
 
--- ---- records one after the other
+-- ---- records one after another
 
 -- after records and then others
 pub records_after-append : (before : List PageRecord) (xs ys : List Record) → records_after before (xs ++ ys) ≡ records_after (records_after before xs) ys

@@ -82,7 +82,7 @@ page_front c true r is begun fits =
     let content = content_front d r.place r.content fits.has_size in
     subst (λ (n : Option ℕ). Front (record u { due = RecordHead; named = n }) (page_record (table_of u) true r) (after_page u r)) (sym (fits.is_carried refl)) (Front-append _ _ _ _ _ head content)
 
--- ---- records one after the other
+-- ---- records one after another
 
 -- page records and FLUSHes, as far as the mode has them
 records_front : (c : StreamProgress) (records : List Record) → IsTable (table_of c) → is_none c.left ≡ false → is_single c.mode ≡ false ⊎ HasNoFlush records → Follow (table_of c) c.named records

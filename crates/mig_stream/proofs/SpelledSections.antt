@@ -29,7 +29,7 @@ pub FlushesFit-rest : (mode : Mode) (records : List Record) (others : List (List
 FlushesFit-rest mode records others (inl e) = inl e
 FlushesFit-rest mode records others (inr h) = inr h.1
 
--- of records that may stand one after the other, so may the first ones
+-- of records that may stand one after another, so may the first ones
 pub Follow-first : (table : RamTable) (named : Option ℕ) (xs ys : List Record) → Follow table named (xs ++ ys) → Follow table named xs
 Follow-first table named [] ys f = tt
 Follow-first table named (PageOf continued r ∷ xs) ys f = (f.0, Follow-first table (Some r.place.block) xs ys f.1)
@@ -41,7 +41,7 @@ Follow-rest table named [] ys f = f
 Follow-rest table named (PageOf continued r ∷ xs) ys f = Follow-rest table (Some r.place.block) xs ys f.1
 Follow-rest table named (FlushMark ∷ xs) ys f = Follow-rest table named xs ys f
 
--- ---- sections one after the other
+-- ---- sections one after another
 
 -- the block named last after sections
 abbrev pub named_behind : Option ℕ → List (List Record) → Option ℕ

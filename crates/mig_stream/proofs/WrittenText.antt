@@ -103,7 +103,7 @@ rounds_are before (round ∷ rounds) =
     ap (λ (r : List PageRecord). r ∷ (map (map written_record) rounds ++ [] ∷ [])) (sym (written_pages before round))
     ∙ ap (λ (rs : List (List PageRecord)). page_records (written_records before round) ∷ rs) (rounds_are (named_by_pages before round) rounds)
 
--- The records of rounds that are written may stand one after the other, and are these rounds.
+-- The records of rounds that are written may stand one after another, and are these rounds.
 pub single_parts : (table : RamTable) (rounds : List (List Page)) → All (IsRound table) rounds
     → Follow table None (all_records (parts_records None (map RoundPart rounds)) ++ []) × AreRounds Single ([] ∷ (parts_records None (map RoundPart rounds) ++ [] ∷ [])) ([] ∷ map (map written_record) rounds ++ [] ∷ [])
 single_parts table rounds are = (
@@ -162,7 +162,7 @@ flushes_empty (suc n) = ap (λ (rs : List (List PageRecord)). [] ∷ rs) (flushe
 flush_rounds : (n : ℕ) → AreRounds Main ([] ∷ (replicate n (FlushMark ∷ []) ++ [] ∷ [])) (replicate n [])
 flush_rounds n = (replicate n [], All-from_recursion HasNoFlush (replicate n []) (flushes_none n), flushes_end n, flushes_empty n)
 
--- The records of FLUSHes that are written may stand one after the other, and are rounds of no page.
+-- The records of FLUSHes that are written may stand one after another, and are rounds of no page.
 pub main_parts : (table : RamTable) (n : ℕ)
     → Follow table None (all_records (parts_records None (replicate n FlushPart)) ++ []) × AreRounds Main ([] ∷ (parts_records None (replicate n FlushPart) ++ [] ∷ [])) (replicate n [])
 main_parts table n =

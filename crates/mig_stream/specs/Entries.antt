@@ -1,4 +1,4 @@
--- The entries of a size list, as far as they have been read.
+-- The entries of a size list that have been read.
 use Rattle.std.specs.Prelude.{◌≡◌, ◌≢◌, ℕ, ◌+◌, ◌-◌, ◌*◌, ◌/◌, ◌%◌, ◌<◌, ◌≤◌, ◌^◌, List, [], ◌∷◌, ◌++◌, length, take, true, Option, Some, None, All, AllPairs, IsTrue}
 use Rattle.std.specs.Bool.{then_some}
 use Rattle.std.specs.Option.{unwrap_or}
@@ -18,7 +18,7 @@ pub record Listed : Type 0 where
 abbrev pub listed_table : ℕ → Option ℕ → List Block → Option RamTable
 listed_table page_size left blocks = then_some (is_used_up left) (record { page_size = page_size; blocks = blocks })
 
--- What is known of the blocks so far: all that a lawful table keeps, but that it has one.
+-- What is known of the blocks so far: all that a lawful table keeps, but that there is a block.
 pub record AreListed (page_size limit : ℕ) (left : Option ℕ) (blocks : List Block) : Type 0 where
   pub has_page_size : IsPageSize page_size
   pub has_limit : limit ≤ 2 ^ 40
@@ -44,7 +44,7 @@ with_entry e id len = record e {
   blocks = e.blocks ++ record { id = id; pages = len / e.page_size } ∷ [];
 }
 
--- These entries had so many bytes left at this count, and a complete table stays.
+-- These entries had `left` bytes left after `count` of them, and a complete table stays.
 pub record WereListed (e : Listed) (left : Option ℕ) (count : ℕ) : Type 0 where
   pub are_listed : AreListed e.page_size e.limit left (take count e.blocks)
   pub same_table : is_used_up left ≡ true → (e.left ≡ left) × (take count e.blocks ≡ e.blocks)

@@ -1,4 +1,4 @@
--- Big-endian numbers: how they are spelled, and how they are read at a place in some bytes.
+-- Big-endian numbers: how they are written, and how they are read at an offset of some bytes.
 use Rattle.std.specs.Prelude.{ℕ, ◌+◌, ◌*◌, ◌/◌, ◌%◌, List, [], ◌∷◌, length, slice_index, slice_range}
 use Rattle.std.specs.Int.{w32, w64, to_be_bytes, from_be_bytes}
 
@@ -11,11 +11,11 @@ be32 n = to_be_bytes w32 n
 abbrev pub be64 : ℕ → List ℕ
 be64 n = to_be_bytes w64 n
 
--- a length byte, and the bytes
+-- bytes, after a byte with their number
 abbrev pub counted : List ℕ → List ℕ
 counted bytes = length bytes ∷ bytes
 
--- the number of two bytes, of which one that isn't there counts as 0
+-- the number of two bytes; a byte that isn't there counts as 0
 abbrev pub be16_at : ℕ → List ℕ → ℕ
 be16_at at bytes = slice_index bytes at * 0x100 + slice_index bytes (at + 1)
 

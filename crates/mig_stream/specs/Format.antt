@@ -1,5 +1,5 @@
 -- The numbers of QEMU's migration stream, each with its name there. Those of the stream and its
--- sections stand in `migration/savevm.h`, those of RAM's records in `migration/ram.c` (`ram.h` in
+-- sections are in `migration/savevm.h`. Those of RAM's records are in `migration/ram.c` (`ram.h` in
 -- newer versions), whose `ram_mig_init` has the section's name, instance and version.
 use Rattle.std.specs.Prelude.{ℕ, ◌+◌, List, [], ◌∷◌}
 use Rattle.mig_stream.specs.declared.item.Section.{Section}
@@ -67,9 +67,9 @@ layout_capabilities =
     (0x78 ∷ 0x2D ∷ 0x69 ∷ 0x67 ∷ 0x6E ∷ 0x6F ∷ 0x72 ∷ 0x65 ∷ 0x2D ∷ 0x73 ∷ 0x68 ∷ 0x61 ∷ 0x72 ∷ 0x65 ∷ 0x64 ∷ [])
     ∷ (0x6D ∷ 0x61 ∷ 0x70 ∷ 0x70 ∷ 0x65 ∷ 0x64 ∷ 0x2D ∷ 0x72 ∷ 0x61 ∷ 0x6D ∷ []) ∷ []
 
--- The COMMANDs that leave the reading of RAM's section alone: MIG_CMD_OPEN_RETURN_PATH,
--- MIG_CMD_PING, MIG_CMD_POSTCOPY_ADVISE, MIG_CMD_ENABLE_COLO and MIG_CMD_SWITCHOVER_START (`enum
--- qemu_vm_cmd` in `migration/savevm.c`).
+-- The COMMANDs that don't change how RAM's section is read: MIG_CMD_OPEN_RETURN_PATH, MIG_CMD_PING,
+-- MIG_CMD_POSTCOPY_ADVISE, MIG_CMD_ENABLE_COLO and MIG_CMD_SWITCHOVER_START (`enum qemu_vm_cmd` in
+-- `migration/savevm.c`).
 abbrev pub passed_commands : List ℕ
 passed_commands = 1 ∷ 2 ∷ 3 ∷ 8 ∷ 11 ∷ []
 
@@ -103,6 +103,6 @@ flags_of Flush = 0x200
 abbrev pub record_kinds : List RecordKind
 record_kinds = SizeList ∷ Named Zero ∷ Named Normal ∷ Continued Zero ∷ Continued Normal ∷ EndOfSection ∷ Flush ∷ []
 
--- A limit of this project: how many bytes the name in a configuration has.
+-- A limit of this project: the most bytes of the name in a configuration.
 abbrev pub most_name_bytes : ℕ
 most_name_bytes = 1024

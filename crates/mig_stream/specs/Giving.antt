@@ -1,5 +1,5 @@
 -- A reader that gives the page records of a single stream as they come, before their section is
--- whole, and what it stands for.
+-- complete, and what it stands for.
 use Rattle.std.specs.Prelude.{◌≡◌, ◌<◌, ℕ, ◌+◌, ◌*◌, ◌^◌, List, [], ◌∷◌, ◌++◌, length, drop, Option, None, Some, IfSome, ⊤, ◌⊎◌}
 use Rattle.mig_mem.specs.PageSize.{IsPageSize}
 use Rattle.mig_stream.specs.declared.item.Mode.TheVariants.{Single}
@@ -19,15 +19,14 @@ pub record Giver : Type 0 where
   pub progress : StreamProgress
   -- the bytes after it
   pub rest : List ℕ
-  -- how these stand, once it reads no further
+  -- the state of the rest, once it reads no further
   pub found : Option StreamState
   -- what it gave last
   pub given : RoundOfRecords
   -- how many bytes the stream has up to the end of the rest
   pub fed : ℕ
 
--- the records that were given so far: those of each section that is whole, and those of the one
--- that is open
+-- the records that were given so far: those of each complete section, and those of the open one
 pub record GivenSoFar : Type 0 where
   pub sections : List (List PageRecord)
   pub open_section : List PageRecord
@@ -51,7 +50,7 @@ with_given (End found) records so_far = so_far
 
 -- ---- what was given, before what was not
 
--- records before those of the round that came first, which is the open one where none is whole
+-- the first round with more records before its own; it is the open one if none is complete
 abbrev pub rounds_behind : List PageRecord → List (List PageRecord) → List (List PageRecord)
 rounds_behind before [] = []
 rounds_behind before (round ∷ rounds) = (before ++ round) ∷ rounds
@@ -79,7 +78,7 @@ pub record Gives (given : Settings) (text : List ℕ) (so_far : GivenSoFar) (r :
   pub ends : IfSome r.found (λ found. Ends (all_read so_far r.progress) r.rest found)
   pub has_fed : length text < 2 ^ 64 → r.fed ≡ length text
 
--- A call takes this step: whatever the reader gave before it, it has given that with the step done.
+-- A call takes this step: what the reader gave before it, it has given with the step done.
 abbrev pub GivesOn : (GivenSoFar → GivenSoFar) → Giver → Giver → Type 0
 GivesOn step old new = (given : Settings) (text : List ℕ) (so_far : GivenSoFar) → Gives given text so_far old → Gives given text (step so_far) new
 
@@ -93,7 +92,7 @@ abbrev pub to_go : Option StreamState → ℕ
 to_go None = 1
 to_go (Some found) = 0
 
--- at most so many calls give something before the end
+-- at most this many calls give something before the end
 abbrev pub left : Giver → ℕ
 left r = 2 * length r.rest + waiting_in r.progress + to_go r.found
 
@@ -104,12 +103,12 @@ LeavesLess other old new = left new < left old
 
 -- ---- what it returns
 
--- what is said of a reader by what it stands for alone
+-- a statement on a reader that depends on nothing else than what it stands for
 abbrev pub GiverTells : Giver → (Settings → List ℕ → GivenSoFar → Type 0) → Type 0
 GiverTells r says = (given : Settings) (text : List ℕ) (so_far : GivenSoFar) → Gives given text so_far r → says given text so_far
 
--- Where it gives no more, this is the reading of the stream: its rounds are the sections that were
--- given. A closed stream leaves none open.
+-- If the reader gives no more, this is the reading of the stream: its rounds are the sections that
+-- were given. A closed stream leaves none open.
 pub record HasReading (given : Settings) (text : List ℕ) (so_far : GivenSoFar) (found : StreamState) : Type 0 where
   pub reading : StreamReading
   pub is_reading : IsReading given text reading
@@ -122,7 +121,7 @@ abbrev pub EndsSo : Given → Settings → List ℕ → GivenSoFar → Type 0
 EndsSo (End found) given text so_far = HasReading given text so_far found
 EndsSo other given text so_far = ⊤
 
--- what is given at the end: how the stream was found to stand, and no records
+-- what is given at the end: the state of the stream, and no records
 abbrev pub TellsFound : Given → Giver → Type 0
 TellsFound (End found) r = (r.found ≡ Some found) × (r.given.records ≡ [])
 TellsFound other r = ⊤
@@ -141,13 +140,13 @@ pub record HasNoneLeft (found : StreamState) (r : Giver) : Type 0 where
   pub has_no_records : r.progress.records ≡ []
   pub has_no_rounds : r.progress.rounds ≡ []
 
--- so it is once the end was given
+-- none is left once the end was given
 abbrev pub LeavesNone : Given → Giver → Type 0
 LeavesNone (End found) r = HasNoneLeft found r
 LeavesNone other r = ⊤
 
--- what is kept between two pieces: how far the stream was read, the bytes after that, and how many
--- bytes there were in all
+-- what is kept between two pieces: how far the stream was read, the bytes after that, and the
+-- number of all bytes
 pub record Paused : Type 0 where
   pub progress : StreamProgress
   pub pending : List ℕ
@@ -157,19 +156,19 @@ pub record Paused : Type 0 where
 abbrev pub giver_at : Paused → Giver
 giver_at p = record { progress = p.progress; rest = p.pending; found = Some Reading; given = record { page_size = p.progress.page_size; records = [] }; fed = p.fed }
 
--- The pieces so far are this stream, read with these settings, and so much of it was given.
+-- The pieces so far are this stream, read with these settings, and this much of it was given.
 abbrev pub PausesAt : Settings → List ℕ → GivenSoFar → Paused → Type 0
 PausesAt given text so_far p = Gives given text so_far (giver_at p)
 
--- what is said at a pause by what was read and given alone
+-- a statement on a pause that depends on nothing else than what was read and given
 abbrev pub PauseTells : Paused → (Settings → List ℕ → GivenSoFar → Type 0) → Type 0
 PauseTells p says = (given : Settings) (text : List ℕ) (so_far : GivenSoFar) → PausesAt given text so_far p → says given text so_far
 
--- ---- the inside
+-- ---- private
 
--- What is pending of earlier pieces is a part of an item; and so is all that is left, where no more
--- is read of it. Nothing is pending where the stream is closed: what is left then lies whole in the
--- last piece.
+-- The pending bytes of earlier pieces are a part of an item; so is all that is left, once no more
+-- of it is read. Nothing is pending if the stream is closed: what is left is then in the last
+-- piece.
 abbrev pub IsUnread : Option StreamState → StreamProgress → List ℕ → List ℕ → Type 0
 IsUnread None c pending rest = (pending ≡ []) ⊎ IsUnfinished c pending
 IsUnread (Some Reading) c pending rest = IsUnfinished c (pending ++ rest)

@@ -1,4 +1,4 @@
--- The items of a stream: how long each is, what may be wrong with it, and how far the stream has
+-- The items of a stream: how long each is, which faults it may have, and how far the stream has
 -- been read after it.
 use Rattle.std.specs.Prelude.{ℕ, ◌+◌, ◌-◌, ◌*◌, ◌/◌, ◌%◌, ◌^◌, Bool, true, false, not, ◌&&◌, ◌||◌, nat_lt, nat_le, ◌==◌, if◌then◌else◌, List, [], ◌∷◌, ◌++◌, length, slice_index, slice_range, find, Option, Some, None, is_none, is_some}
 use Rattle.std.specs.Option.{unwrap_or}
@@ -32,9 +32,9 @@ use Rattle.mig_stream.specs.Format.{magic, version, end_byte, section_type, subs
 use Rattle.mig_stream.specs.PageRecord.{PageRecord}
 use Rattle.mig_stream.specs.Progress.{StreamProgress}
 
--- ---- how many bytes an item has, as its first bytes say
+-- ---- the length of an item, by its first bytes
 
--- of an item that is passed over
+-- the length of an item that is passed over
 abbrev pub passed_size : PassedItem → List ℕ → ℕ
 passed_size (Command before) bytes = 4 + be16_at 2 bytes
 passed_size SubsectionHead bytes = 5 + slice_index bytes 0
@@ -59,13 +59,13 @@ size page_size Footer bytes = 5
 size page_size (Passed passed) bytes = passed_size passed bytes
 size page_size Nothing bytes = 0
 
--- ---- what is found in an item
+-- ---- the fields of an item
 
 -- the id after a length byte
 abbrev pub id_in : List ℕ → List ℕ
 id_in item = slice_range item 1 (1 + slice_index item 0)
 
--- the length that an entry of the size list gives its block
+-- the length of a block in an entry of the size list
 abbrev pub length_in : List ℕ → ℕ
 length_in item = be64_at (1 + slice_index item 0) item
 
@@ -73,16 +73,16 @@ length_in item = be64_at (1 + slice_index item 0) item
 abbrev pub record_kind : ℕ → Option RecordKind
 record_kind flags = find (λ kind. flags == flags_of kind) record_kinds
 
--- the block, if there is one, has a page of this number
+-- there is such a block, and it has a page with this number
 abbrev pub has_page : List Block → Option ℕ → ℕ → Bool
 has_page blocks None page = false
 has_page blocks (Some b) page = nat_lt page (block blocks b).pages
 
--- the subsection of a name
+-- the subsection with a name
 abbrev pub subsection_of : List ℕ → Option Subsection
 subsection_of name = find (λ subsection. bytes_eq name (subsection_name subsection)) subsections
 
--- ---- what may be wrong with an item
+-- ---- the faults of an item
 
 abbrev pub is_single : Mode → Bool
 is_single Single = true
@@ -99,8 +99,7 @@ abbrev pub is_machine : Frame → Bool
 is_machine Ram = false
 is_machine Machine = true
 
--- In a machine's stream a COMMAND may stand there too, and after the configuration a subsection of
--- it.
+-- In a machine's stream a COMMAND is accepted there too, and after the configuration a subsection.
 abbrev pub may_pass : Before → ℕ → Bool
 may_pass before.FileHeader byte = byte == command_type
 may_pass before.Configuration byte = byte == command_type || byte == subsection_type
@@ -117,11 +116,11 @@ closes frame section.Start = false
 closes frame section.Part = false
 closes frame section.End = is_machine frame
 
--- a main stream that ends here has a page record that no FLUSH follows
+-- a main stream that ends here ends after a page record that no FLUSH follows
 abbrev pub has_tail : Bool → StreamProgress → Bool
 has_tail ends c = ends && not (is_single c.mode) && not (length c.records == 0)
 
--- a COMMAND of this number leaves the reading of RAM's section alone
+-- a COMMAND with this number doesn't change how RAM's section is read
 abbrev pub is_passed_command : ℕ → Bool
 is_passed_command number = list_any (λ known. number == known) passed_commands
 
@@ -139,7 +138,7 @@ passed_faults page_size (SubsectionBody Uuid) item = []
 passed_faults page_size (SubsectionBody Capabilities) item = []
 passed_faults page_size (Capability others) item = (list_any (λ name. bytes_eq (id_in item) name) layout_capabilities, fault.Capability) ∷ []
 
--- no page record more fits into the open round
+-- the open round takes no more page records
 abbrev pub is_full : Option ℕ → Bool
 is_full None = false
 is_full (Some room) = room == 0
@@ -169,7 +168,7 @@ abbrev pub head_faults : StreamProgress → ℕ → Option RecordKind → ℕ �
 head_faults c flags None page = (true, fault.Flags flags) ∷ []
 head_faults c flags (Some kind) page = kind_faults c kind page
 
--- Each test of an item, with the fault that it is where the test holds, in the order of judging.
+-- Each test of an item, with its fault if the test holds, in the order of the tests.
 abbrev pub faults : StreamProgress → Due → List ℕ → List (Bool × StreamFault)
 faults c FileHeader item =
     (not (be32_at 0 item == magic), fault.Magic) ∷
@@ -242,7 +241,7 @@ abbrev pub body_of : Option Subsection → Due
 body_of None = Nothing
 body_of (Some subsection) = Passed (SubsectionBody subsection)
 
--- the item after the count of capabilities, or after one of them, with so many to come
+-- the item after the count of capabilities, or after one of them, with this many to come
 abbrev pub capabilities_due : ℕ → Due
 capabilities_due others = if others == 0 then TypeByte before.Configuration else Passed (Capability (others - 1))
 
@@ -255,7 +254,7 @@ behind_passed (SubsectionBody Uuid) item = TypeByte before.Configuration
 behind_passed (SubsectionBody Capabilities) item = capabilities_due (be32_at 0 item)
 behind_passed (Capability others) item = capabilities_due others
 
--- the records so far are a whole round
+-- the records so far are a complete round
 abbrev pub end_round : StreamProgress → StreamProgress
 end_round c = record c { room = c.waiting; records = []; rounds = c.rounds ++ c.records ∷ [] }
 
@@ -270,7 +269,7 @@ abbrev pub after_head : StreamProgress → Option RecordKind → ℕ → StreamP
 after_head c None page = c
 after_head c (Some kind) page = after_kind c kind page
 
--- with a page record more in the open round
+-- with one more page record in the open round
 abbrev pub less_room : Option ℕ → Option ℕ
 less_room None = None
 less_room (Some room) = Some (room - 1)

@@ -15,8 +15,7 @@ abbrev pub bytes_of : Piece → List ℕ
 bytes_of (Passing bytes) = bytes.now
 bytes_of (Staying bytes) = bytes.now
 
--- ---- records and their buffers: one record may have a buffer, in which the bytes of records after
--- it lie too
+-- ---- records and their buffers: the bytes of a record may be in the buffer of one before it
 
 abbrev pub buffer_of : {A : Type 0} → Record A → List ℕ
 buffer_of (Kept block page end buffer) = buffer.value.items
@@ -40,7 +39,7 @@ place_of (Kept block page end buffer) = place_at block page
 place_of (Behind block page span) = place_at block page
 place_of (Lent block page bytes) = place_at block page
 
--- what a record has of its page, by the buffers of the records before it
+-- the content of a record's page, by the buffers of the records before it
 abbrev pub content_in : {A : Type 0} → List (List ℕ) → Record A → Option (List ℕ)
 content_in buffers (Zeros block page) = None
 content_in buffers (Kept block page end buffer) = Some (take end buffer.value.items)
@@ -50,18 +49,18 @@ content_in buffers (Lent block page bytes) = Some bytes.now
 abbrev pub record_in : {A : Type 0} → List (List ℕ) → Record A → PageRecord
 record_in buffers r = record { place = place_of r; content = content_in buffers r }
 
--- its bytes are there
+-- the bytes of the record are there
 abbrev pub IsHeld : {A : Type 0} → List (List ℕ) → Record A → Type 0
 IsHeld buffers (Kept block page end buffer) = end ≤ length buffer.value.items
 IsHeld buffers (Behind block page span) = IsWithin buffers span
 IsHeld buffers other = ⊤
 
--- A record whose buffer has more bytes after those it had, and which says what it said.
+-- A record whose buffer has more bytes after those it had, and whose content is as it was.
 pub record IsGrown {A : Type 0} (old new : Record A) (more : List ℕ) : Type 0 where
   pub has_buffer : buffer_of new ≡ buffer_of old ++ more
   pub says_the_same : (buffers : List (List ℕ)) → IsHeld buffers old → IsHeld buffers new × (record_in buffers new ≡ record_in buffers old)
 
--- records after others that have these buffers
+-- records that follow others with these buffers
 abbrev pub records_after : {A : Type 0} → List (List ℕ) → List (Record A) → List PageRecord
 records_after buffers [] = []
 records_after buffers (r ∷ rs) = record_in buffers r ∷ records_after (buffers ++ buffer_of r ∷ []) rs
@@ -70,12 +69,12 @@ abbrev pub AreHeldAfter : {A : Type 0} → List (List ℕ) → List (Record A) �
 AreHeldAfter buffers [] = ⊤
 AreHeldAfter buffers (r ∷ rs) = IsHeld buffers r × AreHeldAfter (buffers ++ buffer_of r ∷ []) rs
 
--- The number of the block has one byte, and the number of the page four: so it is in each table
+-- The number of the block fits one byte, and the number of the page four. That holds in each table
 -- that a reader accepts.
 abbrev pub IsShort : Place → Type 0
 IsShort p = (p.block < 2 ^ 8) × (p.page < 2 ^ 32)
 
--- the place of the page that is due, if one is
+-- the place of the page that comes next, if there is one
 abbrev pub HasShortPlace : Due → Type 0
 HasShortPlace (Content filling place) = IsShort place
 HasShortPlace due = ⊤

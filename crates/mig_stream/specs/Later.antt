@@ -7,7 +7,7 @@ use Rattle.mig_stream.specs.Progress.{StreamProgress, is_used_up}
 use Rattle.mig_stream.specs.Entries.{AreListed}
 use Rattle.mig_stream.specs.Kept.{HasShortPlace}
 
--- the mark that is made there
+-- the checkpoint of this progress
 abbrev pub checkpoint_of : StreamProgress → Checkpoint
 checkpoint_of c = record {
   due = c.due;
@@ -21,13 +21,13 @@ checkpoint_of c = record {
   rounds = length c.rounds;
 }
 
--- the round that wasn't complete has grown, or is whole and others have followed it
+-- the round that wasn't complete has more records, or it is complete and others follow it
 abbrev pub HasGrown : StreamProgress → StreamProgress → Type 0
 HasGrown old new =
     ((new.rounds ≡ old.rounds) × (more : List PageRecord) × (new.records ≡ old.records ++ more))
     ⊎ ((more : List PageRecord) × (others : List (List PageRecord)) × (new.rounds ≡ old.rounds ++ (old.records ++ more) ∷ others))
 
--- Items only add to what was read before them, and a whole table stays.
+-- Items only add to what was read before them, and a complete table stays.
 pub record IsLater (old new : StreamProgress) : Type 0 where
   pub same_frame : new.frame ≡ old.frame
   pub same_mode : new.mode ≡ old.mode
@@ -39,7 +39,7 @@ pub record IsLater (old new : StreamProgress) : Type 0 where
   pub has_grown : HasGrown old new
   pub same_table : is_used_up old.left ≡ true → (new.left ≡ old.left) × (new.blocks ≡ old.blocks)
 
--- the mark was made before items that led here
+-- the checkpoint was made before items that led here
 pub record WasSaved (checkpoint : Checkpoint) (now : StreamProgress) : Type 0 where
   pub before : StreamProgress
   pub is_checkpoint : checkpoint ≡ checkpoint_of before

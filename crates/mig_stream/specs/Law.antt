@@ -27,7 +27,7 @@ abbrev pub HasOneReading : Type 0
 HasOneReading = (given : Settings) (text : List ℕ) → IsPageSize given.page_size
     → (reading : StreamReading) × IsReading given text reading × ((other : StreamReading) → IsReading given text other → other ≡ reading)
 
--- Whatever is spelled is read so, whatever follows it.
+-- A stream is read as that stream, whatever bytes follow it.
 abbrev pub SpelledIsRead : Type 0
 SpelledIsRead = (mode : Mode) (limit : ℕ) (text rest : List ℕ) (table : RamTable) (rounds : List (List PageRecord))
     → IsText mode limit text table rounds → IsReading (settings mode table.page_size limit) (text ++ rest) (closed table rounds)
@@ -36,20 +36,20 @@ SpelledIsRead = (mode : Mode) (limit : ℕ) (text rest : List ℕ) (table : RamT
 abbrev pub HasText : Mode → ℕ → List ℕ → RamTable → List (List PageRecord) → Type 0
 HasText mode limit bytes table rounds = (text rest : List ℕ) × (bytes ≡ text ++ rest) × IsText mode limit text table rounds
 
--- Whatever is read to its end byte is spelled so.
+-- Bytes that are read to their end byte begin with that stream.
 abbrev pub ReadIsSpelled : Type 0
 ReadIsSpelled = (given : Settings) (bytes : List ℕ) (reading : StreamReading)
     → given.frame ≡ Ram → IsPageSize given.page_size → given.limit ≤ 2 ^ 40 → All (λ byte. byte < 2 ^ 8) bytes → IsReading given bytes reading → reading.state ≡ Closed
     → (table : RamTable) × (table.page_size ≡ given.page_size) × (reading.table ≡ Some table) × HasText given.mode given.limit bytes table reading.rounds
 
--- So bytes are read to an end byte exactly where a prefix of them is a stream of that table and
--- those rounds.
+-- Bytes are read to an end byte exactly if a prefix of them is a stream of that table and those
+-- rounds.
 abbrev pub ClosedIsText : Type 0
 ClosedIsText = (mode : Mode) (limit : ℕ) (bytes : List ℕ) (table : RamTable) (rounds : List (List PageRecord))
     → IsPageSize table.page_size → limit ≤ 2 ^ 40 → All (λ byte. byte < 2 ^ 8) bytes
     → IsReading (settings mode table.page_size limit) bytes (closed table rounds) ↔ HasText mode limit bytes table rounds
 
--- And no bytes have two prefixes that are streams.
+-- No bytes have two prefixes that are streams.
 abbrev pub HasOneText : Type 0
 HasOneText = (mode : Mode) (limit : ℕ) (a b x y : List ℕ) (s t : RamTable) (p q : List (List PageRecord))
     → s.page_size ≡ t.page_size → IsText mode limit a s p → IsText mode limit b t q → a ++ x ≡ b ++ y
@@ -59,35 +59,35 @@ HasOneText = (mode : Mode) (limit : ℕ) (a b x y : List ℕ) (s t : RamTable) (
 abbrev pub HasMachineText : Mode → ℕ → List ℕ → RamTable → List (List PageRecord) → Type 0
 HasMachineText mode limit bytes table rounds = (text rest : List ℕ) × (bytes ≡ text ++ rest) × IsMachineText mode limit text table rounds
 
--- Whatever is spelled as a machine's stream is read so, whatever follows it.
+-- A machine's stream is read as that stream, whatever bytes follow it.
 abbrev pub MachineIsRead : Type 0
 MachineIsRead = (mode : Mode) (limit : ℕ) (text rest : List ℕ) (table : RamTable) (rounds : List (List PageRecord))
     → IsMachineText mode limit text table rounds → IsReading (in_frame Machine (settings mode table.page_size limit)) (text ++ rest) (closed table rounds)
 
--- Whatever is read to the footer of RAM's END is spelled so.
+-- Bytes that are read to the footer of RAM's END begin with that machine's stream.
 abbrev pub MachineReadIsSpelled : Type 0
 MachineReadIsSpelled = (given : Settings) (bytes : List ℕ) (reading : StreamReading) → given.frame ≡ Machine
     → IsPageSize given.page_size → given.limit ≤ 2 ^ 40 → All (λ byte. byte < 2 ^ 8) bytes → IsReading given bytes reading → reading.state ≡ Closed
     → (table : RamTable) × (table.page_size ≡ given.page_size) × (reading.table ≡ Some table) × HasMachineText given.mode given.limit bytes table reading.rounds
 
--- So bytes are read to that footer exactly where a prefix of them is a machine's stream of that
--- table and those rounds.
+-- Bytes are read to that footer exactly if a prefix of them is a machine's stream of that table and
+-- those rounds.
 abbrev pub MachineClosedIsText : Type 0
 MachineClosedIsText = (mode : Mode) (limit : ℕ) (bytes : List ℕ) (table : RamTable) (rounds : List (List PageRecord))
     → IsPageSize table.page_size → limit ≤ 2 ^ 40 → All (λ byte. byte < 2 ^ 8) bytes
     → IsReading (in_frame Machine (settings mode table.page_size limit)) bytes (closed table rounds) ↔ HasMachineText mode limit bytes table rounds
 
--- What a writer makes of rounds is a stream: a single stream of them, with an empty round for START
--- and for END.
+-- What a writer writes of rounds is a single stream of them, with an empty round for START and for
+-- END.
 abbrev pub SinglesAreTexts : Type 0
 SinglesAreTexts = (limit : ℕ) (table : RamTable) (rounds : List (List Page)) → IsTable table → total_bytes table ≤ limit → All (IsRound table) rounds
     → IsText Single limit (single table rounds) table ([] ∷ map (map written_record) rounds ++ [] ∷ [])
 
--- And what it makes of FLUSHes alone is a main stream of as many empty rounds.
+-- What a writer writes of FLUSHes alone is a main stream of as many empty rounds.
 abbrev pub MainsAreTexts : Type 0
 MainsAreTexts = (limit : ℕ) (table : RamTable) (n : ℕ) → IsTable table → total_bytes table ≤ limit → IsText Main limit (main table n) table (replicate n [])
 
--- The records that it makes of a round stand for the pages of that round.
+-- The records that a writer writes of a round stand for the pages of that round.
 abbrev pub RecordsStandForPages : Type 0
 RecordsStandForPages = (table : RamTable) (round : List Page) → IsRound table round → map (page_of table.page_size) (map written_record round) ≡ round
 
@@ -104,7 +104,7 @@ ReadingsKeepLimits = (given : Settings) (text : List ℕ) (reading : StreamReadi
 
 -- What is read of a stream stays, whatever bytes follow: its complete rounds are the first ones of
 -- the longer stream, and its table is that stream's too. After the end byte, or a fault, nothing
--- changes any more.
+-- changes.
 pub record StaysRead (before now : StreamReading) : Type 0 where
   pub more_rounds : List (List PageRecord)
   pub has_rounds : now.rounds ≡ before.rounds ++ more_rounds
@@ -117,13 +117,13 @@ LongerTextsStay = (given : Settings) (text more : List ℕ) (before now : Stream
 
 -- ---- up to where a stream is valid
 
--- A stream is valid up to exactly one place, and none of its fronts is longer.
+-- A stream is valid up to exactly one offset, and no front of it is longer.
 abbrev pub IsValidUpToOnePlace : Type 0
 IsValidUpToOnePlace = (given : Settings) (text : List ℕ) → IsPageSize given.page_size
     → (n : ℕ) × IsValidUpTo given text n × (n ≤ length text)
     × ((m : ℕ) → HasFront given text m → m ≤ n) × ((m : ℕ) → IsValidUpTo given text m → m ≡ n)
 
--- Bytes that follow leave it where it was, or move it on. Once the stream is closed or bad, it
+-- More bytes leave the offset as it was, or increase it. Once the stream is closed or bad, it
 -- stays.
 abbrev pub LongerTextsStayValid : Type 0
 LongerTextsStayValid = (given : Settings) (text more : List ℕ) (m n : ℕ) → IsValidUpTo given text m → IsValidUpTo given (text ++ more) n
@@ -133,7 +133,7 @@ LongerTextsStayValid = (given : Settings) (text more : List ℕ) (m n : ℕ) →
 abbrev pub ClosedIsValid : Type 0
 ClosedIsValid = (given : Settings) (text : List ℕ) (n : ℕ) → HasState given text false Closed → IsValidUpTo given text n ↔ IsClosedAt given text n
 
--- complete items without a fault are the first n bytes, and the whole item after them has this
+-- the first n bytes are complete items without a fault, and the complete item after them has this
 -- fault
 pub record HasFaultAt (given : Settings) (text : List ℕ) (n : ℕ) (fault : StreamFault) : Type 0 where
   pub to : StreamProgress

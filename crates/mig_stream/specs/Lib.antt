@@ -1,4 +1,4 @@
--- To be read first, in this order.
+-- Read these first, in this order.
 pub mod Format
 pub mod Fields
 pub mod PageRecord
@@ -16,7 +16,7 @@ pub mod Giving
 pub mod Wanted
 pub mod Law
 pub mod FaultNumber
--- How reading keeps and goes back: only contracts of the inside cite these.
+-- What reading keeps, and how it goes back. Only private contracts cite these.
 pub mod Taking
 pub mod Entries
 pub mod Later

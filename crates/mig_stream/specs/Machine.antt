@@ -28,7 +28,7 @@ command_bytes c = be16 c.number ++ be16 (length c.carried) ++ c.carried
 abbrev pub command : Command → List ℕ
 command c = command_type ∷ command_bytes c
 
--- a COMMAND that leaves RAM's section alone
+-- a COMMAND that doesn't change how RAM's section is read
 pub record IsCommand (c : Command) : Type 0 where
   pub has_number : is_passed_command c.number ≡ true
   pub has_length : length c.carried < 2 ^ 16
@@ -57,7 +57,7 @@ pub record IsCapability (name : List ℕ) : Type 0 where
   pub has_length : length name < 2 ^ 8
   pub keeps_layout : list_any (λ known. bytes_eq name known) layout_capabilities ≡ false
 
--- What a subsection may hold, in a stream of this page size: a page has 2^bits bytes.
+-- What a subsection may hold, in a stream with this page size: a page has 2^bits bytes.
 abbrev pub IsSubsectionBody : ℕ → SubsectionBody → Type 0
 IsSubsectionBody page_size (PageBits bits) = bits < 2 ^ 32 × (2 ^ bits ≡ page_size)
 IsSubsectionBody page_size (Uuid uuid) = length uuid ≡ 16
@@ -82,7 +82,7 @@ pub record IsConfiguration (page_size : ℕ) (c : Configuration) : Type 0 where
   pub has_name : length c.name ≤ most_name_bytes
   pub are_bodies : AllByRecursion (IsSubsectionBody page_size) c.subsections
 
--- ---- what stands between START and END: PARTs and COMMANDs
+-- ---- between START and END: PARTs and COMMANDs
 
 pub data PartOrCommand : Type 0 where
   PartOf : List Record → PartOrCommand

@@ -1,4 +1,4 @@
--- What a writer makes of RAM in a machine's stream: whoever has the devices writes on after it.
+-- What a writer writes of RAM in a machine's stream. The caller writes the devices after it.
 use Rattle.std.specs.Prelude.{◌≡◌, ℕ, ◌≤◌, List, [], ◌∷◌, ◌++◌, length, map, replicate, Option, None, IfSome, All}
 use Rattle.mig_mem.specs.Image.{Page}
 use Rattle.mig_mem.specs.RamTable.{RamTable, IsTable}
@@ -20,11 +20,11 @@ machine_written name table parts = file_header ++ configuration name ++ start_he
 abbrev pub machine_closed : Option (List ℕ) → RamTable → List Part → List ℕ
 machine_closed name table parts = machine_written name table parts ++ end_byte ∷ []
 
--- Without a name that is what a writer makes of RAM alone.
+-- Without a name it is what a writer writes of RAM alone.
 abbrev pub WrittenIsClosed : Type 0
 WrittenIsClosed = (table : RamTable) (parts : List Part) → machine_closed None table parts ≡ written table parts
 
--- The bytes after the file header are the same for each machine: its configuration goes between.
+-- The bytes after the file header are equal for each machine: its configuration goes between.
 abbrev pub ConfiguredIsWritten : Type 0
 ConfiguredIsWritten = (name : Option (List ℕ)) (table : RamTable) (parts : List Part) (bytes : List ℕ) → file_header ++ bytes ≡ machine_written None table parts
     → file_header ++ configuration name ++ bytes ≡ machine_written name table parts
@@ -33,7 +33,7 @@ abbrev pub ConfiguredIsClosed : Type 0
 ConfiguredIsClosed = (name : Option (List ℕ)) (table : RamTable) (parts : List Part) (bytes : List ℕ) → file_header ++ bytes ≡ written table parts
     → file_header ++ configuration name ++ bytes ≡ machine_closed name table parts
 
--- What a writer makes so of rounds, or of FLUSHes, is a machine's stream.
+-- What a writer so writes of rounds, or of FLUSHes, is a machine's stream.
 abbrev pub MachineSinglesAreTexts : Type 0
 MachineSinglesAreTexts = (limit : ℕ) (name : Option (List ℕ)) (table : RamTable) (rounds : List (List Page)) → IfSome name (λ bytes. length bytes ≤ most_name_bytes)
     → IsTable table → total_bytes table ≤ limit → All (IsRound table) rounds

@@ -8,8 +8,7 @@ use Rattle.mig_stream.specs.declared.item.Filling.TheVariants.{Zero, Normal}
 use Rattle.mig_stream.specs.declared.item.RecordKind.{RecordKind}
 use Rattle.mig_stream.specs.declared.item.RecordKind.TheVariants.{Named, Continued}
 
--- a page record: where its page is, and the page's bytes, or None where it only says that they are
--- zeros
+-- a page record: where its page is, and the page's bytes, or None for a page of zeros
 pub record PageRecord : Type 0 where
   pub place : Place
   pub content : Option (List ℕ)
@@ -18,7 +17,7 @@ pub record PageRecord : Type 0 where
 abbrev pub page_record : Place → List ℕ → PageRecord
 page_record place content = record { place = place; content = Some content }
 
--- the page that it stands for, at pages of a size
+-- the page of a record, with this page size
 abbrev pub page_of : ℕ → PageRecord → Page
 page_of size r = record { place = r.place; content = unwrap_or r.content (zero_page size) }
 
@@ -26,7 +25,7 @@ abbrev pub filling_of : Option (List ℕ) → Filling
 filling_of None = Zero
 filling_of (Some bytes) = Normal
 
--- the kind of a page record that leaves its block's id out, or has it
+-- the kind of a page record without its block's id, or with it
 abbrev pub page_kind : Bool → Option (List ℕ) → RecordKind
 page_kind true content = Continued (filling_of content)
 page_kind false content = Named (filling_of content)

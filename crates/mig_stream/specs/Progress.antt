@@ -11,8 +11,8 @@ use Rattle.mig_stream.specs.declared.item.Due.TheVariants as due
 use Rattle.mig_stream.specs.PageRecord.{PageRecord}
 
 pub record StreamProgress : Type 0 where
-  -- what no stream says: what it is the stream of, which stream it is, the size of a page, the limit
-  -- on the table's total, and the most page records of an open round, or None for any number
+  -- what isn't in the stream: its frame, its mode, the page size, the limit on the table's total,
+  -- and the most page records of an open round, or None for any number
   pub frame : Frame
   pub mode : Mode
   pub page_size : ℕ
@@ -20,16 +20,16 @@ pub record StreamProgress : Type 0 where
   pub waiting : Option ℕ
   -- the item that comes next
   pub due : Due
-  -- the section that is being read, and START's section id
+  -- the section that is read, and START's section id
   pub section : Section
   pub section_id : ℕ
-  -- how many bytes of the size list's total its entries leave: None before the size list
+  -- how many bytes of the total no entry has yet: None before the size list
   pub left : Option ℕ
   -- the blocks of the entries so far
   pub blocks : List Block
-  -- the block that a page record named last
+  -- the block that the last page record named
   pub named : Option ℕ
-  -- how many page records more the open round may have, or None for any number
+  -- how many more page records the open round takes, or None for any number
   pub room : Option ℕ
   -- the page records of the open round, and the complete rounds
   pub records : List PageRecord
@@ -62,6 +62,6 @@ abbrev pub is_used_up : Option ℕ → Bool
 is_used_up None = false
 is_used_up (Some left) = left == 0
 
--- the table, once the size list is whole
+-- the table, once the size list is complete
 abbrev pub whole_table : StreamProgress → Option RamTable
 whole_table c = then_some (is_used_up c.left) (table_of c)

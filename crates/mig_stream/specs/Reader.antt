@@ -14,26 +14,26 @@ pub record Reader : Type 0 where
   pub progress : StreamProgress
   -- the bytes after it: a part of an item
   pub pending : List ℕ
-  -- how the bytes fed stand, whether or not the stream has ended
+  -- the state of the bytes fed, whether or not the stream has ended
   pub found : StreamState
   -- how many bytes fed are complete items without a fault
   pub valid_up_to : ℕ
   pub fed : ℕ
   pub ended : Bool
 
--- these bytes are a part of the item that is due, and not the whole of it
+-- these bytes are a part of the next item, and not all of it
 abbrev pub IsUnfinished : StreamProgress → List ℕ → Type 0
 IsUnfinished c bytes = length bytes < size c.page_size c.due bytes
 
--- bytes are read to there, with so many left, and of an item that isn't complete these bytes are
--- kept
+-- these bytes are read up to `to`; the last `left` of them aren't read, and the pending ones of
+-- these are kept, a part of an item
 pub record ReadsOn (from : StreamProgress) (bytes : List ℕ) (to : StreamProgress) (pending : List ℕ) (left : ℕ) (state : StreamState) : Type 0 where
   pub rest : List ℕ
   pub reads : Reads from bytes to rest state
   pub has_left : length rest ≡ left
   pub has_rest : state ≡ Reading → rest ≡ pending
 
--- with rounds that were taken before
+-- with the rounds that were taken before
 abbrev pub with_taken : List (List PageRecord) → StreamProgress → StreamProgress
 with_taken taken c = record c { rounds = taken ++ c.rounds }
 
@@ -49,15 +49,15 @@ pub record SoFar : Type 0 where
 abbrev pub nothing_yet : SoFar
 nothing_yet = record { text = []; ended = false; taken = 0 }
 
--- a piece of the stream more
+-- after one more piece of the stream
 abbrev pub with_piece : List ℕ → SoFar → SoFar
 with_piece piece so_far = record so_far { text = so_far.text ++ piece }
 
--- it was ended
+-- after its end
 abbrev pub over : SoFar → SoFar
 over so_far = record so_far { ended = true }
 
--- a round more was taken
+-- after one more round was taken
 abbrev pub one_taken : SoFar → SoFar
 one_taken so_far = record so_far { taken = so_far.taken + 1 }
 
@@ -72,12 +72,12 @@ pub record Stands (given : Settings) (so_far : SoFar) (r : Reader) : Type 0 wher
   pub has_pending : r.found ≡ Reading → rest ≡ r.pending
   pub has_valid_up_to : r.valid_up_to + length rest ≡ length so_far.text
 
--- A call takes this step: whatever the reader stood for before it, it stands for that with the step
+-- A call takes this step: if the reader stood for this before it, it stands for it with the step
 -- done.
 abbrev pub StepsOn : (SoFar → SoFar) → Reader → Reader → Type 0
 StepsOn step old new = (given : Settings) (so_far : SoFar) → Stands given so_far old → Stands given (step so_far) new
 
--- what is said of a reader by what it stands for alone
+-- a statement on a reader that depends on nothing else than what it stands for
 abbrev pub Tells : Reader → (Settings → SoFar → Type 0) → Type 0
 Tells r says = (given : Settings) (so_far : SoFar) → Stands given so_far r → says given so_far
 
@@ -91,7 +91,7 @@ waiting r = length r.progress.rounds
 abbrev pub HasState : Settings → List ℕ → Bool → StreamState → Type 0
 HasState given text ended state = (reading : StreamReading) × IsReading given text reading × (state ≡ state_at ended reading.state)
 
--- no further byte changes how it stands: it is closed, or bad
+-- no further byte changes the state: the stream is closed, or bad
 abbrev pub IsSettled : Settings → List ℕ → Type 0
 IsSettled given text = (reading : StreamReading) × IsReading given text reading × (reading.state ≢ Reading)
 
@@ -110,8 +110,8 @@ pub record HasFront (given : Settings) (text : List ℕ) (n : ℕ) : Type 0 wher
   pub has_length : length front ≡ n
   pub leads : Front (start given.frame given.mode given.page_size given.limit given.waiting) front to
 
--- The stream is read to its first n bytes: these are its longest front of complete items without a
--- fault. Where it is bad, the item at fault begins after them.
+-- The first n bytes are the stream's longest front of complete items without a fault. If the stream
+-- is bad, the item at fault begins after them.
 pub record IsValidUpTo (given : Settings) (text : List ℕ) (n : ℕ) : Type 0 where
   pub to : StreamProgress
   pub rest : List ℕ
@@ -127,7 +127,7 @@ HasClosedAt given text None = (reading : StreamReading) × IsReading given text 
 abbrev pub HasTable : Settings → List ℕ → Option RamTable → Type 0
 HasTable given text table = (reading : StreamReading) × IsReading given text reading × (table ≡ reading.table)
 
--- the whole round of a number
+-- the complete round with a number
 abbrev pub HasRound : Settings → List ℕ → ℕ → List PageRecord → Type 0
 HasRound given text i round =
     (reading : StreamReading) × IsReading given text reading × (i < length reading.rounds) × (slice_index_or reading.rounds i [] ≡ round)

@@ -1,5 +1,5 @@
--- The reading of a stream: its longest front of complete items without a fault, and how it stands
--- after it.
+-- The reading of a stream: its longest front of complete items without a fault, and its state after
+-- it.
 use Rattle.std.specs.Prelude.{◌≡◌, ◌≢◌, ℕ, Bool, true, false, List, [], ◌∷◌, ◌++◌, length, Option, Some, None, ⊤}
 use Rattle.std.specs.List.{concat}
 use Rattle.mig_mem.specs.RamTable.{RamTable}
@@ -15,12 +15,12 @@ use Rattle.mig_stream.specs.PageRecord.{PageRecord}
 use Rattle.mig_stream.specs.Progress.{StreamProgress, start, whole_table}
 use Rattle.mig_stream.specs.Items.{size, first_fault, after}
 
--- these bytes are one whole item
+-- these bytes are one complete item
 pub record IsItem (page_size : ℕ) (due : Due) (item : List ℕ) : Type 0 where
   pub is_due : due ≢ Nothing
   pub is_whole : length item ≡ size page_size due item
 
--- each item is whole and without a fault, after the items before it
+-- each item is complete and without a fault, after the items before it
 abbrev pub AreFaultless : StreamProgress → List (List ℕ) → Type 0
 AreFaultless c [] = ⊤
 AreFaultless c (item ∷ items) = IsItem c.page_size c.due item × (first_fault c item ≡ None) × AreFaultless (after c item) items
@@ -36,35 +36,35 @@ pub record Front (from : StreamProgress) (bytes : List ℕ) (to : StreamProgress
   pub are_faultless : AreFaultless from items
   pub leads_to : to ≡ after_all from items
 
--- How a stream stands where these bytes follow a front: closed after its end, bad where a complete
--- item with a fault follows, and else not complete.
+-- The state of a stream in which these bytes follow a front: closed after its end, bad if a
+-- complete item with a fault follows, and else not complete.
 abbrev pub Ends : StreamProgress → List ℕ → StreamState → Type 0
 Ends c rest Closed = c.due ≡ Nothing
 Ends c rest (Bad fault) = (item more : List ℕ) × (rest ≡ item ++ more) × IsItem c.page_size c.due item × (first_fault c item ≡ Some fault)
 Ends c rest Reading = (c.due ≢ Nothing) × ((item more : List ℕ) → rest ≡ item ++ more → IsItem c.page_size c.due item → ⊥)
 
--- a stream is read to there, with these bytes left, and stands so
+-- a stream is read up to `to`, with these bytes left, and has this state
 pub record Reads (from : StreamProgress) (text : List ℕ) (to : StreamProgress) (rest : List ℕ) (state : StreamState) : Type 0 where
   pub front : List ℕ
   pub has_text : text ≡ front ++ rest
   pub leads : Front from front to
   pub ends : Ends to rest state
 
--- How a stream stands that may have ended: where it ended before it was closed, it was cut short.
+-- The state of a stream that may have ended: if it ended before it was closed, it is cut short.
 abbrev pub state_at : Bool → StreamState → StreamState
 state_at true Reading = Bad Truncated
 state_at true Closed = Closed
 state_at true (Bad fault) = Bad fault
 state_at false state = state
 
--- what a stream says so far: its table, its complete rounds, and how it stands
+-- what is read of a stream so far: its table, its complete rounds, and its state
 pub record StreamReading : Type 0 where
   pub table : Option RamTable
   pub rounds : List (List PageRecord)
   pub state : StreamState
 
--- what no stream says: what it is the stream of, which stream it is, the size of a page, the limit
--- on the table's total, and the most page records of an open round, or None for any number
+-- what isn't in the stream: its frame, its mode, the page size, the limit on the table's total, and
+-- the most page records of an open round, or None for any number
 pub record Settings : Type 0 where
   pub frame : Frame
   pub mode : Mode
@@ -80,7 +80,7 @@ settings mode page_size limit = record { frame = Ram; mode = mode; page_size = p
 abbrev pub in_frame : Frame → Settings → Settings
 in_frame frame given = record given { frame = frame }
 
--- these settings, with at most so many page records in an open round
+-- these settings, with at most this many page records in an open round
 abbrev pub with_waiting : Option ℕ → Settings → Settings
 with_waiting waiting given = record given { waiting = waiting }
 

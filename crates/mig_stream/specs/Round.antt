@@ -8,7 +8,7 @@ pub record RoundOfRecords : Type 0 where
   pub page_size : ℕ
   pub records : List PageRecord
 
--- the record of a number
+-- the record with a number
 abbrev pub record_at : List PageRecord → ℕ → PageRecord
 record_at records i = slice_index_or records i (record { place = place_at 0 0; content = None })
 

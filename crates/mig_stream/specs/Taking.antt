@@ -1,4 +1,4 @@
--- What taking an item does to how far a stream has been read.
+-- How taking an item changes how far a stream has been read.
 use Rattle.std.specs.Prelude.{◌≡◌, ◌≤◌, ℕ, List, ◌++◌, length, take, Some, None, Result, Ok, Err, ⊤}
 use Rattle.mig_stream.specs.declared.item.Due.{Due}
 use Rattle.mig_stream.specs.declared.item.Due.TheVariants.{RecordHead}
@@ -11,20 +11,20 @@ use Rattle.mig_stream.specs.declared.item.PassedItem.TheVariants.{SubsectionHead
 use Rattle.mig_stream.specs.Items.{faults, kind_faults, after_kind, after_item, subsection_faults, behind_passed}
 use Rattle.mig_stream.specs.Reading.{Front}
 
--- An item of this kind is taken where it has no fault, and else its first fault is reported. Where
--- an allocation was refused nothing is reported. Without the item nothing changes.
+-- An item of this kind is taken if it has no fault, and otherwise its first fault is reported. If
+-- an allocation was refused no fault is reported. If the item isn't taken nothing changes.
 abbrev pub TakesAs : StreamProgress → Due → List ℕ → StreamProgress → Result ⊤ Stop → Type 0
 TakesAs old due item new (Ok done) = (first_of (faults old due item) ≡ None) × (new ≡ after_item old due item)
 TakesAs old due item new (Err (stop.Fault fault)) = (first_of (faults old due item) ≡ Some fault) × (new ≡ old)
 TakesAs old due item new (Err stop.Memory) = new ≡ old
 
--- the same of a record head of this kind and page number, whose flags are accepted
+-- as `TakesAs`, of a record head with this kind and page number, whose flags are accepted
 abbrev pub TakesHead : StreamProgress → RecordKind → ℕ → StreamProgress → Result ⊤ Stop → Type 0
 TakesHead old kind page new (Ok done) = (first_of (kind_faults old kind page) ≡ None) × (new ≡ after_kind old kind page)
 TakesHead old kind page new (Err (stop.Fault fault)) = (first_of (kind_faults old kind page) ≡ Some fault) × (new ≡ old)
 TakesHead old kind page new (Err stop.Memory) = new ≡ old
 
--- the head of a subsection says what stands after it, or its fault
+-- the head of a subsection gives the item after it, or its fault
 abbrev pub TellsBody : List ℕ → Result Due Stop → Type 0
 TellsBody item (Ok due) = (first_of (subsection_faults item) ≡ None) × (due ≡ behind_passed SubsectionHead item)
 TellsBody item (Err (stop.Fault fault)) = first_of (subsection_faults item) ≡ Some fault
@@ -41,7 +41,7 @@ pub record HasTaken (old : StreamProgress) (bytes : List ℕ) (new : StreamProgr
 abbrev pub HasTakenTo : StreamProgress → List ℕ → List ℕ → StreamProgress → Type 0
 HasTakenTo old bytes rest new = (front : List ℕ) × (bytes ≡ front ++ rest) × Front old front new
 
--- The first n bytes, whole records without a fault, were taken: the next record is due, and the
+-- The first n bytes, complete records without a fault, were taken. A record comes next, and the
 -- table stays.
 pub record HasTakenRecords (old : StreamProgress) (bytes : List ℕ) (n : ℕ) (new : StreamProgress) : Type 0 where
   pub fits : n ≤ length bytes

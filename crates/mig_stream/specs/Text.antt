@@ -1,4 +1,4 @@
--- The streams, as they are spelled.
+-- The streams, by their format.
 use Rattle.std.specs.Prelude.{◌≡◌, ℕ, ◌+◌, ◌*◌, ◌<◌, ◌≤◌, ◌^◌, Bool, true, false, IsTrue, List, [], ◌∷◌, ◌++◌, length, map, Option, Some, None, IfSome, All, ⊤}
 use Rattle.std.specs.List.{flat_map}
 use Rattle.mig_mem.specs.RamTable.{Block, RamTable, block, total_pages, IsTable}
@@ -14,7 +14,7 @@ use Rattle.mig_stream.specs.PageRecord.{PageRecord, page_kind}
 
 -- ---- page records: with CONTINUE or naming their block, of zeros or of a page's bytes
 
--- a length byte and the block's id; nothing with CONTINUE
+-- a length byte and the block's id; no bytes with CONTINUE
 abbrev pub name_bytes : List Block → Bool → ℕ → List ℕ
 name_bytes blocks true b = []
 name_bytes blocks false b = counted (block blocks b).id
@@ -28,9 +28,8 @@ page_record table continued r =
     be64 (r.place.page * table.page_size + flags_of (page_kind continued r.content))
     ++ name_bytes table.blocks continued r.place.block ++ content_bytes r.content
 
--- A page record may stand where `before` is the block named last: its place is in the table, its
--- content has the page size, and it has CONTINUE only where the page record before it is of its
--- block.
+-- A page record is allowed after `before`, the block named last: its place is in the table, its
+-- content has the page size, and it has CONTINUE only if the page record before it is of its block.
 pub record Fits (table : RamTable) (before : Option ℕ) (continued : Bool) (r : PageRecord) : Type 0 where
   pub has_place : IsPlace table r.place
   pub has_size : IfSome r.content (λ bytes. length bytes ≡ table.page_size)
@@ -38,7 +37,7 @@ pub record Fits (table : RamTable) (before : Option ℕ) (continued : Bool) (r :
 
 -- ---- records and sections
 
--- a page record, with CONTINUE where the first part is true, or a FLUSH
+-- a page record, with CONTINUE if the first part is true, or a FLUSH
 pub data Record : Type 0 where
   PageOf : Bool → PageRecord → Record
   FlushMark : Record
@@ -47,13 +46,13 @@ abbrev pub record_bytes : RamTable → Record → List ℕ
 record_bytes table (PageOf continued r) = page_record table continued r
 record_bytes table FlushMark = be64 (flags_of Flush)
 
--- these records may stand one after the other
+-- these records are allowed one after another
 abbrev pub Follow : RamTable → Option ℕ → List Record → Type 0
 Follow table before [] = ⊤
 Follow table before (PageOf continued r ∷ records) = Fits table before continued r × Follow table (Some r.place.block) records
 Follow table before (FlushMark ∷ records) = Follow table before records
 
--- the block named last after some records, where `before` is the one named before them
+-- the block named last after some records, after `before`
 abbrev pub named_after : Option ℕ → List Record → Option ℕ
 named_after before [] = before
 named_after before (PageOf continued r ∷ records) = named_after (Some r.place.block) records
@@ -72,7 +71,7 @@ section table kind id records = section_type kind ∷ (be32 id ++ body table id 
 
 -- ---- rounds
 
--- the records of some sections, one after the other
+-- the records of some sections, one after another
 abbrev pub all_records : List (List Record) → List Record
 all_records sections = flat_map (λ records. records) sections
 
@@ -87,7 +86,7 @@ HasNoFlush (PageOf continued r ∷ records) = HasNoFlush records
 HasNoFlush (FlushMark ∷ records) = ⊥
 
 -- In a single stream each section is a round, without a FLUSH. In a main stream a round ends with
--- each FLUSH, and some FLUSH follows each page record; the sections don't matter.
+-- each FLUSH, and a FLUSH follows each page record, whatever sections they are in.
 abbrev pub AreRounds : Mode → List (List Record) → List (List PageRecord) → Type 0
 AreRounds Single sections rounds = All HasNoFlush sections × (rounds ≡ map page_records sections)
 AreRounds Main sections rounds =

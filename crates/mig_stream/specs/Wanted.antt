@@ -7,7 +7,7 @@ use Rattle.mig_stream.specs.declared.item.Due.TheVariants.{FileHeader, TypeByte,
 use Rattle.mig_stream.specs.Reader.{IsUnfinished}
 use Rattle.mig_stream.specs.Giving.{Paused}
 
--- the page whose content is due
+-- the page whose content comes next
 abbrev pub page_in : Due → Option Place
 page_in (Content Normal place) = Some place
 page_in other = None
@@ -20,8 +20,8 @@ page_due p = page_due_after p.pending p.progress.due
     page_due_after [] due = page_in due
     page_due_after (byte ∷ bytes) due = None
 
--- So many bytes more may be read before anything else is known: one at least, and with fewer the
--- item that is due isn't complete.
+-- At most n bytes may be read before more is known. That is at least one, and with fewer the next
+-- item isn't complete.
 pub record AreWanted (p : Paused) (n : ℕ) : Type 0 where
   pub is_some : 0 < n
   pub are_wanted : (more : List ℕ) → length more < n → IsUnfinished p.progress (p.pending ++ more)

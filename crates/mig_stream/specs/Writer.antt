@@ -1,4 +1,4 @@
--- A writer of a stream, and what it has been given.
+-- A writer of a stream, and what it was given.
 use Rattle.std.specs.Prelude.{◌≡◌, ℕ, List, [], ◌∷◌, ◌++◌, length, take, Option, None}
 use Rattle.std.specs.List.{flat_map}
 use Rattle.mig_mem.specs.Image.{Page}
@@ -16,12 +16,12 @@ pub record Writer : Type 0 where
   pub text : List ℕ
   pub named : Option ℕ
 
--- The writer has been given these parts, and these bytes of their stream were drained of it.
+-- The writer was given these parts, and these bytes of their stream were drained of it.
 pub record HasDrained (drained : List ℕ) (w : Writer) (parts : List Part) : Type 0 where
   pub has_text : drained ++ w.text ≡ written_so_far w.table parts
   pub has_named : w.named ≡ named_after_parts None parts
 
--- the writer has been given these parts, and nothing was drained of it
+-- the writer was given these parts, and nothing was drained of it
 abbrev pub HasWritten : Writer → List Part → Type 0
 HasWritten w parts = HasDrained [] w parts
 
@@ -42,17 +42,17 @@ with_part w part = record w {
 abbrev pub with_head : Writer → Writer
 with_head w = record w { text = w.text ++ section_type sections.Part ∷ be32 written_id }
 
--- A part that is being written: the writer as it was before it, and as it is now.
+-- A part that is being written: the writer before it, and the writer now.
 pub record PartSoFar : Type 0 where
   pub before : Writer
   pub now : Writer
 
--- These pages have been put into the part, in this order, and they are a round of its table.
+-- These pages were put into the part, in this order, and they are a round of its table.
 pub record HasPut (part : PartSoFar) (pages : List Page) : Type 0 where
   pub has_pages : part.now ≡ with_pages (with_head part.before) pages
   pub is_round : IsRound part.before.table pages
 
--- what stood before stands in front
+-- the bytes from before are at the front
 pub record KeepsFront (old new : Writer) : Type 0 where
   pub same_table : new.table ≡ old.table
   pub same_front : take (length old.text) new.text ≡ old.text

@@ -1,4 +1,4 @@
--- The one stream that a writer makes of a table and parts.
+-- The one stream that a writer writes of a table and parts.
 use Rattle.std.specs.Prelude.{ℕ, Bool, false, ◌==◌, if◌then◌else◌, List, [], ◌∷◌, ◌++◌, map, replicate, Option, Some, None}
 use Rattle.mig_mem.specs.Image.{Page}
 use Rattle.mig_mem.specs.RamTable.{RamTable}
@@ -8,16 +8,16 @@ use Rattle.mig_stream.specs.Format.{end_byte}
 use Rattle.mig_stream.specs.PageRecord.{PageRecord}
 use Rattle.mig_stream.specs.Text.{Record, PageOf, FlushMark, named_after, body, section, file_header, start_head, size_list}
 
--- what a writer puts into a PART: a round of pages, or a FLUSH
+-- what is written as one PART: a round of pages, or a FLUSH
 pub data Part : Type 0 where
   RoundPart : List Page → Part
   FlushPart : Part
 
--- the section id that it writes
+-- the section id that the writer writes
 abbrev pub written_id : ℕ
 written_id = 1
 
--- CONTINUE stands exactly where the block was named last
+-- CONTINUE is written exactly if the block was named last
 abbrev pub is_named : Option ℕ → ℕ → Bool
 is_named None b = false
 is_named (Some named) b = named == b
@@ -26,7 +26,7 @@ is_named (Some named) b = named == b
 abbrev pub written_record : Page → PageRecord
 written_record x = record { place = x.place; content = if is_zero x.content then None else Some x.content }
 
--- the records of some pages where `before` is the block named last
+-- the records of some pages after `before`, the block named last
 abbrev pub written_records : Option ℕ → List Page → List Record
 written_records before [] = []
 written_records before (x ∷ pages) = PageOf (is_named before x.place.block) (written_record x) ∷ written_records (Some x.place.block) pages
@@ -47,22 +47,22 @@ abbrev pub named_after_parts : Option ℕ → List Part → Option ℕ
 named_after_parts before [] = before
 named_after_parts before (part ∷ parts) = named_after_parts (named_after before (part_records before part)) parts
 
--- what stands before the parts: START has the size list alone
+-- the bytes before the parts: START has the size list alone
 unfoldable pub opening : RamTable → List ℕ
 opening table = file_header ++ start_head written_id ++ size_list table ++ body table written_id []
 
--- and after them: END has no record
+-- the bytes after the parts: END has no record
 unfoldable pub closing : RamTable → List ℕ
 closing table = section table sections.End written_id [] ++ end_byte ∷ []
 
--- what stands of it once some parts are written
+-- the bytes after some parts are written
 abbrev pub written_so_far : RamTable → List Part → List ℕ
 written_so_far table parts = opening table ++ written_parts table None parts
 
 abbrev pub written : RamTable → List Part → List ℕ
 written table parts = opening table ++ written_parts table None parts ++ closing table
 
--- the single stream of some rounds, and the main stream of so many FLUSHes
+-- the single stream of some rounds, and the main stream of some FLUSHes
 abbrev pub single : RamTable → List (List Page) → List ℕ
 single table rounds = written table (map RoundPart rounds)
 

@@ -14,7 +14,7 @@ use mig_mem::{NoMemory, Table, TableFault};
 use std::alloc::Allocator;
 use std::marker::Model;
 
-/// A block that an entry names.
+/// A block, as an entry names it.
 #[derive(Drop)]
 pub(crate) struct Entry<A: Allocator> {
     id: Bytes<A>,
@@ -29,13 +29,13 @@ impl<A: Allocator> Model for Entry<A> {
     ghost view = { λ b. record { id = b.id; pages = b.pages } };
 }
 
-/// The entries of a size list so far. Its blocks stay beside the table that they make, so that it
-/// can go back.
+/// The entries of a size list so far. The blocks are kept beside the table that they make, so that
+/// an entry can be undone.
 #[derive(Drop)]
 pub(crate) struct Entries<A: Allocator> {
     page_size: u64,
     limit: u64,
-    // how many bytes of the total no entry has: None before the size list
+    // how many bytes of the total no entry has yet: None before the size list
     left: Option<u64>,
     blocks: Vec<Entry<A>, A>,
     table: Option<Table<A>>,
@@ -125,7 +125,7 @@ impl<A: Allocator> Entries<A> {
         self.limit
     }
 
-    /// Returns how many bytes of the total no entry has.
+    /// Returns how many bytes of the total no entry has yet.
     pub(crate) fn left(&self) -> Option<u64>
         ensures { result ≡ self.now.left }
     {
@@ -152,7 +152,7 @@ impl<A: Allocator> Entries<A> {
         }
     }
 
-    /// Returns the number of the block with an id.
+    /// Returns the number of the block with the id `id`.
     pub(crate) fn find(&self, id: &[u8]) -> Option<usize>
         ensures { result ≡ block_of self.now.blocks id.now }
     {
@@ -182,7 +182,7 @@ impl<A: Allocator> Entries<A> {
         self.left = Some(total);
     }
 
-    /// Goes back to where `left` bytes were left and `count` entries read.
+    /// Goes back to `count` entries, with `left` bytes of the total left.
     pub(crate) fn go_back(&mut self, left: Option<u64>, count: usize)
         requires { WereListed self.old left count }
         ensures { self.new ≡ record self.old { left = left; blocks = take count self.old.blocks } }

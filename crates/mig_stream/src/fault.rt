@@ -7,14 +7,14 @@ ghost use Rattle.mig_stream.specs.FaultNumber.{fault_number};
 use std::error::Error;
 use std::fmt::{self, Display, Formatter};
 
-/// Why bytes are no stream of guest memory: the first fault of their first faulty item.
+/// Why bytes are no stream of guest memory: the first fault of the first item at fault.
 #[derive(Clone, Copy, Debug, PartialEq, Eq)]
 pub enum StreamFault {
     /// The stream doesn't begin with QEMU's magic, `QEVM`.
     Magic,
     /// The version of the stream isn't 3.
     Version,
-    /// Unexpected section type: the type byte may not stand there.
+    /// Unexpected section type.
     SectionType,
     /// The section's name isn't `ram`.
     SectionName,
@@ -40,17 +40,17 @@ pub enum StreamFault {
     TooManyBlocks,
     /// The lengths of the entries pass the total.
     SizeSum,
-    /// START's first record isn't the size list, or a size list stands elsewhere.
+    /// START's first record isn't the size list, or there is a size list elsewhere.
     SizePlace,
-    /// The flags of a record head are none of those that are accepted; it carries them.
+    /// The flags of a record head aren't accepted; the fault carries them.
     Flags(u16),
-    /// A page record leaves its block's id out, and none was named before.
+    /// A page record leaves out its block's id, and no record named a block before.
     NoBlock,
-    /// A page record names an id that the table hasn't.
+    /// A page record names an id that isn't in the table.
     UnknownBlock,
     /// The offset isn't in the block, or isn't 0 at EOS or FLUSH.
     OffsetOut,
-    /// The byte of a zero page record isn't 0; it carries the byte.
+    /// The byte of a zero page record isn't 0; the fault carries the byte.
     Fill(u8),
     /// A FLUSH in a single stream.
     Flush,
@@ -59,14 +59,13 @@ pub enum StreamFault {
     /// The stream ended before its end byte, or in a machine's stream before the footer of RAM's
     /// END.
     Truncated,
-    /// A subsection of the configuration has another name than those that are passed over, or a
-    /// version other than 1.
+    /// A subsection of the configuration has an unknown name, or a version other than 1.
     Subsection,
     /// A capability of the configuration changes the layout of RAM's section.
     Capability,
     /// The configuration's page bits aren't those of the page size.
     PageBits,
-    /// A COMMAND has another number than those that are passed over.
+    /// A COMMAND has a number that isn't accepted.
     Command,
     /// A section, or a round of a main stream, has more page records than may wait.
     Waiting,
@@ -110,7 +109,7 @@ impl StreamFault {
         }
     }
 
-    // Returns the words of a fault that carries nothing.
+    // Returns the message of a fault that carries no value.
     fn words(self) -> &'static str {
         match self {
             StreamFault::Magic => "the text doesn't begin with QEVM",
@@ -149,7 +148,7 @@ impl StreamFault {
     }
 }
 
-/// Writes the fault's number, its words, and what it carries.
+/// Writes the fault's number, its message, and what it carries.
 impl Display for StreamFault {
     fn fmt<W: fmt::Write>(&self, f: &mut Formatter<W>) -> fmt::Result {
         write!(f, "{}: {}", self.number(), self.words())?;

@@ -1,4 +1,4 @@
-//! Big-endian numbers at their places in an item, for `items`.
+//! Big-endian numbers at their offsets in an item, for `items`.
 
 ghost use Rattle.std.specs.Prelude.{◌≡◌, ◌+◌, ◌≤◌, length};
 ghost use Rattle.mig_stream.specs.Fields.{be16_at, be32_at, be64_at};

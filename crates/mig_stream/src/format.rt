@@ -1,5 +1,5 @@
 //! The numbers of QEMU's migration stream, by their names there. `specs/Format` has them for
-//! contracts, which tie the two.
+//! contracts, which relate the two.
 
 /// The first four bytes of a stream, "QEVM" (`migration/savevm.h`).
 pub(crate) const QEMU_VM_FILE_MAGIC: u32 = 0x5145_564D;
@@ -42,7 +42,7 @@ pub(crate) const IGNORE_SHARED: &[u8] = b"x-ignore-shared";
 
 pub(crate) const MAPPED_RAM: &[u8] = b"mapped-ram";
 
-// ---- COMMANDs that leave the reading of RAM's section alone (`enum qemu_vm_cmd` in
+// ---- COMMANDs that don't change how RAM's section is read (`enum qemu_vm_cmd` in
 // `migration/savevm.c`)
 
 pub(crate) const MIG_CMD_OPEN_RETURN_PATH: u16 = 1;
@@ -73,7 +73,7 @@ pub(crate) const RAM_SAVE_FLAG_PAGE: u16 = 0x008;
 
 pub(crate) const RAM_SAVE_FLAG_EOS: u16 = 0x010;
 
-/// The block is the one that a page record named last.
+/// The block is the one that the last page record named.
 pub(crate) const RAM_SAVE_FLAG_CONTINUE: u16 = 0x020;
 
 pub(crate) const RAM_SAVE_FLAG_MULTIFD_FLUSH: u16 = 0x200;

@@ -1,10 +1,10 @@
-//! The reader of a single stream that gives page records as they come: of a complete stream, or of
-//! piece after piece, with a `Pause` between two. `load_single` reads a complete stream by one, and
-//! `EagerState` the pieces as they come.
+//! The reader of a single stream that gives page records as they come: of a complete stream, or
+//! piece after piece, with a `Pause` between two. `load_single` reads a complete stream by it, and
+//! `InPlaceState` the pieces as they come.
 //!
-//! A section's records are given before the section is complete, so that a page can be copied as
-//! soon as its bytes were read. Who takes them must see to it that a stream with a fault leaves no
-//! records of an incomplete section, or say what it leaves. `StreamReader` keeps them instead.
+//! It gives a section's records before the section is complete, so that a page can be copied as
+//! soon as its bytes were read. Its caller must drop the records of an incomplete section if the
+//! stream has a fault, or say what it leaves. `StreamReader` keeps the records instead.
 
 ghost use Rattle.std.specs.Prelude.{◌≡◌, ◌≢◌, ◌<◌, ◌≤◌, ◌+◌, ◌*◌, ◌^◌, length, [], All, IsTrue, IsFalse, IsSome, None, Some, IfOk, IfSome, OnOk, OnErr, ◌++◌, ℕ, List, take, IfNone};
 ghost use Rattle.std.specs.Option.{option_copied};
@@ -31,27 +31,27 @@ use std::alloc::{Allocator, Global};
 use std::marker::Model;
 use std::{fmt, mem};
 
-/// What a call of `RecordReader::read_on` gave.
+/// What a call of `RecordReader::read_on` returns.
 #[derive(Clone, Copy, Debug, PartialEq, Eq)]
 pub enum Given {
     /// Page records of a section that isn't complete yet. There may be none.
     Records,
     /// The last page records of a section. There may be none.
     Section,
-    /// No records: all were given, and the stream stands so.
+    /// No records: all were given. This is the state of the stream.
     End(StreamState),
 }
 
 /// Reads a complete single stream, or its next piece after a `Pause`, and gives its page records as
-/// they come. Their pages are lent from those bytes, but for a page whose first bytes an earlier
+/// they come. It lends their pages from those bytes, but for a page whose first bytes an earlier
 /// piece had.
 #[derive(Drop)]
 pub struct RecordReader<'a, A: Allocator = Global> {
     progress: Progress<'a, A>,
-    // the bytes that earlier pieces had of the item that is due
+    // the bytes of the next item that earlier pieces had
     pending: Vec<u8, A>,
     rest: Piece<'a, 'a>,
-    // how the pending bytes and the rest stand, once they aren't read any further
+    // the state of the pending bytes and the rest, once they aren't read any further
     found: Option<StreamState>,
     given: StreamRound<'a, A>,
     // how many bytes the stream has up to the end of the rest
@@ -70,18 +70,18 @@ impl<'a, A: Allocator> Model for RecordReader<'a, A> {
     ghost invariant = { λ r. IsUnread r.found r.progress r.pending.items (bytes_of r.rest) };
 }
 
-// The guest's bytes aren't printed.
+// Guest memory isn't printed.
 impl<'a, A: Allocator> fmt::Debug for RecordReader<'a, A> {
     fn fmt<W: fmt::Write>(&self, f: &mut fmt::Formatter<W>) -> fmt::Result {
         f.pad("RecordReader { .. }")
     }
 }
 
-/// A single stream between two of its pieces: how far it was read, and the bytes of an item that
-/// isn't complete yet. All records that were read have been given.
+/// A single stream between two of its pieces: its progress, and the bytes of an item that isn't
+/// complete yet. All records that were read have been given.
 ///
 /// Load piece after piece: `resume` with the next one, `read_on` until `End(Reading)`, and `pause`.
-/// A caller that reads pages straight to where they belong asks for each piece by `wanted`.
+/// A caller that reads pages straight to their destination asks for each piece by `wanted`.
 #[derive(Drop)]
 pub struct Pause<A: Allocator = Global> {
     pub(crate) progress: Progress<'static, A>,
@@ -100,7 +100,7 @@ impl<A: Allocator> Model for Pause<A> {
     ghost invariant = { λ p. IsPaused (record { progress = p.progress; pending = p.pending.items; fed = p.fed }) };
 }
 
-// The guest's bytes aren't printed.
+// Guest memory isn't printed.
 impl<A: Allocator> fmt::Debug for Pause<A> {
     fn fmt<W: fmt::Write>(&self, f: &mut fmt::Formatter<W>) -> fmt::Result {
         f.pad("Pause { .. }")
@@ -108,8 +108,8 @@ impl<A: Allocator> fmt::Debug for Pause<A> {
 }
 
 // Reads the item whose first bytes are pending, with the rest of it from a piece. Returns what is
-// left of the piece, after what is pending then, and how these stand where they aren't to be read
-// any further. An `Err` takes no item.
+// left of the piece, and the state of the pending bytes and of it, if they aren't to be read any
+// further. An `Err` takes no item.
 fn read_pending<'b, A: Allocator + Copy>(
     progress: &mut Progress<'_, A>,
     pending: &mut Vec<u8, A>,
@@ -137,9 +137,9 @@ fn read_pending<'b, A: Allocator + Copy>(
     }
 }
 
-// Reads up to the next pause. Returns what is left, after what is pending then, and how these stand
-// where they aren't to be read any further. After an `Err` some items were taken, and the pending
-// bytes may have others after them.
+// Reads up to the next pause. Returns what is left of the bytes, and the state of the pending bytes
+// and of it, if they aren't to be read any further. After an `Err` some items were taken, and other
+// bytes may follow the pending ones.
 fn read_to_pause<'a, A: Allocator + Copy>(
     progress: &mut Progress<'a, A>,
     pending: &mut Vec<u8, A>,
@@ -182,8 +182,8 @@ impl<A: Allocator + Copy> Pause<A> {
         Pause::new_within(alloc, frame, page_size, limit, None)
     }
 
-    /// Creates the pause before the first byte as `new_in` does, with at most `waiting` page records
-    /// in a section. One more is the fault `Waiting`. `None` is any number.
+    /// Creates the pause before the first byte as `new_in` does. A section may have at most
+    /// `waiting` page records: one more is the fault `Waiting`. `None` is any number.
     pub fn new_within(
         alloc: A,
         frame: Frame,
@@ -202,7 +202,7 @@ impl<A: Allocator + Copy> Pause<A> {
         }
     }
 
-    /// Returns a reader of `piece`, the next bytes of the stream, which gave no records of them
+    /// Returns a reader of `piece`, the next bytes of the stream. It has given no records of them
     /// yet.
     pub fn resume<'b>(self, piece: &'b [u8]) -> RecordReader<'b, A>
         ensures gives { (given : Settings) (text : List ℕ) (so_far : GivenSoFar)
@@ -247,7 +247,7 @@ impl<A: Allocator> Pause<A> {
         self.progress.entries.page_size()
     }
 
-    /// Returns the stream's table, once its size list was read completely.
+    /// Returns the stream's table, once its size list is complete.
     pub fn table(&self) -> Option<&Table<A>>
         ensures whole { option_copied result ≡ whole_table self.now.progress }
         ensures table { PauseTells self.now (λ given text so_far. HasTable given text (option_copied result)) }
@@ -287,8 +287,8 @@ impl<'a, A: Allocator + Copy> RecordReader<'a, A> {
         RecordReader::new_within(alloc, frame, page_size, limit, None, text)
     }
 
-    /// Creates a reader of `text` as `new_in` does, with at most `waiting` page records in a section.
-    /// One more is the fault `Waiting`. `None` is any number.
+    /// Creates a reader of `text` as `new_in` does. A section may have at most `waiting` page
+    /// records: one more is the fault `Waiting`. `None` is any number.
     pub fn new_within(
         alloc: A,
         frame: Frame,
@@ -314,8 +314,8 @@ impl<'a, A: Allocator + Copy> RecordReader<'a, A> {
         }
     }
 
-    /// Reads on, for the most part up to the end of a page or of a section, and gives the records
-    /// that it found: `given` has them until the next call.
+    /// Reads on, in most cases up to the end of a page or of a section, and gives the records that
+    /// it found: `given` has them until the next call.
     ///
     /// # Errors
     ///
@@ -410,7 +410,7 @@ impl<'a, A: Allocator> RecordReader<'a, A> {
         }
     }
 
-    // Returns what was read and not given, where no section is complete.
+    // Returns what was read and not given, if no section is complete.
     fn give_open(&mut self) -> Given
         requires { self.old.progress.rounds ≡ [] }
         ensures less { self.old.found ≢ None → LeavesLess result self.old self.new }
@@ -433,16 +433,16 @@ impl<'a, A: Allocator> RecordReader<'a, A> {
         }
     }
 
-    /// Returns what the last call of `read_on` gave: no records before the first call, and at the
-    /// end.
+    /// Returns the records that the last call of `read_on` gave: none before the first call, and at
+    /// the end.
     pub fn given(&self) -> &StreamRound<'a, A>
         ensures { result.now ≡ self.now.given }
     {
         &self.given
     }
 
-    /// Returns the bytes after the stream, once `read_on` returned `End(Closed)`: what follows its
-    /// end byte, or in a machine's stream the footer of RAM's END.
+    /// Returns the bytes after the stream, once `read_on` returned `End(Closed)`: those after its
+    /// end byte, or in a machine's stream those after the footer of RAM's END.
     pub fn behind(&self) -> Option<&'a [u8]>
         ensures behind { IfSome result (λ rest. GiverTells self.now (λ given text so_far. IsBehind given text rest.now)) }
         ensures some { self.now.found ≡ Some state.Closed → IsSome result }

@@ -1,7 +1,7 @@
-//! How each item of a stream is taken. `Progress::run` calls it for the kind that is due.
+//! Takes each kind of item of a stream. `Progress::run` calls it for the kind that comes next.
 //!
-//! A function takes one complete item of one kind: it judges it, in the order of the item's faults,
-//! and notes what it says.
+//! Each function takes one complete item of one kind: it tests it, in the order of the item's
+//! faults, and notes its values.
 
 ghost use Rattle.std.specs.Prelude.{◌≡◌, ◌+◌, ◌/◌, ◌%◌, ◌^◌, ◌≤◌, ◌==◌, ◌&&◌, not, if◌then◌else◌, length, slice_index, OnOk, OnErr};
 ghost use Rattle.mig_mem.specs.PageSize.{IsPageSize};
@@ -319,7 +319,7 @@ impl<'a, A: Allocator + Copy> Progress<'a, A> {
         requires size { length (bytes_of item) ≡ self.old.page_size }
         ensures { TakesAs self.old (due.Content filling.Normal place) (bytes_of item.entry) self.new result }
     {
-        // for what the contract of `page_size` says of it: it is at most 8,192
+        // shows that the page size is at most 8,192
         let _page_size = self.entries.page_size();
         self.filling = self.records.push_page(self.filling, place, item)?;
         self.room = less_room(self.room);
@@ -348,7 +348,7 @@ impl<'a, A: Allocator + Copy> Progress<'a, A> {
 }
 
 impl<'a, A: Allocator> Progress<'a, A> {
-    /// Passes over an item of a machine's stream that has nothing on RAM.
+    /// Passes over an item of a machine's stream that doesn't concern RAM.
     pub(crate) fn pass(&mut self, passed: PassedItem, item: &[u8]) -> Result<(), Stop>
         requires { length item.now ≡ passed_size passed item.now }
         ensures { TakesAs self.old (due.Passed passed) item.now self.new result }
@@ -395,7 +395,7 @@ fn subsection_head(item: &[u8]) -> Result<Due, Stop>
     Ok(Due::Passed(PassedItem::SubsectionBody(subsection)))
 }
 
-// Returns the subsection of a name.
+// Returns the subsection with this name.
 #[tactic(auto, unfolding(crate::specs::Format::subsection_name))]
 fn subsection_of(name: &[u8]) -> Option<Subsection>
     ensures { result ≡ subsection_of name.now }
@@ -412,7 +412,7 @@ fn subsection_of(name: &[u8]) -> Option<Subsection>
     None
 }
 
-// Returns whether COMMAND `number` leaves the reading of RAM's section alone.
+// Returns whether COMMAND `number` doesn't change how RAM's section is read.
 fn is_passed_command(number: u16) -> bool
     ensures { result ≡ is_passed_command number }
 {
@@ -433,7 +433,7 @@ fn are_page_bits(bits: u32, page_size: u64) -> bool
     2u64.checked_pow(bits) == Some(page_size)
 }
 
-// Returns whether a capability of this name changes the layout of RAM's section.
+// Returns whether the capability `name` changes the layout of RAM's section.
 #[tactic(auto, unfolding(crate::specs::Format::layout_capabilities))]
 fn is_layout(name: &[u8]) -> bool
     ensures { result ≡ list_any (λ known. bytes_eq name.now known) layout_capabilities }
@@ -441,8 +441,7 @@ fn is_layout(name: &[u8]) -> bool
     name == IGNORE_SHARED || name == MAPPED_RAM
 }
 
-// Returns the item after the count of capabilities, or after one of them, where `others` are to
-// come.
+// Returns the item after the count of capabilities, or after one of them, if `others` more come.
 fn capabilities_due(others: u32) -> Due
     ensures { result ≡ capabilities_due others }
 {
@@ -475,7 +474,7 @@ fn behind_command(before: Before) -> Before
     }
 }
 
-// Returns whether a section of this type byte is passed over there.
+// Returns whether a section with this type byte is passed over after `before`.
 fn is_passed(frame: Frame, before: Before, byte: u8) -> bool
     ensures { result ≡ is_passed frame before byte }
 {
@@ -509,7 +508,7 @@ fn behind_footer(frame: Frame, section: Section) -> Due
     })
 }
 
-// Returns whether this type byte may stand there.
+// Returns whether this type byte is accepted after `before`.
 fn is_allowed(before: Before, byte: u8) -> bool
     ensures { result ≡ is_allowed before byte }
 {
@@ -521,7 +520,7 @@ fn is_allowed(before: Before, byte: u8) -> bool
     }
 }
 
-// Returns the item that follows an entry of the size list, by how many bytes of the total are left.
+// Returns the item after an entry of the size list, given how many bytes of the total are left.
 fn after_entry(left: u64) -> Due
     ensures { result ≡ (if left == 0 then due.RecordHead else due.ListEntry) }
 {
@@ -532,8 +531,8 @@ fn after_entry(left: u64) -> Due
     }
 }
 
-// Returns the page number and the flags of a record's head. The sizes are named, so that none is
-// divided by at run time.
+// Returns the page number and the flags of a record's head. The page sizes are constants here, so
+// that no division is left at run time.
 pub(crate) fn split_head(head: u64, page_size: u64) -> (u64, u16)
     requires { IsPageSize page_size }
     ensures page { result.0 ≡ head / page_size }
@@ -546,7 +545,7 @@ pub(crate) fn split_head(head: u64, page_size: u64) -> (u64, u16)
     }
 }
 
-// Returns whether no page record more fits into the open round.
+// Returns whether the open round takes no more page records.
 #[inline(always)]
 pub(crate) fn is_full(room: Option<u64>) -> bool
     ensures { result ≡ is_full room }

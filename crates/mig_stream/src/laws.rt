@@ -1,31 +1,31 @@
 //! Laws of the definitions alone: what holds between streams and their readings, whatever code
 //! writes and reads them.
 //!
-//! Each law is the clause of a function that does nothing. So it is proved with the crate, and
-//! callers can have it.
+//! Each law is the clause of a function that does nothing. So it is proved with the crate, and a
+//! caller who calls the function may use it.
 
 ghost use Rattle.mig_stream.specs.MachineWritten.{MachineSinglesAreTexts, MachineMainsAreTexts, WrittenIsClosed, ConfiguredIsWritten, ConfiguredIsClosed};
 ghost use Rattle.mig_stream.specs.Law.{HasOneReading, SpelledIsRead, ReadIsSpelled, ClosedIsText, MachineClosedIsText, HasOneText, SinglesAreTexts, MainsAreTexts, RecordsStandForPages, ReadingsKeepLimits, LongerTextsStay};
 ghost use Rattle.mig_stream.specs.Law.{IsValidUpToOnePlace, LongerTextsStayValid, ClosedIsValid, BadIsValidBefore};
 
-/// Bytes have exactly one reading. So whoever reads them, in whatever pieces, finds one and the
-/// same table, rounds and first fault.
+/// Bytes have exactly one reading. So every reader of them, in any pieces, finds the same table,
+/// rounds and first fault.
 pub fn text_has_one_reading()
     ensures { HasOneReading }
 {}
 
-/// Whatever is spelled as a stream is read as that stream, whatever bytes follow it.
+/// Bytes that are a stream by its format (`IsText`) are read as that stream, whatever bytes follow.
 pub fn spelled_is_read()
     ensures { SpelledIsRead }
 {}
 
-/// Whatever is read to its end byte has a prefix that is spelled as that stream.
+/// Bytes that are read to their end byte have a prefix that is that stream by its format.
 pub fn read_is_spelled()
     ensures { ReadIsSpelled }
 {}
 
-/// Bytes are read to an end byte exactly where a prefix of them is a stream, of that table and
-/// those rounds.
+/// Bytes are read to an end byte exactly if a prefix of them is a stream, of that table and those
+/// rounds.
 pub fn closed_is_text()
     ensures { ClosedIsText }
 {}
@@ -35,9 +35,9 @@ pub fn bytes_have_one_text()
     ensures { HasOneText }
 {}
 
-/// What a writer makes of rounds of a lawful table, which a limit admits, is a single stream. It
-/// has a round for START and one for END around them, and its records stand for the pages of the
-/// rounds. What a writer makes of FLUSHes is a main stream with as many rounds.
+/// What a writer writes of rounds of a lawful table within the limit is a single stream. It has a
+/// round for START and one for END around them, and its records stand for the pages of the rounds.
+/// What a writer writes of FLUSHes is a main stream with as many rounds.
 pub fn written_is_text()
     ensures single { SinglesAreTexts }
     ensures main { MainsAreTexts }
@@ -52,15 +52,15 @@ pub fn readings_keep_limits()
 
 /// What is read of a stream stays, whatever bytes follow: its complete rounds are the first ones of
 /// the longer stream, and its table is that stream's too. After the end byte, or a fault, nothing
-/// changes any more.
+/// changes.
 pub fn longer_texts_stay()
     ensures { LongerTextsStay }
 {}
 
-/// A stream is valid up to exactly one place, which `valid_up_to` of each reader returns. So many
-/// of its bytes are complete items without a fault, and no more are. Bytes that follow only move
-/// the place on. Once the stream is closed or bad, it stays: where the stream is closed, or where
-/// the item at fault begins.
+/// A stream is valid up to exactly one byte offset, which `valid_up_to` of each reader returns.
+/// That many of its bytes are complete items without a fault, and no more are. More bytes can only
+/// increase the offset. Once the stream is closed or bad, it stays: at the end of the stream, or
+/// where the item at fault begins.
 pub fn text_is_valid_up_to_one_place()
     ensures one { IsValidUpToOnePlace }
     ensures longer { LongerTextsStayValid }
@@ -68,22 +68,22 @@ pub fn text_is_valid_up_to_one_place()
     ensures bad { BadIsValidBefore }
 {}
 
-/// Bytes are read as a machine's stream to the footer of RAM's END exactly where a prefix of them
-/// is one. The prefix is of that table and those rounds, whatever follows it.
+/// Bytes are read as a machine's stream to the footer of RAM's END exactly if a prefix of them is
+/// one, of that table and those rounds. Any bytes may follow it.
 pub fn machine_closed_is_text()
     ensures { MachineClosedIsText }
 {}
 
-/// What a writer makes of rounds, or of FLUSHes, for a machine's stream is one, of these rounds. So
-/// it is with a machine's name of at most 1,024 bytes in front of RAM's START, and without one.
+/// What a writer writes of rounds, or of FLUSHes, for a machine's stream is one, of these rounds.
+/// That holds with a machine's name of at most 1,024 bytes before RAM's START, and without one.
 pub fn machine_written_is_text()
     ensures single { MachineSinglesAreTexts }
     ensures main { MachineMainsAreTexts }
 {}
 
-/// The bytes that a writer makes after the file header go with each machine. With a configuration
-/// between them they are what it makes for a machine of that name, up to RAM's END or with the end
-/// byte. Without a name that is what it makes of RAM alone.
+/// The bytes that a writer writes after the file header serve for each machine. With a
+/// configuration between them they are what it writes for a machine of that name, up to RAM's END
+/// or with the end byte. Without a name they are what it writes of RAM alone.
 pub fn configured_is_written()
     ensures open_end { ConfiguredIsWritten }
     ensures closed_end { ConfiguredIsClosed }

@@ -1,18 +1,17 @@
 //! The migration stream: the RAM section of QEMU's stream version 3, alone or as the main stream of
-//! multifd. `Frame::Ram` is that section with nothing beside it, as `StreamWriter` writes it.
-//! `Frame::Machine` is a complete machine's stream as QEMU writes it, read up to the footer of
-//! RAM's END.
+//! multifd. `Frame::Ram` is that section alone, as `StreamWriter` writes it. `Frame::Machine` is a
+//! complete machine's stream as QEMU writes it, read up to the footer of RAM's END.
 //!
-//! The definitions stand in `specs/`, apart from the code of both directions:
+//! The definitions are in `specs/`, apart from the code of both directions:
 //!
 //! - `Text`, `Machine`: which bytes are a stream.
 //! - `Items`, `Reading`: how any bytes are read, item by item, with every fault by name.
-//! - `Written`, `MachineWritten`: the one stream that a writer makes.
+//! - `Written`, `MachineWritten`: the one stream that a writer writes.
 //!
 //! The laws between them are in `laws`. `StreamWriter` writes, and `StreamReader` reads.
 //! `RecordReader` reads a single stream, at once or piece by piece with a `Pause` between, and
-//! gives its page records before their section is complete. What travels on the channels beside a
-//! main stream, and what becomes of the pages, is for other crates.
+//! gives its page records before their section is complete. Other crates have the channels beside a
+//! main stream, and what is done with the pages.
 #![tactic(auto)]
 
 mod bytes;

@@ -1,4 +1,4 @@
-//! What a stream begins with that a writer makes: file header and START. `StreamWriter::new` calls
+//! The bytes with which a written stream begins: file header and START. `StreamWriter::new` calls
 //! it.
 
 ghost use Rattle.std.specs.Prelude.{◌≡◌, ◌*◌, ◌<◌, ◌≤◌, ◌^◌, ◌++◌, length, Some, IfOk, OnOk};
@@ -30,7 +30,7 @@ const START_HEAD: [u8; 17] = [
 /// RAM_SAVE_FLAG_EOS, and QEMU_VM_SECTION_FOOTER with the section id, with which each section ends.
 pub(crate) const SECTION_END: [u8; 13] = [0, 0, 0, 0, 0, 0, 0, 0x10, 0x7E, 0, 0, 0, 1];
 
-/// Makes the stream's bytes up to the first part.
+/// Returns the stream's bytes up to the first part.
 #[tactic(auto, unfolding(crate::specs::Written::opening, crate::specs::Text::file_header, crate::specs::Text::size_list))]
 pub(crate) fn opening_of<A: Allocator, B: Allocator>(
     alloc: A,
@@ -47,7 +47,7 @@ pub(crate) fn opening_of<A: Allocator, B: Allocator>(
     Ok(text)
 }
 
-/// Makes the file header, and a configuration with `name`.
+/// Returns the file header, and a configuration with `name`.
 #[tactic(auto, unfolding(crate::specs::Text::file_header))]
 pub(crate) fn configuration_of<A: Allocator>(alloc: A, name: &[u8]) -> Result<Vec<u8, A>, NoMemory>
     requires { length name.now ≤ most_name_bytes }
@@ -61,7 +61,7 @@ pub(crate) fn configuration_of<A: Allocator>(alloc: A, name: &[u8]) -> Result<Ve
     Ok(text)
 }
 
-/// Makes the stream's bytes from START up to the first part.
+/// Returns the stream's bytes from START up to the first part.
 #[tactic(auto, unfolding(crate::specs::Written::opening, crate::specs::Text::file_header, crate::specs::Text::size_list))]
 pub(crate) fn start_of<A: Allocator, B: Allocator>(
     alloc: A,

@@ -1,5 +1,5 @@
-//! The bytes that a reader is given to read, which pass by or stay: `reader` makes them, and
-//! `round` copies or lends of them.
+//! The bytes that a reader reads. They are lent for the call alone, or for as long as the rounds.
+//! `reader` creates them, and `round` copies or lends pages of them.
 
 ghost use Rattle.std.specs.Prelude.{◌≡◌, ◌≤◌, length, take, drop};
 ghost use Rattle.mig_stream.specs.Kept.{bytes_of};
@@ -7,9 +7,9 @@ ghost use Rattle.mig_stream.specs.Kept.{bytes_of};
 /// Bytes to be read.
 #[derive(Clone, Copy)]
 pub(crate) enum Piece<'a, 'b> {
-    /// They pass by: a page that is kept is copied.
+    /// Bytes of one call: a page that is kept is copied.
     Passing(&'b [u8]),
-    /// They stay where they are: a page that is kept is lent from them.
+    /// Bytes that outlive the call: a page that is kept is lent from them.
     Staying(&'a [u8]),
 }
 

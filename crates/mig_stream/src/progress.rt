@@ -25,7 +25,7 @@ use std::collections::VecDeque;
 use std::marker::Model;
 use std::mem;
 
-/// How many records are many: they are given before others are read.
+/// How many records are given before others are read.
 const MANY: usize = 1 << 10;
 
 /// How far a stream has been read.
@@ -38,7 +38,7 @@ pub(crate) struct Progress<'a, A: Allocator> {
     pub(crate) section: Section,
     pub(crate) section_id: u32,
     pub(crate) named: Option<usize>,
-    // the most page records of a round, and how many more the open one may have: None is any number
+    // the most page records of a round, and how many more the open one takes: None is any number
     pub(crate) waiting: Option<u64>,
     pub(crate) room: Option<u64>,
     // the records of the open round, and the complete rounds that were not given away
@@ -77,7 +77,7 @@ impl<'a, A: Allocator> Model for Progress<'a, A> {
         × HasShortPlace c.due };
 }
 
-/// How far a stream had been read, to go back to. Its lists only grow.
+/// How far a stream had been read, to go back to. The lists of the progress only grow.
 #[derive(Clone, Copy)]
 pub(crate) struct Checkpoint {
     due: Due,
@@ -129,7 +129,7 @@ impl<'a, A: Allocator + Copy> Progress<'a, A> {
         self.due = Due::RecordHead;
     }
 
-    /// Lets go of the bytes read so far. No record lends them.
+    /// Drops the bytes read so far. No record lends them.
     pub(crate) fn without_records<'b>(self) -> Progress<'b, A>
         requires records { self.records ≡ [] }
         requires rounds { self.rounds ≡ [] }
@@ -186,8 +186,8 @@ impl<'a, A: Allocator + Copy> Progress<'a, A> {
         }
     }
 
-    /// Takes items from the beginning of the bytes, as far as they are complete and without a
-    /// fault. Returns the bytes that are left, and how they stand. After an `Err` some items were
+    /// Takes items from the beginning of the bytes, as long as they are complete and without a
+    /// fault. Returns the bytes that are left, and their state. After an `Err` some items were
     /// taken.
     pub(crate) fn run<'b>(
         &mut self,
@@ -239,7 +239,7 @@ impl<'a, A: Allocator + Copy> Progress<'a, A> {
     }
 }
 
-// Returns how many bytes an item has that is passed over, as its first bytes say.
+// Returns how many bytes an item that is passed over has, by its first bytes.
 fn passed_size(passed: PassedItem, bytes: &[u8]) -> usize
     ensures { result ≡ passed_size passed bytes.now }
 {
@@ -257,7 +257,7 @@ fn passed_size(passed: PassedItem, bytes: &[u8]) -> usize
 }
 
 impl<'a, A: Allocator> Progress<'a, A> {
-    /// Returns how many bytes the item has that is due, as its first bytes say.
+    /// Returns how many bytes the next item has, by its first bytes.
     pub(crate) fn size(&self, bytes: &[u8]) -> usize
         ensures size { result ≡ size self.now.page_size self.now.due bytes.now }
         ensures page_size { IsPageSize self.now.page_size }
@@ -283,9 +283,9 @@ impl<'a, A: Allocator> Progress<'a, A> {
         }
     }
 
-    // Returns whether it is time to give the records so far, after the item that is due. So it is
-    // if that is the end of a section, or if the records are many. So it is after a page, too: its
-    // bytes were just read, and lead to the head that follows them.
+    // Returns whether the records so far are given, after the next item. They are at the end of a
+    // section, and if they are many. They also are after a page: its bytes were just read, and are
+    // followed by the next head.
     fn ends_piece(&self) -> bool {
         match self.due {
             Due::Content(Filling::Normal, _) | Due::Footer => true,
@@ -323,7 +323,7 @@ impl<'a, A: Allocator> Progress<'a, A> {
         }
     }
 
-    /// Gives the records of the open round, in place of those that were there.
+    /// Gives the records of the open round, in place of those that `given` had.
     pub(crate) fn give_records(&mut self, given: &mut StreamRound<'a, A>)
         ensures given { given.new ≡ record { page_size = self.old.page_size; records = self.old.records } }
         ensures same { self.new ≡ record self.old { records = [] } }
@@ -332,7 +332,7 @@ impl<'a, A: Allocator> Progress<'a, A> {
         self.filling = 0;
     }
 
-    /// Returns the mark of how far the stream was read.
+    /// Returns a checkpoint of how far the stream was read.
     pub(crate) fn checkpoint(&self) -> Checkpoint
         ensures value { result ≡ checkpoint_of self.now }
         ensures listed { AreListed self.now.page_size self.now.limit self.now.left self.now.blocks }
@@ -351,7 +351,7 @@ impl<'a, A: Allocator> Progress<'a, A> {
         }
     }
 
-    /// Goes back to where the mark was made.
+    /// Goes back to a checkpoint.
     pub(crate) fn undo(&mut self, checkpoint: Checkpoint)
         requires { WasSaved checkpoint self.old }
         ensures { (c : StreamProgress) → checkpoint ≡ checkpoint_of c → IsLater c self.old → self.new ≡ c }

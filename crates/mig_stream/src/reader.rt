@@ -1,7 +1,8 @@
 //! The reader of a stream that comes in pieces, or is complete. Loaders keep one.
 //!
 //! It keeps what was read as a `Progress`. Of the stream's bytes it keeps only those of an item
-//! that isn't complete yet. A piece is read in place, but for the bytes that complete such an item.
+//! that isn't complete yet. It reads a piece in place, but for the bytes that complete such an
+//! item.
 
 ghost use Rattle.std.specs.Prelude.{◌≡◌, ◌≢◌, ◌+◌, ◌<◌, ◌≤◌, ◌^◌, ◌++◌, ◌↔◌, ℕ, Bool, List, [], ◌∷◌, length, take, true, false, IsTrue, IsFalse, IsOk, Some, All, IfOk, IfSome, IfNone, OnOk, OnErr};
 ghost use Rattle.std.specs.Option.{option_copied};
@@ -27,14 +28,31 @@ use std::alloc::{Allocator, Global};
 use std::fmt;
 use std::marker::Model;
 
-/// Reads a stream from pieces of its bytes. What it returns is the reading of all bytes fed,
-/// however they were cut.
+/// Reads a stream from pieces of its bytes. It returns the reading of all bytes fed, however they
+/// were cut.
+///
+/// # Examples
+///
+/// A main stream is fed in pieces of `len` bytes, to find where RAM's part of it ends:
+///
+/// <!-- quoted from crates/mig_captures/src/load.rt -->
+/// ```rust
+/// let frame = Frame::Machine;
+/// let mut reader = StreamReader::new_in(alloc, frame, Mode::Main, PAGE_SIZE_4K, MAX_TOTAL);
+/// for piece in text.chunks(len.max(1)) {
+///     if reader.ended() || reader.fed().checked_add(piece.len() as u64).is_none() {
+///         return Err(Trouble::Input);
+///     }
+///     reader.feed(piece)?;
+/// }
+/// Ok(reader.closed_at())
+/// ```
 #[derive(Drop)]
 pub struct StreamReader<'a, A: Allocator = Global> {
     progress: Progress<'a, A>,
     // the bytes of the item that isn't complete yet
     pending: Vec<u8, A>,
-    // how the bytes fed stand
+    // the state of the bytes fed
     found: StreamState,
     // how many of the bytes fed are complete items without a fault
     valid_up_to: u64,
@@ -54,14 +72,14 @@ impl<'a, A: Allocator> Model for StreamReader<'a, A> {
     ghost invariant = { λ r. r.found ≡ state.Reading → IsUnfinished r.progress r.pending.items };
 }
 
-// The guest's bytes aren't printed.
+// Guest memory isn't printed.
 impl<'a, A: Allocator> fmt::Debug for StreamReader<'a, A> {
     fn fmt<W: fmt::Write>(&self, f: &mut fmt::Formatter<W>) -> fmt::Result {
         f.pad("StreamReader { .. }")
     }
 }
 
-// Returns how a stream stands that may have ended.
+// Returns the state of a stream that may have ended.
 fn state_at(ended: bool, found: StreamState) -> StreamState
     ensures { result ≡ state_at ended found }
 {
@@ -71,7 +89,7 @@ fn state_at(ended: bool, found: StreamState) -> StreamState
     }
 }
 
-/// Fills the pending item up from the beginning of a piece. Returns what is left of the piece, or
+/// Completes the pending item from the beginning of a piece. Returns what is left of the piece, or
 /// None if the item isn't complete with all of it.
 pub(crate) fn complete<'b, A: Allocator>(
     progress: &Progress<'_, A>,
@@ -111,8 +129,8 @@ fn keep<A: Allocator>(kept: &mut Vec<u8, A>, bytes: &[u8]) -> Result<(), NoMemor
     Ok(())
 }
 
-// Reads bytes in place, and keeps those of an item that isn't complete. Returns how the stream
-// stands, and how many bytes are left. After an `Err` some items were taken.
+// Reads bytes in place, and keeps those of an item that isn't complete. Returns the state of the
+// stream, and how many bytes are left. After an `Err` some items were taken.
 fn read_in_place<'a, A: Allocator + Copy>(
     progress: &mut Progress<'a, A>,
     pending: &mut Vec<u8, A>,
@@ -130,8 +148,8 @@ fn read_in_place<'a, A: Allocator + Copy>(
     Ok((found, rest.bytes().len()))
 }
 
-// Reads a piece that follows the pending bytes. After an `Err` some items were taken, and the
-// pending bytes have others after them.
+// Reads a piece that follows the pending bytes. After an `Err` some items were taken, and other
+// bytes may follow the pending ones.
 fn read<A: Allocator + Copy>(
     progress: &mut Progress<'_, A>,
     pending: &mut Vec<u8, A>,
@@ -156,8 +174,8 @@ fn read<A: Allocator + Copy>(
 }
 
 impl<'a, A: Allocator + Copy> StreamReader<'a, A> {
-    /// Creates a reader that was fed nothing, for a stream of `mode` of RAM's sections alone with
-    /// pages of `page_size` bytes. Its size list may add up to at most `limit` bytes.
+    /// Creates a reader for a stream of `mode` of RAM's sections alone with pages of `page_size`
+    /// bytes. No bytes were fed. Its size list may add up to at most `limit` bytes.
     pub fn new(alloc: A, mode: Mode, page_size: u64, limit: u64) -> StreamReader<'a, A>
         requires page_size { IsPageSize page_size }
         requires limit { limit ≤ 2 ^ 40 }
@@ -168,8 +186,8 @@ impl<'a, A: Allocator + Copy> StreamReader<'a, A> {
         StreamReader::new_in(alloc, Frame::Ram, mode, page_size, limit)
     }
 
-    /// Creates a reader that was fed nothing, for a stream of `frame` and `mode` with pages of
-    /// `page_size` bytes. Its size list may add up to at most `limit` bytes.
+    /// Creates a reader for a stream of `frame` and `mode` with pages of `page_size` bytes. No
+    /// bytes were fed. Its size list may add up to at most `limit` bytes.
     pub fn new_in(
         alloc: A,
         frame: Frame,
@@ -186,8 +204,8 @@ impl<'a, A: Allocator + Copy> StreamReader<'a, A> {
         StreamReader::new_within(alloc, frame, mode, page_size, limit, None)
     }
 
-    /// Creates a reader as `new_in` does, in which a section of a single stream, or a round of a main
-    /// stream, may have at most `waiting` page records. One more is the fault `Waiting`. Complete
+    /// Creates a reader as `new_in` does. A section of a single stream, or a round of a main
+    /// stream, may have at most `waiting` page records: one more is the fault `Waiting`. Complete
     /// rounds that weren't taken aren't counted. `None` is any number.
     pub fn new_within(
         alloc: A,
@@ -260,9 +278,9 @@ impl<'a, A: Allocator + Copy> StreamReader<'a, A> {
         StreamReader::of_text_within(alloc, frame, mode, page_size, limit, None, text)
     }
 
-    /// Creates a reader that was fed `text` as `of_text_in` does, with at most `waiting` page records
-    /// in a section, or in a round of a main stream. One more is the fault `Waiting`. `None` is any
-    /// number.
+    /// Creates a reader that was fed `text` as `of_text_in` does. A section, or a round of a main
+    /// stream, may have at most `waiting` page records: one more is the fault `Waiting`. `None` is
+    /// any number.
     ///
     /// # Errors
     ///
@@ -354,7 +372,7 @@ impl<'a, A: Allocator> StreamReader<'a, A> {
         }
     }
 
-    /// Ends the stream: a reader that isn't closed or bad is bad from now on, with `Truncated`. A
+    /// Ends the stream: if it isn't closed or bad, it is bad from now on, with `Truncated`. A
     /// second call changes nothing.
     pub fn end(&mut self)
         ensures value { self.new ≡ record self.old { ended = true } }
@@ -377,7 +395,7 @@ impl<'a, A: Allocator> StreamReader<'a, A> {
         self.fed
     }
 
-    /// Returns how the stream stands that was fed: still to be read on, closed, or bad.
+    /// Returns the state of the stream that was fed: more bytes are needed, closed, or bad.
     pub fn state(&self) -> StreamState
         ensures { Tells self.now (λ given so_far. HasState given so_far.text so_far.ended result) }
     {
@@ -405,7 +423,7 @@ impl<'a, A: Allocator> StreamReader<'a, A> {
         }
     }
 
-    /// Returns the table, as soon as the size list is complete. It stays, also if a fault follows.
+    /// Returns the table, once the size list is complete. It stays, also if a fault follows.
     pub fn table(&self) -> Option<&Table<A>>
         ensures { Tells self.now (λ given so_far. HasTable given so_far.text (option_copied result)) }
     {

@@ -1,6 +1,6 @@
 //! Page records as they are kept, each in 24 bytes, for `round`.
 //!
-//! The bytes of copied pages lie together in buffers, so that most pages need no allocation of
+//! The bytes of copied pages are kept together in buffers, so that most pages need no allocation of
 //! their own. A buffer belongs to the record of its first page. The records after it say where in
 //! it their bytes are.
 
@@ -13,10 +13,10 @@ ghost use Rattle.mig_stream.specs.Round.{record_at};
 use mig_mem::{NoMemory, Place};
 use std::alloc::Allocator;
 
-/// The most bytes of a buffer, but for one page alone.
+/// The most bytes of a buffer, unless it has one page alone.
 const MAX_BUFFER: usize = 1 << 16;
 
-/// Where bytes lie: in the buffer of which record, from where on, and up to where.
+/// Where bytes are: in the buffer of which record, from which offset, and up to which.
 #[derive(Clone, Copy)]
 pub(crate) struct Span {
     pub(crate) owner: u32,
@@ -24,16 +24,16 @@ pub(crate) struct Span {
     pub(crate) end: u32,
 }
 
-/// A page record: the number of its page's block, that of the page, and what it has of the page.
+/// A page record: the number of its page's block, that of the page, and its content.
 #[derive(Drop)]
 pub(crate) enum Record<'a, A: Allocator> {
-    /// That it is zeros.
+    /// The page is zeros.
     Zeros(u8, u32),
-    /// Its bytes, up to there in a buffer of its own.
+    /// The bytes of the page, up to this offset in a buffer of its own.
     Kept(u8, u32, u32, Box<Vec<u8, A>, A>),
-    /// Its bytes, in the buffer of a record before it.
+    /// The bytes of the page, in the buffer of a record before it.
     Behind(u8, u32, Span),
-    /// Its bytes, as they stand in the stream.
+    /// The bytes of the page, lent from the stream.
     Lent(u8, u32, &'a [u8]),
 }
 
@@ -61,7 +61,8 @@ pub(crate) fn place_of(block: u8, page: u32) -> Place
     }
 }
 
-// Appends bytes to a buffer, if there is room. Returns from where on, and up to where, they lie.
+// Appends bytes to a buffer, if there is room. Returns the offsets of their beginning and their
+// end.
 fn append<A: Allocator>(buffer: &mut Vec<u8, A>, bytes: &[u8]) -> Option<(u32, u32)>
     ensures some { IfSome result (λ s. (buffer.new.items ≡ buffer.old.items ++ bytes.now)
         × (s.0 ≡ length buffer.old.items) × (s.1 ≡ length buffer.new.items)) }
@@ -111,7 +112,7 @@ pub(crate) fn put_behind<A: Allocator>(
     })
 }
 
-// Returns how much room the buffer after the one of a record is to have, for `len` bytes.
+// Returns the capacity of the buffer after the one of a record, for `len` bytes.
 fn next_capacity<A: Allocator>(records: &[Record<'_, A>], owner: usize, len: usize) -> usize {
     match records.get(owner) {
         Some(Record::Kept(_, _, _, buffer)) => {
@@ -121,7 +122,7 @@ fn next_capacity<A: Allocator>(records: &[Record<'_, A>], owner: usize, len: usi
     }
 }
 
-/// Makes a buffer with these bytes, to follow the one of a record.
+/// Creates a buffer with these bytes, which follows the one of a record.
 pub(crate) fn next_buffer<A: Allocator + Copy>(
     alloc: A,
     records: &[Record<'_, A>],

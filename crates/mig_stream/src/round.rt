@@ -1,5 +1,5 @@
 //! The rounds of a stream: their page records. `Progress` fills them, `StreamReader::take_round`
-//! gives them, and `Target` reads them.
+//! returns them, and `Target` reads them.
 
 ghost use Rattle.std.specs.Prelude.{◌≡◌, ◌<◌, ◌^◌, ◌++◌, [], ◌∷◌, length, take, None, Some, IfSome, IfOk, OnOk, OnErr, vec_len, vec_capacity};
 ghost use Rattle.std.specs.Option.{option_copied};
@@ -13,8 +13,8 @@ use std::alloc::{Allocator, Global};
 use std::marker::Model;
 use std::{fmt, mem};
 
-// Makes room for one more record: as much again as there is, and at first for one, since a stream
-// may have many rounds of few records.
+// Makes room for one more record: doubles the room, and begins with one, since a stream may have
+// many rounds of few records.
 #[inline(never)]
 fn grow<A: Allocator>(records: &mut Vec<Record<'_, A>, A>) -> Result<(), NoMemory>
     ensures items { records.new.items ≡ records.old.items }
@@ -79,14 +79,14 @@ impl<'a, A: Allocator> Records<'a, A> {
         self.items.len()
     }
 
-    /// Keeps the first records alone.
+    /// Keeps the first `n` records alone.
     pub(crate) fn truncate(&mut self, n: usize)
         ensures { self.new ≡ take n self.old }
     {
         self.items.truncate(n);
     }
 
-    /// Gives back the room that no record needs.
+    /// Frees the room that no record needs.
     pub(crate) fn fit(&mut self)
         ensures { self.new ≡ self.old }
     {
@@ -118,8 +118,7 @@ impl<'a, A: Allocator> Records<'a, A> {
         content_at(&self.items, i)
     }
 
-    /// Returns the place and the content together; of a page of zeros, whose item says both, in one
-    /// look.
+    /// Returns the place and the content together. For a page of zeros it reads one item alone.
     #[inline(always)]
     pub(crate) fn get(&self, i: usize) -> (Place, Option<&[u8]>)
         requires { i < length self.now }
@@ -170,7 +169,7 @@ impl<'a, A: Allocator + Copy> Records<'a, A> {
         }
     }
 
-    // Adds a record of a page with these bytes, which stay where they are.
+    // Adds a record of a page with these bytes, which it lends.
     fn push_lent(&mut self, place: Place, bytes: &'a [u8]) -> Result<(), NoMemory>
         requires { IsShort place }
         ensures ok { OnOk result (self.new ≡ self.old ++ record { place = place; content = Some bytes.now } ∷ []) }
@@ -217,7 +216,7 @@ impl<'a, A: Allocator> Model for StreamRound<'a, A> {
     ghost invariant = { λ r. AreWhole r.page_size r.records };
 }
 
-// The guest's bytes aren't printed.
+// Guest memory isn't printed.
 impl<'a, A: Allocator> fmt::Debug for StreamRound<'a, A> {
     fn fmt<W: fmt::Write>(&self, f: &mut fmt::Formatter<W>) -> fmt::Result {
         f.pad("StreamRound { .. }")
@@ -259,8 +258,7 @@ impl<'a, A: Allocator> StreamRound<'a, A> {
         self.records.place(i)
     }
 
-    /// Returns what record `i` says that its page holds, as many bytes as the page size. None is a
-    /// zero record.
+    /// Returns the content of record `i`, as many bytes as the page size. None is a zero record.
     pub fn content(&self, i: usize) -> Option<&[u8]>
         requires { i < length self.now.records }
         ensures value { option_copied result ≡ (record_at self.now.records i).content }
@@ -269,7 +267,7 @@ impl<'a, A: Allocator> StreamRound<'a, A> {
         self.records.content(i)
     }
 
-    /// Returns where the page of record `i` is, and what the record says that it holds.
+    /// Returns the place and the content of record `i`.
     #[inline(always)]
     pub fn record(&self, i: usize) -> (Place, Option<&[u8]>)
         requires { i < length self.now.records }

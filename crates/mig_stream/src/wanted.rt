@@ -1,5 +1,5 @@
-//! What the next bytes of a paused stream are: so a caller reads the content of a page straight to
-//! where it belongs, and copies nothing. QEMU's threads for channels read so.
+//! The next bytes of a paused stream, so that a caller reads the content of a page straight to its
+//! destination, and copies nothing. QEMU's threads for channels read that way.
 
 ghost use Rattle.std.specs.Prelude.{◌≡◌, ◌∷◌, ◌++◌, ◌<◌, [], ℕ, List, length, MatchOption, IfSome, IsSome, Some};
 ghost use Rattle.mig_stream.specs.declared.wanted.Wanted.TheVariants as wanted;
@@ -13,20 +13,19 @@ use crate::item::{Due, Filling};
 use mig_mem::Place;
 use std::alloc::Allocator;
 
-/// What the next bytes of a stream are.
+/// The next bytes of a stream.
 #[derive(Clone, Copy, Debug, PartialEq, Eq)]
 pub enum Wanted {
     /// The content of the page at this place, from its first byte on.
     Page(Place),
-    /// At least 1 byte: so many bytes belong to an item that isn't complete. With fewer it isn't
-    /// complete either.
+    /// The next bytes of an item, at least 1. With fewer bytes the item isn't complete.
     Bytes(usize),
 }
 
 impl<A: Allocator + Copy> Pause<A> {
     /// Returns what the next bytes of the stream are. A caller that has `Bytes` reads no more than
-    /// those, and resumes with them. One that has a `Page` reads its content to where it belongs,
-    /// and calls `take_page`, or resumes with it as with any other bytes.
+    /// those, and resumes with them. A caller that has a `Page` reads its content to its
+    /// destination, and calls `take_page`, or resumes with it as with any other bytes.
     pub fn wanted(&self) -> Wanted
         ensures { MatchOption (page_due self.now) ((n : ℕ) × (result ≡ wanted.Bytes n) × AreWanted self.now n) (λ place. result ≡ wanted.Page place) }
     {
@@ -39,9 +38,8 @@ impl<A: Allocator + Copy> Pause<A> {
         Wanted::Bytes(size - self.pending.len())
     }
 
-    /// Takes the content of the page that is due, all of it, as the next bytes of the stream. They
-    /// aren't looked at and not kept: the page record is given to the caller by this call, who has
-    /// them where they belong.
+    /// Takes all of the content of the page that comes next, as the next bytes of the stream. The
+    /// bytes are neither read nor kept: the caller already has the page where it belongs.
     pub fn take_page(&mut self, content: &[u8])
         requires due { IsSome (page_due self.old) }
         requires len { length content.now ≡ self.old.progress.page_size }

@@ -1,7 +1,7 @@
-//! The writer of a stream: of one table and some parts it makes the one stream that
+//! The writer of a stream. From a table and parts it writes the one stream that
 //! `specs/Written.antt` defines. The senders of `mig_send` call it.
 //!
-//! It only appends. Which rounds there are, and which stream a part belongs to, is for its caller.
+//! It only appends. Its caller decides which rounds there are, and which stream a part belongs to.
 
 ghost use Rattle.std.specs.Prelude.{◌≡◌, ◌+◌, ◌*◌, ◌<◌, ◌^◌, ◌++◌, ◌==◌, ◌≤◌, if◌then◌else◌, ℕ, List, [], ◌∷◌, length, take, None, Some, IfOk, IfErr, OnOk, OnErr};
 ghost use Rattle.mig_mem.specs.RamTable.{block as block_at};
@@ -43,8 +43,21 @@ const CLOSING: [u8; 19] = [
     0x03, 0, 0, 0, 1, 0, 0, 0, 0, 0, 0, 0, 0x10, 0x7E, 0, 0, 0, 1, 0x00,
 ];
 
-/// Writes a stream: the file header and START when it is made, a PART for each part, and END when
-/// it is finished.
+/// Writes a stream: the file header and START when it is created, a PART for each part, and END
+/// when it is finished.
+///
+/// # Examples
+///
+/// A stream with one round is written. The contract of `part` requires that the tables are equal:
+///
+/// <!-- quoted from crates/mig_low_tests/src/rounds.rt -->
+/// ```rust
+/// let mut writer = StreamWriter::new(rt.alloc(), image.table()).expect(rt, "a writer");
+/// assert!(rt; image.table().same(writer.table()));
+/// assert!(rt; dirty.table().same(writer.table()));
+/// assert!(rt; writer.part(&image, &dirty).is_ok());
+/// writer.finish().ok().expect(rt, "a stream")
+/// ```
 #[derive(Drop)]
 pub struct StreamWriter<A: Allocator = Global> {
     table: Table<A>,
@@ -60,7 +73,7 @@ impl<A: Allocator> Model for StreamWriter<A> {
     ghost view = { λ w. record { table = w.table; text = w.text.items; named = w.named } };
 }
 
-// The guest's bytes aren't printed.
+// Guest memory isn't printed.
 impl<A: Allocator> fmt::Debug for StreamWriter<A> {
     fn fmt<W: fmt::Write>(&self, f: &mut fmt::Formatter<W>) -> fmt::Result {
         f.pad("StreamWriter { .. }")
@@ -75,7 +88,7 @@ fn is_zero_page(content: &[u8]) -> bool
 }
 
 impl<A: Allocator + Copy> StreamWriter<A> {
-    /// Creates a writer that was given no part yet. It keeps a copy of the table.
+    /// Creates a writer without a part. It keeps a copy of the table.
     ///
     /// # Errors
     ///
@@ -93,11 +106,12 @@ impl<A: Allocator + Copy> StreamWriter<A> {
         })
     }
 
-    /// Creates a machine's stream: returns its first bytes, the file header and a configuration
-    /// with the machine's `name`, and the writer of what follows them. QEMU refuses a stream with
-    /// another name than its own machine's (`configuration_post_load` in `migration/savevm.c`).
+    /// Creates a writer for a machine's stream. Returns the stream's first bytes, the file header
+    /// and a configuration with the machine's `name`, and the writer of what follows them. QEMU
+    /// refuses a stream with another name than its own machine's (`configuration_post_load` in
+    /// `migration/savevm.c`).
     ///
-    /// `configured_is_written` says what both make together.
+    /// `configured_is_written` says what both write together.
     ///
     /// # Errors
     ///
@@ -121,7 +135,7 @@ impl<A: Allocator + Copy> StreamWriter<A> {
 }
 
 impl<A: Allocator> StreamWriter<A> {
-    /// Returns the table whose pages it writes.
+    /// Returns the table whose pages the writer writes.
     pub fn table(&self) -> &Table<A>
         ensures { result.now ≡ self.now.table }
     {
@@ -154,7 +168,7 @@ impl<A: Allocator> StreamWriter<A> {
         put
     }
 
-    // Goes back to where its stream had `len` bytes and block `named` was named last.
+    // Goes back to where the stream had `len` bytes and `named` was the last block named.
     fn go_back(&mut self, len: usize, named: Option<usize>)
         ensures { self.new ≡ record self.old { text = take len self.old.text; named = named } }
     {
@@ -162,7 +176,7 @@ impl<A: Allocator> StreamWriter<A> {
         self.named = named;
     }
 
-    // Writes a PART. After an `Err` a part of it may stand.
+    // Writes a PART. After an `Err` a part of it may have been written.
     fn put_part<G: GuestPages, C: Allocator>(
         &mut self,
         image: &G,
@@ -180,7 +194,7 @@ impl<A: Allocator> StreamWriter<A> {
     }
 
     // Writes the records of the dirty pages, in the order of their places. After an `Err` some of
-    // them may stand.
+    // them may have been written.
     fn put_pages<G: GuestPages, C: Allocator>(
         &mut self,
         image: &G,
@@ -207,7 +221,7 @@ impl<A: Allocator> StreamWriter<A> {
         Ok(())
     }
 
-    // Writes the record of a page. After an `Err` a part of it may stand.
+    // Writes the record of a page. After an `Err` a part of it may have been written.
     fn put_page(&mut self, place: Place, content: &[u8]) -> Result<(), NoMemory>
         requires { IsPlace self.old.table place }
         ensures ok { OnOk result (self.new ≡ with_pages self.old (record { place = place; content = content.now } ∷ [])) }
@@ -304,9 +318,9 @@ impl<A: Allocator> StreamWriter<A> {
         }
     }
 
-    /// Returns the bytes that were written and not drained yet. All that stands of the stream so
-    /// far is what was drained in all. The pieces that were drained, and then what `finish`
-    /// returns, are the stream. It allocates nothing.
+    /// Returns the bytes that were written and not drained yet. All bytes drained are the stream so
+    /// far: the drained pieces, and then what `finish` returns, are the stream. It allocates
+    /// nothing.
     pub fn drain(&mut self) -> Vec<u8, A>
     where
         A: Copy,
@@ -322,7 +336,7 @@ impl<A: Allocator> StreamWriter<A> {
     }
 
     /// Drains into `bytes`, as `drain` does. What the buffer held is dropped, and its room is used
-    /// for what is written next. So two buffers serve for a stream of any length.
+    /// for what is written next. So two buffers suffice for a stream of any length.
     pub fn drain_into(&mut self, bytes: &mut Vec<u8, A>)
         ensures table { self.new.table ≡ self.old.table }
         ensures all { (drained : List ℕ) (parts : List Part) → HasDrained drained self.old parts
@@ -362,8 +376,8 @@ impl<A: Allocator> StreamWriter<A> {
         self.finish_with(&END)
     }
 
-    // Appends the stream's last bytes, and returns the bytes that weren't drained. An `Err` gives
-    // the writer back as it was.
+    // Appends the stream's last bytes, and returns the bytes that weren't drained. An `Err` returns
+    // the writer as it was.
     fn finish_with(mut self, last: &[u8]) -> Result<Vec<u8, A>, StreamWriter<A>>
         ensures ok { IfOk result (λ text. text.items ≡ self.text ++ last.now) }
         ensures err { IfErr result (λ w. w ≡ self) }
@@ -382,13 +396,13 @@ impl<A: Allocator> StreamWriter<A> {
     }
 }
 
-/// A part that is being written, page after page: a round whose pages are what its caller read, as
-/// of a guest that runs on. It has the writer until the part is ended or cancelled. Whoever drops
-/// it drops the writer too, and so gives up the stream.
+/// A part that is written page after page: a round whose pages are what its caller read, as of a
+/// guest that runs on. It has the writer until the part is ended or cancelled. If it is dropped,
+/// the writer is dropped too, and the stream can't be finished.
 #[derive(Drop)]
 pub struct OpenPart<A: Allocator = Global> {
     writer: StreamWriter<A>,
-    // how long the stream was before the part, and which block was named last there
+    // the length of the stream before the part, and the block that was named last there
     len: usize,
     named: Option<usize>,
 }
@@ -404,7 +418,7 @@ impl<A: Allocator> Model for OpenPart<A> {
     ghost invariant = { λ p. p.len ≤ length p.writer.text };
 }
 
-// The guest's bytes aren't printed.
+// Guest memory isn't printed.
 impl<A: Allocator> fmt::Debug for OpenPart<A> {
     fn fmt<W: fmt::Write>(&self, f: &mut fmt::Formatter<W>) -> fmt::Result {
         f.pad("OpenPart { .. }")
@@ -412,15 +426,15 @@ impl<A: Allocator> fmt::Debug for OpenPart<A> {
 }
 
 impl<A: Allocator> OpenPart<A> {
-    /// Returns the table whose pages it writes.
+    /// Returns the table whose pages the part writes.
     pub fn table(&self) -> &Table<A>
         ensures { result.now ≡ self.now.before.table }
     {
         self.writer.table()
     }
 
-    /// Writes a page: a place of the table, for which `Table::holds` is the test, and its bytes.
-    /// Places come in any order. Of several pages at one place the last one counts.
+    /// Writes a page: a place of the table, which a caller tests by `Table::holds`, and its bytes.
+    /// Places come in any order. If a place comes more than once, the last page counts.
     ///
     /// # Errors
     ///
@@ -442,7 +456,7 @@ impl<A: Allocator> OpenPart<A> {
         put
     }
 
-    /// Ends the part: the round of the pages that were put, in the order in which they were.
+    /// Ends the part: the round of the pages that were put, in their order.
     ///
     /// # Errors
     ///
@@ -459,7 +473,7 @@ impl<A: Allocator> OpenPart<A> {
         }
     }
 
-    /// Leaves out the part, and returns the writer as it was before.
+    /// Cancels the part, and returns the writer as it was before.
     pub fn cancel(mut self) -> StreamWriter<A>
         ensures { result ≡ self.before }
     {

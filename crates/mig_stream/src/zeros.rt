@@ -1,8 +1,8 @@
 //! The records of zero pages, many at once.
 //!
-//! Most records of a guest that has hardly been used are such. A record is two items, or three if
-//! it names its block. Here it is judged and noted in one step. Whatever isn't a complete record of
-//! a zero page without a fault is left to the items one by one, which judge it anew.
+//! They are most records of a guest that has hardly been used. Such a record is two items, or three
+//! if it names its block. Here it is tested and noted in one step. All other bytes are left to the
+//! items one by one, which test them anew.
 
 ghost use Rattle.std.specs.Prelude.{◌≡◌, ◌+◌, ◌<◌, ◌≤◌, ◌++◌, [], ◌∷◌, false, is_none, length, slice_index, Some, None, IfOk, IfSome, OnOk, OnErr};
 ghost use Rattle.mig_mem.specs.RamTable.{block, block_of};
@@ -23,18 +23,17 @@ use std::alloc::Allocator;
 /// How many bytes a record's head has.
 const HEAD_LEN: usize = 8;
 
-/// How many bytes a zero page's record has that leaves its block's id out: its head, and the fill
-/// byte.
+/// How many bytes a zero record without its block's id has: its head, and the fill byte.
 const CONTINUED_LEN: usize = 9;
 
-/// How many bytes are looked at in one go: more would leave more records to be given at once than
-/// caches hold.
+/// How many bytes are read at once. More would leave more records to be given at once than caches
+/// hold.
 const NEAR: usize = 1 << 14;
 
 impl<'a, A: Allocator> Progress<'a, A> {
-    /// If a record is due, takes the records of zero pages at the front of the bytes, as far as
-    /// these are complete and without a fault. Of very many it takes those in the first `NEAR`
-    /// bytes. Returns the bytes after them. After an `Err` some were taken.
+    /// If a record comes next, takes the records of zero pages at the front of the bytes, as long
+    /// as they are complete and without a fault. If there are very many, it takes those in the
+    /// first `NEAR` bytes. Returns the bytes after them. After an `Err` some were taken.
     #[tactic(auto, using(crate::proofs::ZeroRecords::none_taken))]
     #[inline(always)]
     pub(crate) fn pass_zeros<'b>(&mut self, text: Piece<'a, 'b>) -> Result<Piece<'a, 'b>, NoMemory>
@@ -49,7 +48,7 @@ impl<'a, A: Allocator> Progress<'a, A> {
         }
     }
 
-    // Takes the records of zero pages as `pass_zeros` does, where a record is due.
+    // Takes the records of zero pages as `pass_zeros` does, if a record comes next.
     #[tactic(auto, using(crate::proofs::ZeroRecords::records_none))]
     fn pass_zero_records<'b>(&mut self, text: Piece<'a, 'b>) -> Result<Piece<'a, 'b>, NoMemory>
         requires { self.old.due ≡ due.RecordHead }
@@ -72,7 +71,7 @@ impl<'a, A: Allocator> Progress<'a, A> {
         Ok(rest)
     }
 
-    // Takes those of one kind. Returns how many bytes they have.
+    // Takes the records of one kind. Returns how many bytes they have.
     #[tactic(auto, using(crate::proofs::ZeroRecords::records_none))]
     fn zero_run(&mut self, bytes: &[u8]) -> Result<usize, NoMemory>
         requires { self.old.due ≡ due.RecordHead }
@@ -90,7 +89,7 @@ impl<'a, A: Allocator> Progress<'a, A> {
         }
     }
 
-    // Takes those that leave their block's id out.
+    // Takes the records without a block's id.
     #[tactic(auto, using(crate::proofs::ZeroRecords::records_none))]
     fn continued_zeros(&mut self, bytes: &[u8]) -> Result<usize, NoMemory>
         requires due { self.old.due ≡ due.RecordHead }
@@ -119,7 +118,7 @@ impl<'a, A: Allocator> Progress<'a, A> {
         Ok(at)
     }
 
-    // Takes those that name their block.
+    // Takes the records that name their block.
     #[tactic(auto, using(crate::proofs::ZeroRecords::records_none))]
     fn named_zeros(&mut self, bytes: &[u8]) -> Result<usize, NoMemory>
         requires due { self.old.due ≡ due.RecordHead }
@@ -138,7 +137,7 @@ impl<'a, A: Allocator> Progress<'a, A> {
         Ok(at)
     }
 
-    // Takes the one at the front. Returns how many bytes it has, or 0 if there is none.
+    // Takes the first record. Returns how many bytes it has, or 0 if there is none.
     #[tactic(auto, using(crate::proofs::ZeroRecords::records_none))]
     #[inline(always)]
     fn named_zero(&mut self, bytes: &[u8]) -> Result<usize, NoMemory>
@@ -164,8 +163,8 @@ impl<'a, A: Allocator> Progress<'a, A> {
         Ok(CONTINUED_LEN + name_len)
     }
 
-    // Returns the place of a page in the block that a length byte and an id name. None if there is
-    // no such block or page.
+    // Returns the place of a page in the block that a length byte and an id name. Returns None if
+    // there is no such block or page.
     #[inline(always)]
     fn named_place(&self, name: &[u8], page: u64) -> Option<Place>
         requires { length name.now ≡ 1 + slice_index name.now 0 }

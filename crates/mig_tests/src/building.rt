@@ -1,5 +1,6 @@
-//! What these tests build. Where something can't be had the test fails at once. What a function
-//! takes the prover grows fast with the values that it owns, so each owns few.
+//! Builds the values of these tests. A test fails at once if something can't be built. The prover's
+//! time for a function grows fast with the number of values that it owns, so each function owns
+//! few.
 
 use mig_fixtures::{at, places_of, set, table, zeroed};
 use mig_mem::{Dirty, Memory, NoMemory, Place};
@@ -10,7 +11,7 @@ use std::process::Abort;
 /// The blocks of most tests.
 pub(crate) const BLOCKS: [(&str, u64); 2] = [("a", 2), ("pc.ram", 65)];
 
-/// Returns a memory of zeros of those blocks, but for one byte, 7.
+/// Returns a memory of those blocks with zeros, except for one byte, 7.
 pub(crate) fn image_with(rt: &(impl AllocGlobal + Abort), block: usize, offset: u64) -> Memory {
     let mut image = zeroed(rt.alloc(), &BLOCKS).expect(rt, "a memory");
     assert!(rt; set(&mut image, block, offset, 7));
@@ -23,7 +24,7 @@ pub(crate) fn dirty_of(rt: &(impl AllocGlobal + Abort), places: &[Place]) -> Dir
     places_of(rt.alloc(), &table, places).expect(rt, "a set")
 }
 
-/// Writes a PART, where all are of one table.
+/// Writes a PART, if the arguments are of one table.
 pub(crate) fn part<A: Allocator>(
     rt: &(impl AllocGlobal + Abort),
     writer: &mut StreamWriter<A>,
@@ -50,7 +51,7 @@ pub(crate) fn text_of(
 }
 
 /// Returns the stream of two rounds: page 0 of `a` as zeros, page 1 with the first byte 7 and page
-/// 64 of `pc.ram` as zeros; and that one again.
+/// 64 of `pc.ram` as zeros; and that page again.
 pub(crate) fn two_rounds(rt: &(impl AllocGlobal + Abort)) -> Vec<u8> {
     let image = image_with(rt, 0, 4096);
     text_of(
@@ -74,7 +75,7 @@ const BEFORE_START: [&[u8]; 9] = [
     b"\x08\x00\x01\x00\x00",
 ];
 
-/// How many bytes these have.
+/// The number of these bytes.
 pub(crate) const BEFORE_START_LEN: usize = 7 + 40 + 40 + 39 + 5;
 
 const SWITCHOVER_START: &[u8] = b"\x08\x00\x0b\x00\x00";
@@ -82,8 +83,9 @@ const SWITCHOVER_START: &[u8] = b"\x08\x00\x0b\x00\x00";
 // The beginning of a device's section, after RAM's END.
 const DEVICE: &[u8] = b"\x04\x00\x00\x00\x02\x05timer";
 
-/// Returns the stream of two rounds in a frame, and what follows where it is closed: in that of a
-/// machine with COMMANDs and a configuration, and a device's section in place of the end byte.
+/// Returns the stream of two rounds in a frame, and the bytes after the place at which it is
+/// closed. A machine's stream has COMMANDs and a configuration, and a device's section in place of
+/// the end byte.
 pub(crate) fn two_rounds_in(
     rt: &(impl AllocGlobal + Abort),
     frame: Frame,
@@ -146,18 +148,19 @@ pub(crate) fn feed<A: Allocator + Copy>(
     reader.feed(piece)
 }
 
-/// What became of a run in which an allocation was to be refused.
+/// The result of a run in which an allocation was to be refused.
 #[derive(Clone, Copy, PartialEq, Eq)]
 pub(crate) enum Run {
     /// It answered `NoMemory`.
     Refused,
-    /// It was refused a smaller block for a list that it had, and kept the list where it was.
+    /// The refused allocation was a smaller block for an existing list, which was kept.
     Survived,
-    /// It has no such allocation.
+    /// The run has no such allocation.
     Whole,
 }
 
-/// Returns what became of a run that answered or not, after which the refusal still waits or not.
+/// Returns the result of a run, from whether it succeeded, and whether the refusal is still to
+/// happen.
 pub(crate) fn run_of(rt: &impl Abort, has_answered: bool, is_waiting: bool) -> Run {
     if !has_answered {
         assert!(rt; !is_waiting);

@@ -20,7 +20,7 @@ const UP_TO_PAGE: [&[u8]; 6] = [
     b"\x07",
 ];
 
-// What follows the page's last byte: the end of its PART, END and the end byte.
+// The bytes after the page: the end of its PART, END and the end byte.
 const AFTER_PAGE: [&[u8]; 4] = [
     b"\x00\x00\x00\x00\x00\x00\x00\x10\x7e\x00\x00\x00\x01",
     b"\x03\x00\x00\x00\x01",
@@ -57,7 +57,7 @@ fn front(rt: &(impl AllocGlobal + Abort), name: &[u8], len: &[u8]) -> Vec<u8> {
     text
 }
 
-// Returns a machine's stream of a guest, where the name has at most 1,024 bytes.
+// Returns a machine's stream of a guest; the name has at most 1,024 bytes.
 fn begun<'a>(
     rt: &impl Abort,
     heap: &'a TestHeap,
@@ -68,7 +68,7 @@ fn begun<'a>(
     StreamWriter::with_configuration(heap, image.table(), name)
 }
 
-// Asserts that a writer of a guest's table goes on as it should after a configuration.
+// Asserts that a writer of a guest's table writes the right stream after a configuration.
 fn assert_goes_on<A: Allocator>(
     rt: &(impl AllocGlobal + Abort),
     mut writer: StreamWriter<A>,
@@ -80,7 +80,7 @@ fn assert_goes_on<A: Allocator>(
     assert!(rt; finished(rt, writer).as_slice() == from_start(rt).as_slice());
 }
 
-// Asserts what is written with a name, after refused allocations.
+// Asserts the bytes that are written with a name, after refused allocations.
 fn assert_configured(rt: &(impl AllocGlobal + Abort), name: &[u8], len: &[u8]) -> Result<(), Fail> {
     let heap = TestHeap::new(rt.alloc());
     let image = guest(rt);
@@ -91,7 +91,7 @@ fn assert_configured(rt: &(impl AllocGlobal + Abort), name: &[u8], len: &[u8]) -
     });
 }
 
-// Names without a byte, of 14 bytes, and of the most.
+// Names of no bytes, of 14 bytes, and of the most bytes.
 #[test]
 fn writer_with_configuration(rt: HostRuntime) -> Result<(), Fail> {
     assert_configured(&rt, b"", b"\x00\x00\x00\x00")?;

@@ -1,5 +1,5 @@
-//! Loads of one stream with settings, in both frames: of the stream of two rounds with bytes after
-//! it, and where it is closed; with ample memory, and with each allocation refused.
+//! Loads of one stream with settings, in both frames: the stream of two rounds with bytes after it,
+//! and the place at which it is closed; with ample memory, and with each allocation refused.
 
 ghost use Rattle.std.specs.Prelude.{◌≡◌, ◌≤◌, ◌^◌};
 ghost use Rattle.mig_mem.specs.PageSize.{IsPageSize};
@@ -17,7 +17,7 @@ use std::alloc::{AllocGlobal, Allocator};
 use std::process::Abort;
 use std::test::Fail;
 
-// What a load answers beside its memory.
+// The result of a load, other than its memory.
 type Answer = (u64, Result<(), LoadFault>);
 
 const FRAMES: [Frame; 2] = [Frame::Ram, Frame::Machine];
@@ -29,8 +29,9 @@ fn settings(frame: Frame) -> LoadSettings
     LoadSettings::new(PAGE_SIZE_4K, MAX_TOTAL).with_frame(frame)
 }
 
-// Returns where the stream of two rounds is closed: its sections have 8, 63, 4149, 27 and 18 bytes,
-// and the end byte follows; before START of a machine are 131 bytes, and before END 5.
+// Returns the byte at which the stream of two rounds is closed: its sections have 8, 63, 4149, 27
+// and 18 bytes, and the end byte follows; before START of a machine are 131 bytes, and before END
+// 5.
 fn closed_at(frame: Frame) -> u64 {
     match frame {
         Frame::Ram => 8 + 63 + 4149 + 27 + 18 + 1,
@@ -53,7 +54,7 @@ fn fault_of(round: u64, fault: StreamFault) -> LoadFault {
     }
 }
 
-// Returns a load's answer, or its fault where that is `NoMemory`, with no memory and no round.
+// Returns a load's result, or its fault if that is `NoMemory`, with no memory and no round.
 fn load_or_fault<'a>(
     heap: &'a TestHeap,
     settings: LoadSettings,
@@ -88,8 +89,8 @@ fn loads(rt: HostRuntime) -> Result<(), Fail> {
     assert_loaded(&rt, Frame::Machine, &followed(&rt, Frame::Machine))
 }
 
-// Loads a stream with settings, and returns the answer without the memory, and whether there is
-// one.
+// Loads a stream with settings, and returns the result without the memory, and whether there is a
+// memory.
 fn answer_of(rt: &impl AllocGlobal, settings: LoadSettings, text: &[u8]) -> (Answer, bool)
     requires page_size { IsPageSize settings.page_size }
     requires limit { settings.limit ≤ 2 ^ 40 }
@@ -98,9 +99,10 @@ fn answer_of(rt: &impl AllocGlobal, settings: LoadSettings, text: &[u8]) -> (Ans
     ((loaded.rounds, loaded.verdict), loaded.memory.is_some())
 }
 
-// A machine's stream isn't one of RAM's sections alone: a subsection follows the configuration. The
-// other way round it is one. The limit and the page size count in both frames: `a` has 2 pages of
-// 4096 bytes, `pc.ram` 65; read with pages of 8192, the last bit of their sum is a flag.
+// A machine's stream isn't a stream of RAM's sections: a subsection follows the configuration. A
+// stream of RAM's sections is a machine's stream. The limit and the page size count in both frames:
+// `a` has 2 pages of 4096 bytes, `pc.ram` 65; read with pages of 8192, the last bit of their sum is
+// a flag.
 #[test]
 fn other_settings(rt: HostRuntime) {
     let ram = two_rounds(&rt);
@@ -125,7 +127,7 @@ fn other_settings(rt: HostRuntime) {
     assert!(rt; answer_of(&rt, large.with_frame(Frame::Machine), &machine) == (bits, false));
 }
 
-// Returns where a stream is closed, with allocation `nth` refused.
+// Returns the byte at which a stream is closed, with allocation `nth` refused.
 fn run_of_closed_at(rt: &(impl AllocGlobal + Abort), frame: Frame, text: &[u8], nth: u64) -> Run {
     let heap = TestHeap::new(rt.alloc());
     heap.refuse(nth);
@@ -137,8 +139,8 @@ fn run_of_closed_at(rt: &(impl AllocGlobal + Abort), frame: Frame, text: &[u8], 
     run
 }
 
-// Each allocation is refused in turn. One refusal leaves the answer: that of a smaller block for
-// the list of three records.
+// Each allocation is refused in turn. One refusal doesn't change the answer: that of a smaller
+// block for the list of three records.
 #[test]
 fn where_it_is_closed(rt: HostRuntime) {
     for frame in FRAMES {
@@ -155,7 +157,7 @@ fn where_it_is_closed(rt: HostRuntime) {
     }
 }
 
-// A stream that is cut or has a fault is closed nowhere. A machine's has no end byte; RAM's has
+// A stream that is cut or has a fault isn't closed. A machine's stream has no end byte; RAM's has
 // one.
 #[test]
 fn closed_nowhere(rt: HostRuntime) {
@@ -175,8 +177,8 @@ fn closed_nowhere(rt: HostRuntime) {
     assert!(rt; found == Ok(Some(4265)));
 }
 
-// Returns whether `told` is where a loader is closed after `fed` bytes of a stream that is closed
-// at `closed_at`.
+// Returns whether `told` is right after `fed` bytes of a stream that is closed at `closed_at`: this
+// byte, if it was fed, or else None.
 fn is_told(told: Option<u64>, fed: u64, closed_at: u64) -> bool {
     match told {
         Some(found) => fed >= closed_at && found == closed_at,
@@ -184,7 +186,7 @@ fn is_told(told: Option<u64>, fed: u64, closed_at: u64) -> bool {
     }
 }
 
-// Feeds a loader a stream in pieces of `len` bytes.
+// Feeds a stream in pieces of `len` bytes to a loader.
 fn assert_fed(rt: &(impl AllocGlobal + Abort), frame: Frame, len: usize) {
     let text = followed(rt, frame);
     let mut loader = SingleLoader::new_in(rt.alloc(), settings(frame));
@@ -201,7 +203,7 @@ fn assert_fed(rt: &(impl AllocGlobal + Abort), frame: Frame, len: usize) {
     assert_two_rounds(rt, &loader.finish());
 }
 
-// Feeds a load into a memory of other bytes a stream in pieces of `len` bytes.
+// Feeds a stream in pieces of `len` bytes to a load into a memory of other bytes.
 fn assert_fed_in_place(rt: &(impl AllocGlobal + Abort), frame: Frame, len: usize) {
     let text = followed(rt, frame);
     let memory = zeroed(rt.alloc(), &BLOCKS).expect(rt, "a memory");

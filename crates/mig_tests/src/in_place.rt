@@ -1,5 +1,5 @@
-//! The loader over bytes that the caller keeps: what it leaves of them, of the guest's stream
-//! however it is cut, of a part of it, and of another table's.
+//! The loader over bytes that the caller keeps: the bytes after the guest's stream however it is
+//! cut, after a part of it, and after a stream of another table.
 
 use crate::parts::{PIECE, all_of, block_of, feed, send};
 use mig_fixtures::{TestHeap, at, places_of, table, table_of};
@@ -15,7 +15,7 @@ use std::process::Abort;
 
 const BLOCKS: [(&str, u64); 3] = [("a", 3), ("pc.ram", 70), ("vga", 1)];
 
-// What the caller's bytes hold before a stream comes.
+// The caller's bytes before the stream.
 const OTHER: u8 = 0xEE;
 
 // What a load came to: the sections that were put, and the verdict.
@@ -35,8 +35,8 @@ fn three<T: Drop>(first: T, second: T, third: T) -> [T; 3] {
     [first, second, third]
 }
 
-// Sends the marked pages of a guest onto a memory, in parts of at most `most` pages, fed in pieces
-// of 64 KiB.
+// Sends the marked pages of a guest to a memory, in parts of at most `most` pages, fed in pieces of
+// 64 KiB.
 fn migrate<A: Allocator + Copy, B: Allocator, M: GuestTarget + Drop>(
     alloc: A,
     guest: &LentMemory<'_, B>,
@@ -50,7 +50,7 @@ fn migrate<A: Allocator + Copy, B: Allocator, M: GuestTarget + Drop>(
     Some((loader.rounds(), loader.verdict()))
 }
 
-// Sends all pages of a guest in the bytes of `guest`, onto those of `onto`.
+// Sends all pages of a guest in the bytes of `guest`, to the bytes of `onto`.
 fn migrate_all<A: Allocator + Copy, B: Allocator>(
     alloc: A,
     table: &Table<B>,
@@ -100,7 +100,7 @@ fn migrated(rt: HostRuntime) {
     assert_migrated(&rt, PAGE_SIZE_8K);
 }
 
-// A part of 64 pages without zeros, and its stream: of the guest's first pages also the opening,
+// A part of 64 pages without zeros, and its stream: for the guest's first pages also the opening,
 // which has less than 100 bytes.
 const PART: u64 = 64 * PAGE_SIZE_4K;
 
@@ -178,7 +178,7 @@ fn small_text(rt: &(impl AllocGlobal + Abort), first: &[u8], second: &[u8]) -> V
     text_of(rt.alloc(), &guest, &rounds).expect(rt, "a stream")
 }
 
-// Feeds a stream onto two blocks of a table, in pieces of `len` bytes.
+// Feeds a stream to a loader over two blocks of a table, in pieces of `len` bytes.
 fn load_onto(
     rt: &(impl AllocGlobal + Abort),
     table: &Table,
@@ -210,8 +210,8 @@ fn joined(rt: &(impl AllocGlobal + Abort), pages: &[&[u8]]) -> Vec<u8> {
     bytes
 }
 
-// Asserts what a stream, fed in pieces of `len` bytes, leaves of blocks of other bytes, which are
-// the memory of this table.
+// Asserts the bytes of blocks after a stream that is fed in pieces of `len` bytes. The blocks have
+// other bytes before, and are the memory of this table.
 fn assert_left(
     rt: &(impl AllocGlobal + Abort),
     entries: &[(&str, u64)],
@@ -241,8 +241,8 @@ fn fault_at(round: u64, fault: Fault) -> Answer {
     )
 }
 
-// Returns the guest of the small tests: of the second block page 1 is zeros, and no page that is
-// sent otherwise.
+// Returns the guest of the small tests: page 1 of the second block is zeros, and no other sent page
+// is.
 fn small_guest(rt: &(impl AllocGlobal + Abort)) -> [Vec<u8>; 2] {
     both(bytes_of(rt, 4096, 0, 2), bytes_of(rt, 4096, 1, 3))
 }
@@ -282,7 +282,7 @@ fn text_of_small(rt: &(impl AllocGlobal + Abort)) -> Vec<u8> {
     text
 }
 
-// However the stream is cut, the answer and the bytes are the same. What it doesn't bring stays.
+// However the stream is cut, the answer and the bytes are the same. Pages that aren't in it stay.
 #[test]
 fn cut_anywhere(rt: HostRuntime) {
     let text = text_of_small(&rt);
@@ -323,8 +323,8 @@ fn bad_text(rt: HostRuntime) {
     assert_left(&rt, &SMALL, &text, 100, &wanted);
 }
 
-// Of a stream of another table nothing is applied: its blocks are as long as the memory's, and one
-// has another id. That is reported as soon as the size list is complete.
+// No page of a stream of another table is applied: its blocks are as long as the memory's, and one
+// has another id. The fault is reported as soon as the size list is complete.
 #[test]
 fn another_table(rt: HostRuntime) {
     assert_eq!(rt; Fault::OtherTable.number(), 63);

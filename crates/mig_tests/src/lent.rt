@@ -1,5 +1,5 @@
 //! A guest whose memory is lent as slices: a round of all its pages, a round of a page that was
-//! read of it, both drained, and loaded again.
+//! read from it, both drained, and loaded again.
 
 use mig_mem::{Dirty, LentMemory, Memory, PAGE_SIZE_4K, Place, Table};
 use mig_send::{OpenRound, SingleSender};
@@ -34,7 +34,7 @@ fn all<A: Allocator + Copy>(alloc: A, table: &Table<A>) -> Option<Dirty<A>> {
     Some(dirty)
 }
 
-// Puts a page. `put_page` asks for a place and for bytes of a page.
+// Adds a page. `put_page` requires a place and the bytes of a page.
 fn put<A: Allocator>(round: &mut OpenRound<A>, place: Place, bytes: &[u8]) -> Option<()> {
     let table = round.table();
     if !table.holds(place) || bytes.len() as u64 != table.page_size() {
@@ -44,7 +44,7 @@ fn put<A: Allocator>(round: &mut OpenRound<A>, place: Place, bytes: &[u8]) -> Op
 }
 
 // Returns the stream of a guest lent as these blocks: all its pages, and then others at the last
-// place, the last of them these bytes.
+// place, of which the last are these bytes.
 fn sent<A: Allocator + Copy>(alloc: A, blocks: &[&[u8]], last: &[u8]) -> Option<Vec<u8, A>> {
     let table = table(alloc)?;
     let lent = LentMemory::new(&table, blocks)?;
@@ -62,6 +62,15 @@ fn sent<A: Allocator + Copy>(alloc: A, blocks: &[&[u8]], last: &[u8]) -> Option<
     text.extend_from_slice(&bytes).ok()?;
     text.extend_from_slice(&sender.finish().ok()?).ok()?;
     Some(text)
+}
+
+// Returns the stream of a guest lent as these blocks: one round of all its pages.
+fn sent_whole<A: Allocator + Copy>(alloc: A, blocks: &[&[u8]]) -> Option<Vec<u8, A>> {
+    let table = table(alloc)?;
+    let lent = LentMemory::new(&table, blocks)?;
+    let mut sender = SingleSender::new(alloc, &table).ok()?;
+    sender.round(&lent, &all(alloc, &table)?).ok()?;
+    sender.finish().ok()
 }
 
 fn holds<A: Allocator>(memory: &Memory<A>, place: Place, bytes: &[u8]) -> bool {
@@ -88,6 +97,21 @@ fn is_loaded<A: Allocator + Copy>(alloc: A) -> Option<bool> {
 #[test]
 fn lent_and_drained(rt: HostRuntime) {
     assert!(rt; is_loaded(rt.alloc()) == Some(true));
+}
+
+// Whether all pages of a guest are loaded as they were sent in one round.
+fn is_loaded_whole<A: Allocator + Copy>(alloc: A) -> Option<bool> {
+    let (first, second) = ([7; 4096], [9; 8192]);
+    let text = sent_whole(alloc, &[&first, &second])?;
+    let loaded = load_single(alloc, PAGE_SIZE_4K, &text, 1 << 20);
+    let memory = loaded.memory?;
+    let is_same = holds(&memory, PLACES[0], &first) && holds(&memory, PLACES[2], &second[4096..]);
+    Some(loaded.verdict == Ok(()) && loaded.rounds == 3 && is_same)
+}
+
+#[test]
+fn lent_and_loaded(rt: HostRuntime) {
+    assert!(rt; is_loaded_whole(rt.alloc()) == Some(true));
 }
 
 // Slices that don't fit the table aren't taken.

@@ -1,5 +1,5 @@
 //! Tests of the stream and of the whole path, from senders to loads: each call that allocates with
-//! its allocations refused, and what a refused round leaves; and what faults say of themselves.
+//! its allocations refused, the state after a refused round, and the messages of faults.
 //!
 //! The worked examples are cases of `mig_rows`.
 #![tactic(auto)]

@@ -115,7 +115,7 @@ fn refused_open<'a>(
     run.err()
 }
 
-// Of senders of several rounds one has a stream that is full to its capacity.
+// Among senders of several rounds, one has a stream that is full to its capacity.
 #[test]
 fn refused_open_end(rt: HostRuntime) {
     let image = image_with(&rt, 0, 4096);

@@ -6,13 +6,13 @@ use mig_send::{OpenRound, SingleSender};
 use mig_single_load::InPlaceLoader;
 use std::alloc::Allocator;
 
-/// How many bytes are fed at once.
+/// The number of bytes that are fed at once.
 pub(crate) const PIECE: usize = 65_536;
 
 const FIRST: Place = Place { block: 0, page: 0 };
 
-/// Returns the bytes of a block. Of its pages each third is zeros, and of the others no two that
-/// lie near each other are the same.
+/// Returns the bytes of a block. Every third page is zeros, and no two others near each other are
+/// the same.
 pub(crate) fn block_of<A: Allocator>(
     alloc: A,
     page_size: u64,
@@ -44,7 +44,7 @@ pub(crate) fn all_of<A: Allocator + Copy, B: Allocator>(
     Some(dirty)
 }
 
-// Marks a page, where the table has it.
+// Marks a page, if the table has it.
 fn mark<A: Allocator>(dirty: &mut Dirty<A>, place: Place) -> Option<()> {
     if !dirty.table().holds(place) {
         return None;
@@ -53,14 +53,14 @@ fn mark<A: Allocator>(dirty: &mut Dirty<A>, place: Place) -> Option<()> {
     Some(())
 }
 
-// Takes away the mark of a page, where the table has it.
+// Removes the mark of a page, if the table has it.
 fn unmark<A: Allocator>(dirty: &mut Dirty<A>, place: Place) {
     if dirty.table().holds(place) {
         dirty.unmark(place);
     }
 }
 
-// Moves the first `most` marks of a set to another set, in place of the marks that it had.
+// Moves the first `most` marks of a set to another set, whose marks they replace.
 fn move_some<A: Allocator>(from: &mut Dirty<A>, to: &mut Dirty<A>, most: u64) -> Option<()> {
     to.clear();
     for _ in 0..most {
@@ -88,7 +88,7 @@ pub(crate) fn feed<A: Allocator + Copy, M: GuestTarget>(
     Some(())
 }
 
-/// Puts a page into a round. `put_page` asks for a place and for bytes of a page.
+/// Adds a page to a round. `put_page` requires a place and the bytes of a page.
 pub(crate) fn put<A: Allocator>(
     round: &mut OpenRound<A>,
     place: Place,
@@ -135,7 +135,8 @@ fn send_part<A: Allocator, B: Allocator>(
 }
 
 /// Sends the marked pages of a guest in parts of at most `most` pages, every second one page by
-/// page. What each part adds to the stream is drained into one buffer and fed, and so is the rest.
+/// page. The bytes that each part adds to the stream are drained into one buffer and fed, and so is
+/// the rest.
 pub(crate) fn send<A: Allocator + Copy, B: Allocator, M: GuestTarget>(
     alloc: A,
     guest: &LentMemory<'_, B>,

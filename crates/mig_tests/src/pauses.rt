@@ -1,5 +1,6 @@
-//! The reader that gives page records as they come, with pauses: at each byte of a stream the same
-//! records in the same sections, and each allocation of a pause refused.
+//! The reader that returns page records as they are read, with pauses: with a pause at any byte of
+//! a stream it returns the same records in the same sections. Each allocation of a pause is
+//! refused.
 
 use crate::building::{BEFORE_START_LEN, BLOCKS, two_rounds_in};
 use crate::records::{has_records, read_on};
@@ -9,8 +10,8 @@ use mig_stream::{Frame, Given, Mode, Pause, RecordReader, StreamReader, StreamRo
 use std::alloc::{AllocGlobal, Allocator};
 use std::process::Abort;
 
-// Returns how many bytes the stream of two rounds has up to its table's last entry: the file
-// header, what stands before START, its head, the size list's head, and an entry for each block.
+// Returns the number of bytes of the stream of two rounds up to its table's last entry: the file
+// header, the bytes before START, its head, the size list's head, and an entry for each block.
 fn table_len(frame: Frame) -> usize {
     let before = match frame {
         Frame::Ram => 0,
@@ -19,8 +20,8 @@ fn table_len(frame: Frame) -> usize {
     8 + before + 17 + 8 + (1 + 1 + 8) + (1 + 6 + 8)
 }
 
-// What a reader with pauses is to give: the sections of the stream, and what follows them. It has
-// given the sections before one of them, and of that the first records.
+// The expected records of a reader with pauses: the sections of the stream, and the bytes after
+// them. It has returned the sections before one of them, and the first records of that one.
 #[derive(Drop)]
 struct Wanted<'a> {
     sections: Vec<StreamRound<'a>>,
@@ -29,7 +30,7 @@ struct Wanted<'a> {
     records: usize,
 }
 
-// Returns what a reader of the stream of two rounds is to give.
+// Returns the expected records of a reader of the stream of two rounds.
 fn wanted_of<'a>(
     rt: &(impl AllocGlobal + Abort),
     frame: Frame,
@@ -55,7 +56,7 @@ fn wanted_of<'a>(
 }
 
 impl<'a> Wanted<'a> {
-    // Asserts that records come next, which may end a section.
+    // Asserts the next records, which may end a section.
     fn assert_next<A: Allocator>(
         &mut self,
         rt: &impl Abort,
@@ -90,7 +91,7 @@ fn read_all(
     panic!(rt; "the text never ends");
 }
 
-/// Pauses after all that a reader gave, where the stream goes on.
+/// Pauses after the last record that a reader returned, if the stream continues.
 pub(crate) fn pause_of<'a, A: Allocator + Copy>(
     rt: &impl Abort,
     mut reader: RecordReader<'a, A>,
@@ -101,7 +102,7 @@ pub(crate) fn pause_of<'a, A: Allocator + Copy>(
     }
 }
 
-// Asserts that a pause has the table, or none.
+// Asserts that a pause has the table, or no table.
 fn assert_table<A: Allocator, B: Allocator>(
     rt: &impl Abort,
     pause: &Pause<A>,
@@ -114,8 +115,7 @@ fn assert_table<A: Allocator, B: Allocator>(
     }
 }
 
-// Returns a reader of a stream's first bytes: where there are none, after a pause before the
-// stream.
+// Returns a reader of a stream's first bytes: if there are none, after a pause before the stream.
 fn first_reader<'a>(
     heap: &'a TestHeap,
     frame: Frame,
@@ -127,8 +127,8 @@ fn first_reader<'a>(
     RecordReader::new_in(heap, frame, PAGE_SIZE_4K, MAX_TOTAL, front)
 }
 
-// Reads a stream up to where it is closed: its first bytes, then pieces of a length, with a pause
-// between each two.
+// Reads a stream up to the byte at which it is closed: its first bytes, then pieces of a length,
+// with a pause between each two.
 fn assert_paused(
     rt: &(impl AllocGlobal + Abort),
     frame: Frame,
@@ -207,9 +207,9 @@ pub(crate) fn skip_all<'a, A: Allocator + Copy>(rt: &impl Abort, reader: &mut Re
     panic!(rt; "the text never ends");
 }
 
-// Pauses after the file header, which leaves nothing to be kept, and inside of items: of RAM's
-// sections an entry of the size list, a record's id and a page; of a machine a subsection's name,
-// the UUID and a page.
+// Pauses after the file header, when nothing needs to be kept, and inside of items: in RAM's
+// sections in an entry of the size list, a record's id and a page; in a machine's stream in a
+// subsection's name, the UUID and a page.
 #[test]
 fn refused_pause(rt: HostRuntime) {
     for frame in [Frame::Ram, Frame::Machine] {

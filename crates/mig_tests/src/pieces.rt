@@ -1,5 +1,5 @@
-//! The loader that is fed in pieces: however a stream is cut it gives what `load_single` gives,
-//! also where allocations were refused on the way.
+//! The loader that is fed in pieces: however a stream is cut its answer is that of `load_single`,
+//! also if allocations were refused on the way.
 
 use crate::building::two_rounds;
 use crate::refused::assert_two_rounds;
@@ -21,8 +21,8 @@ fn feed<A: Allocator + Copy>(
     loader.feed(piece)
 }
 
-// Feeds a piece; where an allocation is refused it is fed again, or its sections are put, as the
-// fault says. Returns whether an allocation was refused.
+// Feeds a piece. If an allocation is refused the piece is fed again, or its sections are applied,
+// as the fault requires. Returns whether an allocation was refused.
 fn is_refused<A: Allocator + Copy>(
     rt: &impl Abort,
     loader: &mut SingleLoader<A>,
@@ -42,7 +42,7 @@ fn is_refused<A: Allocator + Copy>(
     true
 }
 
-// Feeds a stream of two rounds in pieces of `len` bytes, and asserts what is loaded. Returns
+// Feeds a stream of two rounds in pieces of `len` bytes, and asserts the loaded memory. Returns
 // whether an allocation was refused.
 fn loads_with_refusal<A: Allocator + Copy>(
     rt: &impl Abort,
@@ -72,8 +72,8 @@ fn loaded_in_pieces(rt: HostRuntime) {
     }
 }
 
-// Each allocation is refused in turn, until a run has no refusal. What is loaded is the same each
-// time.
+// Each allocation is refused in turn, until a run has no refusal. The loaded memory is the same
+// each time.
 #[test]
 fn loaded_after_refusals(rt: HostRuntime) {
     let heap = TestHeap::new(rt.alloc());

@@ -1,6 +1,6 @@
-//! The reader that gives page records as they come, beside the one that keeps those of a section:
-//! they have the same records in the same sections, also where each call has its first allocation
-//! refused, where records of zero pages are many, and where a stream is cut.
+//! The reader that returns page records as they are read, compared with the reader that keeps a
+//! section's records: they have the same records in the same sections, also if the first allocation
+//! of each call is refused, if there are many records of zero pages, and if a stream is cut.
 
 use crate::building::{finished, part, two_rounds, two_rounds_in};
 use mig_fixtures::{TestHeap, at, places_of, set, zeroed};
@@ -13,8 +13,8 @@ use std::process::Abort;
 /// A block of many pages.
 const MANY: [(&str, u64); 1] = [("pc.ram", 3000)];
 
-/// Reads on with the first allocation refused, then with the second, until none is refused. What
-/// was given stays after a refusal.
+/// Reads on with the first allocation refused, then with the second, until none is refused. The
+/// records that were returned stay after a refusal.
 pub(crate) fn read_on(
     rt: &impl Abort,
     heap: &TestHeap,
@@ -34,7 +34,7 @@ pub(crate) fn read_on(
     panic!(rt; "each call had a refusal");
 }
 
-/// Returns whether what was given are the records of a section from one on.
+/// Returns whether the returned records are those of a section from one on.
 pub(crate) fn has_records<A: Allocator, B: Allocator>(
     section: &StreamRound<A>,
     from: usize,
@@ -52,7 +52,7 @@ pub(crate) fn has_records<A: Allocator, B: Allocator>(
     true
 }
 
-// Asserts that a reader gives a section next. Returns in how many calls.
+// Asserts that a reader returns a section next. Returns the number of calls.
 fn assert_section<A: Allocator>(
     rt: &impl Abort,
     heap: &TestHeap,
@@ -73,8 +73,8 @@ fn assert_section<A: Allocator>(
     panic!(rt; "the section never ends");
 }
 
-// Asserts that a reader gives the sections that another has, and then none. Returns in how many
-// calls it gave the last but one.
+// Asserts that a reader returns the sections that another has, and then none. Returns the number of
+// calls for the last section but one.
 fn assert_sections<A: Allocator + Copy>(
     rt: &impl Abort,
     heap: &TestHeap,
@@ -110,14 +110,14 @@ fn kept_of<'a>(rt: &(impl AllocGlobal + Abort), frame: Frame, text: &'a [u8]) ->
     .expect(rt, "a reader")
 }
 
-// Returns what follows a stream where a reader closed it.
+// Returns the bytes after a stream that a reader closed.
 fn rest_of<'a, A: Allocator>(kept: &StreamReader<A>, text: &'a [u8]) -> Option<&'a [u8]> {
     text.get(kept.closed_at()? as usize..)
 }
 
-// Asserts that a reader of records gives what a reader of sections has of a stream, and stands as
-// that one does. A cut stream leaves records of a section without its end. Returns in how many
-// calls it gave the last section but one.
+// Asserts that a reader of records returns the sections that a reader of sections has of a stream,
+// and has the same state. A cut stream leaves records of a section without its end. Returns the
+// number of calls for the last section but one.
 fn assert_given(rt: &(impl AllocGlobal + Abort), frame: Frame, text: &[u8], sections: u64) -> u64 {
     let heap = TestHeap::new(rt.alloc());
     let mut kept = kept_of(rt, frame, text);

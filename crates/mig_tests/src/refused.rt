@@ -1,6 +1,6 @@
 //! Each call on senders, targets and loads that allocates, with its first allocation refused, then
-//! its second, until a run has no refusal. A refused run answers `NoMemory` and leaves what it was
-//! passed as it was; the run with memory answers as ever.
+//! its second, until a run has no refusal. A refused run answers `NoMemory` and doesn't change its
+//! arguments; the run with memory succeeds.
 
 ghost use Rattle.std.specs.Prelude.{◌≡◌, All};
 
@@ -104,8 +104,8 @@ fn given_back<'a>(
     run.err()
 }
 
-// Of some streams one is full to its capacity. Its sender is given back, and finishes when there is
-// memory.
+// Among these streams one is full to its capacity. Its sender is given back, and finishes when
+// there is memory.
 #[test]
 fn sender_finish(rt: HostRuntime) {
     let heap = TestHeap::new(rt.alloc());
@@ -150,7 +150,7 @@ fn target_new(rt: HostRuntime) -> Result<(), Fail> {
     assert_new_target(&rt, &heap, &heap, &table)
 }
 
-// Returns a load's answer, or its fault where that is `NoMemory`, found in applying rounds, with no
+// Returns a load's result, or its fault if that is `NoMemory`, found in applying rounds, with no
 // memory and no round.
 fn load_or_fault<'a>(heap: &'a TestHeap, text: &[u8]) -> Result<Loaded<&'a TestHeap>, Fault> {
     let loaded = load_single(heap, PAGE_SIZE_4K, text, MAX_TOTAL);
@@ -165,7 +165,7 @@ fn load_or_fault<'a>(heap: &'a TestHeap, text: &[u8]) -> Result<Loaded<&'a TestH
     Ok(loaded)
 }
 
-// What is wrong with the stream of two rounds where its last byte is missing.
+// The fault of the stream of two rounds without its last byte.
 const CUT: LoadFault = LoadFault {
     round: 4,
     source: Origin::Main,
@@ -219,8 +219,8 @@ fn run_of_cut(rt: &impl Abort, heap: &TestHeap, text: &[u8], nth: u64) -> Run {
     run
 }
 
-// A stream with a fault is read a second time. That lives with one refusal: of a smaller block for
-// the list of three records.
+// A stream with a fault is read a second time. That reading survives one refusal: of a smaller
+// block for the list of three records.
 #[test]
 fn cut_loads(rt: HostRuntime) {
     let heap = TestHeap::new(rt.alloc());
@@ -264,8 +264,8 @@ fn gathered_push(rt: HostRuntime) {
     assert_pushed(&rt, &heap, packet);
 }
 
-// Returns whether a round got into a memory with allocation `nth` refused. If not, it answered
-// `NoMemory`, and the memory is as it was.
+// Returns whether a round was applied to a memory with allocation `nth` refused. If not, the answer
+// was `NoMemory`, and the memory is as it was.
 fn is_put<A: Allocator + Copy>(
     rt: &(impl AllocGlobal + Abort),
     target: &mut Target<A>,
@@ -292,7 +292,7 @@ fn is_put<A: Allocator + Copy>(
     is_whole
 }
 
-// Puts a round into a memory, after runs that were refused.
+// Applies a round to a memory, after runs that were refused.
 fn put_after_refusals<A: Allocator + Copy>(
     rt: &(impl AllocGlobal + Abort),
     heap: &TestHeap,

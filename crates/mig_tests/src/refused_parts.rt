@@ -12,7 +12,7 @@ use mig_stream::{Mode, OpenPart, StreamReader, StreamWriter};
 use std::alloc::{AllocGlobal, Allocator};
 use std::process::Abort;
 
-// Puts a page of an image into a round, after refused allocations. Returns how many there were.
+// Adds a page of an image to a round, after refused allocations. Returns how many there were.
 fn put_in_round<A: Allocator>(
     rt: &impl Abort,
     heap: &TestHeap,
@@ -50,7 +50,7 @@ fn begin_round<A: Allocator>(
     sender.begin_round().ok().expect(rt, "a round")
 }
 
-// Returns the stream that a sender, from which so much was drained, makes in all.
+// Returns the complete stream of a sender from which these bytes were drained.
 fn joined_text<A: Allocator>(
     rt: &(impl AllocGlobal + Abort),
     drained: &[u8],
@@ -104,7 +104,7 @@ fn ends_after_refusal(
     true
 }
 
-// Of some rounds the stream is full to its capacity.
+// After some of the rounds the stream is full to its capacity.
 #[test]
 fn end_round(rt: HostRuntime) {
     let heap = TestHeap::new(rt.alloc());
@@ -117,7 +117,7 @@ fn end_round(rt: HostRuntime) {
     panic!(rt; "no text was full");
 }
 
-// Puts a page of an image into a part, after refused allocations. Returns how many there were.
+// Adds a page of an image to a part, after refused allocations. Returns how many there were.
 fn put_in_part<A: Allocator>(
     rt: &impl Abort,
     heap: &TestHeap,
@@ -141,8 +141,8 @@ fn put_in_part<A: Allocator>(
     panic!(rt; "each run had a refusal");
 }
 
-// Begins and ends a part of the first `count` pages of a block, with an allocation refused where
-// there is one. Returns whether there was one at its end.
+// Begins and ends a part of the first `count` pages of a block, with an allocation refused if there
+// is one. Returns whether there was one at the part's end.
 fn part_after_refusals(
     rt: &(impl AllocGlobal + Abort),
     heap: &TestHeap,
@@ -266,7 +266,7 @@ fn new_target<A: Allocator + Copy, M: GuestTarget + Drop>(
     panic!(rt; "each run had a refusal");
 }
 
-// Puts the sections of a stream of two rounds into a target over a memory.
+// Applies the sections of a stream of two rounds to a target over a memory.
 fn put_after_refusals<A: Allocator + Copy, M: GuestTarget + Drop>(
     rt: &(impl AllocGlobal + Abort),
     heap: &TestHeap,

@@ -1,4 +1,4 @@
-//! A round of packets, and the round of a stream beside it.
+//! A round of packets, and the round of its main stream.
 
 ghost use Rattle.std.specs.Prelude.{◌≡◌, All};
 
@@ -19,8 +19,8 @@ pub(crate) fn text_of_packets(rt: &(impl AllocGlobal + Abort)) -> Vec<u8> {
     text
 }
 
-/// Returns the packet at the beginning of a stream, whose pages have 4096 bytes, and what follows
-/// it.
+/// Returns the packet at the beginning of a stream, whose pages have 4096 bytes, and the bytes
+/// after it.
 pub(crate) fn next_packet<'a>(
     rt: &(impl AllocGlobal + Abort),
     text: &'a [u8],
@@ -73,7 +73,7 @@ pub(crate) fn records(rt: &(impl AllocGlobal + Abort)) -> StreamRound<'static> {
     first_round(rt, &mut reader, &empty_text(rt))
 }
 
-/// Judges a round and puts it into a memory, whose conditions are met.
+/// Judges a round and applies it to a memory, whose conditions are met.
 pub(crate) fn put_round<A: Allocator + Copy>(
     rt: &(impl AllocGlobal + Abort),
     target: &mut Target<A>,

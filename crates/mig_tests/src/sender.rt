@@ -15,7 +15,7 @@ fn assert_other_table(rt: &impl Abort, sender: &mut SingleSender, image: &Memory
     assert!(rt; sender.round(image, dirty) == Err(SendFault::OtherTable));
 }
 
-// Rounds of a memory, of a set and of both that are of another table.
+// Rounds with a memory, a set, or both of another table.
 fn assert_others_refused(
     rt: &(impl AllocGlobal + Abort),
     sender: &mut SingleSender,
@@ -45,7 +45,7 @@ fn assert_sends_as_ever(rt: &(impl AllocGlobal + Abort), image: &Memory, dirty: 
     assert_text(rt, sender, &text_of_round(rt, image, dirty));
 }
 
-// Returns a memory of zeros, but for one byte, 9.
+// Returns a memory of zeros, except for one byte, 9.
 fn image_with_nine(rt: &(impl AllocGlobal + Abort)) -> Memory {
     let mut image = zeroed(rt.alloc(), &[("a", 2)]).expect(rt, "a memory");
     assert!(rt; set(&mut image, 0, 4096, 9));

@@ -1,6 +1,6 @@
 //! Each call on streams that allocates, with its first allocation refused, then its second, until a
-//! run has no refusal. A refused run answers `NoMemory` and leaves what it was passed as it was;
-//! the run with memory answers as ever.
+//! run has no refusal. A refused run answers `NoMemory` and doesn't change its arguments; the run
+//! with memory succeeds.
 
 use crate::building::{
     BLOCKS, Run, append, dirty_of, empty_text, feed, finished, image_with, part, run_of, text_of,
@@ -119,7 +119,8 @@ fn writer_flush(rt: HostRuntime) {
     assert_flushes(&rt, &heap, writer, count);
 }
 
-// A writer that is given back since its last allocation is refused; None where it takes none.
+// Returns a writer that is given back since its last allocation is refused; None if it has no such
+// allocation.
 fn given_back<'a>(
     heap: &'a TestHeap,
     writer: StreamWriter<&'a TestHeap>,
@@ -130,8 +131,8 @@ fn given_back<'a>(
     run.err()
 }
 
-// Of some streams one is full to its capacity. Its writer is given back, and finishes when there is
-// memory.
+// Among these streams one is full to its capacity. Its writer is given back, and finishes when
+// there is memory.
 #[test]
 fn writer_finish(rt: HostRuntime) {
     let heap = TestHeap::new(rt.alloc());
@@ -178,7 +179,7 @@ fn is_refused_open(rt: &(impl AllocGlobal + Abort), heap: &TestHeap, count: usiz
     }
 }
 
-// Of some streams one is full to its capacity.
+// Among these streams one is full to its capacity.
 #[test]
 fn writer_finish_open(rt: HostRuntime) {
     let heap = TestHeap::new(rt.alloc());
@@ -204,7 +205,7 @@ fn writer_finish_open_with_pages(rt: HostRuntime) {
 }
 
 // Returns whether the next round has these pages: each a place and the first byte of its content,
-// None where it is a zero record.
+// None if it is a zero record.
 fn has_round<A: Allocator + Copy>(
     reader: &mut StreamReader<A>,
     pages: &[(Place, Option<u8>)],
@@ -256,8 +257,9 @@ fn has_both_rounds<A: Allocator + Copy>(reader: &mut StreamReader<A>) -> bool {
         && has_no_round(reader)
 }
 
-// Feeds a reader of no table the rest of the stream with allocation `nth` refused, and where that
-// is refused leaves it as it was, once more. It has both rounds then.
+// Feeds the rest of the stream, with allocation `nth` refused, to a reader that has no table. A
+// refusal doesn't change the reader, and the rest is fed once more. Then the reader has both
+// rounds.
 fn run_of_feed(
     rt: &(impl AllocGlobal + Abort),
     heap: &TestHeap,
@@ -293,7 +295,7 @@ fn run_in_pieces(
 }
 
 // Reads the stream of two rounds in two pieces, the second one with each of its allocations
-// refused. It lives with one refusal: that of a smaller block for the list of three records.
+// refused. It survives one refusal: that of a smaller block for the list of three records.
 fn assert_read_in_pieces(rt: &(impl AllocGlobal + Abort), frame: Frame, len: usize) {
     let (text, _behind) = two_rounds_in(rt, frame);
     let (front, rest) = text.split_at_checked(len).expect(rt, "two pieces");
@@ -312,9 +314,9 @@ fn assert_read_in_pieces(rt: &(impl AllocGlobal + Abort), frame: Frame, len: usi
     panic!(rt; "each run had a refusal");
 }
 
-// A refused piece leaves the reader as it was, also where many items of the piece were taken before
-// the allocation; fed again with memory, it is read as ever. The first piece ends in the size list,
-// and of a machine also in the UUID.
+// A refused piece leaves the reader as it was, also if many items of the piece were taken before
+// the allocation; fed again with memory, it is read. The first piece ends in the size list, and in
+// a machine's stream also in the UUID.
 #[test]
 fn reader_feed(rt: HostRuntime) {
     assert_read_in_pieces(&rt, Frame::Ram, 40);
@@ -349,7 +351,7 @@ fn have_same_round<A: Allocator + Copy, B: Allocator + Copy>(
     is_same_round(&round, &wanted)
 }
 
-// Asserts that a reader has what one has that was fed the stream of two rounds.
+// Asserts that a reader has the same as a reader that was fed the stream of two rounds.
 fn assert_as_fed<A: Allocator + Copy>(
     rt: &(impl AllocGlobal + Abort),
     frame: Frame,
@@ -382,7 +384,8 @@ fn reader_of<'a>(
     }
 }
 
-// Makes a reader of the stream with allocation `nth` refused. Where there is one, it has the same.
+// Makes a reader of the stream with allocation `nth` refused. If there is a reader, it has the same
+// rounds.
 fn run_of_text(
     rt: &(impl AllocGlobal + Abort),
     heap: &TestHeap,
@@ -401,8 +404,8 @@ fn run_of_text(
     run
 }
 
-// Makes readers of the stream of two rounds, with each allocation refused. One refusal leaves a
-// reader: that of a smaller block for the list of three records.
+// Makes readers of the stream of two rounds, with each allocation refused. One refusal still
+// returns a reader: that of a smaller block for the list of three records.
 fn assert_read_of_text(rt: &(impl AllocGlobal + Abort), frame: Frame) {
     let heap = TestHeap::new(rt.alloc());
     let (text, _behind) = two_rounds_in(rt, frame);

@@ -1,4 +1,4 @@
-//! What faults say of themselves: the number first, then words.
+//! The messages of faults: the number first, then words.
 
 use mig_assemble::RoundFault;
 use mig_mem::{NoMemory, Place, TableFault};

@@ -1,6 +1,5 @@
-//! Where the bytes of a stream that were fed are complete items without a fault: of a worked stream
-//! byte by byte, cut anywhere, paused anywhere, with faults inside of items, and where an
-//! allocation was refused.
+//! The valid prefix of a stream's bytes: of a worked stream byte by byte, cut anywhere, paused
+//! anywhere, with faults inside of items, and after a refused allocation.
 //!
 //! The lengths of its items are counted by hand, as `docs/FORMATS.md` lists them.
 
@@ -12,8 +11,8 @@ use mig_stream::{Frame, Mode, Pause, RecordReader, StreamFault, StreamReader, St
 use std::alloc::{AllocGlobal, Allocator};
 use std::process::Abort;
 
-// The items of the stream of two rounds from START on: each line is a section, but for END and the
-// end byte. A section begins with its type byte and ends with EOS and a footer.
+// The items of the stream of two rounds from START on: each line is a section, except for END and
+// the end byte. A section begins with its type byte and ends with EOS and a footer.
 const START: [usize; 7] = [1, 16, 8, 10, 15, 8, 5];
 
 const FIRST_PART: [usize; 12] = [1, 4, 8, 2, 1, 8, 4096, 8, 7, 1, 8, 5];
@@ -22,8 +21,8 @@ const SECOND_PART: [usize; 6] = [1, 4, 8, 1, 8, 5];
 
 const END: [usize; 4] = [1, 4, 8, 5];
 
-// Of a machine also: the configuration, its three subsections, the last of them with a capability,
-// and a COMMAND. Another COMMAND stands before END.
+// The items that a machine's stream has in addition: the configuration, its three subsections, the
+// last of them with a capability, and a COMMAND. Another COMMAND precedes END.
 const BEFORE_START: [usize; 14] = [1, 4, 2, 1, 35, 4, 1, 23, 16, 1, 31, 4, 3, 1];
 
 const COMMAND: [usize; 2] = [1, 4];
@@ -54,7 +53,7 @@ fn items_of(rt: &(impl AllocGlobal + Abort), frame: Frame) -> Vec<usize> {
     items
 }
 
-// Returns how many of the first `len` bytes are complete items.
+// Returns the number of the first `len` bytes that are complete items.
 fn whole(items: &[usize], len: usize) -> u64 {
     let mut sum = 0usize;
     for item in items {
@@ -71,12 +70,12 @@ fn new_reader<'a, A: Allocator + Copy>(alloc: A, frame: Frame) -> StreamReader<'
     StreamReader::new_in(alloc, frame, Mode::Single, PAGE_SIZE_4K, MAX_TOTAL)
 }
 
-// Returns where a stream is closed, if it is.
+// Returns the byte at which a stream is closed, if it is.
 fn closed(is_closed: bool, closed_at: u64) -> Option<u64> {
     if is_closed { Some(closed_at) } else { None }
 }
 
-// Fed byte by byte. Bytes after the stream's last one don't count.
+// Feeds the stream byte by byte. Bytes after the stream's last one don't count.
 fn assert_byte_by_byte(rt: &(impl AllocGlobal + Abort), frame: Frame, closed_at: u64) {
     let (text, _after) = two_rounds_in(rt, frame);
     let items = items_of(rt, frame);
@@ -100,8 +99,8 @@ fn byte_by_byte(rt: HostRuntime) {
     assert_byte_by_byte(&rt, Frame::Machine, 4265 + 131 + 5);
 }
 
-// Cut after `len` bytes, a stream that isn't closed is `Truncated` where its last item begins. Of a
-// pause and of the reader after it the number is the same.
+// Cut after `len` bytes, a stream that isn't closed is `Truncated` at the byte where its last item
+// begins. The number is the same in a pause, and in the reader after it.
 fn assert_cut(
     rt: &(impl AllocGlobal + Abort),
     frame: Frame,
@@ -145,7 +144,7 @@ fn cut_anywhere(rt: HostRuntime) {
     assert_cut_anywhere(&rt, Frame::Machine, 4401);
 }
 
-// A byte that is changed: where it is, what it is then, the fault, and where its item begins.
+// A changed byte: its place, its new value, the fault, and the beginning of its item.
 type Spoiled = (usize, u8, StreamFault, u64);
 
 const OF_RAM: [Spoiled; 19] = [
@@ -181,8 +180,8 @@ const OF_MACHINE: [Spoiled; 8] = [
     (4379, 4, StreamFault::Command, 4379),
 ];
 
-// Asserts where a changed stream is valid up to: fed in pieces of `len` bytes, with more bytes
-// after it, and read record by record.
+// Asserts the valid prefix of a changed stream: fed in pieces of `len` bytes, with more bytes after
+// it, and read record by record.
 fn assert_spoiled(rt: &(impl AllocGlobal + Abort), frame: Frame, spoiled: Spoiled, len: usize) {
     let (place, byte, fault, valid) = spoiled;
     let (mut text, _after) = two_rounds_in(rt, frame);

@@ -1,5 +1,5 @@
-//! A limit on the page records that wait for the end of their section: where one too many is found,
-//! and what was loaded before it.
+//! A limit on the page records that wait for the end of their section: the place of the first
+//! record above it, and the memory loaded before.
 
 ghost use Rattle.std.specs.Prelude.{◌≡◌, ◌≤◌, ◌^◌};
 
@@ -15,7 +15,7 @@ use std::process::Abort;
 
 const WAITING: StreamState = StreamState::Bad(StreamFault::Waiting);
 
-// How a stream stands that is fed in pieces of `len` bytes, and up to where it is valid.
+// The state of a stream that is fed in pieces of `len` bytes, and its valid prefix.
 fn fed_within(
     rt: &(impl AllocGlobal + Abort),
     frame: Frame,
@@ -39,7 +39,7 @@ fn fed_within(
     (reader.state(), reader.valid_up_to())
 }
 
-// Asserts how a stream stands, whole and in pieces.
+// Asserts the state of a stream, fed at once and in pieces.
 fn assert_stands(
     rt: &(impl AllocGlobal + Abort),
     frame: Frame,
@@ -132,7 +132,7 @@ fn assert_first_section<A: Allocator>(
     assert!(rt; has_byte(memory, at(1, 64), 0, 7) && is_full(memory, at(1, 0), 0));
 }
 
-// Sections of one page and of three, where two may wait. The second has page 64 as zeros.
+// Sections of one page and of three, if two may wait. The second has page 64 as zeros.
 fn one_and_three(rt: &(impl AllocGlobal + Abort)) -> Vec<u8> {
     let image = image_with(rt, 1, 64 * 4096);
     let mut writer = StreamWriter::new(rt.alloc(), image.table()).expect(rt, "a writer");
@@ -159,7 +159,8 @@ fn sections_before_the_one_too_long(rt: HostRuntime) {
     assert_first_section(&rt, loaded.rounds, loaded.verdict, loaded.memory.as_ref());
 }
 
-// A load that writes each page as it comes has the first two records of the section too long.
+// A load that writes each page as it is read has the first two records of the section that is too
+// long.
 #[test]
 fn records_before_the_one_too_many(rt: HostRuntime) {
     let stream = one_and_three(&rt);
@@ -172,8 +173,8 @@ fn records_before_the_one_too_many(rt: HostRuntime) {
     assert!(rt; is_full(&memory, at(1, 0), 0) && has_byte(&memory, at(1, 64), 0, 7));
 }
 
-// The first record of a section leaves its block's id out, and no block was named: where no record
-// may wait that is fault 64, and else 28. A size list in its place is 26 in both.
+// The first record of a section omits its block's id, and no block was named before: if no record
+// may wait this is fault 64, and else 28. A size list in its place is fault 26 in both cases.
 #[test]
 fn judged_in_their_order(rt: HostRuntime) {
     let empty = text_of(&rt, &image_with(&rt, 0, 0), &[]);

@@ -1,5 +1,5 @@
-//! A stream read by what it wants next. Where it wants a page, that page comes next, and the caller
-//! has taken it by `take_page`. The pages are those of the whole stream.
+//! A stream read by the lengths that it wants. If it wants a page, that page is next, and the
+//! caller takes it by `take_page`. The pages are those of the complete stream.
 
 use crate::building::two_rounds_in;
 use crate::pauses::pause_of;
@@ -39,7 +39,7 @@ impl Pages {
     }
 }
 
-// The pages with bytes that a reader of the whole stream keeps.
+// The pages with bytes that a reader of the complete stream keeps.
 fn pages_of(rt: &(impl AllocGlobal + Abort), frame: Frame, stream: &[u8]) -> Pages {
     let mode = Mode::Single;
     let reader = StreamReader::of_text_in(rt.alloc(), frame, mode, PAGE_SIZE_4K, MAX_TOTAL, stream);
@@ -70,7 +70,7 @@ fn read_to_end<A: Allocator + Copy>(
     panic!(rt; "the stream never ends");
 }
 
-// Returns how many bytes are wanted: of a page all that it has.
+// Returns the number of bytes that are wanted: for a page all of its bytes.
 fn len_wanted<A: Allocator + Copy>(rt: &impl Abort, pause: &Pause<A>) -> usize {
     match pause.wanted() {
         Wanted::Page(_) => {
@@ -84,8 +84,8 @@ fn len_wanted<A: Allocator + Copy>(rt: &impl Abort, pause: &Pause<A>) -> usize {
     }
 }
 
-// Takes `content` as the page that is wanted, and notes it there. Returns false, and takes nothing,
-// if none is wanted.
+// Takes `content` as the wanted page, and notes it at its place. Returns false, and takes nothing,
+// if no page is wanted.
 fn take_content<A: Allocator + Copy>(
     rt: &impl Abort,
     pause: &mut Pause<A>,
@@ -103,8 +103,8 @@ fn take_content<A: Allocator + Copy>(
     true
 }
 
-// Reads a stream by what it wants, and returns its pages, and how many bytes were read up to where
-// it is closed.
+// Reads a stream by the lengths that it wants, and returns its pages, and the number of bytes read
+// up to its close.
 fn read_wanted(rt: &(impl AllocGlobal + Abort), frame: Frame, stream: &[u8]) -> (Pages, usize) {
     let mut pages = Pages::new(rt);
     let mut pause = Pause::new_in(rt.alloc(), frame, PAGE_SIZE_4K, MAX_TOTAL);

@@ -1,18 +1,19 @@
-//! The folder in which the files of a case stand: one of this process, which each case finds empty.
+//! The folder with the files of a case: a folder of this process, which is empty at the beginning
+//! of each case.
 
 use mig_cases::{Done, Trouble};
 use std::alloc::{AllocGlobal, Global};
 use std::rt::Files;
 use std::{fs, io};
 
-/// The folder of the case that is played.
+/// The folder of the current case.
 #[derive(Drop)]
 pub struct Folder {
     path: String,
 }
 
-// Returns the path of this process's folder, which has its number in its name: no other run has the
-// same.
+// Returns the path of this process's folder, whose name has the process's number, so no other run
+// has the same.
 fn path_of<R: AllocGlobal + Files>(rt: &R, alloc: Global) -> Result<String, Trouble> {
     // (a link to the folder of this process in /proc, which has the number as its name)
     let process = done(fs::read_link(rt, "/proc/self"))?;
@@ -22,7 +23,7 @@ fn path_of<R: AllocGlobal + Files>(rt: &R, alloc: Global) -> Result<String, Trou
     Ok(path)
 }
 
-// Returns what is answered where a file or a folder isn't as the case wants it.
+// Returns the error on a file or a folder that can't be used as the case requires.
 fn done<T>(answer: io::Result<T>) -> Result<T, Trouble> {
     match answer {
         Ok(value) => Ok(value),
@@ -65,7 +66,7 @@ impl Folder {
         done(fs::read(rt, path.as_str()))
     }
 
-    /// Returns how many bytes a file has; None where there is no such file.
+    /// Returns the length of a file; None if there is no such file.
     pub fn len<R: Files>(&self, rt: &R, name: &str) -> Result<Option<u64>, Trouble> {
         let path = self.path(name)?;
         match fs::metadata(rt, path.as_str()) {

@@ -1,9 +1,9 @@
-//! The tool's worked examples as data: it reads files of cases, passes the words, input and files
-//! of each to `run` of `mig_command`, and reports where the status, what was printed or a file
-//! isn't what stands beside it.
+//! The tool's worked examples as data: it reads files of cases, passes the arguments, input and
+//! files of each to `run` of `mig_command`, and reports a status, an output or a file that isn't
+//! the expected one.
 //!
-//! Its words are the files' names. The lines of a case are those of `Tried` (`docs/EXAMPLES.md` has
-//! them all), and `mig_cases` reads and plays them. It is no part of the product.
+//! Its arguments are the files' names. The lines of a case are those of `Tried` (`docs/EXAMPLES.md`
+//! has them all), and `mig_cases` reads and counts them. This crate isn't part of the product.
 #![tactic(auto)]
 
 mod folder;
@@ -20,7 +20,7 @@ use std::sync::Wait;
 use std::thread::Threads;
 use std::{env, fs};
 
-// Reads the files that the words name.
+// Reads the files that the arguments name.
 fn texts(rt: &HostRuntime) -> io::Result<Vec<String>> {
     let mut texts = Vec::new(rt.alloc());
     for name in env::args(rt)?.skip(1) {

@@ -1,10 +1,10 @@
-//! Bytes as a line of a case says them: printable characters are themselves, a line's end is `\n`,
+//! Bytes as a line of a case has them: printable characters are themselves, a line's end is `\n`,
 //! and any other byte `\x` and its two hexadecimal digits.
 
 use mig_cases::{Done, Trouble, bytes_of};
 use std::alloc::Global;
 
-/// Returns the bytes that a line says.
+/// Returns the bytes that a line has.
 pub fn said(alloc: Global, line: &str) -> Result<Vec<u8>, Trouble> {
     let mut bytes = Vec::new(alloc);
     for (i, piece) in line.split('\\').enumerate() {
@@ -18,7 +18,7 @@ pub fn said(alloc: Global, line: &str) -> Result<Vec<u8>, Trouble> {
     Ok(bytes)
 }
 
-// Appends the byte that stands after a backslash. Returns what follows it.
+// Appends the byte of an escape, without its backslash. Returns the rest.
 fn add_escaped<'a>(alloc: Global, bytes: &mut Vec<u8>, piece: &'a str) -> Result<&'a str, Trouble> {
     if let Some(rest) = piece.strip_prefix("n") {
         bytes.push(b'\n')?;
@@ -30,7 +30,7 @@ fn add_escaped<'a>(alloc: Global, bytes: &mut Vec<u8>, piece: &'a str) -> Result
     Ok(rest)
 }
 
-/// Writes bytes as a line says them.
+/// Writes bytes as a line has them.
 pub fn put_said(out: &mut String, bytes: &[u8]) -> Done {
     for byte in bytes {
         put_byte(out, *byte)?;

@@ -1,4 +1,4 @@
-//! A case of the tool: its streams, its input and its files, and what `run` answers on words.
+//! A case of the tool: its streams, its input and its files, and the answers of `run` on arguments.
 
 use crate::folder::Folder;
 use crate::said::{put_said, said};
@@ -10,7 +10,7 @@ use std::rt::Files;
 use std::sync::Wait;
 use std::thread::Threads;
 
-/// What stands in the file `i` before a load.
+/// The content of the file `i` before a load.
 const BEFORE: &str = "as it was";
 
 /// A case: the streams that its lines build, the input of its runs, and the folder of its files.
@@ -21,7 +21,7 @@ pub struct Tried {
     folder: Folder,
 }
 
-/// Plays the cases of a file.
+/// Runs the cases of a file.
 pub fn play_file<R: AllocGlobal + Files + Threads + Wait + Sync, W: Write>(
     rt: &R,
     alloc: Global,
@@ -41,7 +41,7 @@ pub fn play_file<R: AllocGlobal + Files + Threads + Wait + Sync, W: Write>(
     Ok(())
 }
 
-// Follows the lines of a case, up to one that can't be followed.
+// Runs the lines of a case, up to one that can't be run.
 fn play_case<R: AllocGlobal + Files + Threads + Wait + Sync, W: Write>(
     rt: &R,
     alloc: Global,
@@ -65,7 +65,7 @@ fn play_case<R: AllocGlobal + Files + Threads + Wait + Sync, W: Write>(
 }
 
 impl Tried {
-    // Returns a case of which no line was followed.
+    // Returns a case before its first line.
     fn new<R: AllocGlobal + Files>(rt: &R, alloc: Global) -> Result<Tried, Trouble> {
         Ok(Tried {
             case: Case::new(alloc)?,
@@ -74,7 +74,7 @@ impl Tried {
         })
     }
 
-    // Follows a line: writes down the answer to what it asks. Returns false if it asks nothing.
+    // Runs a line: writes the answer to its question. Returns false if it isn't a question.
     fn follow<R: AllocGlobal + Files + Threads + Wait + Sync>(
         &mut self,
         out: &mut String,
@@ -112,10 +112,10 @@ fn filled(alloc: Global, text: &str, other: &str) -> Result<String, Trouble> {
     Ok(whole)
 }
 
-// ---- what lines build
+// ---- lines that build
 
 impl Tried {
-    // Takes a line that builds something. Returns false if the line is no such line.
+    // Takes a line that builds something. Returns false if the line is another one.
     fn take<R: AllocGlobal + Files>(
         &mut self,
         rt: &R,
@@ -141,7 +141,7 @@ impl Tried {
         }
     }
 
-    // `add_each FIRST LAST TEXT`: the TEXT for each number, which stands where it has a `#`.
+    // `add_each FIRST LAST TEXT`: the TEXT for each number, which replaces each `#` in it.
     fn add_each(&mut self, mut words: Words) -> Done {
         let alloc = self.case.alloc;
         let first = words.number()?;
@@ -165,7 +165,7 @@ impl Tried {
         Ok(())
     }
 
-    // Takes a line on files of the folder. Returns false if the line is no such line.
+    // Takes a line on files of the folder. Returns false if the line is another one.
     fn change_file<R: AllocGlobal + Files>(
         &mut self,
         rt: &R,
@@ -191,10 +191,10 @@ impl Tried {
     }
 }
 
-// ---- what is asked
+// ---- questions
 
 impl Tried {
-    // Writes down the answer to a question.
+    // Writes the answer to a question.
     fn ask<R: AllocGlobal + Files + Threads + Wait + Sync>(
         &mut self,
         out: &mut String,
@@ -220,7 +220,7 @@ impl Tried {
     }
 
     // Returns the words of a line, separated by single spaces: `@NAME` is a file of the folder, and
-    // `""` a word without letters.
+    // `""` is an empty word.
     fn words_of(&self, line: &str) -> Result<Vec<String>, Trouble> {
         let alloc = self.case.alloc;
         let mut words = Vec::new(alloc);
@@ -238,7 +238,7 @@ impl Tried {
         Ok(words)
     }
 
-    // `run WORDS`: the status, and what the tool prints.
+    // `run WORDS`: the exit status and the tool's output.
     fn run<R: AllocGlobal + Files + Threads + Wait + Sync>(
         &self,
         out: &mut String,
@@ -253,7 +253,7 @@ impl Tried {
         put_said(out, &output)
     }
 
-    // `load WORDS`: beside the answer what then stands in the file `i`, unless it is as it was.
+    // `load WORDS`: the answer, and the content of the file `i` afterwards if it has changed.
     fn load<R: AllocGlobal + Files + Threads + Wait + Sync>(
         &self,
         out: &mut String,
@@ -274,8 +274,8 @@ impl Tried {
         Ok(())
     }
 
-    // `load_both WORDS`: the answer of a load that reads complete streams, which is to be that of
-    // one that feeds them.
+    // `load_both WORDS`: the answer of a load that reads complete streams, which has to be that of
+    // a load that feeds them.
     fn load_both<R: AllocGlobal + Files + Threads + Wait + Sync>(
         &self,
         out: &mut String,
@@ -293,7 +293,7 @@ impl Tried {
         Ok(())
     }
 
-    // `length NAME ..`: of all these files together, `none` where one isn't there.
+    // `length NAME ..`: the sum of these files' lengths, `none` if one doesn't exist.
     fn put_len<R: AllocGlobal + Files>(&self, out: &mut String, rt: &R, words: Words) -> Done {
         let mut total = 0u64;
         for name in words.rest().split(' ') {
@@ -306,9 +306,9 @@ impl Tried {
         Ok(())
     }
 
-    // `bytes_each FIRST LAST NAME`: what stands in a file for each number. The number stands where
-    // the name has a `#`, and in two hexadecimal digits where what is expected has one. Writes what
-    // is expected, or else the first that is another.
+    // `bytes_each FIRST LAST NAME`: the content of a file for each number. The number replaces each
+    // `#` in the name, and in the expected answer, there in two hexadecimal digits. Writes the
+    // expected answer, or else the first different one.
     fn bytes_each<R: AllocGlobal + Files>(
         &self,
         out: &mut String,
@@ -334,8 +334,8 @@ impl Tried {
         Ok(out.push_str(wanted)?)
     }
 
-    // `either QUESTION`: answers with ` or ` between them are expected. Writes these where the
-    // answer is one of them, or else the answer.
+    // `either QUESTION`: several answers are expected, separated by ` or `. Writes all of these if
+    // the answer is one of them, or else the answer.
     fn either<R: AllocGlobal + Files + Threads + Wait + Sync>(
         &mut self,
         out: &mut String,
@@ -351,8 +351,8 @@ impl Tried {
         Ok(())
     }
 
-    // `each FIRST LAST NAME QUESTION`: asked with the fronts of the last stream, of FIRST to LAST
-    // bytes, in this file. Writes the first answer that is another than expected, or else the last
+    // `each FIRST LAST NAME QUESTION`: asked with the prefixes of the last stream, of FIRST to LAST
+    // bytes, in this file. Writes the first answer that isn't the expected one, or else the last
     // one.
     fn each<R: AllocGlobal + Files + Threads + Wait + Sync>(
         &mut self,

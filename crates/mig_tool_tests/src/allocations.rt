@@ -1,6 +1,5 @@
 //! Runs with their first allocation refused, then with their second, and so on until a run has no
-//! refusal. What the command line itself takes comes from the global allocator, and isn't refused
-//! here.
+//! refusal. The command line itself allocates from the global allocator, which isn't refused here.
 
 use crate::folder::Folder;
 use crate::script::{SCENARIO, SCENARIO_ANSWER, answer_in, assert_answer, assert_script, words_in};
@@ -11,8 +10,8 @@ use std::process::Abort;
 use std::sync::Wait;
 use std::thread::Threads;
 
-// Returns whether an output is that of a refused allocation: outside of a load, or in it, after 0
-// to 3 rounds.
+// Returns whether an output is that of a refused allocation: outside of a load, or in a load after
+// 0 to 3 rounds.
 fn is_want_of_memory(text: &[u8]) -> bool {
     let texts: [&[u8]; 5] = [
         b"fault 60\n",
@@ -25,7 +24,7 @@ fn is_want_of_memory(text: &[u8]) -> bool {
 }
 
 // Runs the tool with each allocation refused in turn, up to the first run that has no refusal,
-// which answers as it is wanted. Returns how often a refusal in a load comes next to one outside.
+// which gives the wanted answer. Returns how often a refusal in a load is next to one outside.
 fn assert_each_allocation<H: AllocGlobal + Files + Threads + Wait + Sync + Abort>(
     rt: &H,
     folder: &Folder,
@@ -56,8 +55,8 @@ fn assert_each_allocation<H: AllocGlobal + Files + Threads + Wait + Sync + Abort
     panic!(rt; "each run had a refusal")
 }
 
-// A check plays the scenario, loads the single stream and compares, and then does so with the
-// channels: each load and each comparison takes memory.
+// A check executes the scenario, loads the single stream and compares, and then does the same with
+// the channels: each load and each comparison allocates.
 #[test]
 fn each_allocation_of_a_check(rt: HostRuntime) {
     let folder = Folder::new(&rt, "allocations_of_a_check");
@@ -74,7 +73,7 @@ fn each_allocation_of_a_check(rt: HostRuntime) {
     folder.remove(&rt);
 }
 
-// A scenario that is sent, its streams that are loaded, and a memory that is compared.
+// Sends a scenario, loads its streams, and compares the memory.
 #[test]
 fn each_allocation_on_files(rt: HostRuntime) {
     let folder = Folder::new(&rt, "allocations");
@@ -94,7 +93,7 @@ fn each_allocation_on_files(rt: HostRuntime) {
     folder.remove(&rt);
 }
 
-/// What was in the file of a memory before a load.
+/// The content of a memory's file before a load.
 const BEFORE: &[u8] = b"as it was";
 
 // Runs a load with each allocation refused in turn, up to the first run that has no refusal. Each
@@ -129,7 +128,7 @@ fn assert_kept_at_each_allocation<H: AllocGlobal + Files + Threads + Wait + Sync
     panic!(rt; "each run had a refusal");
 }
 
-// Of a guest of two blocks, on none, one and two channels.
+// A guest of two blocks, on no channel, on one and on two.
 #[test]
 fn memory_kept_at_each_allocation(rt: HostRuntime) {
     let folder = Folder::new(&rt, "allocations_and_memory");

@@ -1,4 +1,4 @@
-//! Files that are as long as they may be, and files whose reads and changes fail in turn.
+//! Files of the largest length, and files whose reads and changes fail in turn.
 
 use crate::fake_files::{Outcome, Plan, outcome_of};
 use crate::folder::Folder;
@@ -9,7 +9,7 @@ use std::process::Abort;
 use std::sync::Wait;
 use std::thread::Threads;
 
-// Runs the tool on the words of a line, with a file of these bytes that is read byte by byte.
+// Runs the tool on the arguments in a line, with a file of these bytes that is read byte by byte.
 fn slow_outcome<H: AllocGlobal + Files + Threads + Wait + Sync + Abort>(
     rt: &H,
     line: &str,
@@ -25,7 +25,7 @@ fn slow_outcome<H: AllocGlobal + Files + Threads + Wait + Sync + Abort>(
 }
 
 // A file that hasn't ended after 65,536 reads of one byte each, and one whose end the last of these
-// finds. Each read asks for 65,536 bytes.
+// reads finds. Each read asks for 65,536 bytes.
 #[test]
 fn most_reads_of_files(rt: HostRuntime) {
     let lines: [(&str, (u8, &[u8])); 7] = [
@@ -54,8 +54,8 @@ fn most_reads_of_files(rt: HostRuntime) {
     }
 }
 
-// The scenario has 26 bytes. Up to the read that finds its end, each one fails in turn, and isn't
-// tried again.
+// The scenario has 26 bytes. Each read fails in turn, up to the one that finds its end, and isn't
+// repeated.
 #[test]
 fn each_read_of_files_failing(rt: HostRuntime) {
     for line in [
@@ -75,8 +75,8 @@ fn each_read_of_files_failing(rt: HostRuntime) {
     }
 }
 
-// Each question what kind of file it is, each write, seek, length and flush of the files fails in
-// turn, until a run has no failure. What comes after it would be good.
+// Each query for the kind of a file, and each write, seek, change of length and flush fails in
+// turn, until a run has no failure. Calls after the failing one would succeed.
 #[test]
 fn each_change_of_files_failing(rt: HostRuntime) {
     let folder = Folder::new(&rt, "changes");
@@ -85,7 +85,7 @@ fn each_change_of_files_failing(rt: HostRuntime) {
     let stream = folder.bytes(&rt, "o");
     folder.put(&rt, "s", b"block 2 a\nset 0 4096 7\nround");
     assert_script(&rt, &folder, "send @s @o", (0, b"sent 4199 0\n"));
-    // (a page after one of zeros, which is sought)
+    // (a page after one of zeros, which needs a seek)
     let page = folder.bytes(&rt, "o");
     folder.remove(&rt);
     let cases: [(&str, &[u8], &[u8]); 5] = [

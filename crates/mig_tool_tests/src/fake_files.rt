@@ -1,5 +1,5 @@
-//! Files that are in no folder: a read gives a test's own bytes, and what is written is gone. One
-//! read or one change can fail, and a log keeps the order of what is done with them.
+//! Files that are in no folder: a read returns a test's own bytes, and written bytes are dropped.
+//! One read or one change can fail, and a log keeps the order of the calls.
 
 use crate::script::answer_in;
 use std::alloc::{Alloc, AllocGlobal, Allocator, Global};
@@ -9,17 +9,17 @@ use std::sync::Wait;
 use std::sync::atomic::{AtomicBool, AtomicU64, Ordering};
 use std::thread::Threads;
 
-/// How many bytes a read of the tool asks for.
+/// The length of a read of the tool.
 const READ_LEN: usize = 65_536;
 
-/// What the files hold, and what fails.
+/// The content of the files, and the call that fails.
 #[derive(Clone, Copy)]
 pub(crate) struct Plan<'t> {
-    /// The bytes of each file but the channels'.
+    /// The bytes of each file except for the channels'.
     pub(crate) text: &'t [u8],
     /// The bytes of a channel's file.
     pub(crate) channel: &'t [u8],
-    /// The most bytes that a read gives.
+    /// The most bytes that a read returns.
     pub(crate) piece: usize,
     /// The reads of a file before the one that fails.
     pub(crate) reads: u64,
@@ -28,7 +28,7 @@ pub(crate) struct Plan<'t> {
 }
 
 impl<'t> Plan<'t> {
-    /// Returns the plan of files that all hold `text`, where nothing fails.
+    /// Returns the plan of files that all have the bytes `text`, with no failing call.
     pub(crate) fn good(text: &'t [u8]) -> Plan<'t> {
         Plan {
             text,
@@ -40,7 +40,7 @@ impl<'t> Plan<'t> {
     }
 }
 
-/// What was done with the files.
+/// The log of the calls on the files.
 #[derive(Drop)]
 struct Calls {
     // the changes before the one that fails
@@ -60,7 +60,7 @@ impl Calls {
         }
     }
 
-    // Counts a change. The planned one fails, and those after it don't.
+    // Counts a change. The planned one fails, and later ones don't.
     fn change(&self) -> io::Result<()> {
         if self.changes.fetch_sub(1, Ordering::SeqCst) == 0 {
             return Err(self.failure());
@@ -80,7 +80,7 @@ impl Calls {
 /// The digit of a change: a write, a seek or a new length.
 const CHANGED: u64 = 8;
 
-/// What is added to a file's digit where it was read to its end, or flushed.
+/// The number that is added to a file's digit if it was read to its end, or flushed.
 const DONE: u64 = 8;
 
 // Returns the digit of the file `name`.
@@ -115,7 +115,7 @@ impl Read for FakeFile<'_> {
             self.calls.has_other_len.store(true, Ordering::SeqCst);
         }
         if self.reads == 0 {
-            // (the next one would be good)
+            // (the next one would succeed)
             self.reads = u64::MAX;
             return Err(self.calls.failure());
         }
@@ -272,14 +272,14 @@ pub(crate) struct Outcome {
     pub(crate) answer: (u8, Vec<u8>),
     /// Whether a read or a change failed.
     pub(crate) has_failed: bool,
-    /// Hexadecimal digits in the order of the calls: the file's digit where it is opened, 8 where
-    /// it is changed, and its digit and 8 where it is read to its end or flushed.
+    /// Hexadecimal digits in the order of the calls: the file's digit for an open, 8 for a change,
+    /// and the sum of the file's digit and 8 for a read to its end or a flush.
     pub(crate) log: u64,
-    /// Whether a read asked for other than 65,536 bytes.
+    /// Whether the length of a read wasn't 65,536 bytes.
     pub(crate) has_other_len: bool,
 }
 
-/// Runs the tool on words, with such files and no input.
+/// Runs the tool on arguments, with such files and no input.
 pub(crate) fn outcome_of<H: AllocGlobal + Files + Threads + Wait + Sync>(
     rt: &H,
     words: &[String],

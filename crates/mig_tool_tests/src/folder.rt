@@ -1,4 +1,4 @@
-//! A folder of a test's own, in which its files stand.
+//! A test's own folder for its files.
 
 use std::alloc::AllocGlobal;
 use std::fmt::Write;
@@ -12,15 +12,15 @@ pub(crate) struct Folder {
 }
 
 impl Folder {
-    /// Returns an empty folder for the test of this name. Its own name holds the process's number
-    /// too, so that no other run has the same.
+    /// Returns an empty folder for the test with this name. The folder's name also has the
+    /// process's number, so no other run has the same.
     pub(crate) fn new(rt: &(impl AllocGlobal + Files + Abort), name: &str) -> Folder {
         // (a link to the folder of this process, which has its number as its name)
         let process = fs::read_link(rt, "/proc/self").expect(rt, "the process's number");
         let number = process.as_str();
         let mut path = String::new(rt.alloc());
         assert!(rt; write!(path, "/tmp/mig_tool_tests_{name}_{number}").is_ok());
-        // (what an earlier run of this number that failed has left)
+        // (the files of an earlier failed run with this number)
         let _left = fs::remove_dir_all(rt, path.as_str());
         assert!(rt; fs::create_dir(rt, path.as_str()).is_ok(), "a folder");
         Folder { path }

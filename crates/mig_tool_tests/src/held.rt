@@ -10,13 +10,13 @@ use std::process::Abort;
 use std::sync::Wait;
 use std::thread::Threads;
 
-/// How many rounds the guest's only page is sent in.
+/// The number of rounds in which the guest's only page is sent.
 const ROUNDS: u64 = 300;
 
-/// The bytes on the channel: a hello, and in each round a packet with a page and one of SYNC.
+/// The bytes on the channel: a hello, and in each round a packet with a page and a SYNC packet.
 const CHANNEL_LEN: u64 = 64 + ROUNDS * (1344 + 4096 + 1344);
 
-// Returns the most bytes that a load on the words of `line` holds at once.
+// Returns the most bytes that a load on the arguments in `line` holds at once.
 fn peak_of<H: AllocGlobal + Files + Threads + Wait + Sync + Abort>(
     rt: &H,
     folder: &Folder,
@@ -30,8 +30,8 @@ fn peak_of<H: AllocGlobal + Files + Threads + Wait + Sync + Abort>(
     heap.peak()
 }
 
-// A load that reads complete streams holds them all. With `--feed` it holds less than a quarter of
-// what comes on the channel.
+// A load that reads complete streams holds all of them. With `--feed` it holds less than a quarter
+// of the channel's bytes.
 #[test]
 fn streams_that_are_held(rt: HostRuntime) {
     let folder = Folder::new(&rt, "held");

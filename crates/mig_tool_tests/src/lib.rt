@@ -1,6 +1,6 @@
-//! Tests of the tool: inputs that come byte by byte, don't end or fail at each read; outputs that
-//! fail at each write; files whose reads and changes fail in turn; the order in which files are
-//! opened; pipes between two tools; what a load holds; and each allocation refused.
+//! Tests of the tool: inputs that are read byte by byte, don't end or fail at each read; outputs
+//! that fail at each write; files whose reads and changes fail in turn; the order in which files
+//! are opened; pipes between two tools; the bytes that a load holds; and each allocation refused.
 //!
 //! They call `run` of `mig_command`, as `mig_tool` does, with readers and writers in memory, and
 //! files in a folder of each test's own. The worked examples are cases of `mig_tool_cases`.

@@ -1,6 +1,6 @@
-//! The order in which files are opened, read to their end, changed and flushed. It is what lets two
-//! tools run at the same time with pipes between them: neither waits for a pipe to which the other
-//! comes later.
+//! The order in which files are opened, read to their end, changed and flushed. This order lets two
+//! tools run at the same time with pipes between them: neither waits for a pipe that the other
+//! opens later.
 
 use crate::fake_files::{Plan, outcome_of};
 use crate::folder::Folder;
@@ -11,7 +11,7 @@ use std::process::Abort;
 use std::sync::Wait;
 use std::thread::Threads;
 
-// Runs the tool on the words of a line, with files of these bytes, and asserts what is printed and
+// Runs the tool on the arguments in a line, with files of these bytes, and asserts the output and
 // the log.
 fn assert_order<H: AllocGlobal + Files + Threads + Wait + Sync + Abort>(
     rt: &H,

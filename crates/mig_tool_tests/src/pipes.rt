@@ -1,7 +1,7 @@
-//! Two tools joined by pipes. A thread for each pipe takes all that one tool writes and passes it
-//! to the other through a second pipe, as connections between two machines do. So streams may be
-//! longer than a pipe has room for. Pipes have no names here, so links to `/dev/fd` stand for
-//! those.
+//! Two tools that are connected by pipes. A thread for each pipe takes all that one tool writes and
+//! passes it to the other through a second pipe, as connections between two machines do. So streams
+//! may be longer than a pipe has room for. Pipes have no names here, so links to `/dev/fd` are used
+//! as their names.
 //!
 //! Two things aren't shown. One is that a tool waits where it opens a pipe of a name that nobody
 //! has opened from the other side. The other is two tools that run at the same time: the second
@@ -18,16 +18,16 @@ use std::process::Abort;
 use std::sync::Wait;
 use std::thread::{self, JoinHandle, Scope, Threads};
 
-/// How many pages the larger scenario has: their bytes are more than a pipe holds.
+/// The number of pages of the larger scenario: their bytes are more than a pipe holds.
 const PAGES: usize = 129;
 
 /// The ends between two pipes.
 type Way = (PipeReader, PipeWriter);
 
-/// Words, and what the tool writes, with status 0.
+/// Arguments, and the tool's output, with exit status 0.
 type Line<'a> = (&'a str, &'a [u8]);
 
-// Makes a file of the folder stand for a descriptor, in place of one that stood for another.
+// Makes a link in the folder to a descriptor, in place of an older link.
 fn link(rt: &(impl AllocGlobal + Files + Abort), folder: &Folder, name: &str, descriptor: i32) {
     let path = folder.path(rt, name);
     let _left = std::fs::remove_file(rt, path.as_str());
@@ -35,7 +35,7 @@ fn link(rt: &(impl AllocGlobal + Files + Abort), folder: &Folder, name: &str, de
     assert!(rt; symlink(rt, target.as_str(), path.as_str()).is_ok());
 }
 
-// Takes all that comes through a pipe, and passes it on.
+// Reads a pipe to its end, and passes the bytes on.
 fn pass_on<H: AllocGlobal + Abort>(rt: &H, way: Way) {
     let (mut from, mut to) = way;
     let mut bytes = Vec::new(rt.alloc());
@@ -58,8 +58,8 @@ fn start_passing<'s, E, H: AllocGlobal + Threads + Wait + Sync + Abort>(
     }
 }
 
-// Runs a tool that writes into pipes of names, and then one that reads from others of names, to
-// which all is passed on.
+// Runs a tool that writes into named pipes, and then one that reads from other named pipes, to
+// which all bytes are passed on.
 fn assert_joined<H: AllocGlobal + Files + Threads + Wait + Sync + Abort>(
     rt: &H,
     folder: &Folder,
@@ -68,7 +68,8 @@ fn assert_joined<H: AllocGlobal + Files + Threads + Wait + Sync + Abort>(
     second: Line,
 ) {
     let mut ways = Vec::new(rt.alloc());
-    // (a pipe has an end once nobody holds it open for writing, also before it was opened for that)
+    // (a pipe has ended when no process has it open for writing, also before the first open for
+    // writing)
     let mut writers = Vec::new(rt.alloc());
     let mut readers = Vec::new(rt.alloc());
     for (output, input) in names {
@@ -104,7 +105,7 @@ fn filled(rt: &(impl AllocGlobal + Abort)) -> Vec<u8> {
     text
 }
 
-// A stream that is longer than a pipe has room for, and then the memory, which is as long.
+// Passes a stream that is longer than a pipe has room for, and then the memory, which is as long.
 #[test]
 fn stream_through_pipes(rt: HostRuntime) {
     let folder = Folder::new(&rt, "pipe");
@@ -130,8 +131,8 @@ fn stream_through_pipes(rt: HostRuntime) {
     folder.remove(&rt);
 }
 
-// Sends a scenario on two channels, each through a pipe of its own as the main stream is. Loads it,
-// as complete streams and fed.
+// Sends a scenario on two channels, and loads it: as complete streams, and fed. The main stream and
+// each channel have pipes of their own.
 fn assert_two_channels<H: AllocGlobal + Files + Threads + Wait + Sync + Abort>(
     rt: &H,
     scenario: &[u8],
@@ -153,7 +154,7 @@ fn assert_two_channels<H: AllocGlobal + Files + Threads + Wait + Sync + Abort>(
     folder.remove(rt);
 }
 
-// With packets of one page: two hellos, 129 packets of a page and two packets of SYNC.
+// With packets of one page: two hellos, 129 packets of a page and two SYNC packets.
 #[test]
 fn two_channels_through_pipes(rt: HostRuntime) {
     let short: &[u8] = b"sent 101 8256\n";

@@ -1,4 +1,4 @@
-//! The printing of faults of a load that no stream leads to.
+//! Prints faults of a load that no stream leads to.
 
 use crate::script::assert_answer;
 use mig_command::{Answer, end_with};

@@ -1,4 +1,4 @@
-//! Inputs that come byte by byte, that don't end, and that fail.
+//! Inputs that are read byte by byte, that don't end, and that fail.
 
 use crate::folder::Folder;
 use crate::script::{SCENARIO, SCENARIO_ANSWER, assert_answer, words_in};
@@ -10,15 +10,15 @@ use std::process::Abort;
 use std::sync::Wait;
 use std::thread::Threads;
 
-/// How many bytes a read of the tool asks for.
+/// The length of a read of the tool.
 const READ_LEN: usize = 65_536;
 
-// Gives one byte a read, and fails once, after `good` reads.
+// Returns one byte a read, and fails once, after `good` reads.
 #[derive(Drop)]
 struct Slow<'a> {
     rest: &'a [u8],
     good: usize,
-    // whether a read asked for another number of bytes
+    // whether a read had another length
     has_other_len: bool,
 }
 
@@ -26,7 +26,7 @@ impl Read for Slow<'_> {
     fn read(&mut self, buf: &mut [u8]) -> io::Result<usize> {
         self.has_other_len |= buf.len() != READ_LEN;
         if self.good == 0 {
-            // (the next one would be good)
+            // (the next one would succeed)
             self.good = usize::MAX;
             return Err(io::Error::from(io::ErrorKind::Other));
         }
@@ -42,8 +42,8 @@ impl Read for Slow<'_> {
     }
 }
 
-// Runs the tool without words on an input that comes byte by byte, with `good` reads that don't
-// fail.
+// Runs the tool without arguments on an input that is read byte by byte, with `good` reads that
+// don't fail.
 fn slow_answer_of<H: AllocGlobal + Files + Threads + Wait + Sync + Abort>(
     rt: &H,
     text: &[u8],
@@ -67,7 +67,7 @@ fn with_empty_lines(rt: &(impl AllocGlobal + Abort), len: usize) -> Vec<u8> {
     text
 }
 
-// Words that ask for no check read no byte of the input.
+// Arguments that ask for no check read no byte of the input.
 #[test]
 fn input_that_is_not_read(rt: HostRuntime) {
     let folder = Folder::new(&rt, "not_read");
@@ -107,8 +107,8 @@ fn most_reads(rt: HostRuntime) {
     }
 }
 
-// The scenario has 26 bytes. Up to the read that finds its end, each one fails in turn, and isn't
-// tried again.
+// The scenario has 26 bytes. Each read fails in turn, up to the one that finds its end, and isn't
+// repeated.
 #[test]
 fn each_read_failing(rt: HostRuntime) {
     for good in 0..27 {

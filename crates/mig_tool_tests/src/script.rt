@@ -1,4 +1,4 @@
-//! What the tests run: words, and what the tool answers on them.
+//! Runs the tool in tests: arguments, and its answers on them.
 
 use crate::folder::Folder;
 use mig_command::run;
@@ -11,7 +11,7 @@ use std::thread::Threads;
 /// A scenario of one page.
 pub(crate) const SCENARIO: &[u8] = b"block 1 a\nset 0 0 7\nround\n";
 
-/// What the tool writes of it.
+/// The tool's output on it.
 pub(crate) const SCENARIO_ANSWER: &[u8] = b"single 4199 sections 3\nsame\n";
 
 /// Returns the words of a line, as a run takes them.
@@ -24,7 +24,7 @@ pub(crate) fn plain_words(rt: &(impl AllocGlobal + Abort), line: &str) -> Vec<St
     words
 }
 
-/// Returns the words of a line: none where it is empty. A word after `@` is a file of the folder.
+/// Returns the words of a line: none if it is empty. A word after `@` is a file of the folder.
 pub(crate) fn words_in(
     rt: &(impl AllocGlobal + Abort),
     folder: &Folder,
@@ -44,7 +44,7 @@ pub(crate) fn words_in(
     words
 }
 
-/// Runs the tool with words, in memory of an allocator. Returns the status, and what it wrote.
+/// Runs the tool on arguments, in memory of an allocator. Returns the exit status and the output.
 pub(crate) fn answer_in<
     H: AllocGlobal + Files + Threads + Wait + Sync,
     A: Allocator + Copy + Send + Sync,
@@ -55,13 +55,13 @@ pub(crate) fn answer_in<
     (status, output)
 }
 
-/// Asserts that an answer is the one that is wanted.
+/// Asserts that an answer is the wanted one.
 pub(crate) fn assert_answer(rt: &impl Abort, answer: (u8, Vec<u8>), wanted: (u8, &[u8])) {
     assert_eq!(rt; answer.0, wanted.0);
     assert_eq!(rt; answer.1.as_slice(), wanted.1);
 }
 
-/// Runs the tool on the words of a line and asserts what it writes, and the status.
+/// Runs the tool on the arguments in a line, and asserts its output and exit status.
 pub(crate) fn assert_script<H: AllocGlobal + Files + Threads + Wait + Sync + Abort>(
     rt: &H,
     folder: &Folder,

@@ -10,7 +10,7 @@ use std::process::Abort;
 use std::sync::Wait;
 use std::thread::Threads;
 
-// Takes at most `most` bytes at a write, fails after `good` writes, and at a flush if it is to.
+// Takes at most `most` bytes at a write, fails after `good` writes, and at a flush if that is set.
 #[derive(Drop)]
 struct Halting {
     text: Vec<u8>,
@@ -52,7 +52,7 @@ fn output_of(alloc: Global, most: usize, good: usize) -> Halting {
     }
 }
 
-// What a run is passed, and what comes of it where the output doesn't fail.
+// The arguments of a run, and its result if the output doesn't fail.
 #[derive(Clone, Copy)]
 struct Expected<'a> {
     words: &'a [String],
@@ -61,7 +61,7 @@ struct Expected<'a> {
     status: u8,
 }
 
-// Runs the tool, and returns whether it answered as it should: 3 if the output failed.
+// Runs the tool, and returns whether its answer is right: exit status 3 if the output failed.
 fn answers<H: AllocGlobal + Files + Threads + Wait + Sync>(
     rt: &H,
     expected: Expected,
@@ -125,7 +125,7 @@ fn assert_output<H: AllocGlobal + Files + Threads + Wait + Sync + Abort>(
     assert_flush(rt, expected);
 }
 
-// Lawful, with a fault of each kind of line, and with words.
+// A valid scenario, a fault of each kind of line, and arguments.
 #[test]
 fn each_output(rt: HostRuntime) {
     let folder = Folder::new(&rt, "output");
@@ -150,7 +150,7 @@ fn each_output(rt: HostRuntime) {
     folder.remove(&rt);
 }
 
-// The answers of the words that read and write files.
+// The answers on arguments that read and write files.
 #[test]
 fn each_output_on_files(rt: HostRuntime) {
     let folder = Folder::new(&rt, "outputs");

@@ -1,8 +1,8 @@
-//! The tool: it sends the rounds of a scenario, loads what was sent, and says whether the memory is
-//! the same.
+//! The tool: it sends the rounds of a scenario, loads what was sent, and reports whether the memory
+//! is the same.
 //!
-//! `main` passes its words and the standard streams to `run` of `mig_command`, where the command
-//! line and files are. What a scenario is stands in `mig_scenario`.
+//! `main` passes its arguments and the standard streams to `run` of `mig_command`, which has the
+//! command line and reads and writes files. `mig_scenario` has the scenarios.
 #![tactic(auto)]
 
 use mig_command::{Answer, ToolFault, end_with, run};
@@ -10,7 +10,7 @@ use mig_scenario::ScenarioFault;
 use std::process::ExitCode;
 use std::{env, io};
 
-// The words after the program's name, or the answer where they can't be had.
+// Returns the arguments after the program's name, or the answer if they can't be read.
 fn words_given(rt: &HostRuntime) -> Result<Vec<String>, Answer> {
     let all = match env::args(rt) {
         Ok(all) => all,
@@ -25,7 +25,8 @@ fn words_given(rt: &HostRuntime) -> Result<Vec<String>, Answer> {
     Ok(words)
 }
 
-// The answer where the words can't be read: there is no memory for them, or one isn't UTF-8.
+// Returns the answer on arguments that can't be read: an allocation was refused, or one isn't
+// UTF-8.
 fn unread(error: &io::Error) -> Answer {
     if error.kind() == io::ErrorKind::OutOfMemory {
         Answer::Refused(ScenarioFault::NoMemory)

@@ -1,4 +1,4 @@
--- What has arrived of a sender's texts, after bytes were appended.
+-- What has arrived of a sender's streams, after bytes were appended.
 use Rattle.std.proofs.Common.{ℕ, ◌≡◌, ◌<◌, ◌≤◌, ◌+◌, List, [], ◌++◌, length, map, replicate, get_or, refl, sym, ap, subst, ◌∙◌, inl, inr, arith, Bool, false}
 use Rattle.std.specs.Prelude.{Vec, Result, Ok, Err, OnOk, ◌==◌, if◌then◌else◌}
 use Rattle.std.specs.List.{slice_set, range_with_len}
@@ -24,7 +24,7 @@ same_drained a b s rounds main each sent = record {
   has_rounds = sent.has_rounds;
 }
 
--- a text of these with bytes appended to one of them
+-- one of these byte strings, with bytes appended
 pub appended : {A : Type 0} (texts : List (Vec ℕ A)) (at j : ℕ) (new none : Vec ℕ A) (bytes : List ℕ) → at < length texts → new.items ≡ (get_or texts at none).items ++ bytes
     → (if j == at then get_or (texts_of texts) j [] ++ bytes else get_or (texts_of texts) j []) ≡ get_or (texts_of (slice_set texts at new)) j []
 appended {A} texts at j new none bytes inside is =
@@ -43,7 +43,7 @@ appended {A} texts at j new none bytes inside is =
           ∙ (sym (get_or-set_other olds at j (get_or olds at [] ++ bytes) [] (eqb-false j at n)) ∙ ap (λ (l : List (List ℕ)). get_or l j []) (sym set))
     ]
 
--- a text of these, as its bytes
+-- one of these byte strings
 pub text_at : {A : Type 0} (texts : List (Vec ℕ A)) (i : ℕ) (x : Vec ℕ A) → i < length texts → x ≡ get_or texts i x → x.items ≡ get_or (texts_of texts) i []
 text_at {A} texts i x inside is =
     let f : Vec ℕ A → List ℕ = λ (text : Vec ℕ A). text.items in
@@ -67,9 +67,9 @@ pub on_ok : {T E P Q : Type 0} (r : Result T E) → OnOk r P → (P → Q) → O
 on_ok (Ok x) holds follows = follows holds
 on_ok (Err e) holds follows = tt
 
--- ---- the rest of each text
+-- ---- the rest of each channel
 
--- so many texts have the rest of theirs appended, and the others are as they were
+-- the first `n` have their rest appended, and the others are as they were
 pub record HaveSoFar (olds rest : List (List ℕ)) (n : ℕ) (news : List (List ℕ)) : Type 0 where
   pub as_many : length news ≡ length olds
   pub before : (j : ℕ) → j < n → get_or news j [] ≡ get_or olds j [] ++ get_or rest j []

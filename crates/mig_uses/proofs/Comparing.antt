@@ -1,4 +1,4 @@
--- Where no place differs, two memories are one.
+-- If no place differs, two memories are one.
 use Rattle.std.proofs.Common.{◌≡◌, sym, ap, ◌∙◌, inl, inr, None, true, false}
 use Rattle.std.specs.Prelude.{not, find, bytes_eq}
 use Rattle.std.proofs.lemmas.Slice.Eq.{bytes_eq-Decides}

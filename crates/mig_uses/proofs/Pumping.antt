@@ -1,4 +1,4 @@
--- Two sources that are pumped to their end, one after the other.
+-- Two sources that are pumped to their end, one after another.
 use Rattle.std.proofs.Common.{ℕ, ◌≡◌, List, [], ◌∷◌, ◌++◌, sym, ap, subst, ◌∙◌, append-nil, append_assoc, Option, None, Some, Ok, true}
 use Rattle.std.specs.List.{concat}
 use Rattle.std.specs.Io.KnownBytes.{Consumes, IsAtEnd}
@@ -31,7 +31,7 @@ all_read text bytes (Some xs) (Some ys) is given done =
     let same : xs ≡ text = cc in
     sym (append-nil bytes) ∙ (ap (λ (l : List ℕ). bytes ++ l) (sym done) ∙ (sym given ∙ same))
 
--- both texts stand in the session then, and are over
+-- the session then has both streams, and both have ended
 pub loads_both : (page_size : ℕ) (uuid : List ℕ) (limit : ℕ) (main_text channel_text : List ℕ) (ps qs : List (List ℕ)) (m n : ℕ) (a b c : LoadSession)
     → StandsFor (ram_settings page_size limit) uuid (no_texts 1) a → StepsOn (pump_step source.Main ps (Ok m)) a b → StepsOn (pump_step (source.Channel 0) qs (Ok n)) b c
     → concat ps ≡ main_text → concat qs ≡ channel_text → StandsFor (ram_settings page_size limit) uuid (ended_texts main_text (channel_text ∷ [])) c

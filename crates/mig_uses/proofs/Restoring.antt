@@ -1,4 +1,4 @@
--- What a load of a text that was sent answers: the memory, or `NoMemory`.
+-- What a load of a sent stream returns: the memory, or `NoMemory`.
 use Rattle.std.proofs.Common.{ℕ, ◌≡◌, ◌≤◌, List, refl, sym, ap, ◌∙◌, inl, inr, Option, Some, None}
 use Rattle.std.specs.Prelude.{◌⊎◌, All, IfSome, Result, Ok, Err, IsErr, IsErrAnd, MatchResult, ⊤}
 use Rattle.mig_mem.specs.RamTable.{RamTable, IsTable}
@@ -22,11 +22,11 @@ use Rattle.mig_uses.specs.Backup.{BringsMemory}
 abbrev pub HasLoaded : {A : Type 0} → Image → Loaded A → Type 0
 HasLoaded m a = (a.memory ≡ Some m) × (a.verdict ≡ Ok _)
 
--- memory was wanted
+-- an allocation was refused
 abbrev pub HasWanted : {A : Type 0} → Loaded A → Type 0
 HasWanted a = (e : LoadFault) × (a.verdict ≡ Err e) × (e.fault ≡ fault.NoMemory)
 
--- what `load_single` says of a text, where that is the single stream of rounds
+-- what `load_single` says of the single stream of rounds
 abbrev pub LoadsSingle : {A : Type 0} → ℕ → ℕ → List ℕ → Loaded A → Type 0
 LoadsSingle page_size limit text a = (table : RamTable) (rounds : List (List Page)) → IsTable table → table.page_size ≡ page_size → total_bytes table ≤ limit
     → All (IsRound table) rounds → text ≡ single table rounds → (a ≡ loaded table rounds) ⊎ IsSingleWithoutMemory (ram_settings page_size limit) text a

@@ -1,4 +1,4 @@
--- What a stream tells so far stays, once it is whole or refused.
+-- The verdict on a stream stays, once the stream is complete or refused.
 use Rattle.std.proofs.Common.{ℕ, ◌≡◌, ◌≢◌, List, ◌++◌, length, refl, sym, ap, ◌∙◌, inl, inr, Option, Some, None}
 use Rattle.std.specs.Prelude.{Result, Ok, Err, ⊤}
 use Rattle.mig_mem.specs.PageSize.{IsPageSize}
@@ -15,7 +15,7 @@ use Rattle.mig_single_load.specs.declared.fault.Fault.TheVariants.{Stream}
 use Rattle.mig_single_load.specs.SingleLoad.{memory_after, verdict_of, at_main}
 use Rattle.mig_single_load.specs.Loader.{Loader, memory_of, HasAllSections, Waits, HasVerdict, Judges}
 
--- ---- the verdict is the text's own
+-- ---- the verdict is the stream's own
 
 -- a loader that waits for memory hasn't all sections
 never_waits : HasOneReading → (given : LoadSettings) (l : Loader) (text : List ℕ) → IsPageSize given.page_size → HasAllSections given l text → Waits given l text → ⊥
@@ -35,7 +35,7 @@ own_verdict law given l text v size all (inr want) = absurd (never_waits law giv
 
 -- ---- what stays
 
--- once a text is closed or bad, its verdict stays
+-- once a stream is closed or bad, its verdict stays
 settled : HasOneReading → LongerTextsStay → (given : LoadSettings) (text : List ℕ) (v : Result ⊤ LoadFault) → IsPageSize given.page_size → (told : HasVerdict given text v)
     → told.reading.state ≢ Reading → (more : List ℕ) → HasVerdict given (text ++ more) v
 settled law stay given text v size told over more =

@@ -159,7 +159,7 @@ round_tracked old new r sent is =
           (last_image-push (zero_image new.memory.table) sent s ∙ sym r.memory);
     }
 
--- ---- the text of all rounds
+-- ---- the stream of all rounds
 
 -- what a sender gives in the end
 abbrev pub Finishes : Writer → List ℕ → Type 0

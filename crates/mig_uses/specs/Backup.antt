@@ -4,7 +4,7 @@ use Rattle.mig_mem.specs.Image.{Page, Image}
 use Rattle.mig_mem.specs.Round.{IsRound, after}
 use Rattle.mig_stream.specs.Written.{single}
 
--- The text is the single stream of some rounds, and the memory after these is the guest's.
+-- The stream is the single stream of some rounds, and the memory after these is the guest's.
 pub record BringsMemory (m : Image) (text : List ℕ) : Type 0 where
   pub rounds : List (List Page)
   pub are_rounds : All (IsRound m.table) rounds

@@ -8,15 +8,15 @@ use Rattle.mig_answer.specs.declared.verdict.Verdict.{Verdict}
 use Rattle.mig_answer.specs.Texts.{Text, Texts}
 use Rattle.mig_in_place.specs.Answer.{IsInPlaceAnswer}
 
--- A stream is what was taken of a connection's bytes, from the first one on. Some may wait that were
--- read. If it has ended the connection is at its end, and all of its bytes were taken.
+-- A stream has the bytes that were taken of a connection, from the first one on. More may have been
+-- read and wait. If the stream has ended, the connection has too, and all its bytes were taken.
 pub record IsTakenOf (bytes : Option (List ℕ)) (text : Text) : Type 0 where
   pub waiting : List ℕ
   pub left : Option (List ℕ)
   pub is_read : Consumes bytes left (text.bytes ++ waiting)
   pub is_over : IsTrue text.ended → (waiting ≡ []) × IsAtEnd left
 
--- The answer of a load in place on what was taken of all connections, the main stream's first.
+-- The answer of a load in place on the bytes taken of all connections, the main stream's first.
 pub record IsReceived (given : LoadSettings) (uuid : List ℕ) (first : Image) (connections : List (Option (List ℕ))) (memory : Image) (verdict : Verdict) : Type 0 where
   pub texts : Texts
   pub are_taken : AllZip IsTakenOf connections (texts.main ∷ texts.channels)

@@ -11,7 +11,8 @@ use Rattle.mig_uses.specs.declared.live_guest.LiveGuest.{LiveGuest}
 abbrev pub snapshot_of : Image → PlaceSet → Snapshot
 snapshot_of m s = record { image = m; dirty = s.marked }
 
--- These snapshots of the guest were sent, each as a round, and what has changed since the last of them is marked.
+-- These snapshots of the guest were sent, each as a round. Pages that have changed since the last
+-- one are marked.
 pub record IsTracked {A : Type 0} (guest : LiveGuest A) (sent : List Snapshot) : Type 0 where
   pub is_image : IsImage guest.memory
   pub is_set : IsPlaceSet guest.dirty

@@ -1,11 +1,11 @@
--- What has arrived of a migration on several channels.
+-- The bytes of a migration on several channels that have arrived.
 use Rattle.std.specs.Prelude.{ℕ, ◌≡◌, get_or, List, [], ◌++◌, length, map}
 use Rattle.std.specs.List.{range_with_len}
 use Rattle.mig_send.specs.DealtRounds.{DealtRound}
 use Rattle.mig_send.specs.MultiSending.{MultiSending, Drained, HasSentRounds, texts_of}
 use Rattle.mig_send.specs.declared.multi.Sent.{Sent}
 
--- what was drained of a sender, where it lies as these texts
+-- the bytes that were drained of a sender
 abbrev pub drained_to : {A : Type 0} → Sent A → Drained
 drained_to arrived = record { main = arrived.main.items; channel = λ channel. get_or (texts_of arrived.channels.items) channel [] }
 
@@ -13,6 +13,6 @@ drained_to arrived = record { main = arrived.main.items; channel = λ channel. g
 abbrev pub HasArrived : {A : Type 0} → Sent A → MultiSending → List DealtRound → Type 0
 HasArrived arrived sender rounds = HasSentRounds (drained_to arrived) sender rounds
 
--- each text has the one at its place appended
+-- each channel has its own bytes appended
 abbrev pub HaveEachAppended : List (List ℕ) → List (List ℕ) → List (List ℕ) → Type 0
 HaveEachAppended olds rest news = news ≡ map (λ i. get_or olds i [] ++ get_or rest i []) (range_with_len 0 (length rest))

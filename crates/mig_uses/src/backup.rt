@@ -1,4 +1,5 @@
-//! A backup of a guest, and its restore: all of its memory as one stream, which a backup tool keeps in a file.
+//! Backs up a guest and restores it: all of its memory as one stream, which a backup tool keeps in
+//! a file.
 
 ghost use Rattle.std.specs.Prelude.{◌≡◌, ◌≤◌, ◌^◌, IfOk, IsTrue, MatchResult};
 ghost use Rattle.mig_mem.specs.PageSize.{IsPageSize};
@@ -17,7 +18,7 @@ use zimgasol::{
     Table, load_single,
 };
 
-/// The set of all pages of a table: what is dirty of a guest of which nothing was sent yet.
+/// Creates the set of all pages of `table`: the pages to send of a guest that was never sent.
 pub fn every_page<A: Allocator + Copy, B: Allocator>(
     alloc: A,
     table: &Table<B>,
@@ -34,8 +35,12 @@ pub fn every_page<A: Allocator + Copy, B: Allocator>(
     Ok(dirty)
 }
 
-/// Backs up a guest that is paused: the text of a stream with its whole memory, for a backup tool to keep. A page of zeros costs about ten
-/// bytes. The text is built in memory, so it takes as much as the guest's other pages do: an `Err` says that there wasn't as much.
+/// Backs up a paused guest: returns a stream with all of its memory. A page of zeros costs about
+/// ten bytes. The stream is built in memory.
+///
+/// # Errors
+///
+/// `NoMemory`, if there is no room for the stream.
 pub fn back_up<A: Allocator + Copy>(alloc: A, memory: &Memory<A>) -> Result<Vec<u8, A>, SendFault>
     ensures { IfOk result (λ text. BringsMemory memory.now text.items) }
 {
@@ -48,8 +53,12 @@ pub fn back_up<A: Allocator + Copy>(alloc: A, memory: &Memory<A>) -> Result<Vec<
     }
 }
 
-/// Restores a guest from its backup, or from any other single stream. Its blocks may have `limit` bytes together: a text that claims more
-/// is refused before memory is reserved for it. The fault says what is wrong with the text, and where; or that there was no memory.
+/// Restores a guest from a backup, or from any other single stream. `limit` is the most bytes that
+/// its blocks may have together. A stream that declares more is refused before memory is reserved.
+///
+/// # Errors
+///
+/// The stream's fault and where it is, or fault 60 if an allocation was refused.
 pub fn restore<A: Allocator + Copy>(
     alloc: A,
     page_size: u64,
@@ -65,7 +74,7 @@ pub fn restore<A: Allocator + Copy>(
     loaded.verdict?;
     match loaded.memory {
         Some(memory) => Ok(memory),
-        // not where the verdict is Ok, which the checker doesn't know
+        // unreachable: the verdict isn't Ok here, but the checker doesn't know that
         None => Err(LoadFault {
             round: loaded.rounds,
             source: Origin::Main,
@@ -80,8 +89,9 @@ mod tests {
     use mig_fixtures::{at, has_byte, set, zeroed};
     use zimgasol::PAGE_SIZE_4K;
 
-    // Of the two pages the first is zeros, a record of 16 bytes, and the second isn't, a record of 4,104: so the stream has 61 bytes
-    // before them, 18 round them, and 19 behind.
+    // The first of the two pages is zeros, a record of 16 bytes. The second isn't, a record of
+    // 4,104 bytes. The stream has 61 bytes before its round, 18 around the records, and 19 at its
+    // end.
     #[test]
     fn restored(rt: HostRuntime) {
         let mut memory = zeroed(rt.alloc(), &[("pc.ram", 2)]).expect(&rt, "a memory");
@@ -95,7 +105,7 @@ mod tests {
         );
     }
 
-    // Two pages of 4,096 bytes are more than 8,191. The total stands 25 bytes into the stream: fault 20, in round 0.
+    // Two pages of 4,096 bytes are more than 8,191. The total is at byte 25: fault 20, in round 0.
     #[test]
     fn too_large(rt: HostRuntime) {
         let memory = zeroed(rt.alloc(), &[("pc.ram", 2)]).expect(&rt, "a memory");

@@ -1,6 +1,6 @@
-//! A migration on several channels, over live connections, into a guest's memory that is mapped
-//! already: the new host reads the main stream and the channels by turns, and writes each page as
-//! soon as its bytes have come.
+//! Migrates a guest on several channels, over live connections, into memory that is mapped already.
+//! The new host reads the main stream and the channels in turn, and writes each page as soon as its
+//! bytes have arrived.
 
 ghost use Rattle.std.specs.Prelude.{ℕ, ◌≡◌, ◌≤◌, ◌^◌, length, map, IfOk};
 ghost use Rattle.mig_session.specs.Reads.{no_reads};
@@ -15,10 +15,10 @@ use zimgasol::{
     Verdict, pump_by_turns,
 };
 
-// The most turns of all sources. A turn takes up to 64 KiB.
+// The most turns of all sources together. A turn takes up to 64 KiB.
 const TURNS: u64 = 1 << 40;
 
-/// A connection, with a buffer for what was read of it and not taken yet.
+/// A connection, with a buffer for bytes that were read and not taken yet.
 type Connection<R, A> = SourceReader<Counted<R>, A>;
 
 // Gives each connection a buffer.
@@ -35,13 +35,13 @@ fn buffered<A: Allocator + Copy, R: Read + Drop>(
     Ok(sources)
 }
 
-/// Receives a guest over `connections`, the main stream's first, into `memory`, which has the table
-/// that the old host sends. The blocks have at most `limit` bytes together. `order` says which
-/// connection is read next: of live ones one that has bytes. What comes of a connection that is a
-/// round ahead of the others waits in its buffer of 64 KiB, and then in the network.
+/// Receives a guest over `connections`, the main stream's first, into `memory`. The memory has the
+/// table that the old host sends, and at most `limit` bytes. `order` chooses the connection to read
+/// next, among live ones that have bytes. If one channel is a round ahead of the others, its bytes
+/// wait in its buffer of 64 KiB, and then in the network.
 ///
-/// Returns the verdict: on `Done` the memory has all rounds on top of what it held, and the guest can
-/// run. On a fault it may hold anything at the places that the failed round names.
+/// Returns the verdict. On `Done` the memory has all rounds on top of what it held, and the guest
+/// can run. On a fault the pages that the failed round names may hold anything.
 ///
 /// # Errors
 ///
@@ -82,7 +82,7 @@ mod tests {
 
     const PAGES: usize = 3;
 
-    // Sends a page of the guest as a round.
+    // Sends one page of the guest as a round.
     fn send_page<H: AllocGlobal + Abort + Threads + Sync>(
         rt: &H,
         sender: &mut MultiSender,
@@ -96,13 +96,13 @@ mod tests {
         assert!(rt; sender.round(rt, &memory, &dirty, &OpenGate) == Ok(()));
     }
 
-    // Writes bytes into the connection of a number.
+    // Writes `bytes` into connection `number`.
     fn write(rt: &impl Abort, connections: &mut [PipeWriter], number: usize, bytes: &[u8]) {
         let connection = connections.get_mut(number).expect(rt, "a connection");
         assert!(rt; connection.write_all(bytes).is_ok());
     }
 
-    // Passes on what was written of each stream since the last time, the main stream's first.
+    // Passes on what was written of each stream since the last call, the main stream's first.
     fn pass_on(
         rt: &(impl AllocGlobal + Abort),
         sender: &mut MultiSender,
@@ -118,8 +118,8 @@ mod tests {
         }
     }
 
-    // The old host: its guest writes page 0, then page 2, and page 0 again, and each is sent while the
-    // new host loads what came before. The connections are at their ends then.
+    // The old host: its guest writes page 0, then page 2, then page 0 again. Each is sent while the
+    // new host loads the rounds before it. Then the connections end.
     fn send<H: AllocGlobal + Abort + Threads + Sync>(rt: &H, connections: Vec<PipeWriter>) {
         let mut connections = connections;
         let table = table(rt.alloc(), &[("pc.ram", 3)]).expect(rt, "a table");
@@ -136,7 +136,7 @@ mod tests {
         write(rt, &mut connections, 0, &main);
     }
 
-    // A value as an array.
+    // Returns the value as an array.
     fn alone<T: Drop>(one: T) -> [T; 1] {
         [one]
     }
@@ -163,7 +163,7 @@ mod tests {
         assert!(rt; verdict == Ok(Verdict::Done));
     }
 
-    // A migration over pipes into a block: the old host is on a thread of its own.
+    // Migrates a guest over pipes into a block. The old host runs on a thread of its own.
     fn migrate<H: AllocGlobal + Files + Threads + Wait + Sync + Abort>(rt: &H, block: &mut [u8]) {
         let mut readers = Vec::new(rt.alloc());
         let mut writers = Vec::new(rt.alloc());

@@ -1,23 +1,23 @@
-//! Two memories compared: what a migration is tested by, before the guest at the old host is let go.
+//! Compares two memories: tests a migration before the guest at the old host is let go.
 
 ghost use Rattle.mig_uses.specs.Comparison.{IsComparison};
 
 use std::alloc::Allocator;
 use zimgasol::{Memory, Place, first_difference};
 
-/// How two memories compare.
+/// The outcome of a comparison.
 #[derive(Clone, Copy, Debug, PartialEq, Eq)]
 pub enum Comparison {
-    /// They have the same table, and the same content at each place.
+    /// The memories have the same table and the same contents.
     Same,
-    /// They have other page sizes or blocks, and no place is compared.
+    /// The page sizes or the blocks differ, and no page was compared.
     OtherTable,
-    /// This is the first place where they differ.
+    /// The first page where they differ.
     Differ(Place),
 }
 
-/// Compares a guest's memory at the old host and at the new one. It reads both whole where they are the same, but for pages that neither
-/// has written.
+/// Compares a guest's memory at the old host with that at the new one. If they are the same, it
+/// reads both whole, but for pages that neither has written.
 pub fn compare<A: Allocator, B: Allocator>(here: &Memory<A>, there: &Memory<B>) -> Comparison
     ensures { IsComparison here.now there.now result }
 {

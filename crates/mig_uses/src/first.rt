@@ -1,5 +1,5 @@
-//! The whole way in one function: all pages of a guest are sent as a single stream, and loaded
-//! again. README and the documentation of `zimgasol` show it.
+//! Sends all pages of a guest as a single stream, and loads it again, in one function. README and
+//! the documentation of `zimgasol` quote it.
 
 ghost use Rattle.std.specs.Prelude.{◌≡◌, IfSome};
 
@@ -7,8 +7,8 @@ use crate::every_page;
 use std::alloc::Allocator;
 use zimgasol::{MAX_TOTAL, Memory, SingleSender, load_single};
 
-/// Sends all pages of a guest as one round of a stream, loads the stream, and returns the memory
-/// that the load gives, which is the guest's. None where an allocation was refused.
+/// Sends all pages of a guest as one round of a stream, loads the stream, and returns the loaded
+/// memory, which equals the guest's. Returns None if an allocation was refused.
 pub fn copy<A: Allocator + Copy>(alloc: A, memory: &Memory<A>) -> Option<Memory<A>>
     ensures { IfSome result (λ loaded. loaded ≡ memory.now) }
 {
@@ -27,15 +27,15 @@ mod tests {
     use super::*;
     use zimgasol::{PAGE_SIZE_4K, Table, first_difference};
 
-    // A guest with one block, of two pages, of which the second has a byte. None where an
-    // allocation was refused.
+    // Creates a guest with one block of two pages, the second of which has a byte. Returns None if
+    // an allocation was refused.
     fn guest<A: Allocator + Copy>(alloc: A) -> Option<Memory<A>> {
         let id = Vec::from_slice(alloc, b"pc.ram").ok()?;
         let mut blocks = Vec::new(alloc);
         blocks.push((id, 2)).ok()?;
         let table = Table::new(alloc, PAGE_SIZE_4K, blocks).ok()?;
         let mut memory = Memory::zeroed(alloc, &table).ok()?;
-        // `set` asks for a byte that there is
+        // shows that the byte of `set` exists
         let table = memory.table();
         if table.len() == 0 || 4101 >= table.pages(0) * table.page_size() {
             return None;
@@ -44,7 +44,7 @@ mod tests {
         Some(memory)
     }
 
-    // Whether the copy of such a guest is its memory.
+    // Returns whether the copy of such a guest equals its memory.
     fn is_copied<A: Allocator + Copy>(alloc: A) -> Option<bool> {
         let memory = guest(alloc)?;
         let loaded = copy(alloc, &memory)?;

@@ -1,4 +1,4 @@
-//! A guest that is loaded where it is to run: into the blocks that a hypervisor has mapped for it already.
+//! Loads a guest where it is to run: into the blocks that a hypervisor has mapped for it already.
 
 ghost use Rattle.std.specs.Prelude.{◌≡◌, ◌≤◌, ◌^◌, List, All, MatchResult};
 ghost use Rattle.mig_mem.specs.Image.{Page};
@@ -10,7 +10,7 @@ ghost use Rattle.mig_single_load.specs.declared.fault.Fault.TheVariants.{NoMemor
 use std::alloc::Allocator;
 use zimgasol::{Fault, GuestTarget, InPlaceLoader, LoadFault, Origin};
 
-// A refused allocation before any round.
+// Returns the fault of an allocation that was refused before any round.
 fn without_memory() -> LoadFault
     ensures { result.fault ≡ fault_no_memory }
 {
@@ -21,9 +21,13 @@ fn without_memory() -> LoadFault
     }
 }
 
-/// Loads a stream, whose whole text is there, into a memory that is there, as the blocks of a machine (`LentMemoryMut`). What it held stays
-/// where the stream brings no page. After an `Err` some rounds may be in it: the guest must not run. A stream of other blocks than the
-/// memory's has fault 63.
+/// Loads a complete stream into existing memory, such as a machine's mapped blocks
+/// (`LentMemoryMut`). Pages that the stream doesn't name keep their contents.
+///
+/// # Errors
+///
+/// The stream's fault; 63, if its blocks aren't those of the memory. Some rounds may have been
+/// applied by then, and the guest must not run.
 pub fn load_onto<A: Allocator + Copy, M: GuestTarget + Drop>(
     alloc: A,
     memory: M,
@@ -55,19 +59,19 @@ mod tests {
     use std::process::Abort;
     use zimgasol::{LentMemoryMut, Table};
 
-    // Some values as an array.
+    // Returns the values as an array.
     fn both<T: Drop>(one: T, other: T) -> [T; 2] {
         [one, other]
     }
 
-    // The stream of a guest of two blocks, of a page and of two, that wrote a byte of the last page and sent it.
+    // The stream of a guest of two blocks, of one page and of two, that sent its last page.
     fn stream(rt: &(impl AllocGlobal + Abort), table: &Table) -> Vec<u8> {
         let mut guest = LiveGuest::new(rt.alloc(), table).expect(rt, "a guest");
         assert!(rt; guest.write(1, 4096, 7));
         guest.finish().expect(rt, "a stream")
     }
 
-    // The number of the fault of such a load, or 0.
+    // Returns the number of the load's fault, or 0.
     fn number_of<A: Allocator + Copy, M: GuestTarget + Drop>(
         alloc: A,
         memory: M,
@@ -79,7 +83,7 @@ mod tests {
         }
     }
 
-    // Loads the stream onto two blocks of bytes 9, of a page and of two.
+    // Loads the stream over two blocks of bytes 9, of one page and of two.
     fn load(
         rt: &(impl AllocGlobal + Abort),
         table: &Table,
@@ -102,7 +106,7 @@ mod tests {
         assert_eq!(rt; load(&rt, &of_two, &text, &mut first, &mut second), 0);
         assert!(rt; first == [9; 4096] && second.starts_with(&[9; 4096]));
         assert!(rt; second[4096] == 7 && second.ends_with(&[0; 4095]));
-        // another machine's blocks
+        // blocks of another machine
         let other = table(rt.alloc(), &[("a", 1), ("c", 2)]).expect(&rt, "a table");
         assert_eq!(rt; load(&rt, &other, &text, &mut first, &mut second), 63);
         assert!(rt; second[4096] == 7);

@@ -1,4 +1,5 @@
-//! A stream that is loaded as it comes, and refused as soon as that is known: a host that receives guests closes the connection then.
+//! Loads a stream while it is received, and reports a fault as soon as it is known. A host that
+//! receives guests closes the connection then.
 
 ghost use Rattle.std.specs.Prelude.{◌≡◌, ◌↔◌, ◌+◌, ◌<◌, ◌^◌, ◌++◌, ℕ, List, false, IsFalse, IsTrue, IfOk, OnOk, length};
 ghost use Rattle.mig_single_load.specs.declared.settings.LoadSettings.{LoadSettings};
@@ -8,26 +9,30 @@ ghost use Rattle.mig_uses.specs.Incoming.{IsTold};
 use std::alloc::Allocator;
 use zimgasol::{Fault, FeedFault, LoadFault, SingleLoader, StreamFault};
 
-/// How a stream stands that is still coming.
+/// The state of a stream that is still coming.
 #[derive(Clone, Copy, Debug, PartialEq, Eq)]
 pub enum Incoming {
-    /// More is to come.
+    /// More bytes are needed.
     Coming,
-    /// It is whole: the guest's memory is there.
+    /// The stream is complete, and the guest's memory is there.
     Whole,
-    /// It is refused, whatever comes. The memory has the rounds before the fault.
+    /// The stream is refused, whatever follows. The memory has the rounds before the fault.
     Refused(LoadFault),
 }
 
-// Whether a text lacks no more than what is still to come.
+// Returns whether the fault only says that bytes are still missing.
 fn is_unfinished(fault: Fault) -> bool
     ensures { IsTrue result ↔ (fault ≡ Fault.Stream StreamFault.Truncated) }
 {
     fault == Fault::Stream(StreamFault::Truncated)
 }
 
-/// Takes the next piece of a stream, of any length, as a socket gives it, and tells how the stream stands. An `Err` is `NoMemory`, and
-/// says nothing of the stream: `FeedFault` has what to do then.
+/// Feeds the next piece of a stream, of any length, as a socket gives it, and returns the stream's
+/// state.
+///
+/// # Errors
+///
+/// `NoMemory`, which says nothing of the stream: `FeedFault` says what to do then.
 pub fn take_piece<A: Allocator + Copy>(
     loader: &mut SingleLoader<A>,
     piece: &[u8],
@@ -58,8 +63,9 @@ mod tests {
     use std::process::Abort;
     use zimgasol::PAGE_SIZE_4K;
 
-    // The stream of two pages of zeros: its opening has 61 bytes, of which the last 13 end START; the round has 18 and records of 16
-    // bytes and of 9; the end has 19, of which the last is the end byte.
+    // The stream of two pages of zeros. Its opening has 61 bytes, the last 13 of which end START.
+    // The round has 18 bytes and records of 16 and 9. The end has 19, the last of which is the end
+    // byte.
     fn stream(rt: &(impl AllocGlobal + Abort)) -> Vec<u8> {
         let memory = zeroed(rt.alloc(), &[("pc.ram", 2)]).expect(rt, "a memory");
         let text = back_up(rt.alloc(), &memory).expect(rt, "a stream");
@@ -67,7 +73,8 @@ mod tests {
         text
     }
 
-    // Feeds a stream byte by byte, up to the first byte with which it doesn't run on. Gives the number of bytes, and how it stands.
+    // Feeds a stream byte by byte, as long as more bytes are needed. Returns the number of bytes,
+    // and the state after them.
     fn first_told(rt: &(impl AllocGlobal + Abort), text: &[u8]) -> (u64, Incoming) {
         let mut loader = SingleLoader::new(rt.alloc(), PAGE_SIZE_4K, 1 << 20);
         for byte in text.chunks(1) {
@@ -86,7 +93,7 @@ mod tests {
         assert!(rt; first_told(&rt, &text) == (123, Incoming::Whole));
         let front = text.get(..122).expect(&rt, "a front");
         assert!(rt; first_told(&rt, front) == (122, Incoming::Coming));
-        // the type byte behind the opening, which is to be that of a PART or of END: fault 13, behind START's round
+        // the type byte after the opening must be PART's or END's: fault 13, after START's round
         *text.get_mut(61).expect(&rt, "a byte") = 0x7F;
         let (fed, told) = first_told(&rt, &text);
         let Incoming::Refused(fault) = told else {

@@ -1,10 +1,17 @@
-//! Uses of the library, as a caller writes them: a module for each, with a contract and a test. They are there to be read and copied.
+//! Uses of the library, as a caller writes them: a module for each, with a contract and a test.
+//! They are there to be read and copied.
 //!
-//! Read them in this order. `first` sends a guest's memory and loads it again. `backup` and `live_guest` are the single stream, of a guest that is paused and of one that runs on.
-//! `incoming` loads such a stream as it comes, and `in_place` one that is there whole, into the blocks where the guest is to run.
-//! `migration` moves a guest on several channels, and `two_readers` loads a main stream and one channel from readers. `by_turns` loads
-//! what comes over several connections into the blocks where the guest is to run. `comparison` and `notice` are what comes after a load:
-//! whether two memories are the same, and what a user is told.
+//! Read them in this order:
+//!
+//! - `first` sends a guest's memory and loads it again;
+//! - `backup` and `live_guest` send a single stream, of a paused guest and of one that runs on;
+//! - `incoming` loads such a stream while it is received, `in_place` a complete one into the blocks
+//!   where the guest is to run;
+//! - `migration` moves a guest on several channels, and `two_readers` loads a main stream and one
+//!   channel from readers;
+//! - `by_turns` loads from several connections into the blocks where the guest is to run;
+//! - `comparison` and `notice` follow a load: whether two memories are equal, and the error
+//!   message.
 #![tactic(auto)]
 
 mod backup;

@@ -1,4 +1,4 @@
-//! A guest that runs on while it is sent: each round has only the pages that were written since the last one.
+//! Sends a guest that runs on: each round has only the pages that were written since the last one.
 
 ghost use Rattle.std.specs.Prelude.{◌≡◌, ◌∷◌, ◌++◌, [], List, IsTrue, IsFalse, IfOk, OnOk, OnErr};
 ghost use Rattle.mig_mem.specs.Tracking.{Snapshot};
@@ -6,7 +6,7 @@ ghost use Rattle.mig_mem.specs.Tracking.{Snapshot};
 use std::alloc::{Allocator, Global};
 use zimgasol::{Dirty, Memory, NoMemory, Place, SendFault, SingleSender, Table};
 
-/// A guest of a hypervisor that tracks its writes, and the sender of its rounds.
+/// A guest of a hypervisor that tracks its writes, with the sender of its rounds.
 #[derive(Drop)]
 pub struct LiveGuest<A: Allocator = Global> {
     pub memory: Memory<A>,
@@ -18,7 +18,8 @@ pub struct LiveGuest<A: Allocator = Global> {
 impl<A: Allocator + Copy> LiveGuest<A> {
     ghost use Rattle.mig_uses.specs.LiveGuest.{IsTracked};
 
-    /// A guest with a memory of zeros, of which nothing was sent. A receiver begins with zeros too, so no page is marked.
+    /// Creates a guest whose memory is zeros, and sends nothing yet. A receiver begins with zeros
+    /// too, so no page is dirty.
     pub fn new(alloc: A, table: &Table<A>) -> Result<LiveGuest<A>, NoMemory>
         ensures { IfOk result (λ guest. IsTracked guest []) }
     {
@@ -36,7 +37,8 @@ impl<A: Allocator> LiveGuest<A> {
     ghost use Rattle.mig_uses.specs.Backup.{BringsMemory};
     ghost use Rattle.mig_uses.specs.LiveGuest.{IsTracked, snapshot_of};
 
-    /// The guest writes a byte, and its page is marked: a page that is left unmarked is lost on the way. False where there is no such byte.
+    /// Writes a byte of the guest and marks its page as dirty: a page that isn't marked is lost.
+    /// Returns false if there is no such byte.
     pub fn write(&mut self, block: usize, offset: u64, byte: u8) -> bool
         ensures tracked { (sent : List Snapshot) → IsTracked self.old sent → IsTracked self.new sent }
         ensures written { IsTrue result → self.new.memory ≡ with_byte self.old.memory block offset byte }
@@ -55,8 +57,11 @@ impl<A: Allocator> LiveGuest<A> {
         self.dirty.mark(place).is_ok()
     }
 
-    /// Sends the pages that were written since the last round, and begins the next one with none. An `Err` changes nothing, so that the
-    /// marks are still there for another try.
+    /// Sends the pages that were written since the last round, and clears the dirty set.
+    ///
+    /// # Errors
+    ///
+    /// `NoMemory`, which changes nothing: the marks stay for another call.
     pub fn send_round(&mut self) -> Result<(), SendFault>
         ensures sent { OnOk result ((sent : List Snapshot) → IsTracked self.old sent → IsTracked self.new (sent ++ snapshot_of self.old.memory self.old.dirty ∷ [])) }
         ensures none { OnOk result (self.new.dirty.marked ≡ []) }
@@ -68,7 +73,8 @@ impl<A: Allocator> LiveGuest<A> {
         Ok(())
     }
 
-    /// Sends what is left of a guest that is paused now, and ends the stream. Whoever loads it has the guest's memory as it is here.
+    /// Sends what is left of a guest that is paused now, and ends the stream. A load of it gives
+    /// the guest's memory as it is here.
     pub fn finish(mut self) -> Result<Vec<u8, A>, SendFault>
         ensures { IfOk result (λ text. (sent : List Snapshot) → IsTracked self sent → BringsMemory self.memory text.items) }
     {
@@ -92,8 +98,9 @@ mod tests {
     use mig_fixtures::{at, is_full, table};
     use zimgasol::PAGE_SIZE_4K;
 
-    // The first round has pages 0 and 3 of four, and the second only page 3, which was written again. So there is no record of the
-    // others: the stream has 61 bytes before its rounds, 18 for each, and 19 behind. The first page names its block, in 7 bytes.
+    // The first round has pages 0 and 3 of four. The second has page 3 alone, which was written
+    // again. The other pages have no record: the stream has 61 bytes before its rounds, 18 for
+    // each, and 19 at its end. The first page names its block, in 7 bytes.
     #[test]
     fn two_rounds(rt: HostRuntime) {
         let table = table(rt.alloc(), &[("pc.ram", 4)]).expect(&rt, "a table");

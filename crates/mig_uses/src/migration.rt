@@ -1,5 +1,5 @@
-//! A migration on several channels: the old host sends rounds while the guest runs, and hands on what was written after each; the new
-//! host loads it, with a worker for each channel.
+//! Migrates a guest on several channels. The old host sends rounds while the guest runs, and passes
+//! on what was written after each. The new host loads it, with a worker for each channel.
 
 ghost use Rattle.std.specs.Prelude.{◌≡◌, ◌≤◌, ◌^◌, ◌∷◌, ◌++◌, [], List, length, OnOk, MatchResult};
 ghost use Rattle.mig_mem.specs.RamTable.{RamTable};
@@ -20,8 +20,13 @@ use zimgasol::{
     SendFault, Sent, Uuid, load_multi,
 };
 
-/// Takes what a sender has written since the last time, and appends it to what has arrived, in place of a network. The sender keeps no
-/// bytes that were taken, so an `Err` loses some: the migration is to begin again.
+/// Takes what a sender has written since the last call, and appends it to what has arrived, in
+/// place of a network.
+///
+/// # Errors
+///
+/// `NoMemory`. The sender keeps no bytes that were taken, so some are lost: the migration has to
+/// begin again.
 pub fn deliver<A: Allocator + Copy>(
     alloc: A,
     sender: &mut MultiSender<A>,
@@ -42,11 +47,12 @@ pub fn deliver<A: Allocator + Copy>(
     Ok(())
 }
 
-/// The old host, first of all: sends a round without pages. QEMU's receiver needs it: its threads for
-/// the channels take packets as they come, and in QEMU 10.0 and 11.1 they end with SIGSEGV where a
-/// page comes before the main thread has read START. Behind the SYNC packet of a round they wait until
-/// the main thread has read its FLUSH, which follows START. It costs 26 bytes of the main stream, and
-/// 1,344 of each channel. A load by this library needs no such round, and takes it as any other.
+/// The old host, first of all: sends a round without pages. QEMU's receiver needs it. Its threads
+/// for the channels take packets as they come. In QEMU 10.0 and 11.1 they end with SIGSEGV if a
+/// page comes before the main thread has read START. After a round's SYNC packet they wait until
+/// the main thread has read its FLUSH, which follows START. The round costs 26 bytes of the main
+/// stream, and 1,344 of each channel. A load by this library needs no such round, and takes it as
+/// any other.
 pub fn begin<R: Threads + Sync, A: Allocator + Copy + Send + Sync>(
     rt: &R,
     alloc: A,
@@ -64,8 +70,8 @@ pub fn begin<R: Threads + Sync, A: Allocator + Copy + Send + Sync>(
     send_round(rt, alloc, sender, memory, &none, arrived)
 }
 
-/// The old host, while the guest runs: sends the pages that are dirty in a copy of its memory, and hands on what was written. A worker for
-/// each channel runs on a thread of its own.
+/// The old host, while the guest runs: sends the pages that are dirty in a copy of its memory, and
+/// passes on what was written. Each channel has a worker on a thread of its own.
 pub fn send_round<R: Threads + Sync, A: Allocator + Copy + Send + Sync>(
     rt: &R,
     alloc: A,
@@ -85,7 +91,7 @@ pub fn send_round<R: Threads + Sync, A: Allocator + Copy + Send + Sync>(
     Ok(())
 }
 
-/// The old host, in the end: hands on what is left of all texts.
+/// The old host, at the end: passes on the rest of all streams.
 pub fn finish<A: Allocator>(sender: MultiSender<A>, arrived: &mut Sent<A>) -> Result<(), NoMemory>
     requires { length arrived.old.channels.items ≡ length sender.channels }
     ensures { OnOk result ((rounds : List DealtRound) → HasArrived arrived.old sender rounds
@@ -102,7 +108,7 @@ pub fn finish<A: Allocator>(sender: MultiSender<A>, arrived: &mut Sent<A>) -> Re
     append_all(&mut arrived.channels, &rest.channels)
 }
 
-// Appends to each text the one at its place.
+// Appends to each channel's bytes those at the same index of `more`.
 fn append_all<A: Allocator>(
     texts: &mut Vec<Vec<u8, A>, A>,
     rest: &[Vec<u8, A>],
@@ -116,8 +122,8 @@ fn append_all<A: Allocator>(
     Ok(())
 }
 
-/// The new host: loads what has arrived, once all texts are over. The guest may have `limit` bytes together. The channels' texts may stand
-/// in any order.
+/// The new host: loads what has arrived, once all streams have ended. The guest may have `limit`
+/// bytes together. The channels' bytes may be passed in any order.
 pub fn load_arrived<R: Threads + Wait + Sync, A: Allocator + Copy + Send + Sync>(
     rt: &R,
     alloc: A,
@@ -149,7 +155,7 @@ pub fn load_arrived<R: Threads + Wait + Sync, A: Allocator + Copy + Send + Sync>
     } = loaded;
     verdict?;
     let Some(memory) = memory else {
-        // not where the verdict is Ok, which the checker doesn't know
+        // unreachable: the verdict isn't Ok here, but the checker doesn't know that
         return Err(LoadFault {
             round: rounds,
             source: Origin::Round,
@@ -166,7 +172,7 @@ mod tests {
     use std::alloc::AllocGlobal;
     use std::process::Abort;
 
-    // No bytes of any text yet.
+    // No bytes of any stream yet.
     fn nothing(rt: &(impl AllocGlobal + Abort), channels: usize) -> Sent {
         let mut texts = Vec::new(rt.alloc());
         for _ in 0..channels {
@@ -184,9 +190,11 @@ mod tests {
         load_arrived(rt, rt.alloc(), &Uuid::nil(), arrived, 1 << 20).expect(rt, "a memory")
     }
 
-    // A round without pages, three pages in the next, and one of them again in the last. With at most two pages to a packet these have two
-    // packets of pages and one. A channel has its hello of 64 bytes, and of each round a SYNC packet of 1,344 bytes; a packet of pages
-    // has 1,344 bytes too, and then its pages. Of the main stream the opening has 61 bytes, each FLUSH 26, and the end 19.
+    // A round without pages, three pages in the next, and one of them again in the last. With at
+    // most two pages in a packet, these have two packets of pages and one. A channel has its hello
+    // of 64 bytes, and a SYNC packet of 1,344 bytes for each round. A packet of pages has 1,344
+    // bytes too, and then its pages. The main stream has 61 bytes before its rounds, 26 for each
+    // FLUSH, and 19 at its end.
     #[test]
     fn three_rounds_on_two_channels(rt: HostRuntime) {
         let mut memory = zeroed(rt.alloc(), &[("pc.ram", 3)]).expect(&rt, "a memory");

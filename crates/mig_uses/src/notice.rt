@@ -1,4 +1,4 @@
-//! A load that failed, told to a user: the fault's number, where it is, and its words.
+//! Reports a failed load to a user: the fault's number, where it is, and its message.
 
 ghost use Rattle.std.specs.Prelude.{◌≡◌, IfOk};
 ghost use Rattle.mig_single_load.specs.LoadFaultNumber.{fault_number};
@@ -6,20 +6,21 @@ ghost use Rattle.mig_single_load.specs.LoadFaultNumber.{fault_number};
 use std::alloc::{AllocError, Allocator, Global};
 use zimgasol::{LoadFault, Origin};
 
-/// What a user is told of a load that failed.
+/// The notice that a user is shown of a failed load.
 #[derive(Drop)]
 pub struct Notice<A: Allocator = Global> {
-    /// The fault's number, as `docs/FAULTS.md` has it. 60 is `NoMemory`, after which the same load may be tried again.
+    /// The fault's number, as `docs/FAULTS.md` has it. 60 is `NoMemory`: the load may be tried
+    /// again.
     pub number: u8,
-    /// How many rounds came before it. They are in the memory.
+    /// The number of rounds before the fault. The memory has them.
     pub rounds: u64,
-    /// Which text it is in.
+    /// The stream that has the fault.
     pub source: Origin,
-    /// All of it in words, on one line.
+    /// The message, on one line.
     pub words: String<A>,
 }
 
-/// Makes the notice of a fault, for a log and for a person. Only its words allocate.
+/// Creates the notice of a fault, for a log and for a person. Only its message allocates.
 pub fn notice_of<A: Allocator + Copy>(alloc: A, fault: LoadFault) -> Result<Notice<A>, AllocError>
     ensures number { IfOk result (λ notice. notice.number ≡ fault_number fault.fault) }
     ensures place { IfOk result (λ notice. (notice.rounds ≡ fault.round) × (notice.source ≡ fault.source)) }
@@ -40,7 +41,7 @@ mod tests {
 
     #[test]
     fn told(rt: HostRuntime) {
-        // a file header of another magic than QEVM, and of version 3
+        // a file header with a magic other than QEVM, and with version 3
         let Err(fault) = restore(rt.alloc(), PAGE_SIZE_4K, b"QEVN\0\0\0\x03", 1 << 20) else {
             panic!(rt; "a fault")
         };

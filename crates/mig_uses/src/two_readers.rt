@@ -1,4 +1,5 @@
-//! A load on one channel beside its main stream, from two readers: files, or sockets. Each is read to its end before the next one is begun.
+//! Loads a main stream and one channel from two readers: files, or sockets. The main stream is read
+//! to its end before the channel is begun.
 
 ghost use Rattle.std.specs.Prelude.{◌≡◌, ◌≤◌, ◌^◌, ℕ, List, [], ◌∷◌, Some, IfOk};
 ghost use Rattle.mig_mem.specs.PageSize.{IsPageSize};
@@ -13,9 +14,14 @@ use zimgasol::{Counted, PumpFault, Session, Source, Uuid, pump};
 // The most reads of one reader.
 const TURNS: u64 = 1 << 40;
 
-/// Loads what two readers give: it reads the main stream to its end first, and then the channel, so whoever writes both writes them in that
-/// order, or at the same time. The session then tells how it stands (`verdict`), and has the memory. An `Err` says that a read failed, that
-/// the end wasn't found in 2^40 reads, or that memory was refused; it doesn't say of which reader.
+/// Loads what two readers give. It reads the main stream to its end first, and then the channel. So
+/// the sender must write them in that order, or at the same time. The session then has the verdict
+/// (`verdict`) and the memory.
+///
+/// # Errors
+///
+/// A read failed, the end wasn't found in 2^40 reads, or an allocation was refused. The error
+/// doesn't say of which reader.
 pub fn load_from<A: Allocator + Copy, M: Read + Drop, C: Read + Drop>(
     alloc: A,
     page_size: u64,
@@ -54,8 +60,8 @@ mod tests {
     use mig_fixtures::{at, is_full, places_of, zeroed};
     use zimgasol::{MultiSender, OpenGate, PAGE_SIZE_4K, Verdict};
 
-    // A round of two pages of zeros on one channel. Its main stream has 61 bytes, a FLUSH of 26 and an end of 19, and its channel a hello of
-    // 64 bytes and two packets of 1,344.
+    // A round of two pages of zeros on one channel. The main stream has 61 bytes before its round,
+    // a FLUSH of 26 and an end of 19. The channel has a hello of 64 bytes and two packets of 1,344.
     #[test]
     fn from_slices(rt: HostRuntime) {
         let memory = zeroed(rt.alloc(), &[("pc.ram", 2)]).expect(&rt, "a memory");

@@ -1,10 +1,8 @@
 //! The zero test of guest memory: whether a page, or any other run of bytes, has no byte other than
 //! 0.
 //!
-//! A sender asks it of each page that it is to send. Of a page of zeros no bytes go out, only that
-//! it is zeros. So the test must cost little beside the copy of a page, for a page of zeros and for
-//! any other. It only reads and answers. What a page is, how long it is and what becomes of it is
-//! for the crates above.
+//! A sender tests each page that it sends. A page of zeros is sent without its bytes. So the test
+//! must cost little beside the copy of a page, for a page of zeros and for any other.
 #![tactic(auto)]
 
 ghost use Rattle.std.specs.Prelude.{◌≡◌, ◌↔◌, ◌+◌, ◌-◌, ◌/◌, ◌≤◌, [], ◌∷◌, length, All, IsTrue, slice_index};
@@ -16,11 +14,11 @@ use std::simd::prelude::*;
 #[cfg(test)]
 mod tests;
 
-/// Returns whether no byte is other than 0, for any number of bytes. Of none it is true.
+/// Returns whether all of `bytes` are 0, for any number of bytes. No bytes at all give true.
 ///
-/// It reads from front to back, as a processor fetches ahead: first a few bytes of the first cache
-/// line, which recognise most pages that aren't zero. Then it reads blocks of 256 bytes in vectors,
-/// and then the bytes that are left one at a time.
+/// It reads from front to back, as a processor prefetches. First it tests a few bytes of the first
+/// cache line, which rejects most pages that aren't zeros. Then it reads blocks of 256 bytes in
+/// vectors, and the bytes that are left one at a time.
 pub fn is_zero(bytes: &[u8]) -> bool
     ensures { IsTrue result ↔ IsZero bytes.now }
 {
@@ -48,8 +46,8 @@ fn are_zero_blocks(blocks: &[[u8; 256]]) -> bool
     blocks.iter().all(|block| is_zero_block(block))
 }
 
-// Joins the four tests by `&`, which reads all of them, so that they become one test of four
-// vectors.
+// Joins the four tests by `&`, which evaluates all of them, so that they compile to one test of
+// four vectors.
 fn is_zero_block(block: &[u8; 256]) -> bool
     ensures { IsTrue result ↔ IsZero block.now }
 {
@@ -68,7 +66,7 @@ fn is_zero_vector(bytes: &[u8], at: usize) -> bool
     vector.simd_ne(u8x64::splat(0)).to_bitmask() == 0
 }
 
-// Returns what `is_zero` does, a byte at a time.
+// Returns the result of `is_zero`, computed a byte at a time.
 fn is_zero_plain(bytes: &[u8]) -> bool
     ensures { IsTrue result ↔ IsZero bytes.now }
 {

@@ -9,7 +9,7 @@ fn zeros(alloc: Global, len: usize) -> Result<Vec<u8>, AllocError> {
     vec![in alloc; 0u8; len]
 }
 
-// Returns what `is_zero` says of `len` zeros but for a one at `at`.
+// Returns the result of `is_zero` on `len` zeros but for a one at `at`.
 fn is_zero_but_at(alloc: Global, len: usize, at: usize) -> Result<bool, AllocError> {
     let mut bytes = zeros(alloc, len)?;
     if at < bytes.len() {

@@ -31,8 +31,9 @@
 //! # Examples
 //!
 //! Each is quoted from a use in `mig_uses` or from a test, which the gate proves and runs. A script
-//! compares them with the code (`tools/quotes.py`). `rt` is the runtime that a test is passed;
-//! `assert!(rt; ..)` and `expect(rt, ..)` fail the test.
+//! compares them with the code (`tools/quotes.py`). Each main type has another example in its own
+//! comment. `rt` is the runtime that a test is passed; `assert!(rt; ..)` and `expect(rt, ..)` fail
+//! the test.
 //!
 //! # All of a guest, sent and loaded
 //!
@@ -65,7 +66,7 @@
 //! blocks.push((id, 2)).ok()?;
 //! let table = Table::new(alloc, PAGE_SIZE_4K, blocks).ok()?;
 //! let mut memory = Memory::zeroed(alloc, &table).ok()?;
-//! // `set` asks for a byte that there is
+//! // shows that the byte of `set` exists
 //! let table = memory.table();
 //! if table.len() == 0 || 4101 >= table.pages(0) * table.page_size() {
 //!     return None;

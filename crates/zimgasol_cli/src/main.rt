@@ -1,7 +1,7 @@
-//! `zimgasol`: looks into guests that QEMU or libvirt saved in a file, verifies them, and takes
-//! their memory out.
+//! `zimgasol`: inspects guests that QEMU or libvirt saved in a file, verifies them, and extracts
+//! their memory.
 //!
-//! `main` passes its words and the standard streams to `run` of `zimgasol_command`.
+//! `main` passes its arguments and the standard streams to `run` of `zimgasol_command`.
 #![tactic(auto)]
 
 use std::fs::File;
@@ -10,7 +10,7 @@ use std::process::ExitCode;
 use std::{env, io};
 use zimgasol_command::{FAILED, WORDS, run};
 
-// Returns the words after the program's name.
+// Returns the arguments after the program's name.
 fn words_given(rt: &HostRuntime) -> io::Result<Vec<String>> {
     let mut words = Vec::new(rt.alloc());
     for word in env::args(rt)?.skip(1) {
@@ -19,7 +19,7 @@ fn words_given(rt: &HostRuntime) -> io::Result<Vec<String>> {
     Ok(words)
 }
 
-// Prints why the words can't be read, and returns the status.
+// Prints why the arguments can't be read, and returns the exit status.
 fn put_unread<E: Write>(errors: &mut E, error: &io::Error) -> u8 {
     if error.kind() == ErrorKind::InvalidData {
         let _ = writeln!(errors, "zimgasol: a word isn't UTF-8");
@@ -30,9 +30,9 @@ fn put_unread<E: Write>(errors: &mut E, error: &io::Error) -> u8 {
 }
 
 fn main(rt: HostRuntime) -> ExitCode {
-    // The system gives a file that is opened the least free number, from 0. A standard stream that
-    // is closed leaves its number free, and what is printed would go into a guest's file. A folder
-    // has the number instead: reads and writes of it fail.
+    // The system gives a new file the least free descriptor, from 0. If a standard stream is
+    // closed, its descriptor is free: output could be written into a guest's file. This opens a
+    // folder in its place, whose reads and writes fail.
     let _first = File::open(&rt, "/");
     let _second = File::open(&rt, "/");
     let _third = File::open(&rt, "/");

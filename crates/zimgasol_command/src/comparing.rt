@@ -1,7 +1,7 @@
 //! `compare`: lists the pages in which the memory of two streams or folders differs.
 //!
-//! A stream may name a page several times, so its memory is known only at its end. So a stream is
-//! extracted into a folder beside the second operand, and then two folders are compared.
+//! A stream may have several records of a page, so its memory is known only at its end. Each stream
+//! is therefore extracted into a folder next to the second operand, and two folders are compared.
 
 ghost use Rattle.std.specs.Prelude.{IfOk};
 ghost use Rattle.zimgasol_files.specs.Differing.{piece_of, IsCountedTo, CountsPage};
@@ -31,7 +31,7 @@ struct Temporary {
     made: bool,
 }
 
-// Returns the path of the temporary folder, beside the file or folder `path`.
+// Returns the path of the temporary folder, next to the file or folder `path`.
 fn temporary_path(alloc: Global, path: &str) -> Result<String, AllocError> {
     match path.trim_end_matches('/').rsplit_once('/') {
         Some((folder, _)) => path_in(alloc, folder, TEMPORARY_NAME, ""),
@@ -40,7 +40,7 @@ fn temporary_path(alloc: Global, path: &str) -> Result<String, AllocError> {
 }
 
 impl Temporary {
-    // Makes the folder, unless this run made it already. Refuses one that is there.
+    // Makes the folder, unless this run made it already. Refuses an existing folder.
     fn make<H: Files>(&mut self, rt: &H) -> Result<(), Trouble> {
         if self.made {
             return Ok(());
@@ -57,7 +57,7 @@ impl Temporary {
         }
     }
 
-    // Removes the folder with all its files, where this run made it.
+    // Removes the folder with all its files, if this run made it.
     fn remove<H: Files>(&self, rt: &H) -> Result<(), Trouble> {
         if !self.made {
             return Ok(());
@@ -69,7 +69,7 @@ impl Temporary {
     }
 }
 
-// Adds the name of a stream to the trouble of reading it.
+// Adds the name of a stream to an error of reading it.
 fn of_stream(alloc: Global, name: &str, trouble: Trouble) -> Trouble {
     match trouble {
         Trouble::Unread(error) => unwritten(alloc, name, error),
@@ -81,8 +81,8 @@ fn of_stream(alloc: Global, name: &str, trouble: Trouble) -> Trouble {
     }
 }
 
-// Extracts a stream into the folder `path`. Returns the list of its blocks; None where the stream
-// has a fault, which is written to `errors`.
+// Extracts a stream into the folder `path`. Returns the list of its blocks; None if the stream has
+// a fault, which is written to `errors`.
 fn extracted<'a, H: AllocGlobal + Files + Clock, R: Read, E: Write>(
     rt: &H,
     words: &StreamWords<'a>,
@@ -112,7 +112,7 @@ fn extracted<'a, H: AllocGlobal + Files + Clock, R: Read, E: Write>(
 }
 
 // Returns the list of an operand's blocks. A stream is extracted first, into the folder `name` of
-// the temporary one; None where it has a fault.
+// the temporary one; None if it has a fault.
 fn operand<H: AllocGlobal + Files + Clock, R: Read, E: Write>(
     rt: &H,
     words: &StreamWords<'_>,
@@ -132,7 +132,7 @@ fn operand<H: AllocGlobal + Files + Clock, R: Read, E: Write>(
     extracted(rt, words, &path, input, errors)
 }
 
-// Adds those of `pages` that differ; the first of `pages` is the block's page `first`.
+// Adds the differing pages of `pages`; the first of `pages` is the block's page `first`.
 fn add_differing(
     differing: &mut Differing,
     first: u64,
@@ -144,7 +144,7 @@ fn add_differing(
     add_each(differing, first, pages)
 }
 
-// Adds those of `pages` that differ, page by page.
+// Adds the differing pages of `pages`, page by page.
 fn add_each(differing: &mut Differing, first: u64, pages: &Pages<'_>) -> Result<(), AllocError>
     ensures counted { IfOk result (λ _. IsCountedTo first (piece_of pages.now) 256 differing.old.count differing.new.count) }
 {
@@ -212,8 +212,8 @@ fn output_failed(error: io::Error) -> Trouble {
 }
 
 impl Comparing<'_> {
-    // Compares a block that both have, and writes the line of its differences. Returns whether it
-    // is the same.
+    // Compares a block that both folders have, and writes the line on its differences. Returns
+    // whether it is the same.
     fn compare_block<H: AllocGlobal + Files, W: Write>(
         &self,
         rt: &H,
@@ -246,7 +246,7 @@ impl Comparing<'_> {
         Ok(false)
     }
 
-    // Writes the line of a block that only `name` has.
+    // Writes the line on a block that only `name` has.
     fn put_only<W: Write>(&self, output: &mut W, id: &str, name: &str) -> Result<(), Trouble> {
         let id = shown(self.alloc, id.as_bytes())?;
         writeln!(output, "block \"{id}\": only in {name}").map_err(output_failed)
@@ -281,7 +281,7 @@ impl Comparing<'_> {
         Ok(is_same)
     }
 
-    // Writes the line of memory that is the same.
+    // Writes the line on memory that is the same.
     fn put_same<W: Write>(&self, output: &mut W) -> Result<(), Trouble> {
         let a_name = self.a_name;
         let b_name = self.b_name;
@@ -295,7 +295,8 @@ impl Comparing<'_> {
     }
 }
 
-// Compares the blocks of both, and writes the result. Returns whether the memory is the same.
+// Compares the blocks of both folders, and writes the result. Returns whether the memory is the
+// same.
 fn compare_folders<H: AllocGlobal + Files, W: Write>(
     rt: &H,
     words: &CompareWords<'_>,
@@ -346,8 +347,9 @@ fn compare_in<H: AllocGlobal + Files + Clock, R: Read, W: Write, E: Write>(
 ///
 /// # Errors
 ///
-/// `Trouble::Words` where both are the standard input, `Trouble::Unfit` of other page sizes or
-/// another run's folder, those of reading and extracting them, and `Trouble::Output`.
+/// `Trouble::Words` if both are the standard input, `Trouble::Unfit` if the page sizes differ or
+/// the temporary folder of another run exists, those of reading and extracting them, and
+/// `Trouble::Output`.
 pub(crate) fn compare<H: AllocGlobal + Files + Clock, R: Read, W: Write, E: Write>(
     rt: &H,
     words: &CompareWords<'_>,

@@ -5,7 +5,7 @@ ghost use Rattle.std.specs.Prelude.{◌≡◌, ◌+◌, ◌↔◌, ◌<◌, ◌�
 use std::alloc::{AllocError, Global};
 use std::io::{self, Write};
 
-/// The most ranges of a block that are listed.
+/// The most ranges that are listed for a block.
 const MOST_RANGES: usize = 16;
 
 /// Consecutive pages, from the first to the last one.
@@ -16,7 +16,7 @@ pub(crate) struct PageRange {
 }
 
 impl PageRange {
-    /// Returns the range with `page` added at its end; None where `page` doesn't follow it.
+    /// Returns the range with `page` added at its end; None if `page` doesn't follow it.
     pub(crate) fn with(self, page: u64) -> Option<PageRange>
         ensures follows { IsSome result ↔ (self.last + 1 ≡ page) }
         ensures value { IfSome result (λ range. range ≡ record { first = self.first; last = page }) }
@@ -52,7 +52,7 @@ impl Differing {
         }
     }
 
-    /// Adds `page`, which is after all pages that were added.
+    /// Adds `page`, which follows all pages added before.
     pub(crate) fn add(&mut self, page: u64) -> Result<(), AllocError>
         ensures count { IfOk result (λ _. self.old.count + 1 < 2 ^ 64 → self.new.count ≡ self.old.count + 1) }
     {

@@ -1,8 +1,8 @@
 //! `extract`: writes the memory of a stream into a folder, a file for each block.
 //!
-//! Pages are written to their places as they come. A file gets its final name when the stream is
-//! complete and the file is on its disk. With `--since` each file begins as a copy of its block in
-//! another folder, and the stream's pages are written over it.
+//! Pages are written to their places as they are read. A file gets its final name when the stream
+//! is complete and the file is synced to its disk. With `--since` each file begins as a copy of its
+//! block in another folder, and the stream's pages are written over it.
 
 use mig_mem::{Dirty, Place, Table};
 use mig_zero::is_zero;
@@ -24,7 +24,7 @@ use zimgasol_reading::{PageSink, Survey, fault_of, read_several, read_stream};
 /// The most bytes of consecutive pages that are written at once.
 const RUN_LEN: usize = 262_144;
 
-// Consecutive pages of one file that are to be written, and the byte at which they begin.
+// Consecutive pages of one file that aren't written yet, and the byte at which they begin.
 #[derive(Drop)]
 struct Run {
     file: usize,
@@ -37,13 +37,13 @@ struct Run {
 struct Extraction<H: Files> {
     alloc: Global,
     folder: String,
-    // the one block that is extracted; all where there is none
+    // the one block that is extracted; all blocks if there is none
     block: Option<String>,
-    // whether files that are there already are replaced
+    // whether existing files are replaced
     replace: bool,
     // whether the list has each file's digest
     digest: bool,
-    // whether a file is on its disk before it gets its name
+    // whether a file is synced to its disk before it gets its final name
     durable: bool,
     // whether this run made the folder
     made: bool,
@@ -143,12 +143,13 @@ impl<H: Files> Extraction<H> {
         Ok(())
     }
 
-    // Returns the index of a block's file; None where the block isn't extracted.
+    // Returns the index of a block's file; None if the block isn't extracted.
     fn file_of(&self, block: usize) -> Option<usize> {
         self.files.iter().position(|file| file.block == block)
     }
 
-    // Writes a page to the byte `at` of a file, with the pages before it where it follows them.
+    // Writes a page to the byte `at` of a file. A page that follows the pages that wait is written
+    // with them.
     fn write_page(&mut self, file: usize, at: u64, page: &[u8]) -> Result<(), Trouble> {
         let follows = self.run.start.saturating_add(self.run.bytes.len() as u64);
         if file != self.run.file || at != follows || self.run.bytes.len() >= RUN_LEN {
@@ -241,8 +242,8 @@ impl<H: Files> Extraction<H> {
         Ok(json!(in self.alloc; {"page_size": self.page_size, "blocks": list})?)
     }
 
-    // Completes all files where the stream is complete. Where it isn't, or they can't be completed,
-    // removes them.
+    // Completes all files if the stream is complete. Removes them if it isn't, or if they can't be
+    // completed.
     fn finish(&mut self, rt: &H, is_whole: bool) -> Result<(), Trouble> {
         if !is_whole {
             self.remove(rt);
@@ -255,7 +256,7 @@ impl<H: Files> Extraction<H> {
         completed
     }
 
-    // Removes the files that have no final name, and the folder where this run made it.
+    // Removes the files that have no final name, and the folder if this run made it.
     fn remove(&self, rt: &H) {
         for file in &self.files {
             let _left = rt.remove_file(&file.partial_path);
@@ -269,7 +270,7 @@ impl<H: Files> Extraction<H> {
     }
 }
 
-// Returns whether the block `id` is extracted; `block` is the only one, where it is named.
+// Returns whether the block `id` is extracted; `block` is the only one, if it is set.
 fn is_wanted(block: &Option<String>, id: &[u8]) -> bool {
     match block {
         Some(wanted) => wanted.as_bytes() == id,
@@ -278,7 +279,7 @@ fn is_wanted(block: &Option<String>, id: &[u8]) -> bool {
 }
 
 impl<H: Files> Extraction<H> {
-    // Copies all blocks of the folder `since`. `blocks` is how many the stream has.
+    // Copies all blocks of the folder `since`. `blocks` is the number of blocks of the stream.
     fn begin_since(&mut self, rt: &H, since: &Folder, blocks: usize) -> Result<(), Trouble> {
         for (number, other) in since.blocks.iter().enumerate() {
             let id = other.id.as_bytes();
@@ -297,7 +298,7 @@ impl<H: Files> Extraction<H> {
         self.files.iter().any(|file| file.id.as_slice() == id)
     }
 
-    // Copies a block of the folder `since` into its file, but for pages of zeros.
+    // Copies a block of the folder `since` into its file, except for pages of zeros.
     fn copy_since(&mut self, rt: &H, since: &Folder, file: usize) -> Result<(), Trouble> {
         let Some(there) = self.files.get(file) else {
             return Ok(());
@@ -392,7 +393,7 @@ impl<H: Files> Extraction<H> {
     }
 }
 
-// Reads the list of the folder of `--since`. Refuses it where it has pages of another size.
+// Reads the list of the folder of `--since`. Refuses it if its page size differs.
 fn since_of<H: AllocGlobal + Files>(
     rt: &H,
     words: &ExtractWords<'_>,
@@ -409,12 +410,12 @@ fn since_of<H: AllocGlobal + Files>(
     Ok(Some(since))
 }
 
-/// Extracts the memory of a single stream. Returns what was read. Where the stream has a fault, no
-/// file stays.
+/// Extracts the memory of a single stream. Returns the survey of the stream. If the stream has a
+/// fault, all files are removed.
 ///
 /// # Errors
 ///
-/// Those of `read_stream`, `read_folder` and `is_free`, and `Trouble::OfFile` where a file can't be
+/// Those of `read_stream`, `read_folder` and `is_free`, and `Trouble::OfFile` if a file can't be
 /// written. No file stays under its final name, unless it is the renaming that fails.
 pub(crate) fn extract_survey<H: AllocGlobal + Files + Clock, R: Read, E: Write>(
     rt: &H,

@@ -1,5 +1,5 @@
-//! The program `zimgasol` as a function: it verifies a guest that was saved in a file, lists what
-//! the file has, extracts the memory, compares two, and saves memory as a stream.
+//! The program `zimgasol` as a function: it verifies a guest that was saved in a file, lists the
+//! file's contents, extracts the memory, compares two guests' memory, and saves memory as a stream.
 //!
 //! `run` is passed the words, the standard streams and files. Four crates below do the parts:
 //! `zimgasol_files` reads words and opens files, `zimgasol_reading` reads saved guests,

@@ -1,4 +1,4 @@
-//! The program as a function of its words and the standard streams.
+//! The program as a function of its arguments and the standard streams.
 
 ghost use Rattle.std.specs.Prelude.{◌≤◌};
 
@@ -19,22 +19,24 @@ use zimgasol_output::{
 use zimgasol_reading::{NoSink, read_several, read_stream};
 use zimgasol_saving::save;
 
-/// The status of what ended well.
+/// The exit status of success.
 const WELL: u8 = 0;
 
-/// The status of a stream with a fault, of memory that differs, and of what can't be saved.
+/// The exit status for a stream with a fault, for memory that differs, and for memory that can't be
+/// saved.
 const REFUSED: u8 = 1;
 
-/// The status of words that are wrong.
+/// The exit status for wrong arguments.
 pub const WORDS: u8 = 2;
 
-/// The status of a file or a stream that can't be read or written, or of no memory.
+/// The exit status for a file or a stream that can't be read or written, and for a refused
+/// allocation.
 pub const FAILED: u8 = 3;
 
-/// Runs the program on `words`, those after its name, and returns the status: 0 where all is well,
-/// 1 where something is refused or differs, `WORDS` or `FAILED`.
+/// Runs the program on the arguments after its name, and returns the exit status: 0 for success, 1
+/// if something is refused or differs, `WORDS` or `FAILED`.
 ///
-/// What went wrong is written to `errors`. A line that `errors` doesn't take changes no status.
+/// Errors are written to `errors`. A failure to write to `errors` doesn't change the status.
 pub fn run<H: AllocGlobal + Files + Clock, R: Read, W: Write, E: Write>(
     rt: &H,
     words: &[String],
@@ -50,7 +52,7 @@ pub fn run<H: AllocGlobal + Files + Clock, R: Read, W: Write, E: Write>(
     }
 }
 
-// Prints help, version, or why the words are wrong, and returns the status.
+// Prints help, the version, or the error in the arguments, and returns the exit status.
 fn said<W: Write, E: Write>(output: &mut W, errors: &mut E, error: &Error) -> u8
     ensures { result ≤ 3 }
 {
@@ -71,7 +73,7 @@ fn said<W: Write, E: Write>(output: &mut W, errors: &mut E, error: &Error) -> u8
     }
 }
 
-// Does what `request` asks for, and returns the status.
+// Executes `request`, and returns the exit status.
 fn done<H: AllocGlobal + Files + Clock, R: Read, W: Write, E: Write>(
     rt: &H,
     request: &Request<'_>,
@@ -107,7 +109,7 @@ fn done<H: AllocGlobal + Files + Clock, R: Read, W: Write, E: Write>(
     }
 }
 
-// Returns the status of `trouble`.
+// Returns the exit status for `trouble`.
 fn trouble_status(trouble: &Trouble) -> u8
     ensures { result ≤ 3 }
 {
@@ -120,7 +122,7 @@ fn trouble_status(trouble: &Trouble) -> u8
     }
 }
 
-// Returns the status of a file or a folder that isn't what is needed.
+// Returns the exit status for an unsuitable file or folder.
 fn unfit_status(why: Unfit) -> u8
     ensures { result ≤ 3 }
 {
@@ -130,7 +132,7 @@ fn unfit_status(why: Unfit) -> u8
     }
 }
 
-// Writes the line of `trouble`, about the file `name`.
+// Writes the error line for `trouble`, about the file `name`.
 fn put_named_trouble<E: Write>(
     alloc: Global,
     errors: &mut E,
@@ -143,7 +145,7 @@ fn put_named_trouble<E: Write>(
     }
 }
 
-// Writes the line of `trouble`; `name` is printable.
+// Writes the error line for `trouble`; `name` is printable.
 fn put_trouble<E: Write>(errors: &mut E, name: &str, trouble: &Trouble) -> io::Result<()> {
     match trouble {
         Trouble::NoMemory => writeln!(errors, "zimgasol: no memory"),
@@ -165,7 +167,7 @@ fn put_trouble<E: Write>(errors: &mut E, name: &str, trouble: &Trouble) -> io::R
     }
 }
 
-// Writes the line of a file or a folder that isn't what is needed.
+// Writes the error line for an unsuitable file or folder.
 fn put_unfit<E: Write>(errors: &mut E, name: &str, why: Unfit) -> io::Result<()> {
     match why {
         Unfit::Pages(len, size) => writeln!(

@@ -1,4 +1,4 @@
-//! Writes the file that a block is extracted into, up to its digest.
+//! Writes the file that a block is extracted into, and computes its digest.
 
 ghost use Rattle.std.specs.Prelude.{◌≡◌, ◌++◌, IfOk, codes, string_bytes};
 ghost use Rattle.zimgasol_names.specs.Naming.{name_of};
@@ -71,7 +71,7 @@ pub fn write_at<F: Write + Seek>(file: &mut F, at: u64, bytes: &[u8]) -> io::Res
     file.write_all(bytes)
 }
 
-/// Writes `bytes` and a newline to a file, and waits until they are on its disk.
+/// Writes `bytes` and a newline to a file, and syncs it to its disk.
 pub fn write_text<F: Write + OpenFile>(file: &mut F, bytes: &[u8]) -> io::Result<()> {
     file.write_all(bytes)?;
     file.write_all(b"\n")?;
@@ -93,12 +93,12 @@ pub fn block_value<F: Drop>(alloc: Global, file: &BlockFile<F>) -> Result<Value,
     })?)
 }
 
-/// Sets the length of a file. Where `durable`, waits until it is on its disk; where `digest`, reads
-/// it through `buffer` for its SHA-256.
+/// Sets the length of a file. If `durable`, syncs it to its disk. If `digest`, reads it through
+/// `buffer` for its SHA-256.
 ///
 /// # Errors
 ///
-/// `Trouble::Unread` where the file can't be set, synced or read.
+/// `Trouble::Unread` if the file can't be set, synced or read.
 pub fn complete_file<F: Read + Write + Seek + OpenFile + Drop>(
     file: &mut BlockFile<F>,
     durable: bool,

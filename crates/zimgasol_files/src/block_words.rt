@@ -1,4 +1,4 @@
-//! Reads the words `ID=FILE` of `save`.
+//! Parses the arguments `ID=FILE` of `save`.
 
 ghost use Rattle.std.specs.Prelude.{◌≡◌, ◌==◌, ◌↔◌, length, IfSome, IsNone};
 ghost use Rattle.std.specs.List.{before_first, after_first, position_or_len};
@@ -10,8 +10,8 @@ pub struct BlockWord<'a> {
     pub file: &'a str,
 }
 
-/// Returns the block that `word` names: its id is before the first `=` (61), its file's name after
-/// it. None where there is no `=`.
+/// Parses `word`: the id is before the first `=` (61), and the file's name after it. None if there
+/// is no `=`.
 pub fn block_word<'a>(word: &'a str) -> Option<BlockWord<'a>>
     ensures id { IfSome result (λ b. b.id.now ≡ before_first (λ c. c == 61) word.entry.now) }
     ensures file { IfSome result (λ b. b.file.now ≡ after_first (λ c. c == 61) word.entry.now) }

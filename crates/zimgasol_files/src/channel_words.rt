@@ -1,4 +1,4 @@
-//! Reads the words that name channels and their UUID.
+//! Parses the arguments for channels and their UUID.
 
 ghost use Rattle.std.specs.Prelude.{◌≤◌, IfOk};
 
@@ -7,14 +7,14 @@ use crate::words::ChannelWords;
 use std::alloc::Global;
 use uuid::Uuid;
 
-/// The most channels of a migration: a hello names its channel in a byte.
+/// The most channels of a migration: a hello has its channel's number in one byte.
 pub(crate) const MOST_CHANNELS: usize = 255;
 
-/// Returns the UUID that `word` is.
+/// Parses a UUID.
 ///
 /// # Errors
 ///
-/// `Trouble::Words` where it is none.
+/// `Trouble::Words` if `word` isn't a UUID.
 pub fn uuid_word(alloc: Global, word: &str) -> Result<Uuid, Trouble> {
     match Uuid::parse_str(word) {
         Ok(uuid) => Ok(uuid),
@@ -22,7 +22,7 @@ pub fn uuid_word(alloc: Global, word: &str) -> Result<Uuid, Trouble> {
     }
 }
 
-/// Returns the UUID that each hello has to name; None where the words name none.
+/// Returns the UUID that each hello has to have; None if the arguments have none.
 ///
 /// # Errors
 ///
@@ -40,11 +40,11 @@ pub fn wanted_uuid(alloc: Global, words: &ChannelWords<'_>) -> Result<Option<Uui
     }
 }
 
-/// Returns the number of channels that `word` is: 1 to 255.
+/// Parses a number of channels: 1 to 255.
 ///
 /// # Errors
 ///
-/// `Trouble::Words` of anything else.
+/// `Trouble::Words` if `word` isn't such a number.
 pub fn count_word(alloc: Global, word: &str) -> Result<usize, Trouble>
     ensures { IfOk result (λ count. (1 ≤ count) × (count ≤ 255)) }
 {
@@ -55,7 +55,7 @@ pub fn count_word(alloc: Global, word: &str) -> Result<usize, Trouble>
 }
 
 impl ChannelWords<'_> {
-    /// Returns whether no channel is named: the stream is a single one.
+    /// Returns whether the arguments name no channel, so that the stream is a single one.
     ///
     /// # Errors
     ///

@@ -20,11 +20,11 @@ pub struct FolderBlock {
     pub id: String,
     /// The path of its file.
     pub path: String,
-    /// How many bytes the block has.
+    /// The block's length in bytes.
     pub len: u64,
 }
 
-/// What the list of a folder says.
+/// The parsed list of a folder.
 #[derive(Drop)]
 pub struct Folder {
     pub page_size: u64,
@@ -41,8 +41,8 @@ impl Folder {
     ///
     /// # Errors
     ///
-    /// `Trouble::Unfit`: of `name`, where the block has another length; of `id`, where there is
-    /// none.
+    /// `Trouble::Unfit`: of `name`, if the block has another length; of `id`, if there is no such
+    /// block.
     pub fn block_like(
         &self,
         alloc: Global,
@@ -57,7 +57,7 @@ impl Folder {
         }
     }
 
-    /// Returns how many bytes all blocks have together.
+    /// Returns the sum of the blocks' lengths.
     pub fn total(&self) -> u64 {
         let mut total = 0u64;
         for block in &self.blocks {
@@ -67,8 +67,8 @@ impl Folder {
     }
 }
 
-// Returns the block that an entry of the list describes. None where `extract` writes no such entry,
-// and where its file lies outside the folder.
+// Returns the block that an entry of the list describes. None if `extract` writes no such entry, or
+// if its file is outside of the folder.
 fn block_in(alloc: Global, folder: &str, entry: &Value) -> Result<Option<FolderBlock>, AllocError> {
     let Some(id) = entry.get("id").and_then(Value::as_str) else {
         return Ok(None);
@@ -89,7 +89,7 @@ fn block_in(alloc: Global, folder: &str, entry: &Value) -> Result<Option<FolderB
     }))
 }
 
-// Returns the folder that a list describes. None where `extract` writes no such list.
+// Returns the folder that a list describes. None if `extract` writes no such list.
 fn folder_in(alloc: Global, folder: &str, list: &Value) -> Result<Option<Folder>, AllocError> {
     let Some(page_size) = list.get("page_size").and_then(Value::as_u64) else {
         return Ok(None);
@@ -107,7 +107,7 @@ fn folder_in(alloc: Global, folder: &str, list: &Value) -> Result<Option<Folder>
     Ok(Some(Folder { page_size, blocks }))
 }
 
-// Returns the folder that the bytes of a list describe. None where `extract` writes no such list.
+// Returns the folder that the bytes of a list describe. None if `extract` writes no such list.
 fn folder_of(alloc: Global, folder: &str, bytes: &[u8]) -> Result<Option<Folder>, AllocError> {
     let Ok(text) = str::from_utf8(bytes) else {
         return Ok(None);
@@ -122,8 +122,8 @@ fn folder_of(alloc: Global, folder: &str, bytes: &[u8]) -> Result<Option<Folder>
 ///
 /// # Errors
 ///
-/// `Trouble::OfFile` where it can't be opened or read, `Trouble::Unfit` where `extract` writes no
-/// such list, `Trouble::NoMemory`.
+/// `Trouble::OfFile` if it can't be opened or read, `Trouble::Unfit` if `extract` writes no such
+/// list, `Trouble::NoMemory`.
 pub fn read_folder<H: AllocGlobal + Files>(rt: &H, folder: &str) -> Result<Folder, Trouble> {
     let alloc = rt.alloc();
     let path = path_in(alloc, folder, LIST_NAME, "")?;

@@ -30,12 +30,13 @@ fn read_some<R: Read>(input: &mut R, buffer: &mut [u8]) -> io::Result<usize>
     Ok(0)
 }
 
-/// Reads until `buffer` is full or the input ends. Returns how many bytes it read: where these are
-/// fewer than `buffer` has, the input has ended.
+/// Reads until `buffer` is full or the input ends. Returns the number of bytes that it read: if it
+/// is less than the length of `buffer`, the input has ended.
 ///
 /// # Errors
 ///
-/// `Trouble::Unread` where a read fails. What was read before it is in `buffer`, and is lost.
+/// `Trouble::Unread` if a read fails. The bytes read before it are in `buffer`, and their number is
+/// lost.
 pub fn read_piece<R: Read>(input: &mut R, buffer: &mut [u8]) -> Result<usize, Trouble>
     ensures len { length buffer.new ≡ length buffer.old }
     ensures count { IfOk result (λ n. n ≤ length buffer.old) }

@@ -35,7 +35,7 @@ pub fn open<H: Files>(rt: &H, alloc: Global, path: &str) -> Result<Opened<H::Fil
     }
 }
 
-/// Returns the trouble of the file or folder `path`, which isn't what is needed.
+/// Returns the error that the file or folder `path` is unsuitable.
 pub fn unfit(alloc: Global, path: &str, why: Unfit) -> Trouble {
     match shown_name(alloc, path) {
         Ok(path) => Trouble::Unfit(path, why),
@@ -48,7 +48,7 @@ impl<F: Read + OpenFile + Drop> Opened<F> {
     ///
     /// # Errors
     ///
-    /// `Trouble::OfFile` where a read fails.
+    /// `Trouble::OfFile` if a read fails.
     pub fn read(&mut self, buffer: &mut [u8]) -> Result<usize, Trouble>
         ensures len { length buffer.new ≡ length buffer.old }
         ensures count { IfOk result (λ n. n ≤ length buffer.old) }
@@ -60,12 +60,12 @@ impl<F: Read + OpenFile + Drop> Opened<F> {
         }
     }
 
-    /// Reads the next piece into `pieces`, if no byte of the last one waits. Returns whether bytes
-    /// wait.
+    /// Reads the next piece into `pieces`, if no byte of the last piece waits. Returns whether
+    /// bytes wait.
     ///
     /// # Errors
     ///
-    /// `Trouble::OfFile` where a read fails.
+    /// `Trouble::OfFile` if a read fails.
     pub fn refill(&mut self, pieces: &mut Pieces) -> Result<bool, Trouble> {
         match pieces.refill(&mut self.file) {
             Ok(is_there) => Ok(is_there),
@@ -78,7 +78,7 @@ impl<F: Read + OpenFile + Drop> Opened<F> {
     ///
     /// # Errors
     ///
-    /// `Trouble::OfFile` where the system doesn't report it.
+    /// `Trouble::OfFile` if the system doesn't report it.
     pub fn len(&self) -> Result<u64, Trouble> {
         match self.file.metadata() {
             Ok(metadata) => Ok(metadata.len()),
@@ -86,7 +86,7 @@ impl<F: Read + OpenFile + Drop> Opened<F> {
         }
     }
 
-    /// Returns the trouble of this file, which isn't what is needed.
+    /// Returns the error that this file is unsuitable.
     pub fn unfit(&self, why: Unfit) -> Trouble {
         unfit(self.alloc, &self.path, why)
     }

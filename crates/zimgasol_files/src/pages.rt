@@ -1,4 +1,5 @@
-//! Reads a file and an older one side by side, some pages at a time, for the pages that differ.
+//! Reads a file and an older one in parallel, some pages at a time, and finds the pages that
+//! differ.
 
 ghost use Rattle.std.specs.Prelude.{◌≡◌, ◌≤◌, ◌↔◌, ◌/◌, ◌<◌, length, IsSome, IfSome, IsTrue};
 ghost use Rattle.zimgasol_files.specs.Differing.{HasPage, page_of, piece_of, Differs};
@@ -9,14 +10,14 @@ use std::alloc::Global;
 use std::fs::OpenFile;
 use std::io::Read;
 
-/// The pages that are read at once, and so the most pages of a section.
+/// The number of pages that are read at once, and so the most pages of a section.
 pub const PIECE_PAGES: usize = 256;
 
 /// Consecutive pages of a block, and the older ones at their places.
 #[derive(Clone, Copy)]
 pub struct Pages<'a> {
     pub bytes: &'a [u8],
-    /// The older bytes; None where all pages count as different.
+    /// The older bytes; None if all pages count as different.
     pub before: Option<&'a [u8]>,
     pub page_size: usize,
 }
@@ -80,7 +81,7 @@ pub struct Reading<F: Drop> {
 }
 
 impl<F: Read + OpenFile + Drop> Reading<F> {
-    /// Creates the reading of `file` and the older file `before`, of which nothing was read.
+    /// Creates the reading of `file` and the older file `before`, before its first byte was read.
     pub fn new(
         alloc: Global,
         file: Opened<F>,
@@ -106,7 +107,7 @@ impl<F: Read + OpenFile + Drop> Reading<F> {
     ///
     /// # Errors
     ///
-    /// `Trouble::OfFile` where a read fails.
+    /// `Trouble::OfFile` if a read fails.
     pub fn read_on(&mut self) -> Result<bool, Trouble> {
         self.len = self.file.read(&mut self.bytes)?;
         if let Some(before) = &mut self.before {
@@ -115,7 +116,7 @@ impl<F: Read + OpenFile + Drop> Reading<F> {
         Ok(self.len != 0)
     }
 
-    /// Returns the trouble of the file, whose length has changed.
+    /// Returns the error that the file's length has changed.
     pub fn changed(&self) -> Trouble {
         self.file.unfit(Unfit::Changed)
     }

@@ -1,4 +1,4 @@
-//! Reads one of several inputs in pieces, and keeps what waits of the last piece.
+//! Reads one of several inputs in pieces, and keeps the last piece's bytes that weren't taken yet.
 
 ghost use Rattle.std.specs.Prelude.{◌≤◌};
 
@@ -7,7 +7,7 @@ use crate::trouble::Trouble;
 use std::alloc::Global;
 use std::io::Read;
 
-/// The most bytes of a piece, where several inputs are read.
+/// The most bytes of a piece, if several inputs are read.
 const PIECE_LEN: usize = 131_072;
 
 /// The piece that was read last.
@@ -33,12 +33,12 @@ impl Pieces {
         })
     }
 
-    /// Reads the next piece, if no byte waits. Returns whether bytes wait: where none does, the
-    /// input has ended.
+    /// Reads the next piece, if no byte waits. Returns whether bytes wait: if none do, the input
+    /// has ended.
     ///
     /// # Errors
     ///
-    /// `Trouble::Unread` where a read fails.
+    /// `Trouble::Unread` if a read fails.
     pub fn refill<R: Read>(&mut self, input: &mut R) -> Result<bool, Trouble> {
         if self.start < self.end {
             return Ok(true);

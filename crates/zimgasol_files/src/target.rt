@@ -7,10 +7,10 @@ use std::fs::{File, Files, OpenFile};
 use std::io::{self, Write};
 use zimgasol_names::shown_name;
 
-/// The end of the name of a file that isn't complete.
+/// The suffix of the name of an incomplete file.
 pub const PARTIAL: &str = ".partial";
 
-/// Returns the trouble of the file or folder `path`, with which the system reports `error`.
+/// Returns the error on the file or folder `path`, for which the system reports `error`.
 pub fn unwritten(alloc: Global, path: &str, error: io::Error) -> Trouble {
     match shown_name(alloc, path) {
         Ok(path) => Trouble::OfFile(path, error),
@@ -18,11 +18,12 @@ pub fn unwritten(alloc: Global, path: &str, error: io::Error) -> Trouble {
     }
 }
 
-/// Refuses `path` where it exists, unless it is a plain file and `replace` is set.
+/// Refuses `path` if it exists, unless it is a plain file and `replace` is set.
 ///
 /// # Errors
 ///
-/// `Trouble::Exists` of a plain file, `Trouble::Unfit` of anything else, as a link or a folder.
+/// `Trouble::Exists` for a plain file, `Trouble::Unfit` for anything else, such as a link or a
+/// folder.
 pub fn is_free<H: Files>(rt: &H, alloc: Global, path: &str, replace: bool) -> Result<(), Trouble> {
     let Ok(metadata) = rt.symlink_metadata(path) else {
         return Ok(());
@@ -40,7 +41,7 @@ pub fn is_free<H: Files>(rt: &H, alloc: Global, path: &str, replace: bool) -> Re
 ///
 /// # Errors
 ///
-/// `Trouble::OfFile` where it can't be made.
+/// `Trouble::OfFile` if it can't be made.
 pub fn create<H: Files>(rt: &H, alloc: Global, path: &str) -> Result<H::File, Trouble> {
     let _left = rt.remove_file(path);
     match File::options()
@@ -66,13 +67,13 @@ pub fn rename<H: Files>(rt: &H, alloc: Global, from: &str, to: &str) -> Result<(
     }
 }
 
-/// Waits until what was written of a file is on its disk.
+/// Syncs a file to its disk.
 pub fn sync<F: Write + OpenFile>(file: &mut F) -> io::Result<()> {
     file.flush()?;
     file.sync_all()
 }
 
-/// A file that is being written, with the name that it gets.
+/// A file that is being written, with its final name.
 #[derive(Drop)]
 pub struct Outlet<F: Drop> {
     pub alloc: Global,
@@ -88,7 +89,7 @@ impl<F: Write + OpenFile + Drop> Outlet<F> {
     ///
     /// # Errors
     ///
-    /// `Trouble::OfFile` where they can't be written.
+    /// `Trouble::OfFile` if they can't be written.
     pub fn write(&mut self, bytes: &[u8]) -> Result<(), Trouble> {
         self.written = self.written.saturating_add(bytes.len() as u64);
         match self.file.write_all(bytes) {
@@ -97,11 +98,11 @@ impl<F: Write + OpenFile + Drop> Outlet<F> {
         }
     }
 
-    /// Waits until what was written is on its disk.
+    /// Syncs the file to its disk.
     ///
     /// # Errors
     ///
-    /// `Trouble::OfFile` where the system reports a failure.
+    /// `Trouble::OfFile` if the system reports a failure.
     pub fn sync(&mut self) -> Result<(), Trouble> {
         match sync(&mut self.file) {
             Ok(()) => Ok(()),
@@ -113,7 +114,7 @@ impl<F: Write + OpenFile + Drop> Outlet<F> {
     ///
     /// # Errors
     ///
-    /// `Trouble::OfFile` where it can't be renamed.
+    /// `Trouble::OfFile` if it can't be renamed.
     pub fn rename<H: Files>(&self, rt: &H) -> Result<(), Trouble> {
         rename(rt, self.alloc, &self.partial, &self.path)
     }

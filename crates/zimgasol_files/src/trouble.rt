@@ -1,11 +1,11 @@
-//! What ends a command before its work is done: all but a fault of the stream.
+//! Errors that end a command, other than a fault of the stream.
 
 use mig_mem::NoMemory;
 use std::alloc::{AllocError, AllocFailed, Global};
 use std::io;
 use zimgasol_names::shown;
 
-/// What went wrong beside a fault of the stream. Names are as they are printed.
+/// An error other than a fault of the stream. Names are as they are printed.
 #[derive(Drop)]
 pub enum Trouble {
     /// An allocation was refused.
@@ -16,30 +16,30 @@ pub enum Trouble {
     Output(io::Error),
     /// A file or a folder of this name can't be made, opened, read, written or renamed.
     OfFile(String, io::Error),
-    /// A file of this name is there already.
+    /// A file of this name exists.
     Exists(String),
-    /// A file or a folder of this name isn't what is needed.
+    /// A file or a folder of this name is unsuitable.
     Unfit(String, Unfit),
-    /// The blocks that are saved have more than 2^40 bytes together.
+    /// The sum of the saved blocks' lengths is more than 2^40 bytes.
     TooLarge,
-    /// A stream of this name isn't read: why.
+    /// A stream of this name can't be read, with the reason.
     Refused(String, &'static str),
-    /// These words are wrong.
+    /// These arguments are wrong.
     Words(String, &'static str),
     /// The stream has no block of this id.
     NoBlock(String),
-    /// The stream after libvirt's header isn't read: why.
+    /// The stream after libvirt's header can't be read, with the reason.
     Libvirt(&'static str),
 }
 
 /// Why a file isn't the memory of a block, or a folder isn't what `extract` makes.
 #[derive(Clone, Copy)]
 pub enum Unfit {
-    /// Its length in bytes is no multiple of the page size: both.
+    /// Its length in bytes, which isn't a multiple of the page size; and the page size.
     Pages(u64, u64),
     /// It has no bytes.
     Empty,
-    /// It is no plain file.
+    /// It isn't a plain file.
     NoFile,
     /// It is the temporary folder of another run.
     OtherRun,
@@ -49,9 +49,9 @@ pub enum Unfit {
     NoList,
     /// The folder of `--since` has no block of this id.
     NoBlock,
-    /// Its length in bytes, and another one in the folder of `--since`.
+    /// Its length in bytes, and the different length in the folder of `--since`.
     OtherLen(u64, u64),
-    /// Its page size, and another one of what it goes with.
+    /// Its page size, and the different page size of the other operand.
     OtherPages(u64, u64),
 }
 

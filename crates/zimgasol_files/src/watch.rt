@@ -1,4 +1,4 @@
-//! `--progress`: a line a second with how much was read.
+//! `--progress`: a line a second with the number of bytes read.
 
 ghost use Rattle.std.specs.Prelude.{◌≡◌, ◌-◌, ◌*◌, ◌/◌, ◌^◌, ◌≤◌, ◌<◌};
 
@@ -9,13 +9,13 @@ use std::rt::Clock;
 use std::time::Instant;
 use zimgasol_names::shown_name;
 
-/// When a reading began, how much it has to read, and when a line was printed last.
+/// The time at which reading began, the number of bytes to read, and the time of the last line.
 #[derive(Drop)]
 pub struct Watch {
     name: String,
-    // None where nothing is printed
+    // None if nothing is printed
     started: Option<Instant>,
-    // the bytes of the whole input, where they are known
+    // the length of the input, if it is known
     total: Option<u64>,
     // the second in which a line was printed last
     second: u64,
@@ -38,8 +38,8 @@ pub(crate) fn rate(done: u64, seconds: u64) -> u64
     done / 1_048_576 / seconds
 }
 
-/// Returns how many seconds the rest of `total` takes, at the rate at which `done` bytes were read in
-/// `seconds`, rounded down: at most 2^64 - 1.
+/// Returns the number of seconds for the rest of `total`, at the rate at which `done` bytes were
+/// read in `seconds`. It is rounded down, and at most 2^64 - 1.
 pub(crate) fn seconds_left(done: u64, total: u64, seconds: u64) -> u64
     requires { 0 < done }
     ensures { done ≤ total → (total - done) * seconds / done < 2 ^ 64 → result ≡ (total - done) * seconds / done }
@@ -73,7 +73,7 @@ impl Watch {
         })
     }
 
-    /// Sets how many bytes there are in all.
+    /// Sets the number of bytes to read.
     pub fn expect_total(&mut self, total: u64) {
         self.total = Some(total);
     }
@@ -94,8 +94,8 @@ impl Watch {
     }
 }
 
-/// Writes that `done` bytes were read in `seconds`, with their share of `total`, the rate, and how
-/// many seconds are left at this rate.
+/// Writes that `done` bytes were read in `seconds`, with their share of `total`, the rate, and the
+/// seconds left at this rate.
 pub(crate) fn put_progress<E: Write>(
     errors: &mut E,
     name: &str,

@@ -1,4 +1,4 @@
-//! The command line, declared for `clap`, and what its words ask for.
+//! The command line, declared for `clap`, and its parsed arguments.
 
 ghost use Rattle.mig_mem.specs.PageSize.{IsPageSize};
 
@@ -30,16 +30,16 @@ impl PageSize {
     }
 }
 
-/// What is printed beside the result.
+/// What is printed in addition to the result.
 #[derive(Clone, Copy)]
 pub struct Talk {
-    /// Whether a line a second has the progress.
+    /// Whether a line a second shows the progress.
     pub progress: bool,
-    /// Whether the line of success is left out.
+    /// Whether the line on success is omitted.
     pub quiet: bool,
 }
 
-/// A stream that is to be read.
+/// A stream to read.
 #[derive(Clone, Copy)]
 pub struct StreamWords<'a> {
     /// The file's name; `-` is the standard input.
@@ -49,7 +49,7 @@ pub struct StreamWords<'a> {
     pub talk: Talk,
 }
 
-/// The channels beside a main stream; a single stream has none.
+/// The channels of a main stream; a single stream has none.
 #[derive(Drop)]
 pub struct ChannelWords<'a> {
     /// The files' names.
@@ -58,30 +58,30 @@ pub struct ChannelWords<'a> {
     pub uuid: Option<&'a str>,
 }
 
-/// The words of `extract`.
+/// The arguments of `extract`.
 #[derive(Clone, Copy)]
 pub struct ExtractWords<'a> {
     pub stream: StreamWords<'a>,
-    /// The folder that the files go into.
+    /// The folder that the files are written into.
     pub folder: &'a str,
-    /// The one block that is extracted; all where there is none.
+    /// The one block that is extracted; all blocks if there is none.
     pub block: Option<&'a str>,
-    /// The folder that `extract` made, over whose memory the stream's pages are laid.
+    /// The folder that `extract` made, to whose memory the stream's pages are applied.
     pub since: Option<&'a str>,
-    /// Whether files that are there already are replaced.
+    /// Whether existing files are replaced.
     pub replace: bool,
     /// Whether the list has each file's SHA-256.
     pub digest: bool,
-    /// Whether a file is on its disk before it gets its name.
+    /// Whether a file is synced to its disk before it gets its final name.
     pub durable: bool,
 }
 
-/// The words of `save`.
+/// The arguments of `save`.
 #[derive(Drop)]
 pub struct SaveWords<'a> {
-    /// The words `ID=FILE`.
+    /// The arguments `ID=FILE`.
     pub blocks: Vec<&'a str>,
-    /// The file that the stream goes into; `-` is the standard output.
+    /// The file that the stream is written into; `-` is the standard output.
     pub file: &'a str,
     pub page_size: PageSize,
     pub frame: Frame,
@@ -89,16 +89,16 @@ pub struct SaveWords<'a> {
     pub machine: Option<&'a str>,
     /// The folder that `extract` made, of which the pages that differ are saved.
     pub since: Option<&'a str>,
-    /// How many channels the pages go over.
+    /// The number of channels on which the pages are sent.
     pub channels: Option<&'a str>,
-    /// The UUID that each channel's hello names.
+    /// The UUID of each channel's hello.
     pub uuid: Option<&'a str>,
-    /// Whether a file that is there already is replaced.
+    /// Whether an existing file is replaced.
     pub replace: bool,
     pub talk: Talk,
 }
 
-/// The words of `compare`.
+/// The arguments of `compare`.
 #[derive(Clone, Copy)]
 pub struct CompareWords<'a> {
     /// Each is a stream, or a folder that `extract` made.
@@ -106,7 +106,7 @@ pub struct CompareWords<'a> {
     pub second: StreamWords<'a>,
 }
 
-/// What the words ask for.
+/// A parsed command line.
 #[derive(Drop)]
 pub enum Request<'a> {
     Verify(StreamWords<'a>, ChannelWords<'a>),
@@ -243,7 +243,7 @@ fn extract_command<'a>(alloc: Global) -> Result<Command<'a>, AllocError> {
     ))
 }
 
-// Declares `save` with the options that name its blocks, and what it leaves out.
+// Declares `save` with its options for blocks, for `--since` and for channels.
 fn save_sources<'a>(alloc: Global) -> Result<Command<'a>, AllocError> {
     Command::new(alloc, "save")
         .about("Makes a stream of files with the memory of blocks, as a backup of a guest")
@@ -339,7 +339,7 @@ fn program<'a>(alloc: Global) -> Result<Command<'a>, AllocError> {
         .subcommand(compare_command(alloc)?)
 }
 
-// ---- the words that were read
+// ---- the parsed arguments
 
 fn page_size_in<'a>(matches: &ArgMatches<'a>) -> PageSize {
     match matches.get_str("page") {
@@ -372,7 +372,7 @@ fn stream_in<'a>(matches: &ArgMatches<'a>, argument: &str) -> StreamWords<'a> {
     }
 }
 
-// Returns the channels that are named.
+// Returns the channels in the arguments.
 fn channels_in<'a>(
     alloc: Global,
     matches: &ArgMatches<'a>,
@@ -435,11 +435,12 @@ fn request_in<'a>(
     })
 }
 
-/// Returns what the words ask for.
+/// Parses the arguments.
 ///
 /// # Errors
 ///
-/// What is printed instead: why the words are wrong, or help or the version, which were asked for.
+/// The output that is printed instead: the error in the arguments, or the help or the version that
+/// they ask for.
 pub fn asked<'a>(alloc: Global, words: &'a [String]) -> Result<Request<'a>, Error> {
     let matches = program(alloc)?.try_get_matches_from(words)?;
     match matches.subcommand() {

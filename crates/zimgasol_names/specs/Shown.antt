@@ -1,4 +1,4 @@
--- Printable ASCII, which controls no terminal.
+-- Printable ASCII, which has no control characters.
 use Rattle.std.specs.Prelude.{ℕ, ◌≤◌}
 
 -- the byte is an ASCII character from the space to the tilde

@@ -1,8 +1,8 @@
-//! Names of files and printable ids, of the bytes that a stream brings.
+//! Names of files and printable ids, made from a stream's bytes.
 //!
-//! The file that a block is extracted into has a name that leads out of no folder, and that no
-//! other block's file has. What is printed of ids and names is printable ASCII, so it controls no
-//! terminal.
+//! The name of the file that a block is extracted into stays within its folder, and differs from
+//! the names of other blocks' files. Ids and names are printed as printable ASCII, so they can't
+//! control a terminal.
 #![tactic(auto)]
 
 mod naming;

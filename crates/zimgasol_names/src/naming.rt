@@ -7,8 +7,8 @@ ghost use Rattle.zimgasol_names.specs.Naming.{escaped_in, name_of, NamesArePlain
 use percent_encoding::{AsciiSet, NON_ALPHANUMERIC, ascii_set, percent_encode};
 use std::alloc::{AllocError, Global};
 
-/// The most bytes of a name before its suffix, where it is made of the id. A file system takes 255
-/// bytes, and a file that isn't complete has a longer name.
+/// The most bytes of a name before its suffix, if it is made from the id. A file system takes 255
+/// bytes, and the name of an incomplete file is longer.
 const MOST_LEN: usize = 200;
 
 /// The characters that are escaped in an id that begins with a dot.
@@ -35,9 +35,9 @@ fn escaped_set(id: &[u8]) -> AsciiSet
     }
 }
 
-/// Returns the name of the file of the block `id`, which has the number `block`. It is the id, with
-/// other bytes than letters, digits and some marks as `%` and two hexadecimal digits; where that
-/// has more than 200 bytes, it is `%long-` and the number. It ends with `.bin`.
+/// Returns the name of the file of the block `id`, which has the number `block`. It is the id, in
+/// which bytes other than letters, digits and some marks are `%` and two hexadecimal digits; if
+/// that has more than 200 bytes, it is `%long-` and the number. It ends with `.bin`.
 ///
 /// # Errors
 ///
@@ -57,13 +57,13 @@ pub fn file_name(alloc: Global, id: &[u8], block: usize) -> Result<String, Alloc
     Ok(name)
 }
 
-/// Shows that the name of each block's file has no slash, and doesn't begin with a dot: it is in
-/// its folder.
+/// Shows that the name of each block's file has no slash, and doesn't begin with a dot: the file is
+/// in its folder.
 pub fn names_are_plain()
     ensures { NamesArePlain }
 {}
 
-/// Shows that the names of two blocks' files differ, where ids and numbers do.
+/// Shows that the names of two blocks' files differ, if their ids and numbers do.
 pub fn names_are_distinct()
     ensures { NamesAreDistinct }
 {}

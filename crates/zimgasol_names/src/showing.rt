@@ -8,8 +8,8 @@ use percent_encoding::{AsciiSet, CONTROLS, ascii_set, percent_encode};
 use std::alloc::{AllocError, Global};
 use std::str;
 
-/// The ASCII characters that are escaped: those that control a terminal, and the quotation mark,
-/// which ends an id.
+/// The ASCII characters that are escaped: control characters, and the quotation mark, which ends an
+/// id.
 const HIDDEN: AsciiSet = ascii_set!(CONTROLS.add(b'"'));
 
 /// Returns `bytes` as printable ASCII: any other byte, and `"`, is `%` and two hexadecimal digits.
@@ -26,7 +26,7 @@ pub fn shown(alloc: Global, bytes: &[u8]) -> Result<String, AllocError>
     Ok(text)
 }
 
-/// Returns the name of a file as printable ASCII, as `shown` does; `""` of an empty one.
+/// Returns the name of a file as printable ASCII, as `shown` does; `""` for an empty name.
 ///
 /// # Errors
 ///

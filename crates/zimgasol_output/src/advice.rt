@@ -1,8 +1,8 @@
-//! Says what a user may do about a fault of a stream.
+//! Gives advice on a fault of a stream.
 
 use mig_stream::StreamFault;
 
-/// Returns what a user may do about `fault`; None where nothing helps.
+/// Returns advice for the user on `fault`; None if there is none.
 pub(crate) fn advice(fault: StreamFault) -> Option<&'static str> {
     match fault {
         StreamFault::Magic => Some(

@@ -32,7 +32,7 @@ fn output_failed(error: io::Error) -> Trouble {
     Trouble::Output(error)
 }
 
-/// Writes the line of an item between the sections.
+/// Writes the line on an item between the sections.
 pub(crate) fn put_note<W: Write>(
     alloc: Global,
     output: &mut W,
@@ -89,7 +89,8 @@ pub(crate) fn put_blocks<W: Write>(
     Ok(())
 }
 
-// Returns whether an item was read, or has the fault. Items after the fault may be noted, too.
+// Returns whether an item was read, or has the fault. An item after the fault may have been noted,
+// too.
 fn is_read(survey: &Survey, note: &Note) -> bool {
     note.at <= survey.valid
 }
@@ -124,7 +125,7 @@ fn put_head<W: Write>(
     Ok(())
 }
 
-// Writes where the stream ends, or up to where it was read.
+// Writes the byte at which the stream ends, or up to which it was read.
 fn put_end<W: Write>(output: &mut W, survey: &Survey) -> io::Result<()> {
     let sections = survey.sections;
     let end = survey.before().saturating_add(survey.valid);
@@ -142,7 +143,7 @@ fn put_end<W: Write>(output: &mut W, survey: &Survey) -> io::Result<()> {
 ///
 /// # Errors
 ///
-/// `Trouble::Output` where `output` can't be written, `Trouble::NoMemory`.
+/// `Trouble::Output` if `output` can't be written, `Trouble::NoMemory`.
 pub fn put_lines<W: Write>(
     alloc: Global,
     output: &mut W,
@@ -279,7 +280,7 @@ fn survey_value(alloc: Global, name: &str, survey: &Survey) -> Result<Value, All
 ///
 /// # Errors
 ///
-/// `Trouble::Output` where `output` can't be written, `Trouble::NoMemory`.
+/// `Trouble::Output` if `output` can't be written, `Trouble::NoMemory`.
 pub fn put_json<W: Write>(
     alloc: Global,
     output: &mut W,

@@ -1,7 +1,7 @@
 //! Notes which blocks of a complete stream have fewer page records than pages.
 //!
-//! A main stream of QEMU 7.2 whose pages went over multifd's channels reads as whole, and has no
-//! records of those pages. A stream of the changes since another one has few records too.
+//! A main stream of QEMU 7.2 whose pages were sent on multifd's channels reads as complete, and has
+//! no records of those pages. A stream of the changes since another stream also has few records.
 
 use mig_stream::Frame;
 use std::alloc::Global;
@@ -13,7 +13,7 @@ use zimgasol_reading::{Blocks, Survey, fault_of};
 /// The most blocks that have a line of their own.
 const MOST_LINES: u64 = 4;
 
-// Returns where the other pages may be.
+// Says where the other pages may be.
 fn whereabouts(frame: Frame) -> &'static str {
     match frame {
         Frame::Machine => "the others may have gone over multifd's channels",
@@ -21,7 +21,7 @@ fn whereabouts(frame: Frame) -> &'static str {
     }
 }
 
-// Writes the line of a block; `others` says where its other pages may be.
+// Writes the line on a block; `others` says where its other pages may be.
 fn put_block<E: Write>(
     alloc: Global,
     errors: &mut E,
@@ -63,8 +63,8 @@ fn put_blocks<E: Write>(
     Ok(count)
 }
 
-/// Writes which blocks of a complete stream have fewer records than pages; nothing of a stream with
-/// a fault, or of one that is laid over other memory.
+/// Writes which blocks of a complete stream have fewer records than pages. Writes nothing for a
+/// stream with a fault, or for a stream that is applied to existing memory.
 ///
 /// # Errors
 ///
@@ -84,8 +84,8 @@ pub(crate) fn put_missing<E: Write>(
     }
 }
 
-/// Writes a line for each block that has fewer records than pages, and after four lines how many
-/// more blocks there are. `others` says where their other pages may be.
+/// Writes a line for each block that has fewer records than pages, and after four lines the number
+/// of the other blocks. `others` says where their other pages may be.
 ///
 /// # Errors
 ///

@@ -11,7 +11,7 @@ use mig_stream::StreamFault;
 use std::io::{self, Write};
 use zimgasol_reading::{Spot, Within};
 
-// Returns what a user may do about a fault of a channel.
+// Returns advice on a fault of a channel.
 fn channel_advice(fault: ChannelFault) -> Option<&'static str> {
     match fault {
         ChannelFault::HelloMagic => Some("this is no channel of multifd's"),
@@ -32,7 +32,7 @@ fn channel_advice(fault: ChannelFault) -> Option<&'static str> {
     }
 }
 
-// Returns what a user may do about a fault.
+// Returns advice on a fault.
 fn advice_of(fault: Fault) -> Option<&'static str> {
     match fault {
         Fault::Stream(StreamFault::Tail) => Some(
@@ -49,7 +49,7 @@ fn advice_of(fault: Fault) -> Option<&'static str> {
     }
 }
 
-// Writes where in its source a fault is.
+// Writes a fault's place in its source.
 fn put_within<W: Write>(
     output: &mut W,
     round: u64,
@@ -71,7 +71,7 @@ fn put_within<W: Write>(
     }
 }
 
-/// Writes the line of a fault: the file, the place in it, the fault, and what to do.
+/// Writes the line on a fault: the file, the place in it, the fault, and advice.
 pub(crate) fn put_spotted<W: Write>(
     output: &mut W,
     name: &str,

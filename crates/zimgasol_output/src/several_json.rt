@@ -1,4 +1,4 @@
-//! Lists what a main stream and its channels have, as JSON.
+//! Lists the contents of a main stream and its channels as JSON.
 
 ghost use Rattle.std.specs.Prelude.{◌≤◌};
 

@@ -1,4 +1,4 @@
-//! Prints the verdict on a main stream and its channels, and lists what they have, in lines.
+//! Prints the verdict on a main stream and its channels, and lists their contents in lines.
 
 ghost use Rattle.std.specs.Prelude.{◌≡◌, ◌↔◌, ◌≤◌, IfOk, IsTrue};
 ghost use Rattle.mig_answer.specs.declared.verdict.Verdict.TheVariants as verdict;
@@ -14,7 +14,7 @@ use std::io::{self, Read, Write};
 use zimgasol_files::{Talk, Trouble};
 use zimgasol_reading::{Channel, Several};
 
-/// What a complete guest without records of all its pages may be.
+/// An explanation of a complete guest without records of all its pages.
 const OTHERS: &str = "it may be the changes since another stream";
 
 fn output_failed(error: io::Error) -> Trouble {
@@ -172,7 +172,7 @@ fn put_last<F: Read + OpenFile + Drop, W: Write>(
     writeln!(output, "whole")
 }
 
-// Writes the line of a channel.
+// Writes the line on a channel.
 fn put_channel<F: Read + OpenFile + Drop, W: Write>(
     output: &mut W,
     channel: &Channel<F>,

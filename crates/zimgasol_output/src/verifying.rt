@@ -19,8 +19,8 @@ pub(crate) fn put_block<W: Write>(output: &mut W, block: &Option<String>) -> io:
     }
 }
 
-/// Writes in which section a fault is, after `sections` complete ones: in one of `kind`, or between
-/// two.
+/// Writes the section of a fault, after `sections` complete ones: a section of `kind`, or between
+/// two sections.
 pub(crate) fn put_section<W: Write>(
     output: &mut W,
     sections: u64,
@@ -39,7 +39,7 @@ pub(crate) fn put_section<W: Write>(
     }
 }
 
-/// Writes the line of a fault: the file, the place in it, the fault, and what to do.
+/// Writes the line on a fault: the file, the place in it, the fault, and advice.
 pub(crate) fn put_fault<W: Write>(
     output: &mut W,
     name: &str,
@@ -57,7 +57,7 @@ pub(crate) fn put_fault<W: Write>(
     writeln!(output)
 }
 
-// Writes the line of a complete stream.
+// Writes the line on a complete stream.
 fn put_whole<W: Write>(output: &mut W, name: &str, survey: &Survey) -> io::Result<()> {
     let sections = survey.sections;
     write!(output, "{name}: whole: sections {sections}, ")?;
@@ -72,7 +72,7 @@ fn put_whole<W: Write>(output: &mut W, name: &str, survey: &Survey) -> io::Resul
     writeln!(output, "{what} ends at byte {end}, {after} bytes follow")
 }
 
-/// Returns the name of what ends where a stream of `frame` is closed.
+/// Returns the name of what ends with a closed stream of `frame`.
 pub(crate) fn end_name(frame: Frame) -> &'static str {
     match frame {
         Frame::Machine => "RAM",
@@ -80,8 +80,8 @@ pub(crate) fn end_name(frame: Frame) -> &'static str {
     }
 }
 
-/// Writes what is wrong with a stream to `errors`: its fault, or which blocks lack page records.
-/// Returns whether the stream is complete.
+/// Writes errors on a stream to `errors`: its fault, or which blocks lack page records. Returns
+/// whether the stream is complete.
 ///
 /// # Errors
 ///
@@ -107,12 +107,12 @@ pub fn put_wrongs<E: Write>(
     }
 }
 
-/// Writes the verdict on a stream: to `output` that it is complete, unless `--quiet` is set, and to
-/// `errors` what is wrong with it. Returns whether it is complete.
+/// Writes the verdict on a stream: success to `output`, unless `--quiet` is set, and errors to
+/// `errors`. Returns whether it is complete.
 ///
 /// # Errors
 ///
-/// `Trouble::Output` where `output` can't be written, `Trouble::NoMemory`.
+/// `Trouble::Output` if `output` can't be written, `Trouble::NoMemory`.
 pub fn put_judgement<W: Write, E: Write>(
     alloc: Global,
     output: &mut W,

@@ -1,11 +1,11 @@
-//! Notes what is between RAM's sections, to be printed: the machine's name, the configuration's
+//! Notes the items between RAM's sections for printing: the machine's name, the configuration's
 //! subsections and COMMANDs. The reader of the stream checks these items, and skips them.
 
 ghost use Rattle.std.specs.Prelude.{◌≤◌};
 
 use std::alloc::{AllocError, Global};
 
-/// The most items that are noted, so that a stream of many takes no more memory.
+/// The most items that are noted, which limits the memory for a stream with many.
 const MOST_NOTED: usize = 64;
 
 /// The most bytes of a machine's name.
@@ -29,7 +29,7 @@ pub enum Noted {
     Machine(Vec<u8>),
     /// A subsection of the configuration: its name and content.
     Subsection(Vec<u8>, Vec<u8>),
-    /// A COMMAND: its number, and how many bytes it has.
+    /// A COMMAND: its number and its length.
     Command(u16, u16),
 }
 
@@ -49,7 +49,7 @@ pub struct Note {
 pub struct Between {
     /// The items that were noted, in their order.
     pub notes: Vec<Note>,
-    /// The items after the first 64, which are counted alone.
+    /// The number of items after the first 64, which aren't noted.
     pub unnoted: u64,
     /// The section that is open, and the byte of the stream at which it begins.
     pub open: Option<(SectionKind, u64)>,
@@ -58,11 +58,11 @@ pub struct Between {
     // the bytes of an item that isn't complete, and the place in the stream after them
     item: Vec<u8>,
     at: u64,
-    // whether nothing more is noted, since another item than these came
+    // whether noting has stopped: an item of another kind was read
     is_over: bool,
 }
 
-// What the first bytes of an item show.
+// What is known from the first bytes of an item.
 enum Progress {
     // how many more bytes are needed
     More(usize),
@@ -70,7 +70,7 @@ enum Progress {
     Section(SectionKind),
     // the item is complete, but for this many bytes, which are skipped
     Whole(u64),
-    // another item than those that are noted
+    // an item of a kind that isn't noted
     Other,
 }
 
@@ -83,7 +83,7 @@ fn up_to(item: &[u8], len: usize) -> Progress {
     }
 }
 
-// Returns the big-endian number of 4 bytes at the byte `at`; 0 where there is none.
+// Returns the big-endian number of 4 bytes at the byte `at`; 0 if there is none.
 fn number_at(item: &[u8], at: usize) -> u32 {
     match item.get(at..) {
         Some(rest) => match rest.first_chunk::<4>() {
@@ -94,7 +94,7 @@ fn number_at(item: &[u8], at: usize) -> u32 {
     }
 }
 
-// Returns the big-endian number of 2 bytes at the byte `at`; 0 where there is none.
+// Returns the big-endian number of 2 bytes at the byte `at`; 0 if there is none.
 fn short_at(item: &[u8], at: usize) -> u16 {
     match item.get(at..) {
         Some(rest) => match rest.first_chunk::<2>() {
@@ -192,7 +192,7 @@ fn subsection_name(item: &[u8]) -> &[u8] {
     item.get(2..head_len - 4).unwrap_or(&[])
 }
 
-// Copies bytes; none where there are none.
+// Copies bytes; empty if there are none.
 fn copied(alloc: Global, bytes: Option<&[u8]>) -> Result<Vec<u8>, AllocError> {
     bytes.unwrap_or(&[]).to_vec(alloc)
 }

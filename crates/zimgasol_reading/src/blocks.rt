@@ -40,7 +40,7 @@ impl PageCounts {
     }
 }
 
-/// Returns how many of a block's `pages` have none of its `records` at least. A page may have
+/// Returns the least number of a block's `pages` that have none of its `records`. A page may have
 /// several.
 pub(crate) fn pages_without(pages: u64, records: u64) -> u64
     ensures { result ≡ pages - records }
@@ -62,14 +62,14 @@ impl Blocks {
         Ok(Blocks { table, counts })
     }
 
-    /// Counts a record of the page at `place`, which is zeros where `is_zero`.
+    /// Counts a record of the page at `place`; `is_zero` for a page of zeros.
     pub fn count(&mut self, place: Place, is_zero: bool) {
         if place.block < self.counts.len() {
             self.counts[place.block] = self.counts[place.block].with(is_zero);
         }
     }
 
-    /// Returns how many bytes the blocks have together.
+    /// Returns the sum of the blocks' lengths.
     pub fn total(&self) -> u64 {
         let mut total = 0u64;
         for block in 0..self.table.len() {
@@ -102,7 +102,7 @@ impl Blocks {
         }
     }
 
-    /// Returns how many pages of a block have no record, at least.
+    /// Returns the least number of a block's pages that have no record.
     pub fn missing(&self, block: usize) -> u64 {
         pages_without(self.pages(block), self.records(block))
     }

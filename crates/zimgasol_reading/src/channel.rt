@@ -54,7 +54,7 @@ fn open_inlet<H: AllocGlobal + Files>(rt: &H, path: &str) -> Result<Inlet<H::Fil
 ///
 /// # Errors
 ///
-/// `Trouble::OfFile` where one can't be opened or read, `Trouble::NoMemory`.
+/// `Trouble::OfFile` if one can't be opened or read, `Trouble::NoMemory`.
 pub(crate) fn open_inlets<H: AllocGlobal + Files>(
     rt: &H,
     paths: &[&str],
@@ -66,7 +66,7 @@ pub(crate) fn open_inlets<H: AllocGlobal + Files>(
     Ok(inlets)
 }
 
-/// Returns the UUID that the first channel's hello names; zeros where it has none.
+/// Returns the UUID in the first channel's hello; zeros if it has no hello.
 pub(crate) fn hello_uuid<F: Read + OpenFile + Drop>(inlets: &[Inlet<F>]) -> Uuid {
     let Some(inlet) = inlets.first() else {
         return Uuid::nil();
@@ -87,7 +87,7 @@ pub struct Channel<F: Drop> {
     pub lane: Lane,
 }
 
-/// Creates a channel for each file; the hellos have to name `uuid`.
+/// Creates a channel for each file. Their hellos have to have `uuid`.
 pub(crate) fn channels_of<F: Read + OpenFile + Drop>(
     alloc: Global,
     inlets: Vec<Inlet<F>>,
@@ -108,7 +108,7 @@ impl<F: Read + OpenFile + Drop> Channel<F> {
     ///
     /// # Errors
     ///
-    /// `Trouble::OfFile` where a read fails, `Trouble::NoMemory`, and those of `sink`.
+    /// `Trouble::OfFile` if a read fails, `Trouble::NoMemory`, and those of `sink`.
     pub fn read_round<H: Files, S: PageSink<H>>(
         &mut self,
         guest: &mut Option<Guest>,

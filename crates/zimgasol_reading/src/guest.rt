@@ -1,6 +1,6 @@
-//! Counts the pages of a guest that comes over several channels, and judges its rounds.
+//! Counts the pages of a guest that is read from several channels, and judges its rounds.
 //!
-//! A round is judged by the numbers of its packets and by the places of pages, and keeps no page.
+//! A round is judged by the numbers of its packets and the places of its pages; no page is kept.
 
 ghost use Rattle.std.specs.Prelude.{◌≡◌, ◌+◌, ◌*◌, ◌<◌, ◌≤◌, ◌^◌, length, IfSome};
 ghost use Rattle.mig_packet.specs.PageSize.{IsPageSize};
@@ -15,13 +15,13 @@ use std::alloc::Global;
 use std::fs::Files;
 use zimgasol_files::Trouble;
 
-// The most packets that are numbered. No channels in files have as many.
+// The most packets that are numbered, which is more than files can have.
 const PACKET_LIMIT: u64 = 1 << 63;
 
 /// The most bytes of an id in a packet.
 const MOST_ID_LEN: usize = 255;
 
-/// A guest whose rounds come over several channels.
+/// A guest whose rounds are read from several channels.
 #[derive(Drop)]
 pub struct Guest {
     /// The blocks, and their records and packets' pages in all rounds so far.
@@ -41,7 +41,7 @@ fn list_offsets(head: &PacketHead<'_>, offsets: &mut Vec<u64>) -> Result<(), Tro
     Ok(())
 }
 
-// Makes the packet of zeros with the number, flags, id and pages of `head`. None where it can't be
+// Makes the packet of zeros with the number, flags, id and pages of `head`. None if it can't be
 // written.
 fn zeros_of<'b>(
     head: &PacketHead<'_>,
@@ -65,7 +65,7 @@ fn zeros_of<'b>(
 }
 
 impl Guest {
-    /// Creates a guest of the blocks of `table`, of which nothing came.
+    /// Creates a guest of the blocks of `table`, before its first byte.
     pub fn new(alloc: Global, table: &Table) -> Result<Guest, Trouble> {
         Ok(Guest {
             blocks: Blocks::new(alloc, table.try_copy()?)?,
@@ -121,7 +121,7 @@ impl Guest {
         sink.put(place, content)
     }
 
-    /// Returns the place of the page that begins at the byte `offset` of a block; None where none
+    /// Returns the place of the page that begins at the byte `offset` of a block; None if none
     /// does.
     pub fn place(&self, block: usize, offset: u64) -> Option<Place>
         ensures { IfSome result (λ place. (place.block ≡ block) × (place.page * self.now.blocks.table.page_size ≡ offset)) }
@@ -144,7 +144,7 @@ impl Guest {
     }
 
     /// Judges the current round, whose packets have to be numbered from `base` on. Returns its
-    /// fault; None where it has none.
+    /// fault; None if it has none.
     pub fn judge(&mut self, base: u64) -> Result<Option<RoundFault>, Trouble> {
         if base > PACKET_LIMIT || self.packets() > PACKET_LIMIT - base {
             return Err(Trouble::NoMemory);

@@ -1,5 +1,4 @@
-//! Keeps the first bytes of the item at which a stream's reading stands, for the block that it
-//! names.
+//! Keeps the first bytes of the stream's current item, for the block that it names.
 
 ghost use Rattle.std.specs.Prelude.{◌≡◌};
 
@@ -21,7 +20,7 @@ pub struct Head {
 }
 
 // Returns the bytes of `piece` from the stream's byte `at` on; `piece` begins at the byte `start`.
-// None where `at` is before the piece.
+// None if `at` is before the piece.
 fn rest_from(piece: &[u8], start: u64, at: u64) -> Option<&[u8]> {
     let from = at.checked_sub(start)?;
     if from >= piece.len() as u64 {
@@ -38,7 +37,7 @@ impl Head {
         }
     }
 
-    /// Keeps what `piece` has of the item, after it was read. The item begins at the stream's byte
+    /// Keeps the item's bytes in `piece`, after it was read. The item begins at the stream's byte
     /// `at`, and `piece` at its byte `start`.
     pub fn look(&mut self, piece: &[u8], start: u64, at: u64) -> Result<(), AllocError> {
         match rest_from(piece, start, at) {
@@ -58,13 +57,13 @@ impl Head {
         Ok(())
     }
 
-    /// Returns the id of the block that the item names; None where it is no page record with one.
+    /// Returns the id of the block that the item names; None if it isn't a page record with an id.
     pub fn id(&self) -> Option<&[u8]> {
         id_in(&self.bytes)
     }
 }
 
-// Returns the id that a page record names; None where the record is cut or names none.
+// Returns the id that a page record names; None if the record is cut or names none.
 fn id_in(item: &[u8]) -> Option<&[u8]> {
     let flags = *item.get(7)?;
     let high = *item.get(6)?;

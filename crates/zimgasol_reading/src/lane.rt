@@ -11,7 +11,7 @@ use std::fs::Files;
 use uuid::Uuid;
 use zimgasol_files::{PageSize, Trouble};
 
-/// What was counted of a channel.
+/// The counts of a channel.
 #[derive(Clone, Copy)]
 pub struct ChannelCounts {
     /// The complete packets.
@@ -26,7 +26,7 @@ pub struct ChannelCounts {
     pub zeros: u64,
     /// The bytes of the hello and of the complete packets.
     pub valid: u64,
-    /// Those of them that are before the current round.
+    /// The bytes of `valid` before the current round.
     pub round_start: u64,
 }
 
@@ -86,7 +86,7 @@ impl Lane {
         })
     }
 
-    /// Returns whether bytes of the current round may still come.
+    /// Returns whether more bytes of the current round may follow.
     pub fn is_pending(&self) -> bool {
         matches!(self.status(), Status::Pending)
     }
@@ -151,7 +151,7 @@ impl Lane {
         Ok((piece.len().saturating_sub(rest.len()), false))
     }
 
-    // Adds the packet whose head has come to the current round, with its pages of zeros.
+    // Adds the packet whose head was read to the current round, with its pages of zeros.
     fn begin_packet<H: Files, S: PageSink<H>>(
         &mut self,
         guest: &mut Option<Guest>,

@@ -15,7 +15,7 @@ const PARTIAL_MAGIC: &[u8] = b"LibvirtQemudPart";
 /// The version of the header.
 const VERSION: u32 = 2;
 
-/// A header of libvirt's, after which the stream follows as QEMU wrote it.
+/// A header of libvirt's. QEMU's stream follows it unchanged.
 #[derive(Clone, Copy)]
 pub struct LibvirtHeader {
     /// The bytes before QEMU's stream: the header, the XML and the cookie.
@@ -24,8 +24,7 @@ pub struct LibvirtHeader {
     pub was_running: bool,
 }
 
-// Returns the number of 4 bytes at the byte `at`, little-endian where `is_little`; 0 where there is
-// none.
+// Returns the number of 4 bytes at the byte `at`, little-endian if `is_little`; 0 if there is none.
 fn field(bytes: &[u8], at: usize, is_little: bool) -> u32 {
     let Some(rest) = bytes.get(at..) else {
         return 0;
@@ -50,12 +49,12 @@ fn format_trouble(format: u32) -> &'static str {
     }
 }
 
-/// Returns the header at the beginning of a file; None where the file isn't libvirt's.
+/// Returns the header at the beginning of a file; None if the file isn't libvirt's.
 ///
 /// # Errors
 ///
-/// `Trouble::Libvirt` where the save was never completed, the header is cut or has another version,
-/// or the stream is compressed or sparse.
+/// `Trouble::Libvirt` if the save was never completed, the header is cut or has another version, or
+/// the stream is compressed or sparse.
 pub(crate) fn header_of(bytes: &[u8]) -> Result<Option<LibvirtHeader>, Trouble> {
     if bytes.starts_with(PARTIAL_MAGIC) {
         return Err(Trouble::Libvirt("libvirt never completed this save"));

@@ -25,7 +25,7 @@ pub struct MainStream {
 }
 
 impl MainStream {
-    /// Creates the reading of a main stream, of which nothing was read.
+    /// Creates the reading of a main stream, before its first byte was read.
     pub fn new(alloc: Global, words: &StreamWords<'_>) -> Result<MainStream, Trouble> {
         let page_size = words.page_size.bytes();
         Ok(MainStream {
@@ -41,7 +41,7 @@ impl MainStream {
     ///
     /// # Errors
     ///
-    /// `Trouble::Unread` where a read fails, `Trouble::NoMemory`, and those of `sink`.
+    /// `Trouble::Unread` if a read fails, `Trouble::NoMemory`, and those of `sink`.
     pub fn read_round<H: AllocGlobal + Files, R: Read, S: PageSink<H>>(
         &mut self,
         rt: &H,
@@ -63,7 +63,7 @@ impl MainStream {
         Ok(())
     }
 
-    // Returns whether the stream goes on.
+    // Returns whether the stream continues.
     fn is_reading(&self) -> bool {
         matches!(self.reader.state(), StreamState::Reading)
     }
@@ -125,7 +125,7 @@ impl MainStream {
     ///
     /// # Errors
     ///
-    /// `Trouble::Unread` where a read fails.
+    /// `Trouble::Unread` if a read fails.
     pub fn read_rest<R: Read>(&mut self, input: &mut R) -> Result<(), Trouble> {
         for _ in 0..u64::MAX {
             self.pieces.take_all();

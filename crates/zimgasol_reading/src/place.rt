@@ -15,7 +15,7 @@ use zimgasol_names::shown;
 #[derive(Clone, Copy)]
 pub struct FaultPlace {
     pub fault: StreamFault,
-    /// The byte of the file at which the item with the fault begins; of a stream that was cut, the
+    /// The byte of the file at which the item with the fault begins; for a stream that was cut, the
     /// byte at which the file ends.
     pub byte: u64,
     /// The complete sections before it.
@@ -24,7 +24,7 @@ pub struct FaultPlace {
     pub kind: Option<SectionKind>,
 }
 
-/// Returns the fault of a stream that was read to its end; None where the stream is whole.
+/// Returns the fault of a stream that was read to its end; None if the stream is whole.
 pub fn fault_of(survey: &Survey) -> Option<FaultPlace>
     ensures complete { IsNone result ↔ (survey.now.state ≡ state.Closed) }
     ensures fault { (f : StreamFault) → survey.now.state ≡ state.Bad f → IfSome result (λ place. place.fault ≡ f) }
@@ -66,8 +66,9 @@ fn last_id(alloc: Global, survey: &Survey) -> Result<Option<String>, AllocError>
     Ok(Some(shown(alloc, blocks.table.id(place.block))?))
 }
 
-/// Returns the id of the block at a fault, as it is printed: the one that the item with the fault
-/// names, or else that of the last page record. None outside the sections that have page records.
+/// Returns the id of the block at a fault, as it is printed: the block that the item with the fault
+/// names, or else the block of the last page record. None outside the sections that have page
+/// records.
 pub fn block_at(alloc: Global, survey: &Survey) -> Result<Option<String>, AllocError> {
     match kind_at(survey) {
         Some(SectionKind::Part | SectionKind::End) => {}

@@ -31,15 +31,15 @@ enum Next {
     Head(SectionKind),
     // a record
     Record,
-    // an entry of the size list, and the bytes of the blocks that are still to come
+    // an entry of the size list, and the bytes of the blocks whose entries follow
     Entry(u64),
     // the footer
     Footer,
-    // no item of RAM's section: nothing more is followed
+    // not an item of RAM's section: following stops
     Lost,
 }
 
-// What the first bytes of an item show.
+// What is known from the first bytes of an item.
 enum Found {
     // how many more bytes are needed
     More(usize),
@@ -73,7 +73,7 @@ fn up_to(item: &[u8], len: usize, next: Next) -> Found {
     }
 }
 
-// Returns the length in the byte `at`; None where there is none.
+// Returns the length in the byte `at`; None if there is none.
 fn len_at(item: &[u8], at: usize) -> Option<usize> {
     match item.get(at) {
         Some(len) => Some(usize::from(*len)),
@@ -96,7 +96,7 @@ fn head_found(item: &[u8], kind: SectionKind) -> Found {
     }
 }
 
-// Returns the big-endian number of 8 bytes at the byte `at`; 0 where there is none.
+// Returns the big-endian number of 8 bytes at the byte `at`; 0 if there is none.
 fn number_at(item: &[u8], at: usize) -> u64 {
     match item.get(at..) {
         Some(rest) => match rest.first_chunk::<8>() {
@@ -135,7 +135,7 @@ fn page_found(item: &[u8], flags: u16, len: u64) -> Found {
     }
 }
 
-// Reads an entry of the size list; `left` bytes of blocks are still to come with it.
+// Reads an entry of the size list; `left` bytes of blocks remain, this entry's included.
 fn entry_found(item: &[u8], left: u64) -> Found {
     let Some(id) = len_at(item, 0) else {
         return Found::More(1);
@@ -161,7 +161,7 @@ fn footer_found(item: &[u8]) -> Found {
 }
 
 impl Sections {
-    /// Creates the sections of a stream of which nothing came.
+    /// Creates the sections of a stream before its first byte.
     pub fn new(alloc: Global, page_size: u64) -> Sections {
         Sections {
             between: Between::new(alloc),
@@ -173,7 +173,7 @@ impl Sections {
         }
     }
 
-    /// Returns the kind of the section that the byte `valid` is in; None where it is between two.
+    /// Returns the kind of the section that the byte `valid` is in; None if it is between two.
     pub fn kind(&self, valid: u64) -> Option<SectionKind> {
         match self.between.open {
             Some((kind, at)) if at < valid => Some(kind),
@@ -231,7 +231,7 @@ impl Sections {
         Ok(true)
     }
 
-    // Goes on by what was found. Returns whether `piece` may have more.
+    // Moves on to the next item. Returns whether `piece` may have more.
     fn follow(&mut self, piece: &[u8], start: u64, found: Found) -> Result<bool, AllocError> {
         match found {
             Found::More(len) => self.take(piece, start, len),

@@ -1,7 +1,7 @@
 //! Reads a main stream and its channels, round by round: each source up to the end of the round.
-//! Passes each page on as it comes.
+//! Passes each page on as it is read.
 //!
-//! No page is kept, but a bit for each page, and the number of each packet of the current round.
+//! No page is kept, only a bit for each page, and the number of each packet of the current round.
 //! The verdict on the sources' statuses is that of `verdict_told` (`mig_answer`), the verdict on a
 //! complete round that of `Arrivals::judge` (`mig_assemble`).
 
@@ -23,13 +23,13 @@ use std::rt::Clock;
 use uuid::Uuid;
 use zimgasol_files::{ChannelWords, StreamWords, Trouble, Watch, wanted_uuid};
 
-/// What was read of a main stream and its channels.
+/// The survey of a main stream and its channels.
 #[derive(Drop)]
 pub struct Several<F: Drop> {
     alloc: Global,
     pub frame: Frame,
     pub page_size: u64,
-    /// The UUID that each hello has to name.
+    /// The UUID that each hello has to have.
     pub uuid: Uuid,
     pub main: MainStream,
     pub channels: Vec<Channel<F>>,
@@ -40,7 +40,7 @@ pub struct Several<F: Drop> {
     // the packets of the complete rounds
     base: u64,
     pub verdict: Verdict,
-    /// Whether it is laid over other memory, so that it needs no record of each page.
+    /// Whether it is applied to existing memory, so that it needn't have a record of each page.
     pub is_laid_over: bool,
 }
 
@@ -73,7 +73,7 @@ fn opened<H: AllocGlobal + Files>(
 }
 
 impl<F: Read + OpenFile + Drop> Several<F> {
-    /// Returns the fault; None where all sources are complete.
+    /// Returns the fault; None if all sources are complete.
     pub fn fault(&self) -> Option<LoadFault>
         ensures whole { IsNone result ↔ (self.now.verdict ≡ verdict.Done) }
         ensures fault { (fault : LoadFault) → self.now.verdict ≡ verdict.Failed fault → result ≡ Some fault }
@@ -107,7 +107,7 @@ impl<F: Read + OpenFile + Drop> Several<F> {
         len
     }
 
-    // Takes the lengths of the files for the progress, where the main stream is one.
+    // Takes the lengths of the files for the progress, if the main stream is a file.
     fn expect(&self, main: &Metadata, watch: &mut Watch) {
         if !main.is_file() {
             return;
@@ -143,7 +143,7 @@ impl<F: Read + OpenFile + Drop> Several<F> {
         self.main.read_rest(input)
     }
 
-    // Returns the verdict of the round up to which all sources were read; None where they go on.
+    // Returns the verdict of the round that all sources were read to; None if they continue.
     fn verdict_so_far(&mut self) -> Result<Option<Verdict>, Trouble> {
         let mut statuses = Vec::new(self.alloc);
         let mut hellos = Vec::new(self.alloc);
@@ -159,7 +159,7 @@ impl<F: Read + OpenFile + Drop> Several<F> {
         }
     }
 
-    // Judges the current round, which all sources have. Returns its fault; None where it has none.
+    // Judges the current round, which all sources have. Returns its fault; None if it has none.
     fn judged(&mut self) -> Result<Option<Verdict>, Trouble> {
         let Some(guest) = &mut self.guest else {
             return Err(Trouble::NoMemory);
@@ -189,12 +189,12 @@ impl<F: Read + OpenFile + Drop> Several<F> {
 }
 
 /// Reads a main stream, from its file or from `input`, and its channels from their files. Passes
-/// the pages to `sink`. A fault is no error: what is returned has it.
+/// the pages to `sink`. A fault isn't an error: the survey that it returns has it.
 ///
 /// # Errors
 ///
-/// `Trouble::Words` of words that don't go together, `Trouble::Unread` and `Trouble::OfFile` where
-/// a file can't be opened or read, `Trouble::NoMemory`, and those of `sink`.
+/// `Trouble::Words` for wrong arguments, `Trouble::Unread` and `Trouble::OfFile` if a file can't be
+/// opened or read, `Trouble::NoMemory`, and those of `sink`.
 pub fn read_several<H: AllocGlobal + Files + Clock, R: Read, S: PageSink<H>, E: Write>(
     rt: &H,
     words: &StreamWords<'_>,

@@ -59,7 +59,7 @@ fn is_of_hello(fault: Fault) -> bool {
     }
 }
 
-// Returns whether a fault is that a source ended too early.
+// Returns whether the fault is a source that ended too early.
 fn is_cut(fault: Fault) -> bool {
     match fault {
         Fault::Stream(StreamFault::Truncated) => true,

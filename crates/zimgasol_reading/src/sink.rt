@@ -1,4 +1,4 @@
-//! The trait of what takes the pages of a stream as they are read.
+//! The trait of a sink, which takes the pages of a stream as they are read.
 
 use mig_mem::{Place, Table};
 use std::fs::Files;

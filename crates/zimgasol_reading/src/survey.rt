@@ -1,4 +1,4 @@
-//! Reads a single stream in pieces. Passes each page on as it comes, counts what the stream has,
+//! Reads a single stream in pieces. Passes each page on as it is read, counts the stream's items,
 //! and finds its fault.
 
 ghost use Rattle.std.specs.Prelude.{◌≡◌, ◌≤◌, ◌^◌, length, IfOk};
@@ -17,7 +17,7 @@ use std::io::{Read, Write};
 use std::rt::Clock;
 use zimgasol_files::{StreamWords, Trouble, Watch, piece_buffer, read_piece};
 
-/// What was read of a stream.
+/// The survey of a stream.
 #[derive(Drop)]
 pub struct Survey {
     /// The frame that the stream was read in.
@@ -39,20 +39,21 @@ pub struct Survey {
     pub state: StreamState,
     /// The bytes of the stream that are complete items without a fault.
     pub valid: u64,
-    /// The bytes of the input, with libvirt's header and what follows the stream.
+    /// The bytes of the input, with libvirt's header and the bytes after the stream.
     pub len: u64,
     /// The progress that is printed.
     pub watch: Watch,
-    /// Whether the stream is laid over other memory, so that it needs no record of each page.
+    /// Whether the stream is applied to existing memory, so that it needn't have a record of each
+    /// page.
     pub is_laid_over: bool,
-    // what the next piece is read on from; None after the stream's end or fault
+    // the reader for the next piece; None after the stream's end or fault
     pause: Option<Pause>,
-    // the bytes of the stream that have come
+    // the number of the stream's bytes that were read
     fed: u64,
 }
 
 impl Survey {
-    /// Creates the survey of a stream of which nothing was read.
+    /// Creates the survey of a stream before its first byte was read.
     pub fn new(alloc: Global, words: &StreamWords<'_>, watch: Watch) -> Survey {
         let page_size = words.page_size.bytes();
         Survey {
@@ -74,7 +75,7 @@ impl Survey {
         }
     }
 
-    /// Returns how many bytes are before the stream: those of libvirt's header.
+    /// Returns the number of bytes before the stream: those of libvirt's header.
     pub fn before(&self) -> u64 {
         match self.libvirt {
             Some(header) => header.len,
@@ -93,7 +94,7 @@ impl Survey {
     ///
     /// # Errors
     ///
-    /// `Trouble::Unread` where a read fails, `Trouble::Libvirt` of libvirt's header,
+    /// `Trouble::Unread` if a read fails, `Trouble::Libvirt` of libvirt's header,
     /// `Trouble::NoMemory`, and those of `sink`.
     pub fn read<H: AllocGlobal + Files + Clock, R: Read, S: PageSink<H>, E: Write>(
         &mut self,
@@ -144,7 +145,8 @@ impl Survey {
         Ok(())
     }
 
-    // Takes all records that `reader` gives of `piece`, which begins at the stream's byte `start`.
+    // Takes all records that `reader` returns from `piece`, which begins at the stream's byte
+    // `start`.
     fn take_records<H: AllocGlobal + Files, S: PageSink<H>>(
         &mut self,
         rt: &H,
@@ -187,7 +189,7 @@ impl Survey {
         Ok(())
     }
 
-    // Counts the records that `reader` gave last, and passes them to `sink`.
+    // Counts the records that `reader` returned last, and passes them to `sink`.
     fn take_given<H: Files, S: PageSink<H>>(
         &mut self,
         reader: &RecordReader<'_>,

@@ -2,8 +2,9 @@
 //! from the input, passes each to `run` of `zimgasol_command`, and prints the command and its
 //! output.
 //!
-//! A command is `zimgasol` with its words and maybe `< FILE`, or what stands around it: `cat FILE`,
-//! `cat FILE FILE > FILE`, `head -c N FILE > FILE` and `echo $?`. It is no part of the product.
+//! A command is `zimgasol` with its arguments and possibly `< FILE`, or one of the shell's: `cat
+//! FILE`, `cat FILE FILE > FILE`, `head -c N FILE > FILE` and `echo $?`. This crate isn't part of
+//! the product.
 #![tactic(auto)]
 
 use std::alloc::{AllocGlobal, Global};
@@ -17,7 +18,7 @@ const FOLDERS: [&str; 9] = [
     "memory", "again", "bare", "six", "restored", "channels", "both", "day", "over",
 ];
 
-// Runs `zimgasol`, on a file as its input where there is one, and prints what it prints.
+// Runs `zimgasol`, with a file as its input if there is one, and prints its output.
 fn run_program<H: AllocGlobal + Files + Clock, W: Write>(
     rt: &H,
     alloc: Global,
@@ -39,7 +40,7 @@ fn run_program<H: AllocGlobal + Files + Clock, W: Write>(
     Ok(status)
 }
 
-// The words of a command after the first one, up to `<`.
+// Returns a command's arguments after its first word, up to `<`.
 fn words_of(alloc: Global, line: &str) -> io::Result<Vec<String>> {
     let mut words = Vec::new(alloc);
     for word in line.split(' ').skip(1) {
@@ -65,7 +66,7 @@ fn copy_head<H: AllocGlobal + Files>(rt: &H, line: &str) -> io::Result<()> {
     fs::write(rt, to, head)
 }
 
-// Puts two files one after the other: `cat FIRST SECOND > TO`.
+// Concatenates two files: `cat FIRST SECOND > TO`.
 fn join_files<H: AllocGlobal + Files>(rt: &H, line: &str) -> io::Result<()> {
     let mut words = line.split(' ').skip(1);
     let first = words.next().unwrap_or("");
@@ -77,7 +78,7 @@ fn join_files<H: AllocGlobal + Files>(rt: &H, line: &str) -> io::Result<()> {
     fs::write(rt, to, bytes.as_slice())
 }
 
-// Does what a line says. Returns the status.
+// Runs a line's command. Returns the exit status.
 fn play<H: AllocGlobal + Files + Clock, W: Write>(
     rt: &H,
     alloc: Global,

@@ -1,5 +1,5 @@
-//! Writes the packets of `save --channels`. Each has pages of one block that differ, as many as it
-//! takes, and goes on the next channel in turn.
+//! Writes the packets of `save --channels`. Each packet has differing pages of one block, as many
+//! as it has room for, and is written on the next channel in turn.
 //!
 //! The first round is empty, since QEMU 10 and 11 crash on channels whose first packets have pages.
 //! The second one has all pages.
@@ -86,7 +86,7 @@ impl Batch {
     }
 }
 
-// Writes the packet `number` of a batch into `bytes`, in place of what these were.
+// Writes the packet `number` of a batch into `bytes`, whose content it replaces.
 fn write_packet(
     page_size: u64,
     bytes: &mut Vec<u8>,
@@ -117,7 +117,7 @@ pub(crate) struct PacketSending<F: Drop> {
     batch: Batch,
     // a batch without pages
     none: Batch,
-    // the number of the next packet, and the channel that the next batch goes on
+    // the number of the next packet, and the channel that the next batch is written on
     number: u64,
     turn: usize,
     // the packet that was written last
@@ -128,7 +128,7 @@ pub(crate) struct PacketSending<F: Drop> {
     pub written: u64,
 }
 
-// Writes the first bytes of a main stream. Returns how many they are, and the writer of the others.
+// Writes the first bytes of a main stream. Returns their number, and the writer of the rest.
 fn begin_main<W: Write>(
     alloc: Global,
     out: &mut W,
@@ -160,12 +160,12 @@ fn put_hello<F: Write + OpenFile + Drop>(
 
 impl<F: Write + OpenFile + Drop> PacketSending<F> {
     /// Begins a main stream and its channels, with a hello under `uuid` on each, and sends the
-    /// empty round. The machine's name has at most 1,024 bytes; without one no configuration is
+    /// empty round. The machine's name has at most 1,024 bytes; without a name no configuration is
     /// written.
     ///
     /// # Errors
     ///
-    /// `Trouble::Output` where `out` can't be written, `Trouble::OfFile` of a channel,
+    /// `Trouble::Output` if `out` can't be written, `Trouble::OfFile` of a channel,
     /// `Trouble::NoMemory`.
     pub(crate) fn begin<W: Write>(
         alloc: Global,
@@ -260,7 +260,7 @@ impl<F: Write + OpenFile + Drop> PacketSending<F> {
         Ok(())
     }
 
-    // Adds a page to the batch, which is sent first where it is full or of another block. Returns
+    // Adds a page to the batch, which is sent first if it is full or of another block. Returns
     // whether the stream's table has `place`.
     fn add(&mut self, place: Place, content: &[u8]) -> Result<bool, Trouble> {
         let table = self.main.table();
@@ -280,12 +280,12 @@ impl<F: Write + OpenFile + Drop> PacketSending<F> {
     }
 
     /// Ends the main stream: one of RAM with its end byte, a machine's with RAM's END and the byte
-    /// `QEMU_VM_EOF`. Returns the channels, how many pages were sent, and how many bytes were
+    /// `QEMU_VM_EOF`. Returns the channels, the number of pages sent, and the number of bytes
     /// written on the main stream.
     ///
     /// # Errors
     ///
-    /// `Trouble::Output` where `out` can't be written, `Trouble::OfFile` of a channel,
+    /// `Trouble::Output` if `out` can't be written, `Trouble::OfFile` of a channel,
     /// `Trouble::NoMemory`.
     pub(crate) fn finish<W: Write>(
         mut self,

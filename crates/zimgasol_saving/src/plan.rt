@@ -1,4 +1,4 @@
-//! Plans what `save` sends: the blocks, their files, and those of `--since`.
+//! Plans what `save` sends: the blocks, their files, and the files of `--since`.
 
 ghost use Rattle.mig_mem.specs.PageSize.{IsPageSize};
 
@@ -29,7 +29,7 @@ pub(crate) struct Plan<'a> {
 }
 
 impl Plan<'_> {
-    /// Returns how many bytes the blocks have together.
+    /// Returns the sum of the blocks' lengths.
     pub(crate) fn total(&self) -> u64 {
         let mut total = 0u64;
         for source in &self.sources {
@@ -61,7 +61,7 @@ fn before_in(
     Ok(block.path.clone()?)
 }
 
-// Returns the block that `word` names.
+// Parses a block's argument, and checks the length of its file.
 fn source_of<'a, H: AllocGlobal + Files>(
     rt: &H,
     word: &'a str,
@@ -81,7 +81,7 @@ fn source_of<'a, H: AllocGlobal + Files>(
     Ok(Source { word, len, before })
 }
 
-// Returns the blocks that the words name.
+// Parses the arguments for blocks.
 fn sources_of<'a, H: AllocGlobal + Files>(
     rt: &H,
     words: &SaveWords<'a>,
@@ -95,7 +95,7 @@ fn sources_of<'a, H: AllocGlobal + Files>(
     Ok(sources)
 }
 
-// Returns the trouble of the word whose block has the number `number`.
+// Returns the error on the argument of the block with the number `number`.
 fn word_trouble(
     alloc: Global,
     sources: &[Source<'_>],
@@ -108,7 +108,7 @@ fn word_trouble(
     }
 }
 
-// Returns the trouble of blocks that make no table.
+// Returns the error that the blocks don't make a table.
 fn table_trouble(alloc: Global, sources: &[Source<'_>], fault: TableFault) -> Trouble {
     match fault {
         TableFault::NoMemory => Trouble::NoMemory,
@@ -145,7 +145,7 @@ fn table_of(alloc: Global, page_size: u64, sources: &[Source<'_>]) -> Result<Tab
     }
 }
 
-// Refuses a machine's name that doesn't go into the stream.
+// Refuses a machine's name that a stream can't have.
 fn check_machine(alloc: Global, words: &SaveWords<'_>) -> Result<(), Trouble> {
     let Some(name) = words.machine else {
         return Ok(());
@@ -159,13 +159,13 @@ fn check_machine(alloc: Global, words: &SaveWords<'_>) -> Result<(), Trouble> {
     }
 }
 
-/// Returns the plan of what the words ask for.
+/// Returns the plan for the arguments.
 ///
 /// # Errors
 ///
-/// `Trouble::Words` of words that are wrong, `Trouble::Unfit` of a file that is no block's memory
-/// or isn't in the folder of `--since`, `Trouble::TooLarge`, and `Trouble::OfFile` where a file
-/// can't be opened.
+/// `Trouble::Words` for wrong arguments, `Trouble::Unfit` for a file that isn't a block's memory or
+/// isn't in the folder of `--since`, `Trouble::TooLarge`, and `Trouble::OfFile` if a file can't be
+/// opened.
 pub(crate) fn plan_of<'a, H: AllocGlobal + Files>(
     rt: &H,
     words: &SaveWords<'a>,

@@ -1,7 +1,7 @@
-//! `save`: makes a single stream of files with the memory of blocks.
+//! `save`: makes a single stream from files with the memory of blocks.
 //!
-//! Each file is read in pieces of 256 pages, and each piece is sent as a section, so that no guest
-//! is kept.
+//! Each file is read in pieces of 256 pages, and each piece is sent as a section, so the guest's
+//! memory is never held.
 
 use crate::plan::{Plan, Source, plan_of};
 use crate::saving_channels::{channel_plan, save_channels};
@@ -16,12 +16,12 @@ use zimgasol_files::{
 };
 use zimgasol_names::shown_name;
 
-/// What was saved.
+/// The totals of a save.
 #[derive(Clone, Copy)]
 pub(crate) struct Saved {
     /// The pages that were sent.
     pub pages: u64,
-    /// The bytes of the stream; of the main stream where there are channels.
+    /// The bytes of the stream; of the main stream if there are channels.
     pub bytes: u64,
     /// The number of channels, and the bytes of all of them.
     pub channels: Option<(usize, u64)>,
@@ -54,8 +54,9 @@ struct Part<'a> {
 
 /// Sends the pieces of blocks.
 pub(crate) trait PieceSink: Drop {
-    /// Sends those of `pages` that differ; the first of `pages` is the block's page `first`. Writes
-    /// the stream to `out`. Returns false where the stream's table has no place for one of them.
+    /// Sends the differing pages of `pages`; the first of `pages` is the block's page `first`.
+    /// Writes the stream to `out`. Returns false if the stream's table lacks the place of one of
+    /// them.
     fn send<W: Write>(
         &mut self,
         out: &mut W,
@@ -122,8 +123,8 @@ fn send_block<H: AllocGlobal + Files + Clock, S: PieceSink, W: Write, E: Write>(
 ///
 /// # Errors
 ///
-/// `Trouble::OfFile` where a file can't be read, `Trouble::Unfit` where its length has changed, and
-/// those of `sink`.
+/// `Trouble::OfFile` if a file can't be read, `Trouble::Unfit` if its length has changed, and those
+/// of `sink`.
 pub(crate) fn send_blocks<H: AllocGlobal + Files + Clock, S: PieceSink, W: Write, E: Write>(
     rt: &H,
     plan: &Plan<'_>,
@@ -147,7 +148,7 @@ pub(crate) fn send_blocks<H: AllocGlobal + Files + Clock, S: PieceSink, W: Write
     Ok(())
 }
 
-// Writes the whole stream to `out`.
+// Writes the complete stream to `out`.
 fn write_stream<H: AllocGlobal + Files + Clock, W: Write, E: Write>(
     rt: &H,
     words: &SaveWords<'_>,
@@ -174,7 +175,7 @@ fn write_stream<H: AllocGlobal + Files + Clock, W: Write, E: Write>(
     })
 }
 
-// Writes the stream into the file `partial`, and waits until it is on its disk.
+// Writes the stream into the file `partial`, and syncs it to its disk.
 fn write_file<H: AllocGlobal + Files + Clock, E: Write>(
     rt: &H,
     words: &SaveWords<'_>,
@@ -195,7 +196,8 @@ fn write_file<H: AllocGlobal + Files + Clock, E: Write>(
     }
 }
 
-// Saves into a file, which gets its final name when it is complete. After a failure no file stays.
+// Saves into a file, which gets its final name when it is complete. After a failure the file is
+// removed.
 fn save_file<H: AllocGlobal + Files + Clock, E: Write>(
     rt: &H,
     words: &SaveWords<'_>,
@@ -219,7 +221,7 @@ fn save_file<H: AllocGlobal + Files + Clock, E: Write>(
     Ok(saved)
 }
 
-// Writes the line of what was saved; `name` is printable.
+// Writes the line on what was saved; `name` is printable.
 fn put_counts<W: Write>(
     output: &mut W,
     name: &str,
@@ -242,7 +244,7 @@ fn put_counts<W: Write>(
     }
 }
 
-// Writes the line of what was saved.
+// Writes the line on what was saved.
 fn put_saved<W: Write>(
     alloc: Global,
     output: &mut W,
@@ -267,14 +269,14 @@ fn flush<W: Write>(output: &mut W) -> Result<(), Trouble> {
     }
 }
 
-/// Saves the memory of blocks as a stream, with channels where the words ask for them. Returns
+/// Saves the memory of blocks as a stream, with channels if the arguments ask for them. Returns
 /// true.
 ///
 /// # Errors
 ///
 /// Those of `channel_plan` and `plan_of`, `Trouble::Exists` and `Trouble::Unfit` of OUT,
-/// `Trouble::OfFile` where a file can't be read or written: then none stays. `Trouble::Output`: of
-/// a stream that went into a file, it stays.
+/// `Trouble::OfFile` if a file can't be read or written: then all files are removed.
+/// `Trouble::Output` if `output` can't be written: a stream that was saved in a file stays.
 pub fn save<H: AllocGlobal + Files + Clock, W: Write, E: Write>(
     rt: &H,
     words: &SaveWords<'_>,

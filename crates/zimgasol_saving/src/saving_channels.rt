@@ -13,19 +13,19 @@ use zimgasol_files::{
     wrong,
 };
 
-/// How many channels are written, and under which UUID.
+/// The number of channels that are written, and their UUID.
 #[derive(Clone, Copy)]
 pub(crate) struct ChannelPlan {
     count: usize,
     uuid: Uuid,
 }
 
-/// Returns the channels that the words ask for; None where they ask for none.
+/// Returns the channels that the arguments ask for; None if they ask for none.
 ///
 /// # Errors
 ///
-/// `Trouble::Words` of a UUID without channels, of channels where OUT is the standard output, and
-/// of values that are wrong.
+/// `Trouble::Words` for a UUID without channels, channels while OUT is the standard output, and
+/// wrong values.
 pub(crate) fn channel_plan(
     alloc: Global,
     words: &SaveWords<'_>,
@@ -46,7 +46,7 @@ pub(crate) fn channel_plan(
     }
 }
 
-// Returns the path of a channel's file: that of the main stream's, a dot, and `number`.
+// Returns the path of a channel's file: the main stream's path, a dot, and `number`.
 fn channel_path(alloc: Global, file: &str, number: usize) -> Result<String, AllocError> {
     format!(in alloc; "{file}.{number}")
 }
@@ -66,7 +66,7 @@ fn check_free<H: AllocGlobal + Files>(
     Ok(())
 }
 
-// Makes the file that gets the name `path` when it is complete.
+// Makes a file, which gets the name `path` when it is complete.
 fn open_outlet<H: AllocGlobal + Files>(rt: &H, path: String) -> Result<Outlet<H::File>, Trouble> {
     let alloc = rt.alloc();
     let partial = format!(in alloc; "{path}{PARTIAL}")?;
@@ -95,8 +95,8 @@ fn open_channels<H: AllocGlobal + Files>(
     Ok(outlets)
 }
 
-// Writes the main stream and the channels, and waits until they are on their disk. Returns what was
-// saved, and the channels.
+// Writes the main stream and the channels, and syncs them to their disk. Returns the totals, and
+// the channels.
 fn write_all<H: AllocGlobal + Files + Clock, E: Write>(
     rt: &H,
     words: &SaveWords<'_>,
@@ -144,7 +144,7 @@ fn remove_all<H: AllocGlobal + Files>(rt: &H, words: &SaveWords<'_>, count: usiz
 }
 
 // Gives all files their final names, the main stream last. An old main stream is removed first, so
-// that none is beside channels of another one.
+// that it never stands with the channels of another stream.
 fn rename_all<H: Files>(
     rt: &H,
     main: &Outlet<H::File>,
@@ -182,8 +182,8 @@ fn save_all<H: AllocGlobal + Files + Clock, E: Write>(
 ///
 /// # Errors
 ///
-/// `Trouble::Exists` and `Trouble::Unfit` of files that exist, `Trouble::OfFile` where one can't be
-/// read or written. No file stays that has no final name.
+/// `Trouble::Exists` and `Trouble::Unfit` of files that exist, `Trouble::OfFile` if one can't be
+/// read or written. Files without their final names are removed.
 pub(crate) fn save_channels<H: AllocGlobal + Files + Clock, E: Write>(
     rt: &H,
     words: &SaveWords<'_>,

@@ -1,4 +1,4 @@
-//! Writes the single stream of `save`: a section for each piece that has pages to be sent.
+//! Writes the single stream of `save`: a section for each piece that has pages to send.
 
 ghost use Rattle.std.specs.Prelude.{◌≡◌, ◌+◌, ◌++◌, ◌∷◌, [], ℕ, List, IfOk, IfSome, IsTrue};
 ghost use Rattle.mig_mem.specs.Image.{Page};
@@ -28,7 +28,7 @@ pub(crate) struct Sending {
     pub written: u64,
 }
 
-// Puts a page into `round`. Returns whether its table has the place.
+// Adds a page to `round`. Returns whether its table has the place.
 fn put(round: &mut OpenRound, place: Place, page: &[u8]) -> Result<bool, NoMemory>
     ensures before { round.new.before ≡ round.old.before }
     ensures put { IfOk result (λ has_place. IsTrue has_place → (done : List Page) → HasPut round.old done
@@ -42,8 +42,8 @@ fn put(round: &mut OpenRound, place: Place, page: &[u8]) -> Result<bool, NoMemor
     Ok(true)
 }
 
-// Puts the page `page` of `pages`, if it differs. Returns whether it does; None where the stream's
-// table has no place for it.
+// Adds the page `page` of `pages`, if it differs. Returns whether it does; None if the stream's
+// table lacks its place.
 fn put_differing(
     round: &mut OpenRound,
     block: usize,
@@ -72,8 +72,8 @@ fn put_differing(
     Ok(Some(true))
 }
 
-// Puts the pages that differ. Returns how many there are; None where the stream's table has no
-// place for one of them.
+// Adds the pages that differ. Returns their number; None if the stream's table lacks the place of
+// one of them.
 fn put_all_differing(
     round: &mut OpenRound,
     block: usize,
@@ -95,8 +95,8 @@ fn put_all_differing(
     Ok(Some(count))
 }
 
-// Sends the pages that differ as a section. Returns how many there are, and the sender; None where
-// the stream's table has no place for one of them.
+// Sends the pages that differ as a section. Returns their number, and the sender; None if the
+// stream's table lacks the place of one of them.
 fn send_section(
     sender: SingleSender,
     block: usize,
@@ -123,7 +123,7 @@ fn send_section(
 ///
 /// # Errors
 ///
-/// `Trouble::Output` where `out` doesn't take them.
+/// `Trouble::Output` if `out` doesn't take them.
 pub(crate) fn write<W: Write>(out: &mut W, bytes: &[u8]) -> Result<(), Trouble> {
     match out.write_all(bytes) {
         Ok(()) => Ok(()),
@@ -131,7 +131,7 @@ pub(crate) fn write<W: Write>(out: &mut W, bytes: &[u8]) -> Result<(), Trouble> 
     }
 }
 
-// Writes the first bytes of a machine's stream, with its name. Returns how many they are, and the
+// Writes the first bytes of a machine's stream, with its name. Returns their number, and the
 // sender.
 fn begin_named<W: Write>(
     alloc: Global,
@@ -149,11 +149,11 @@ fn begin_named<W: Write>(
 
 impl Sending {
     /// Begins a stream of the blocks of `table`. The machine's name has at most 1,024 bytes;
-    /// without one no configuration is written.
+    /// without a name no configuration is written.
     ///
     /// # Errors
     ///
-    /// `Trouble::Output` where `out` can't be written, `Trouble::NoMemory`.
+    /// `Trouble::Output` if `out` can't be written, `Trouble::NoMemory`.
     pub(crate) fn begin<W: Write>(
         alloc: Global,
         out: &mut W,
@@ -172,12 +172,12 @@ impl Sending {
         })
     }
 
-    /// Sends those of `pages` that differ; the first of `pages` is the block's page `first`.
-    /// Returns None where the stream's table has no place for one of them.
+    /// Sends the differing pages of `pages`; the first of `pages` is the block's page `first`.
+    /// Returns None if the stream's table lacks the place of one of them.
     ///
     /// # Errors
     ///
-    /// `Trouble::Output` where `out` can't be written, `Trouble::NoMemory`.
+    /// `Trouble::Output` if `out` can't be written, `Trouble::NoMemory`.
     pub(crate) fn send<W: Write>(
         self,
         out: &mut W,
@@ -212,7 +212,7 @@ impl Sending {
     ///
     /// # Errors
     ///
-    /// `Trouble::Output` where `out` can't be written, `Trouble::NoMemory`.
+    /// `Trouble::Output` if `out` can't be written, `Trouble::NoMemory`.
     pub(crate) fn finish<W: Write>(self, out: &mut W, frame: Frame) -> Result<(u64, u64), Trouble> {
         let Sending {
             sender,

@@ -7,6 +7,6 @@ invariant-loop-number l = record {
   places : vec_len l.hall.times ≡ l.deal.batches + l.deal.seats;
 }
 
--- the n-th draw of a seat is at least the n-th number, so no seat draws work for ever
+-- the n-th draw of a seat is at least the n-th number, so no seat draws work infinitely often
 abbrev pub decreases-loop-number : goal.decreases-loop-number
 decreases-loop-number l = l.deal.batches - length l.seat.drawn

@@ -1,5 +1,5 @@
--- Any thread may give a block back, where any may to the inner allocator. So threads may share a
--- `&TestHeap`.
+-- Any thread may free a block, if any thread may free a block of the inner allocator. So threads
+-- may share a `&TestHeap`.
 use mir.Syntax.{Dict}
 use denote.RattleType.{RattleType}
 use denote.Param.Send.{Frees}

@@ -1,5 +1,5 @@
--- It refuses the call, or returns what the inner allocator returns, and counts the block that this
--- one gave. Assumes `Logic`.
+-- It refuses the call, or returns the inner allocator's answer, and counts the block in it. Assumes
+-- `Logic`.
 use Rattle.std.proofs.Common.{◌≡◌, ℕ, ◌+◌, ◌^◌, ◌<◌, Bool, true, false, List, [], ◌∷◌, Ok, Err, refl, ap, w64, lit<, Bor}
 use seplogic.Ra.Ura.{Ura}
 use mir.Syntax.{Ty, Args, Fn, Body, a_type, dnil, dcons}

@@ -1,5 +1,4 @@
--- It counts the block as given back, and gives the block back to the inner allocator. Assumes
--- `Logic`.
+-- It counts the block as freed, and frees the block with the inner allocator. Assumes `Logic`.
 use Rattle.std.proofs.Common.{◌≡◌, ℕ, ◌+◌, ◌^◌, ◌<◌, List, [], ◌∷◌, refl, w64, lit<, Bor}
 use seplogic.Ra.Ura.{Ura}
 use mir.Syntax.{Ty, Args, Fn, a_type, dnil, dcons}
