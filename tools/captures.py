@@ -1,24 +1,24 @@
 #!/usr/bin/env python3
-"""Loads each capture of a folder, and compares what comes with what the folder says of it.
+"""Loads each capture of a folder, and compares the result with the folder's description of it.
 
     tools/captures.py FOLDER [PROGRAM]
     tools/captures.py --zimgasol PROGRAM FOLDER
 
 A capture is `NAME.stream`, `NAME.main` with its channels `NAME.0`, `NAME.1` and so on, or libvirt's
-`NAME.save`. Beside it `NAME.image` is the guest's memory, in the order of the size list, and
-`NAME.blocks` what is known of it, as JSON. From these come the verdict that is expected, the SHA-256
-of the memory, and where RAM's END ends.
+`NAME.save`. `NAME.image` is the guest's memory, in the order of the size list, and `NAME.blocks` is
+its description, as JSON. They give the expected verdict, the SHA-256 of the memory, and the byte at
+which RAM's END ends.
 
-Without --zimgasol each capture is loaded whole and in pieces of 1000 bytes by crates/mig_captures.
-PROGRAM is that program as it is built, crates/mig_captures/out/mig_captures where none is named;
-where that isn't built, the program runs from its source, unproved.
+Without --zimgasol crates/mig_captures loads each capture at once and in pieces of 1000 bytes.
+PROGRAM is the built program, by default crates/mig_captures/out/mig_captures; if that isn't built,
+the program runs from its source, unproved.
 
 With --zimgasol PROGRAM is `zimgasol` as `make program` builds it. Each capture is verified, listed
-and extracted, its channels named by `--channel`. Compared are: the lines and the JSON that it
-prints, the status, and the SHA-256 of the file of each block. Of a capture that is refused: the
-fault, and that no file stays. A table has a row for each capture.
+and extracted, with its channels by `--channel`. The lines and the JSON that it prints, the exit
+status, and the SHA-256 of the file of each block are compared. For a refused capture the fault is
+compared, and no file may remain. A table has a row for each capture.
 
-Ends with status 1 where a capture differs.
+Ends with status 1 if a capture differs.
 """
 import hashlib
 import json

@@ -1,8 +1,8 @@
 #!/usr/bin/env python3
-"""The lists of cases in docs/EXAMPLES.md, made from the names in the data of mig_rows and of mig_tool_cases.
+"""The lists of cases in docs/EXAMPLES.md, from the names in the data of mig_rows and mig_tool_cases.
 
     tools/case_lists.py            writes them between the two marks there
-    tools/case_lists.py --check    compares them, and fails where they aren't the files' own
+    tools/case_lists.py --check    compares them with the files, and fails if they differ
 """
 import sys
 import textwrap

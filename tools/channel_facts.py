@@ -1,8 +1,8 @@
-"""What a main stream and its channels have, and how `zimgasol save --channels` writes them: read and made by itself, nothing of the
-library's.
+"""An independent reader and writer of a main stream and its channels, as `zimgasol save --channels`
+writes them: it shares nothing with the library.
 
-`facts` reads the bytes as QEMU's migration/ram.c and migration/multifd.c write them, up to the footer of RAM's END, and fails where they
-are anything else. It knows pages of 4,096 bytes.
+`facts` reads the bytes as QEMU's migration/ram.c and migration/multifd.c write them, up to the
+footer of RAM's END, and fails on anything else. It reads pages of 4,096 bytes.
 """
 import struct
 

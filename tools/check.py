@@ -1,15 +1,16 @@
 #!/usr/bin/env python3
-"""Runs every test, stored run and file of cases from the source, and proves nothing.
+"""Runs each test, stored run and file of cases from the source, and proves nothing.
 
     tools/check.py [CRATE..]
 
-Tests run by `rt try --test`. A program runs by `rt try`, on the files stdin, args and data/ beside its
-src/, and has to print its file stdout and end with its file status; the files of cases are in data/.
-Each runs as compiled with checks of memory and arithmetic. The interpreter of `rt try` runs beside it
-where it can, which it can't for tests, nor for most programs.
+Tests run by `rt try --test`. A program runs by `rt try`, on the files stdin, args and data/ next to
+its src/, and has to print its file stdout and end with the status in its file status; the files of
+cases are in data/. Each is compiled with checks of memory and arithmetic. The interpreter of `rt
+try` also runs it if it can, which it can't for tests and for most programs.
 
-Several run side by side, as many as processors and free memory allow, or RT_JOBS of them. What has no
-answer has failed. Each test and each stored run counts one in the last line, 'N passed, M failed'.
+Several run in parallel, as many as processors and free memory allow, or RT_JOBS of them. A run
+without an answer has failed. Each test and each stored run counts one in the last line, 'N passed,
+M failed'.
 """
 import os
 import re

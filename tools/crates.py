@@ -1,4 +1,4 @@
-"""What crates.txt says: the crates, lowest first, and the crates below each."""
+"""Reads crates.txt: the crates, lowest first, and the crates below each."""
 from pathlib import Path
 
 TOP = Path(__file__).resolve().parent.parent

@@ -1,13 +1,15 @@
 #!/usr/bin/env python3
 """Builds the C programs of examples/c against out/libzimgasol.a, and runs them.
 
-The worked examples of crates/mig_rows/data (`load.txt`, `several.txt` and `machine.txt`) are asked of the library through C: each text that the library's own
-program reads there is made here byte by byte or by the sender behind the header, fed in pieces of several lengths, and its answer has to be the
-one that stands beside it, every prefix and every fault of them; and so has that of a load into blocks of our own, which have every page record up to
-the end or the fault. Then the example programs send
-and load files of memory, a guest is migrated while it runs, on one stream and on several channels, and a program has each allocation refused in turn. All but the examples as data run
-under valgrind too, where it is there, and the live migration with AddressSanitizer. The binding from Rust is built where rustc is there. The names
-that the archive has and wants are compared with what docs/C.md says.
+The worked examples of crates/mig_rows/data (`load.txt`, `several.txt` and `machine.txt`) are run
+against the library through C. Each stream of these cases is made here byte by byte, or by the
+sender in the header, and fed in pieces of several lengths. The answer has to be the expected one,
+for every prefix and every fault, and so has that of a load into the program's own blocks, which
+have every page record up to the end or the fault. Then the example programs send and load files of
+memory, a guest is migrated while it runs, on one stream and on several channels, and a program has
+each allocation refused in turn. All but the cases also run under valgrind, if it is installed, and
+the live migration with AddressSanitizer. The binding from Rust is built if rustc is installed. The
+names that the archive defines and needs are compared with those in docs/C.md.
 """
 
 import ctypes

@@ -1,9 +1,10 @@
 #!/usr/bin/env python3
-"""Whether include/zimgasol.h and the exports of crates/mig_c name the same functions, with the same arguments and results.
+"""Compares include/zimgasol.h with the exports of crates/mig_c: functions, arguments and results.
 
-Each export is written as C would declare it: a slice as a pointer and a length, a reference as a pointer, a `Global` as nothing. The names of
-arguments have to be the same, but for a slice's length. The structs that cross and the numbers of the statuses are compared too, and so are the
-numbers and names of faults, with their definitions.
+Each export is written as C would declare it: a slice as a pointer and a length, a reference as a
+pointer, a `Global` as nothing. The names of arguments have to be the same, except for a slice's
+length. The structs that are passed and the numbers of the statuses are compared, too, and so are
+the numbers and names of faults, with their definitions.
 """
 
 import pathlib

@@ -2,17 +2,17 @@
 """The pages of docs/contracts/ and docs/CONTRACTS.md: the public functions and their contracts.
 
     tools/promises.py            writes them
-    tools/promises.py --check    compares them, and fails where they aren't what it would write
+    tools/promises.py --check    compares them, and fails if it would write something else
 
-A page has the public types and functions of one crate of the product: of each function its
-signature, its sentence and its clauses as they stand, but for line breaks, and below all the
-definitions that these cite. The sentence is the function's comment, and what tools/promises.md says
-of it beside that, which stands before the errors. The page of a crate that only re-exports names
-has its comment, and where each name stands.
+A page has the public types and functions of one crate of the product: for each function its
+signature, its sentence and its clauses, unchanged except for line breaks, and below them the
+definitions that these cite. The sentence is the function's comment, and the text of
+tools/promises.md on it, which is put before the errors. The page of a crate that only re-exports
+names has its comment, and the page of each name.
 
-It fails where a public function with a contract has no sentence, where tools/promises.md names a
-function or a definition that is gone, and where it read other numbers of public functions and
-clauses than a count line by line.
+It fails if a public function with a contract has no sentence, if tools/promises.md names a function
+or a definition that doesn't exist, and if it read other numbers of public functions and clauses
+than a count line by line.
 """
 import re
 import sys

@@ -1,10 +1,9 @@
 #!/usr/bin/env python3
-"""The map of the proof: docs/proof.svg, which graphviz draws of docs/proof.dot.
+"""The map of the proof: docs/proof.svg, which graphviz draws from docs/proof.dot.
 
     tools/proof_map.py            draws it (apt-get install -y graphviz)
-    tools/proof_map.py --check    fails where an arrow's evidence doesn't stand in its file, where a
-                                  name in a box stands in no source, or where the drawing is of
-                                  another map
+    tools/proof_map.py --check    fails if an arrow's evidence isn't in its file, if a name in a box
+                                  is in no source, or if the drawing is of another map
 
 The tooltip of an arrow is its evidence: a file, and words of it.
 """

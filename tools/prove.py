@@ -3,14 +3,14 @@
 
     tools/prove.py CRATE TIME
 
-TIME is told at the beginning: about how long it takes. A crate that hasn't changed since it was proved
-here isn't proved again. What the toolchain says goes to out/prove.log; of a step that fails the last
-lines are shown, and its status is returned.
+TIME is printed at the beginning: the approximate duration. A crate that hasn't changed since it was
+proved here isn't proved again. The toolchain's output is written to out/prove.log; if a step fails
+its last lines are printed, and its status is returned.
 
-Each finds the crates below it built. Asked for CRATE alone, rt begins with a quick pass over all
-sources, also of functions that CRATE doesn't reach. For these it prints error[unsupported-theorem] at
-each of the exports of mig_c, though no proof fails. A line comes for each crate that was proved,
-and each minute meanwhile.
+Each crate finds the crates below it built. If rt proves only CRATE, it begins with a quick pass
+over all sources, also of functions that CRATE doesn't reach. For these it prints
+error[unsupported-theorem] at each of the exports of mig_c, though no proof fails. A line is printed
+for each crate that was proved, and each minute.
 """
 import subprocess
 import sys

@@ -1,22 +1,23 @@
 #!/usr/bin/env python3
-"""Times `zimgasol` beside QEMU's own migration of the same guest, and prints a table.
+"""Times `zimgasol` and QEMU's own migration of the same guest, and prints a table.
 
     make program
     tools/qemu_speed.py [--turns N] [--mib N] [--qemu PROGRAM] [--zimgasol PROGRAM] [--analyze FILE]
 
-The guest is 1 GiB (N MiB) of machine `none`: once without pages of zeros, once half of them, once
-nine of ten. In each turn QEMU writes it by `migrate file:`, `save` writes it from the file of the
-guest's memory, and what QEMU wrote is verified, extracted, and loaded by another QEMU. All files
-lie in /dev/shm, and take up to three times the guest's size there. Each is a new one in each turn.
+The guest is 1 GiB (N MiB) of machine `none`: once without pages of zeros, once with half of them,
+once with nine of ten. In each turn QEMU writes it by `migrate file:`, `save` writes it from the
+file of the guest's memory, and QEMU's stream is verified, extracted, and loaded by another QEMU.
+All files are in /dev/shm, and take up to three times the guest's size there. Each turn makes new
+files.
 
 A figure is the median of N turns (5): processor seconds, user and system together, and after the
-slash those of the clock. Of `zimgasol` and analyze-migration.py they are those of the whole
-program; of QEMU those from the command to the end of the migration. In brackets the processor
-seconds stand beside QEMU's, which writes or loads. In the first turn memory is compared.
+slash wall-clock seconds. For `zimgasol` and analyze-migration.py they are those of the complete
+program; for QEMU those from the command to the end of the migration. In brackets is the ratio of
+the processor seconds to QEMU's for writing or loading. In the first turn memory is compared.
 
 QEMU is 8.2 or later: the one named, or that of SUITE of tools/interop/packages.py. FILE is
 scripts/analyze-migration.py of QEMU's sources, which no package of Debian's has; without it apt
-downloads the source package, and where it can't, the row is left out.
+downloads the source package, and if it can't, the row is omitted.
 """
 import argparse
 import json

@@ -1,10 +1,10 @@
 #!/usr/bin/env python3
-"""Whether what pages and documentation comments quote is still what stands in the code.
+"""Compares the quotations in pages and documentation comments with the code.
 
-A block of code that follows a line `<!-- quoted from FILE -->` has to stand in that file word for
-word, line after line, up to how far it is indented, but for its imports. That is so in the pages
-below, and in documentation comments (`//!`, `///`) of `crates/*/src`. There each block of Rattle
-has such a mark, and so has at least one block of each type in `TYPES`.
+A block of code that follows a line `<!-- quoted from FILE -->` has to be in that file line by line,
+except for its indentation and its imports. This is compared in the pages below, and in
+documentation comments (`//!`, `///`) of `crates/*/src`. There each block of Rattle needs such a
+mark, and each type in `TYPES` needs at least one block.
 """
 import re
 import sys

@@ -1,7 +1,7 @@
 """A scanner of Rattle's sources: public types, functions and their contracts, and definitions.
 
-It rests on the form that `rt fmt` gives the sources: an item of a file begins at the first column
-and ends with a `}` there, and a function of an `impl` or a trait is indented by four. What stands
+It relies on the form that `rt fmt` gives the sources: an item of a file begins at the first column
+and ends with a `}` there, and a function of an `impl` or a trait is indented by four. The part
 between a function's name and its body is read character by character, so clauses may have any
 number of lines and of braces.
 """

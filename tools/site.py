@@ -1,9 +1,9 @@
 #!/usr/bin/env python3
 """Builds out/site: README.md, the other documents and the contracts as HTML, by pandoc.
 
-A link to another document leads to its page, and one to another file of the repository to a copy.
-A document that is only named, as `docs/FORMATS.md`, becomes a link too. It fails where a link of
-the site leads to no page, no file or no heading.
+A link to another document leads to its page, and one to another file of the repository to a copy. A
+document that is only named, for example `docs/FORMATS.md`, becomes a link, too. It fails if a link
+of the site leads to no page, no file or no heading.
 """
 import os
 import re

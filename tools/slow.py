@@ -3,9 +3,10 @@
 
     tools/slow.py CRATE [tests]
 
-Proves the crate, or with `tests` its #[test] functions too, from nothing and by one process. The libraries below it are
-proved first where that wasn't done. The first function's time has the reading of the libraries and of the sources, some 30 to
-60 s. What a function owns and drops is what makes its proof dear: cut into parts that own less, it takes a fraction.
+Proves the crate, with `tests` also its #[test] functions, from nothing and by one process. The
+libraries below it are proved first if they aren't yet. The first function's time includes the
+reading of the libraries and of the sources, some 30 to 60 s. The values that a function owns and
+drops make its proof slow: cut into parts that own less, it takes a fraction.
 """
 import subprocess
 import sys

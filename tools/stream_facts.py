@@ -1,8 +1,8 @@
-"""What a single stream of QEMU's has, read by itself: nothing of the library's.
+"""An independent reader of QEMU's single stream: it shares nothing with the library.
 
-Where the bytes are over too early, it raises EOFError with the place and the number of whole sections.
-`facts` reads the bytes as QEMU's migration/savevm.c and migration/ram.c write them, up to the footer
-of RAM's END, and raises where they are anything else. It knows pages of 4,096 bytes.
+If the bytes end too early, it raises EOFError with the place and the number of complete sections.
+`facts` reads the bytes as QEMU's migration/savevm.c and migration/ram.c write them, up to the
+footer of RAM's END, and raises on anything else. It reads pages of 4,096 bytes.
 """
 import hashlib
 import struct

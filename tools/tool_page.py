@@ -2,9 +2,9 @@
 """The examples of docs/TOOL.md as a case of the tool: crates/mig_tool_cases/data/page.txt.
 
     tools/tool_page.py            writes the file
-    tools/tool_page.py --check    compares it, and fails where it isn't the page's own
+    tools/tool_page.py --check    compares it with the page, and fails if they differ
 
-The gate plays the case, so each example prints what the page says. Those on pipes and connections,
+The gate runs the case, so each example prints the page's output. Those on pipes and connections,
 below the heading BEYOND, need a shell: tools/try_tool.py runs them with the built program.
 """
 import re

@@ -1,14 +1,16 @@
 #!/usr/bin/env python3
-"""Times the tool's words on a guest whose pages are half zeros, and prints a table of them.
+"""Times the tool's commands on a guest half of whose pages are zeros, and prints a table.
 
     tools/tool_speed.py [--pages N] [PROGRAM]
 
-PROGRAM is the built tool, crates/mig_tool/out/mig_tool where it isn't named; N is 262144 pages of 4096 bytes, 1 GiB. The guest is one block, and
-its scenario fills every other page and sends them in one round. The pages between aren't marked, so they stay zeros and aren't sent.
+PROGRAM is the built tool, by default crates/mig_tool/out/mig_tool; N is 262144 pages of 4096 bytes,
+1 GiB, by default. The guest is one block, and its scenario fills every other page and sends them in
+one round. The pages between aren't marked, so they stay zeros and aren't sent.
 
-All files lie in /dev/shm, so no disk is timed, and are new in each run. Each figure is the least of three runs, of the whole program from its
-start to its end. Beside it stand its ratios to a copy of the whole guest page by page, by a C program in the same run: into memory that is
-in use, and into fresh memory of the system.
+All files are in /dev/shm, so no disk is timed, and are new in each run. Each figure is the least of
+three runs, of the complete program from its start to its end. With it are its ratios to a copy of
+the complete guest page by page, by a C program in the same run: into memory that is in use, and
+into fresh memory of the system.
 """
 
 import argparse

@@ -1,12 +1,12 @@
 #!/usr/bin/env python3
-"""Runs the built tool as a shell does, and compares what it prints and its status.
+"""Runs the built tool as a shell does, and compares its output and exit status.
 
     tools/try_tool.py [PROGRAM ..]
 
-PROGRAM is the tool's command, crates/mig_tool/out/mig_tool where none is given. All examples of
-docs/TOOL.md run in their order, in bash, with named pipes. A folder stands for each of the page's
-machines, and a script for `ssh`, which runs the command in the folder `there`. Then come words,
-pipes, and outputs and inputs that are closed or fail.
+PROGRAM is the tool's command, by default crates/mig_tool/out/mig_tool. All examples of docs/TOOL.md
+run in their order, in bash, with named pipes. A folder takes the place of each of the page's
+machines, and a script that of `ssh`, which runs the command in the folder `there`. Then follow
+arguments, pipes, and outputs and inputs that are closed or fail.
 """
 import os
 import shlex

@@ -1,17 +1,17 @@
 #!/usr/bin/env python3
-"""Runs the built program `zimgasol` where something is in its way, and compares what it prints.
+"""Runs the built program `zimgasol` under bad conditions, and compares its output.
 
     make program
     tools/try_zimgasol.py [PROGRAM]
 
-PROGRAM is crates/zimgasol_cli/out/zimgasol_cli where none is named. Each row is a command of bash,
-all that it has to print, and its status: ids and names that steer a terminal or lead out of a
-folder, full and read-only disks, outputs that are closed, full or end early, inputs that end early
-or can't be read, files and folders that exist, and a program that is killed. What isn't as expected
-is printed. Ends with status 0 where all rows hold.
+PROGRAM is by default crates/zimgasol_cli/out/zimgasol_cli. Each row is a command of bash, its
+complete expected output, and its exit status: ids and names that control a terminal or lead out of
+a folder, full and read-only disks, outputs that are closed, full or end early, inputs that end
+early or can't be read, files and folders that exist, and a program that is killed. Differences are
+printed. Ends with status 0 if there are none.
 
-A full disk is a tmpfs of 64 KiB, which `unshare -rm` mounts. Where that isn't allowed these rows
-are left out, and the last line says so.
+A full disk is a tmpfs of 64 KiB, which `unshare -rm` mounts. If that isn't allowed these rows are
+omitted, and the last line says so.
 """
 import os
 import re

@@ -1,7 +1,7 @@
-"""Captures of QEMU and libvirt by the program `zimgasol`: `tools/captures.py --zimgasol`.
+"""Reads captures of QEMU and libvirt with `zimgasol`: `tools/captures.py --zimgasol`.
 
-What is expected of a capture comes from its own files: the blocks and what stands between the
-sections from NAME.blocks, the memory from NAME.image, where RAM ends from the last footer, and the
+The expected values of a capture come from its own files: the blocks and the items between the
+sections from NAME.blocks, the memory from NAME.image, the end of RAM from the last footer, and the
 counts of sections, records and packets from tools/stream_facts.py and tools/channel_facts.py, which
 share nothing with the program. These two readers have to find NAME's memory, too.
 """

@@ -1,11 +1,12 @@
 #!/usr/bin/env python3
 """The examples of docs/ZIMGASOL.md as a stored run: stdin and stdout of crates/zimgasol_runs.
 
-    tools/zimgasol_page.py            writes both and data/main.sav, and puts into the page what its commands print
-    tools/zimgasol_page.py --check    compares them, and fails where they differ
+    tools/zimgasol_page.py            writes both and data/main.sav, and the output in the page
+    tools/zimgasol_page.py --check    compares them, and fails if they differ
 
-What a command prints is made here of what tools/stream_facts.py and tools/channel_facts.py read in the files, and of streams
-that are written here: all share nothing with the library. The gate runs the commands and compares what they print with that.
+The expected output of a command is made here from the results of tools/stream_facts.py and
+tools/channel_facts.py on the files, and from streams that are written here: none of this shares
+anything with the library. The gate runs the commands and compares their output with it.
 """
 import json
 import re

@@ -1,17 +1,17 @@
 #!/usr/bin/env python3
-"""Processor seconds and peak memory of the program `zimgasol`, word by word, on guests of each size.
+"""Processor seconds and peak memory of `zimgasol`, by command, on guests of each size.
 
     make program
     tools/zimgasol_speed.py [--sparse] [--folder FOLDER] [--zimgasol PROGRAM] [GIB ..]
 
-A guest has one block. It has no page of zeros, or with --sparse one MiB of 16 has bytes. Sizes are
-1 and 4 GiB where none is named. Files lie in FOLDER (/dev/shm), where up to four times the bytes of
-the guest's pages are taken. Over channels the guest goes as `save --channels 4` writes it.
+A guest has one block. It has no page of zeros, or with --sparse one MiB of 16 isn't zeros. Sizes
+are 1 and 4 GiB by default. Files are in FOLDER (/dev/shm), where they take up to four times the
+bytes of the guest's pages. Channels are written by `save --channels 4`.
 
 A peak is the most memory of the program that was resident, in MiB, as the system counts it for GNU
 time (`/usr/bin/time`, of Debian's package `time`). A process that Python starts itself counts
-Python's memory, too. Each word has to end with status 0; `compare` shows so that what was extracted,
-of one stream and over channels, is one memory.
+Python's memory, too. Each command has to end with status 0. So `compare` shows that the memory
+extracted from one stream and from channels is the same.
 """
 import argparse
 import os

@@ -4,9 +4,9 @@
     tools/interop/capture.py FOLDER QEMU ..
 
 Writes for each QEMU `none-VERSION.stream`, and on 2 channels `none-VERSION.main`, `.0` and `.1`,
-into FOLDER. Prints the SHA-256 of the guest's memory, as QEMU's own file of it has it, and where
-RAM's END ends. Machine `none` has no firmware. The guest has 32 pages of 4,096 bytes: of each three
-in turn the first is noise, the second zeros, the third one byte again and again.
+into FOLDER. Prints the SHA-256 of the guest's memory in QEMU's own file, and the byte at which
+RAM's END ends. Machine `none` has no firmware. The guest has 32 pages of 4,096 bytes: in turn a
+page of noise, a page of zeros, and a page of one repeated byte.
 """
 import hashlib
 import sys

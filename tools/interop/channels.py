@@ -1,6 +1,6 @@
-"""What is tried with each QEMU over several channels: a function for each kind of row.
+"""The tests with each QEMU over several channels: a function for each kind of row.
 
-Each takes a `Bench`, and returns what was compared, or raises `Differs`.
+Each takes a `Bench`, and returns the text on what was compared, or raises `Differs`.
 """
 from dataclasses import dataclass
 from pathlib import Path

@@ -1,7 +1,7 @@
 """The guests that are migrated: machines with devices and without, stopped and running.
 
-A guest's memory is noise, zeros and one byte again and again, page by page. `WRITER` is firmware
-for a guest that writes 128 of its pages over and over: every fourth time with zeros.
+A guest's memory is noise, zeros and one repeated byte, page by page. `WRITER` is firmware for a
+guest that writes 128 of its pages repeatedly, every fourth time with zeros.
 """
 import random
 from dataclasses import dataclass, replace

@@ -1,17 +1,17 @@
 #!/usr/bin/env python3
-"""Has QEMU read what the project's programs write, and they what QEMU writes. Prints a table.
+"""Loads the programs' streams in QEMU, and QEMU's streams in the programs. Prints a table.
 
     make interop                             # with QEMU 7.2, 10.0 and 11.1 of Debian's packages
     tools/interop/interop.py [--suites 'SUITE ..'] [--qemu 'PROGRAM ..'] [--programs FOLDER]
 
-SUITE is one of Debian's, as `trixie-backports`. Its QEMU is downloaded into out/interop where it
-isn't there yet (packages.py). PROGRAM is a qemu-system-x86_64 that is there already; with it
-nothing is downloaded. Else the one of PATH is taken beside those of the suites. FOLDER has
-`zimgasol_cli`, `mig_tool` and `mig_captures`, in place of crates/NAME/out. Where `mig_captures`
-isn't built, it runs from its source.
+SUITE is one of Debian's, for example `trixie-backports`. Its QEMU is downloaded into out/interop if
+it isn't there yet (packages.py). PROGRAM is an installed qemu-system-x86_64; with it nothing is
+downloaded. Otherwise the one in PATH is used in addition to those of the suites. FOLDER has
+`zimgasol_cli`, `mig_tool` and `mig_captures`, in place of crates/NAME/out. If `mig_captures` isn't
+built, it runs from its source.
 
-Each row says what wrote and what read, and `ok` or what differs. The status is 0 where all hold.
-It is no part of the gate.
+Each row has the writer and the reader, and `ok` or the difference. The exit status is 0 if all rows
+are `ok`. The gate doesn't run it.
 """
 import argparse
 import signal

@@ -1,10 +1,10 @@
-"""QEMU from Debian's packages: several versions beside one another, none of them installed.
+"""QEMU from Debian's packages: several versions, none of them installed.
 
-`programs` returns the QEMUs that are at hand. `fetched` has apt download what qemu-system-x86 of a
-suite needs, down to the C library, and unpacks it below out/interop/SUITE. The script
-`qemu-system-x86_64` there runs it with the libraries and the firmware beside it. Lists and packages
-of apt lie there, too: nothing of the system changes, and no root is needed. It takes some 40 MB of
-downloads and 170 MB of disk for each suite.
+`programs` returns the QEMUs that are present. `fetched` has apt download the packages that
+qemu-system-x86 of a suite needs, down to the C library, and unpacks them below out/interop/SUITE.
+The script `qemu-system-x86_64` there runs it with the libraries and the firmware in that folder.
+The lists and packages of apt are there, too: the system isn't changed, and no root is needed. It
+takes some 40 MB of downloads and 170 MB of disk for each suite.
 """
 import shlex
 import shutil

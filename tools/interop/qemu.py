@@ -1,6 +1,6 @@
-"""QEMU as the other end: guests whose memory is a file are migrated, into files and from them.
+"""QEMU as the other end: migrates guests whose memory is a file, into files and from them.
 
-`Guest` starts a QEMU with its RAM in a shared file, so that what the guest has can be read without
+`Guest` starts a QEMU with its RAM in a shared file, so that the guest's memory can be read without
 asking QEMU. `written` has it write its state to sockets, single or by multifd, and `written_file`
 into a file, each as `migrate` does. `loaded` and `loaded_file` have it load such bytes, and return
 its RAM after that.

@@ -1,4 +1,4 @@
--- Pages of an image, in whatever order: the last page at each place, and that none comes twice.
+-- Pages of an image, in whatever order: the last page at each place, and that none occurs twice.
 use Rattle.std.proofs.Common.{◌≡◌, ◌≢◌, List, [], ◌∷◌, get_or, refl, sym, ap, ◌∙◌, inl, inr, Option, None, cond}
 use Rattle.std.specs.Prelude.{flat_map, AllPairs}
 use Rattle.std.specs.List.{All}
@@ -68,7 +68,7 @@ same_memory m xs ys same = image_agree m.table
     (λ p. option_map_or (λ (x : Page). x.content) (last_at p ys) (content_at m p))
     (λ p _. ap (λ (o : Option Page). option_map_or (λ (x : Page). x.content) o (content_at m p)) (same p))
 
--- where the places ascend, none comes twice in any order
+-- if the places ascend, none occurs twice in any order
 pub none_again : (m : Image) (places : List Place) (xs : List Page) → IsAscending places → SameBag xs (round_of m places) → AllPairs (λ p q. p ≢ q) (places_of xs)
 none_again m places xs ascending bag =
     let same : SameBag (places_of xs) (places_of (round_of m places)) = bag_map (λ (x : Page). x.place) xs (round_of m places) bag in

@@ -21,7 +21,7 @@ use Rattle.mig_answer.specs.MultiLoad.{passes, verdict_at, failed}
 abbrev table : RamTable
 table = record { page_size = 4096; blocks = record { id = 97 ∷ []; pages = 1 } ∷ [] }
 
--- a main stream of so many rounds without records
+-- a main stream of this many rounds without records
 abbrev main_of : List (List Rattle.mig_stream.specs.PageRecord.PageRecord) → StreamState → StreamReading
 main_of rounds state = record { table = Some table; rounds = rounds; state = state }
 
@@ -62,7 +62,7 @@ hello_twice : verdict_at 0 (readings_of (main_of ([] ∷ []) stream.Closed) (cha
     ≡ failed 0 (origin.Channel 1) fault.HelloTwice
 hello_twice = refl
 
--- a number that comes twice
+-- a number that occurs twice
 doubled : verdict_at 0 (readings_of (main_of ([] ∷ []) stream.Closed) (channel_of 1 (one_packet ∷ []) channel.Closed ∷ channel_of 0 (one_packet ∷ []) channel.Closed ∷ []))
     ≡ failed 0 origin.Round (fault.Round (Doubled 0))
 unfolding be32_at be64_at

@@ -1,4 +1,4 @@
--- What stays of what streams said, where they go on.
+-- The readings of streams that stay when they continue.
 use Rattle.std.proofs.Common.{ℕ, zero, suc, ◌≡◌, ◌≢◌, ◌+◌, ◌<◌, ◌≤◌, Bool, true, false, cond, ◌==◌, ◌&&◌, List, [], ◌∷◌, ◌++◌, length, map, flat_map, get_or, refl, sym, ap, subst, ◌∙◌, inl, inr, Option, Some, None, is_none, option_map, option_and_then, sum_by, arith}
 use Rattle.std.specs.Prelude.{◌⊎◌, nat_lt, IsTrue}
 use Rattle.std.specs.Option.{unwrap_or}
@@ -367,7 +367,7 @@ none_passes test (x ∷ xs) e =
     let parts = or_parts (test x) (list_any test xs) e in
     All-cons (λ x. test x ≡ false) x xs parts.0 (none_passes test xs parts.1)
 
--- where the verdict isn't `Running` no source is pending
+-- if the verdict isn't `Running` no source is pending
 judged_settled : (k : ℕ) (readings : Readings) → verdict_at k readings ≢ Running → All IsSettled (sources_at k readings)
 judged_settled k readings judged = elim (cases_Bool (list_any (λ (s : Standing). is_pending s.status) (sources_at k readings))) [
   | inl t ↦ absurd (judged (rw t refl))

@@ -1,4 +1,4 @@
--- What is read of a channel stays read where more bytes follow, or it ends.
+-- What is read of a channel stays read if more bytes follow, or it ends.
 use Rattle.std.proofs.Common.{◌≡◌, ◌≢◌, ◌⊎◌, ℕ, ◌+◌, ◌<◌, Bool, true, false, cond, List, [], ◌∷◌, ◌++◌, length, get_or, Option, Some, None, refl, sym, ap, subst, ◌∙◌, inl, inr, arith}
 use Rattle.std.proofs.lemmas.Bool.{cases_Bool}
 use Rattle.std.proofs.lemmas.List.{append-nil, length-append, get_or_append_left}
@@ -68,7 +68,7 @@ same_reading a b h r s =
     ∙ ap (λ (x : List (List (List ℕ))). record { hello = b.hello; rounds = x; state = a.state }) r
     ∙ ap (λ (x : ChannelState). record { hello = b.hello; rounds = b.rounds; state = x }) s
 
--- an end changes nothing where a channel isn't to be read on
+-- an end changes nothing if a channel isn't to be read on
 state_stays : (ended : Bool) (to : ChannelProgress) (rest : List ℕ) (found : ChannelState) → found ≢ Reading → state_at ended to rest found ≡ found
 state_stays true to rest Reading other = absurd (other refl)
 state_stays true to rest Closed other = refl

@@ -1,4 +1,4 @@
--- What is read of a main stream stays read where more bytes follow, or it ends.
+-- What is read of a main stream stays read if more bytes follow, or it ends.
 use Rattle.std.proofs.Common.{◌≡◌, ◌≢◌, ℕ, Bool, true, false, List, [], ◌++◌, None, refl, sym, ap, subst, ◌∙◌, inl, inr}
 use Rattle.std.proofs.lemmas.Bool.{cases_Bool}
 use Rattle.std.proofs.lemmas.List.{append-nil}
@@ -27,7 +27,7 @@ stays_same a b e = record {
   same_once_over = λ _. e;
 }
 
--- an end changes nothing where a stream isn't to be read on
+-- an end changes nothing if a stream isn't to be read on
 state_stays : (ended : Bool) (s : StreamState) → s ≢ Reading → state_at ended s ≡ s
 state_stays true Reading other = absurd (other refl)
 state_stays true Closed other = refl

@@ -109,7 +109,7 @@ none_pending given uuid texts readings k size main_over over are stop =
 
 -- ---- and there is an answer
 
--- no source has a fault, where none is found
+-- no source has a fault, if none is found
 pub no_fault : (k : ℕ) (sources : List Standing) → first_some (map (failed_with_own k) sources) ≡ None → All (λ (s : Standing). fault_of s.status ≡ None) sources
 no_fault k [] e = All-nil (λ (s : Standing). fault_of s.status ≡ None)
 no_fault k (s ∷ sources) e =
@@ -169,7 +169,7 @@ pub map_none : {X : Type 0} (f : X → Verdict) (o : Option X) → option_map f 
 map_none f None e = refl
 map_none f (Some x) e = absurd cc
 
--- where no source is pending one of the answers is there
+-- if no source is pending one of the answers is there
 some_answer : (k : ℕ) (readings : Readings) → IsFirstStop readings k → All IsSettled (sources_at k readings) → first_some (verdicts_at k readings) ≢ None
 some_answer k readings stop settled none =
     let m : Standing = main_at k readings in
@@ -263,7 +263,7 @@ not_running : (o : Option Verdict) → o ≢ None → IsTold o → unwrap_or o R
 not_running None some told = absurd (some refl)
 not_running (Some v) some told = told v refl
 
--- where no source is pending more isn't needed
+-- if no source is pending more isn't needed
 pub settled_is_told : (k : ℕ) (readings : Readings) → IsFirstStop readings k → All IsSettled (sources_at k readings) → verdict_at k readings ≢ Running
 settled_is_told k readings stop settled =
     let none : list_any (λ (s : Standing). is_pending s.status) (sources_at k readings) ≡ false =

@@ -223,7 +223,7 @@ tell_all given text pieces reading size are is =
 
 -- ---- the law
 
--- where all was received
+-- if all was received
 tells_all : (page_size k : ℕ) (pieces : List ChannelItem) (reading : ChannelReading) → TellAll page_size pieces reading → TellsChannel page_size k pieces reading
 tells_all page_size k pieces reading all =
     let says : List (List ℕ) → List Fields = map (fields_of page_size) in
@@ -235,7 +235,7 @@ tells_all page_size k pieces reading all =
       has_packets = λ i few. ap (λ (rs : List (List Fields)). get_or rs i []) all.has_rounds ∙ get_or-map says reading.rounds i [];
     }
 
--- where the round's SYNC packet was received
+-- if the round's SYNC packet was received
 tells_front : (page_size k : ℕ) (front rest : List ChannelItem) (reading : ChannelReading) → k < round_count front → TellAll page_size (front ++ rest) reading
     → TellsChannel page_size k front reading
 tells_front page_size k front rest reading whole all =

@@ -36,8 +36,8 @@ no_round table = record { snapshot = record { image = zero_image table; dirty = 
 abbrev pub round_at : RamTable → List DealtRound → ℕ → DealtRound
 round_at table rounds k = get_or rounds k (no_round table)
 
--- These are the readings of a sending: rounds that were dealt, with numbers that fit, over so many
--- channels.
+-- These are the readings of a sending: rounds that were dealt, with numbers that fit, over this
+-- many channels.
 pub record AreOfSending (table : RamTable) (limit channels : ℕ) (rounds : List DealtRound) (readings : Readings) : Type 0 where
   pub told : AreToldOf table channels rounds readings
   pub are_dealt : All (IsDealtRound table limit channels) rounds
@@ -55,7 +55,7 @@ numbered from (r ∷ rounds) (suc k) d are below =
     let rest = numbered (from + packet_count r) rounds k d are.1 (omega (arith, below)) in
     let more = sum_by-cons packet_count r (take k rounds) in omega (arith, rest, more)
 
--- so all its numbers fit, where the sum of all counts does
+-- so all its numbers fit, if the sum of all counts does
 pub fits : (rounds : List DealtRound) (k : ℕ) (d : DealtRound) → AreNumbered 0 rounds → k < length rounds → sum_by packet_count rounds < 2 ^ 64
     → (get_or rounds k d).base + packet_count (get_or rounds k d) ≤ 2 ^ 64
 fits rounds k d are below few =

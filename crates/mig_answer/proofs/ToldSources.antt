@@ -130,8 +130,7 @@ whole_tells_none k m cs repeated all once =
     (finds_none (λ (s : Standing). is_clean s.status) cs (none_clean cs (All-tail IsWhole m cs all))) in
     rw (waits, own, once, clean, whole, short) refl
 
--- where there is no verdict, of sources that don't wait, all have the round, and no hello comes
--- again
+-- if there is no verdict, of sources that don't wait, all have the round, and no hello is repeated
 pub none_told : (k : ℕ) (m : Standing) (cs : List Standing) (repeated : Option ℕ) → All IsSettled (m ∷ cs)
     → first_some (verdicts_told k m cs repeated) ≡ None
     → (list_all (λ (s : Standing). is_whole s.status) (m ∷ cs) ≡ true) × (repeated ≡ None)
@@ -244,7 +243,7 @@ told_passes given uuid main channels readings k status statuses repeated size ar
     (settled_at given uuid main channels readings k size are before) told in
     rw (parts.0, parts.1, lawful) refl
 
--- the statuses that stand for channels, of which each is whole
+-- the statuses that represent channels, of which each is whole
 whole_statuses : (n : ℕ) (statuses : List Status) → AreWhole (map (λ (s : ℕ × Status). record { source = origin.Channel s.0; status = s.1 }) (enumerate_from n statuses))
     → All (λ s. s ≡ Whole) statuses
 whole_statuses n [] all = All-nil (λ s. s ≡ Whole)

@@ -20,13 +20,13 @@ share_fields round share =
 abbrev pub dealt_fields : DealtRound → List Fields
 dealt_fields round = flat_map (share_fields round) round.shares
 
--- their pages, if no page record comes beside them
+-- their pages, if there is no page record with them
 abbrev pub dealt_pages : RamTable → DealtRound → List Page
 dealt_pages table round = all_round_pages table [] (dealt_fields round)
 
 -- The packets of a round, without any page record, are a lawful round from the round's base on.
--- There are as many of them as the round counts. Applied to any memory they give what the round of
--- its snapshot gives.
+-- Their number is the round's. Applied to any memory they give the same as the round of its
+-- snapshot.
 pub record BringTheRound (table : RamTable) (round : DealtRound) : Type 0 where
   pub are_lawful : refusal table round.base [] (dealt_fields round) ≡ None
   pub as_many : length (dealt_fields round) ≡ packet_count round

@@ -1,4 +1,4 @@
--- What holds of the answers of loads on several channels, whatever code returns them.
+-- Properties of the answers of loads on several channels, whatever code returns them.
 use Rattle.std.specs.Prelude.{ℕ, ◌≡◌, ◌≢◌, true, List, All}
 use Rattle.mig_mem.specs.PageSize.{IsPageSize}
 use Rattle.mig_single_load.specs.declared.settings.LoadSettings.{LoadSettings}

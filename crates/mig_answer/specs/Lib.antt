@@ -4,8 +4,8 @@ pub mod Status
 pub mod Texts
 pub mod Rounds
 pub mod MultiLoad
--- Then what was received of channels, and what it says; how a round was dealt; what was sent; and
--- the laws.
+-- Then the items received of channels, and their meaning; how a round was dealt; the streams sent;
+-- and the laws.
 pub mod Received
 pub mod Dealt
 pub mod Sent

@@ -84,7 +84,7 @@ failed_at_first k is_such fault sources = option_map (λ s. failed k s.source fa
 abbrev pub failed_with_own : ℕ → Standing → Option Verdict
 failed_with_own k s = option_map (failed k s.source) (fault_of s.status)
 
--- The verdicts that the sources' statuses and hellos may give at round k, in the order of the tests:
+-- The verdicts that the sources' statuses and hellos may give at round k, in order of the tests:
 --   running, if a source is pending;
 --   the first source's fault, the main stream's before the channels';
 --   HelloTwice, at the least channel whose hello names an earlier one's id;

@@ -1,4 +1,4 @@
--- The items received of channels, and what they say of the complete channels.
+-- The items received of channels, and what they determine of the complete channels.
 use Rattle.std.specs.Prelude.{ℕ, ◌≡◌, ◌≢◌, ◌≤◌, ◌<◌, ◌⊎◌, Bool, true, false, if◌then◌else◌, List, [], ◌∷◌, ◌++◌, length, map, flat_map, get_or, sum_by, Option, Some, None}
 use Rattle.std.specs.List.{AllZip, count_by, range_with_len, enumerate_from}
 use Rattle.mig_mem.specs.PageSize.{IsPageSize}
@@ -73,14 +73,14 @@ pub record IsFront (front items : List ChannelItem) : Type 0 where
 abbrev pub AreEnough : ℕ → List ChannelItem → List ChannelItem → Type 0
 AreEnough k received items = (k < round_count received) ⊎ (received ≡ items)
 
--- The items of a channel say, up to round k, what the reading of its bytes says: the hello, the
--- status at that round, and the packets.
+-- The items of a channel agree, up to round k, with the reading of its bytes: the hello, the status
+-- at that round, and the packets.
 pub record TellsChannel (page_size k : ℕ) (received : List ChannelItem) (reading : ChannelReading) : Type 0 where
   pub has_hello : hello_in received ≡ reading.hello
   pub has_status : status_in k received ≡ channel_status k reading
   pub has_packets : (i : ℕ) → i ≤ k → channel_packets_in i received ≡ channel_packets_at page_size i reading
 
--- A front of a channel's items that decides a round says of it what the complete channel says.
+-- A prefix of a channel's items that decides a round agrees on it with the complete channel.
 abbrev pub FrontTellsChannel : Type 0
 FrontTellsChannel = (given : Settings) (k : ℕ) (text : List ℕ) (items received : List ChannelItem) (reading : ChannelReading) → IsPageSize given.page_size
     → AreItems given text items → IsReading given text true reading → IsFront received items → AreEnough k received items
@@ -117,17 +117,17 @@ packets_in k received = flat_map (channel_packets_in k) received
 abbrev pub base_in : ℕ → List (List ChannelItem) → ℕ
 base_in k received = sum_by (λ i. length (packets_in i received)) (range_with_len 0 k)
 
--- What was received of the channels says, up to round k, what the readings say: the channels'
--- statuses at that round, the ids in the hellos, the packets of each round up to it, and how many
--- there are before it. Only the main stream isn't included.
+-- The items received of the channels agree, up to round k, with the readings: the channels'
+-- statuses at that round, the ids in the hellos, the packets of each round up to it, and their
+-- number before it. The main stream isn't included.
 pub record TellsAllChannels (page_size k : ℕ) (received : List (List ChannelItem)) (readings : Readings) : Type 0 where
   pub has_channels : channels_in k received ≡ channels_at k readings
   pub has_hellos : map hello_in received ≡ hello_ids readings
   pub has_packets : (i : ℕ) → i ≤ k → packets_in i received ≡ packets_at page_size i readings
   pub has_base : base_in k received ≡ base_at k readings
 
--- If enough was received of each channel to know a round, the items say what the readings of the
--- complete channels say.
+-- If enough was received of each channel to know a round, the items agree with the readings of the
+-- complete channels.
 abbrev pub FrontsTellAllChannels : Type 0
 FrontsTellAllChannels = (given : LoadSettings) (uuid : List ℕ) (k : ℕ) (main : List ℕ) (channels : List (List ℕ)) (received : List (List ChannelItem)) (readings : Readings)
     → IsPageSize given.page_size → AreReadings given uuid (ended_texts main channels) readings

@@ -29,12 +29,12 @@ pub record IsSentInAnyOrder (table : RamTable) (uuid : List ℕ) (rounds : List 
 abbrev pub sent_rounds : List DealtRound → List (List Page)
 sent_rounds rounds = rounds_of (map (λ round. round.snapshot) rounds)
 
--- The answer on what was sent of some rounds: done, with all of them, and the memory after them.
+-- The answer on the streams of some rounds: done, with all of them, and the memory after them.
 abbrev pub sent_answer : RamTable → List DealtRound → Answer
 sent_answer table rounds = record { memory = Some (after table (sent_rounds rounds)); rounds = length rounds; verdict = Done }
 
--- What was sent is loaded, for any table, rounds, batch limit, number of channels and their order,
--- and whichever worker sent what.
+-- The streams that were sent are loaded, for any table, rounds, batch limit, number of channels and
+-- their order, and whichever worker sent what.
 abbrev pub SendingsAreLoaded : Type 0
 SendingsAreLoaded = (table : RamTable) (uuid : List ℕ) (limit : ℕ) (rounds : List DealtRound) (main : List ℕ) (channels : List (List ℕ)) (answer : Answer)
     → IsSentInAnyOrder table uuid rounds main channels → total_bytes table ≤ limit
@@ -53,8 +53,8 @@ pub record IsMachineSentInAnyOrder (table : RamTable) (uuid : List ℕ) (rounds 
   pub is_sending : IsMachineSending name table uuid batch_limit (length channels) rounds ram in_order
   pub is_permutation : IsPermutation in_order channels
 
--- What was sent with a machine is loaded in a machine's frame, with the answer on what was sent
--- without one. Any number of page records may wait.
+-- The streams that were sent with a machine are loaded in a machine's frame, with the answer on the
+-- streams without one. Any number of page records may wait.
 abbrev pub MachineSendingsAreLoaded : Type 0
 MachineSendingsAreLoaded = (given : LoadSettings) (table : RamTable) (uuid : List ℕ) (rounds : List DealtRound) (main : List ℕ) (channels : List (List ℕ)) (answer : Answer)
     → given.frame ≡ Machine → given.waiting ≡ None → table.page_size ≡ given.page_size → total_bytes table ≤ given.limit → IsMachineSentInAnyOrder table uuid rounds main channels
@@ -65,7 +65,7 @@ MachineSendingsAreLoaded = (given : LoadSettings) (table : RamTable) (uuid : Lis
 abbrev pub AgreesWith : {A : Type 0} → Answer → Loaded A → Type 0
 AgreesWith answer alone = (answer.memory ≡ alone.memory) × (answer.rounds + 2 ≡ alone.rounds) × (answer.verdict ≡ Done) × (alone.verdict ≡ Ok _)
 
--- The load of what was sent agrees with the load of the single stream of these rounds.
+-- The load of the streams sent agrees with the load of the single stream of these rounds.
 abbrev pub ChannelsLoadAsOneStream : Type 0 → Type 0
 ChannelsLoadAsOneStream A = (table : RamTable) (uuid : List ℕ) (limit limit_alone : ℕ) (rounds : List DealtRound) (main : List ℕ) (channels : List (List ℕ)) (answer : Answer) (alone : Loaded A)
     → IsSentInAnyOrder table uuid rounds main channels → total_bytes table ≤ limit → total_bytes table ≤ limit_alone

@@ -1,4 +1,4 @@
-//! Laws of the definitions alone: what holds of the answers of loads on several channels, whatever
+//! Laws of the definitions alone: properties of the answers of loads on several channels, whatever
 //! code returns them.
 //!
 //! Each law is the clause of a function whose body at most names another law that its proof uses.
@@ -12,9 +12,9 @@ ghost use Rattle.mig_answer.specs.Sent.{SendingsAreLoaded, MachineSendingsAreLoa
 
 use std::alloc::Allocator;
 
-/// The bytes of any streams that have come have exactly one answer. So the answer doesn't depend on
-/// how the streams are cut into pieces, in which order these come, or who reads them. If all
-/// streams have ended, it isn't `Running`.
+/// The bytes of any streams so far have exactly one answer. So the answer doesn't depend on the
+/// pieces into which the streams are cut, on their order, or on the reader. If all streams have
+/// ended, it isn't `Running`.
 pub fn texts_have_one_answer()
     ensures one { HasOneAnswer }
     ensures ended { EndedTextsAreJudged }
@@ -47,10 +47,10 @@ pub fn dealt_rounds_are_lawful()
     ensures { DealtRoundsAreLawful }
 {}
 
-/// What a sender on several channels has sent is loaded: done, with all its rounds and the memory
-/// after them. That holds for any table, rounds, batch limit and number of channels, whichever
-/// worker sent what, and in any order of the channels. So it agrees with the load of the single
-/// stream of these rounds.
+/// The load of the streams of a sender on several channels is done, with all its rounds and the
+/// memory after them. That holds for any table, rounds, batch limit and number of channels,
+/// whichever worker sent what, and in any order of the channels. So it agrees with the load of the
+/// single stream of these rounds.
 pub fn sendings_are_loaded<A: Allocator>()
     ensures done { SendingsAreLoaded }
     ensures same { ChannelsLoadAsOneStream A }
@@ -58,10 +58,9 @@ pub fn sendings_are_loaded<A: Allocator>()
     mig_send::sendings_are_read_back();
 }
 
-/// What a sender on several channels has sent with a machine's main stream
-/// (`MultiSender::finish_open`) is loaded in a machine's frame: done, with all its rounds and the
-/// memory after them, whatever follows RAM's END. So it has the answer of a load of what was sent
-/// without a machine.
+/// The load, in a machine's frame, of the streams of a sender on several channels with a machine's
+/// main stream (`MultiSender::finish_open`) is done, with all its rounds and the memory after them,
+/// whatever follows RAM's END. So its answer is that of a load of the streams without a machine.
 pub fn machine_sendings_are_loaded()
     ensures { MachineSendingsAreLoaded }
 {

@@ -1,12 +1,12 @@
 //! Defines the answer of a load on several channels, without threads, queues or pieces.
 //!
-//! The answer is one function of the bytes that have come so far of the main stream and of each
-//! channel. It has the memory after the rounds that all of them have and that are lawful, the
-//! number of these rounds, and the verdict: done, running, or the first fault after them.
+//! The answer is one function of the bytes so far of the main stream and of each channel. It has
+//! the memory after the rounds that all of them have and that are lawful, the number of these
+//! rounds, and the verdict: done, running, or the first fault after them.
 //!
 //! The laws are clauses of functions that do nothing. Any bytes have exactly one answer. An answer
-//! other than `Running` stays when more bytes come. What a sender has sent is loaded. They hold of
-//! each load whose answer is `IsAnswer`, as those of `mig_relay` and `mig_session`.
+//! other than `Running` stays when more bytes follow. A sender's streams load completely. The laws
+//! hold for each load whose answer is `IsAnswer`, as those of `mig_relay` and `mig_session`.
 //!
 //! Relays and sessions share the calls beside the laws: `verdict_told` returns the verdict of the
 //! sources at a round, and `put` applies a round to memory.

@@ -13,7 +13,7 @@ use mig_stream::StreamRound;
 use std::alloc::Allocator;
 
 // Packets are numbered below 2^63, and at most 2^63 rounds are counted. More are refused with
-// `NoMemory`. No streams in memory have so many.
+// `NoMemory`. No streams in memory have that many.
 const PACKET_LIMIT: u64 = 1 << 63;
 
 const ROUND_LIMIT: u64 = 1 << 63;

@@ -16,7 +16,7 @@ use crate::status::Status;
 use mig_single_load::{Fault, LoadFault, Origin};
 
 /// Returns the verdict at a round, by the statuses of the sources and the least channel whose hello
-/// comes again. If all sources have the round, and no hello comes again, returns None.
+/// is repeated. If all sources have the round, and no hello is repeated, returns None.
 pub fn verdict_told(
     round: u64,
     main: Status,

@@ -1,9 +1,9 @@
-//! The verdict on a load on several channels, on the bytes that have come: what `Session::verdict`
-//! returns.
+//! The verdict on a load on several channels, on the bytes so far: the result of
+//! `Session::verdict`.
 
 use mig_single_load::LoadFault;
 
-/// The verdict on a load on several channels, on the bytes that have come.
+/// The verdict on a load on several channels, on the bytes so far.
 #[derive(Clone, Copy, Debug, PartialEq, Eq)]
 pub enum Verdict {
     /// More bytes of a source are needed.

@@ -38,7 +38,7 @@ packets_push [] a = refl
 packets_push (Records pages ∷ came) a = packets_push came a
 packets_push (OnePacket packet ∷ came) a = ap (λ (l : List Fields). packet ∷ l) (packets_push came a)
 
--- ---- the order of what came doesn't matter to the pages, where none lies wrong
+-- ---- the pages don't depend on the order of arrival, if none is misplaced
 
 swapped : (xs ys zs : List Page) → IsPermutation (xs ++ (ys ++ zs)) (ys ++ (xs ++ zs))
 swapped xs ys zs =

@@ -1,4 +1,4 @@
--- The least element of a list, and the least that comes twice.
+-- The least element of a list, and the least that occurs twice.
 use Rattle.std.proofs.Common.{ℕ, ◌≡◌, ◌≤◌, List, [], ◌∷◌, ◌++◌, map, get_or, refl, sym, ap, ◌∙◌, inl}
 use Rattle.std.proofs.Common.{inr, arith, Option, Some, None, Bool, true, false, cond, subst}
 use Rattle.std.specs.Prelude.{◌⊎◌, Contains, All, filter, count_by, nat_lt, nat_le}
@@ -48,7 +48,7 @@ module _ {X K : Type 0} (key : X → K) (eq : K → K → Bool) (same : (k l : K
         ]
       ]
 
-  -- where no key comes twice, a key is one element's
+  -- if no key occurs twice, a key is one element's
   pub own_key : (xs : List X) → twice eq (map key xs) ≡ [] → (x y : X) → Contains xs x → Contains xs y → key x ≡ key y → x ≡ y
   own_key xs none x y h k e = elim (one_or_two xs x y h k e) [
     | inl both ↦ both
@@ -130,7 +130,7 @@ module _ {X : Type 0} (lt : X → X → Bool) (o : IsStrictWeakOrder lt) where
   least-push [] y = refl
   least-push (x ∷ xs) y = ap (λ (r : Option X). Some (lesser lt x r)) (least-push xs y) ∙ ap (λ (z : X). Some z) (newer-lesser x (least lt xs) y)
 
-  -- ---- the least that comes twice
+  -- ---- the least that occurs twice
 
   module _ (eq : X → X → Bool) (apart : (x y : X) → lt x y ≡ false → lt y x ≡ false → x ≡ y)
       (sound : (x y : X) → eq x y ≡ true → x ≡ y) (own : (x : X) → eq x x ≡ true) where
@@ -150,7 +150,7 @@ module _ {X : Type 0} (lt : X → X → Bool) (o : IsStrictWeakOrder lt) where
         let k = filter_contains (λ x. nat_le 2 (count_by (λ y. eq y x) xs)) xs x h in
         (k.0, leb-true 2 (count_by (λ y. eq y x) xs) k.1)
 
-    -- what comes twice still does with one more at the end
+    -- what occurs twice still does with one more at the end
     twice_push : (xs : List X) (y x : X) → Contains (twice eq xs) x → Contains (twice eq (xs ++ y ∷ [])) x
     twice_push xs y x h =
         let k = twice_cases xs x h in

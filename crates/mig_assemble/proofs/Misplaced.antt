@@ -33,7 +33,7 @@ module _ (table : RamTable) where
       one : filter is_bad (q ∷ []) ≡ []
       one = cond-false (is_bad q) (q ∷ []) [] (ap (λ (o : Option RoundFault). is_some o) none)
 
-  -- one that lies wrong is the new one, unless the old one has a number that is as low
+  -- a misplaced packet is the new one, unless the old one has a number that is as low
   more : (ps : List Fields) (q : Fields) → is_bad q ≡ true → least_misplaced table (ps ++ q ∷ []) ≡ Some (newer number_lt (least_misplaced table ps) q)
   more ps q bad =
       ap (λ (l : List Fields). least number_lt l)
@@ -55,7 +55,7 @@ module _ (table : RamTable) where
       sym (more ps q bad ∙ ap (λ (o : Option Fields). Some (newer number_lt o q)) (sym found)
       ∙ ap (λ (z : Fields). Some z) (cond-false (nat_lt q.number m.number) q m (le-ltb q.number m.number le)))
 
-  -- ---- where none is found
+  -- ---- if none is found
 
   bad_fault : (q : Fields) → is_bad q ≡ true → place_fault table q ≡ None → ⊥
   bad_fault q bad none = let no : is_bad q ≡ false = ap (λ (o : Option RoundFault). is_some o) none in absurd cc
@@ -69,7 +69,7 @@ module _ (table : RamTable) where
       let fault : place_fault table m ≡ None = sym (ap (λ (o : Option Fields). option_and_then (place_fault table) o) found) ∙ none in
       absurd (bad_fault m bad fault)
 
-  -- where no packet lies wrong, each has its pages in the table
+  -- if no packet is misplaced, each has its pages in the table
   pub all_lawful : (ps : List Fields) → least_place_fault table ps ≡ None → All (λ q. place_fault table q ≡ None) ps
   all_lawful ps none = all_from ps (λ q. place_fault table q ≡ None) (λ q h. go q h (place_fault table q) refl)
     where

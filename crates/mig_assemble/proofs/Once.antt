@@ -1,4 +1,4 @@
--- Places that come twice, and lists without such.
+-- Places that occur twice, and lists without such.
 use Rattle.std.proofs.Common.{ℕ, ◌≡◌, ◌≢◌, ◌≤◌, List, [], ◌∷◌, refl, sym, ◌∙◌, inl}
 use Rattle.std.proofs.Common.{inr, arith, subst, Bool, true, cond}
 use Rattle.std.specs.Prelude.{Contains, AllPairs, count_by, nat_le}
@@ -14,7 +14,7 @@ module _ {X : Type 0} (eq : X → X → Bool) (sound : (x y : X) → eq x y ≡ 
   abbrev times : X → List X → ℕ
   times x xs = count_by (λ y. eq y x) xs
 
-  -- ---- where nothing comes twice, no two are equal
+  -- ---- if nothing occurs twice, no two are equal
 
   twice_of : (xs : List X) (x : X) → Contains xs x → 2 ≤ times x xs → Contains (twice eq xs) x
   twice_of xs x h two = contains_filter (λ y. nat_le 2 (count_by (λ z. eq z y) xs)) xs x h (le-leb 2 (count_by (λ z. eq z x) xs) two)

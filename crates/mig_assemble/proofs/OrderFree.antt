@@ -45,7 +45,7 @@ same_missing base ns ms bag =
 pub number_refusal_bag : (base : ℕ) (ns ms : List ℕ) → SameBag ns ms → number_refusal base ns ≡ number_refusal base ms
 number_refusal_bag base ns ms bag = rw (same_foreign base ns ms bag, same_doubled ns ms bag, same_missing base ns ms bag) refl
 
--- ---- packets that lie wrong
+-- ---- misplaced packets
 
 same_place_fault : (table : RamTable) (ps qs : List Fields) → SameBag ps qs → least nat_lt (twice nat_eq (numbers qs)) ≡ None
     → least_place_fault table ps ≡ least_place_fault table qs
@@ -132,7 +132,7 @@ last_some (y ∷ xs) x h = elim (contains_cases y xs x h) [
           ∙ cond-true (place_eq y.place x.place) (Some y) None t,
     )
 
--- the order of pages doesn't matter where no place comes twice
+-- the order of pages doesn't matter where no place occurs twice
 pub last_at-same : (p : Place) (xs ys : List Page) → SameBag xs ys → twice place_eq (places_of ys) ≡ [] → last_at p xs ≡ last_at p ys
 last_at-same p xs ys bag once = go (last_at p xs) refl (last_at p ys) refl
   where
@@ -151,7 +151,7 @@ last_at-same p xs ys bag once = go (last_at p xs) refl (last_at p ys) refl
         let y = has_last p ys d eb in
         ea ∙ ap (λ (z : Page). Some z) (own_key (λ (x : Page). x.place) place_eq place_eq-from ys once c d (bag.there c x.0) y.0 (x.1 ∙ sym y.1)) ∙ sym eb
 
--- in a lawful round no place comes twice
+-- in a lawful round no place occurs twice
 pub lawful_once : (table : RamTable) (base : ℕ) (records : List Page) (ps : List Fields) → refusal table base records ps ≡ None
     → twice place_eq (places_of (all_round_pages table records ps)) ≡ []
 lawful_once table base records ps lawful =

@@ -1,5 +1,5 @@
 -- The parts of a round's refusal, in the order in which they are judged: the numbers, where pages
--- lie, and what comes twice.
+-- lie, and what occurs twice.
 use Rattle.std.proofs.Common.{ℕ, ◌≡◌, List, [], ◌∷◌, refl, sym, ◌∙◌, Option, Some, None}
 use Rattle.std.specs.Prelude.{filter, nat_lt, nat_eq}
 use Rattle.std.specs.Option.{option_map, option_or}
@@ -19,7 +19,7 @@ pub map_none : {X Y : Type 0} (f : X → Y) (o : Option X) → option_map f o �
 map_none f None e = refl
 map_none f (Some x) e = absurd cc
 
--- the least place that comes twice
+-- the least place that occurs twice
 abbrev pub double : RamTable → List Page → List Fields → Option Place
 double table records packets = least place_lt (twice place_eq (places_of (all_round_pages table records packets)))
 
@@ -43,7 +43,7 @@ refusal-parts table base records packets =
     parts None None (Some x) d e = refl
     parts None None None d e = refl
 
--- where no number is wrong, none comes twice
+-- if no number is wrong, none occurs twice
 pub numbers_once : (base : ℕ) (ns : List ℕ) → number_refusal base ns ≡ None → least nat_lt (twice nat_eq ns) ≡ None
 numbers_once base ns none =
     let foreign : Option RoundFault = option_map Foreign (least nat_lt (filter (λ n. nat_lt n base) ns)) in

@@ -1,4 +1,4 @@
--- What comes twice and what is missing, in numbers in ascending order.
+-- What occurs twice and what is missing, in numbers in ascending order.
 use Rattle.std.proofs.Common.{ℕ, ◌≡◌, ◌<◌, ◌≤◌, ◌+◌, suc, List, [], ◌∷◌, length, get_or, drop, refl, sym, ap}
 use Rattle.std.proofs.Common.{◌∙◌, inl, inr, arith, Option, Some, None, Bool, true, false, not, cond}
 use Rattle.std.specs.Prelude.{◌==◌, ◌||◌, Contains, All, AllPairs, filter, count_by, nat_lt, nat_le, nat_eq, IsPermutation, IsSorted, if◌then◌else◌}
@@ -34,7 +34,7 @@ pairs_head R x xs all = λ k d h. all 0 (suc k) d (omega arith) (omega arith)
 pub pairs_tail : {X : Type 0} (R : X → X → Type 0) (x : X) (xs : List X) → AllPairs R (x ∷ xs) → AllPairs R xs
 pairs_tail R x xs all = λ i j d lt h. all (suc i) (suc j) d (omega arith) (omega arith)
 
--- ---- what comes twice
+-- ---- what occurs twice
 
 -- a number below all others comes once, and the others as often as without it
 twice_later : (n : ℕ) (ns : List ℕ) → All (λ m. n < m) ns → twice nat_eq (n ∷ ns) ≡ twice nat_eq ns
@@ -54,7 +54,7 @@ twice_later n ns below =
     let e : count_by (λ y. nat_eq y z) (n ∷ ns) ≡ count_by (λ y. nat_eq y z) ns = omega arith in
     ap (nat_le 2) e))
 
--- the first two neighbours that are equal are the least number that comes twice
+-- the first two neighbours that are equal are the least number that occurs twice
 first_pair-is : (ns : List ℕ) → Rises ns → first_pair ns ≡ least nat_lt (twice nat_eq ns)
 first_pair-is [] up = refl
 first_pair-is (m ∷ []) up = sym (ap (λ (l : List ℕ). least nat_lt l) (twice_later m [] (λ k d h. absurd (omega arith))))
@@ -90,7 +90,7 @@ first_pair-is (m ∷ (n ∷ ns)) up =
           ∙ sym (ap (λ (l : List ℕ). least nat_lt l) (twice_later m (n ∷ ns) above))
     ]
 
--- where no neighbours are equal, the numbers rise strictly
+-- if no neighbours are equal, the numbers rise strictly
 strict : (ns : List ℕ) → Rises ns → first_pair ns ≡ None → AllPairs (λ m n. m < n) ns
 strict [] up none = λ i j d lt h. absurd (omega arith)
 strict (m ∷ []) up none = λ i j d lt h. absurd (omega arith)
@@ -139,7 +139,7 @@ any_false : {X : Type 0} (p : X → Bool) (xs : List X) → ((x : X) → Contain
 any_false p [] none = refl
 any_false p (x ∷ xs) none = or_from (p x) (list_any p xs) (none x (contains_here x xs)) (any_false p xs (λ y h. none y (contains_later x xs y h)))
 
--- where numbers rise strictly from the base on, the first gap is the least number that is missing
+-- if numbers rise strictly from the base on, the first gap is the least number that is missing
 first_gap-is : (base : ℕ) (ns : List ℕ) → AllPairs (λ m n. m < n) ns → All (λ n. base ≤ n) ns → first_gap base ns ≡ least nat_lt (absent base ns)
 first_gap-is base [] up low = refl
 first_gap-is base (n ∷ ns) up low =

@@ -53,11 +53,11 @@ least_packet = refl
 outside : refusal ram 0 [] (with_normal 0x61 0 4096 (0 ∷ 8192 ∷ 9 ∷ []) ∷ []) ≡ Some (Offset 0 2)
 outside = refl
 
--- a place that is wrong comes before one that comes twice
+-- a place that is wrong comes before one that occurs twice
 outside_first : refusal ram 0 [] (packet 0x61 0 (0 ∷ 0 ∷ 8192 ∷ []) ∷ []) ≡ Some (Offset 0 2)
 outside_first = refl
 
--- the least place that comes twice, and not the first that is met again
+-- the least place that occurs twice, and not the first that is met again
 double : refusal ram 0 [] (packet 0x62 1 (0 ∷ 4096 ∷ []) ∷ with_normal 0x62 2 0 [] ∷ packet 0x61 0 (4096 ∷ 4096 ∷ []) ∷ []) ≡ Some (DoublePage (place_at 0 1))
 double = refl
 

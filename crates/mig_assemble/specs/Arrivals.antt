@@ -1,5 +1,5 @@
--- A round that is judged as its parts arrive: what arrived of it, what is kept of that, and the
--- pages that may be written already.
+-- A round that is judged as its parts arrive: the arrivals, the values kept of them, and the pages
+-- that may be written already.
 use Rattle.std.specs.Prelude.{ℕ, ◌≡◌, List, [], ◌∷◌, ◌++◌, false, flat_map, nat_lt, is_none, Option, Some, None, if◌then◌else◌, IsPermutation}
 use Rattle.std.specs.List.{AllZip}
 use Rattle.std.specs.Option.{option_map}
@@ -22,19 +22,19 @@ pub data Arrival : Type 0 where
   Records : List Page → Arrival
   OnePacket : Fields → Arrival
 
--- all records that came, in the order in which they came
+-- all records that arrived, in the order of their arrival
 abbrev pub records_in : List Arrival → List Page
 records_in [] = []
 records_in (Records pages ∷ came) = pages ++ records_in came
 records_in (OnePacket packet ∷ came) = records_in came
 
--- all packets that came, in the order in which they came
+-- all packets that arrived, in the order of their arrival
 abbrev pub packets_in : List Arrival → List Fields
 packets_in [] = []
 packets_in (Records pages ∷ came) = packets_in came
 packets_in (OnePacket packet ∷ came) = packet ∷ packets_in came
 
--- why a round is refused, if all of this came of it, and no more; None if it is lawful
+-- why a round is refused that consists of exactly these arrivals; None if it is lawful
 abbrev pub refusal_of : RamTable → ℕ → List Arrival → Option RoundFault
 refusal_of table base came = refusal table base (records_in came) (packets_in came)
 
@@ -46,10 +46,10 @@ arrival_pages table (OnePacket packet) = if is_none (place_fault table packet) t
 abbrev pub pages_that_came : RamTable → List Arrival → List Page
 pages_that_came table came = flat_map (arrival_pages table) came
 
--- ---- what is kept of it
+-- ---- the values kept of a round
 
 -- the packets' numbers; of the packets whose pages are misplaced the one of least number; the least
--- place that came twice; the places
+-- place that occurred twice; the places
 pub record RoundSoFar : Type 0 where
   pub numbers : List ℕ
   pub misplaced : Option WrongPacket
@@ -67,34 +67,34 @@ pub record KnowsMisplaced (table : RamTable) (packets : List Fields) (misplaced 
   pub has_number : option_map (λ m. m.number) misplaced ≡ option_map (λ p. p.number) (least_misplaced table packets)
   pub has_fault : option_map (λ m. m.fault) misplaced ≡ least_place_fault table packets
 
--- What is kept stands for a list of arrivals, of a round of this table. The numbers may be in any
+-- The kept values represent a list of arrivals, of a round of this table. The numbers may be in any
 -- order.
 pub record HasCome (table : RamTable) (came : List Arrival) (r : RoundSoFar) : Type 0 where
   pub has_numbers : IsPermutation (numbers (packets_in came)) r.numbers
   pub has_misplaced : KnowsMisplaced table (packets_in came) r.misplaced
   pub has_seen : HasSeen table (places_of (pages_that_came table came)) r.seen r.double
 
--- this has come too, after what had come before
+-- this arrival was added, after those before
 abbrev pub AlsoHas : Arrival → RoundSoFar → RoundSoFar → Type 0
 AlsoHas more old new = (table : RamTable) (came : List Arrival) → HasCome table came old → HasCome table (came ++ more ∷ []) new
 
--- what had come before has come, and nothing more
+-- the arrivals are those before, and no more
 abbrev pub HasSame : RoundSoFar → RoundSoFar → Type 0
 HasSame old new = (table : RamTable) (came : List Arrival) → HasCome table came old → HasCome table came new
 
--- this is why a round of all that has come is refused
+-- this is why a round of all arrivals is refused
 abbrev pub IsJudged : ℕ → RoundSoFar → Option RoundFault → Type 0
 IsJudged base r why = (table : RamTable) (came : List Arrival) → HasCome table came r → refusal_of table base came ≡ why
 
 -- ---- laws
 
--- The pages of a lawful round, applied in the order in which they came, give the memory that the
+-- The pages of a lawful round, applied in the order of their arrival, give the memory that the
 -- round gives.
 abbrev pub ArrivalsMakeTheRound : Type 0
 ArrivalsMakeTheRound = (table : RamTable) (base : ℕ) (came : List Arrival) (m : Image) → refusal_of table base came ≡ None
     → with_round m (pages_that_came table came) ≡ with_round m (all_round_pages table (records_in came) (packets_in came))
 
--- The pages that came, of a lawful round or of another, change no place but their own.
+-- The pages that arrived, of a lawful round or of another, change no places except their own.
 abbrev pub OtherPlacesStay : Type 0
 OtherPlacesStay = (table : RamTable) (came : List Arrival) (m : Image) (p : Place) → IsPlace m.table p
     → has_place (places_of (pages_that_came table came)) p ≡ false → content_at (with_round m (pages_that_came table came)) p ≡ content_at m p

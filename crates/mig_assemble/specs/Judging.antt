@@ -13,7 +13,7 @@ use Rattle.mig_packet.specs.Packet.{Fields}
 use Rattle.mig_assemble.specs.declared.fault.RoundFault.{RoundFault}
 use Rattle.mig_assemble.specs.declared.fault.RoundFault.TheVariants.{Foreign, Doubled, Missing, UnknownBlock, Offset, DoublePage}
 
--- ---- the least of a list, and the elements that come twice
+-- ---- the least of a list, and the elements that occur twice
 
 -- the lesser of an element and another, if there is another
 abbrev pub lesser : {X : Type 0} → (X → X → Bool) → X → Option X → X
@@ -24,7 +24,7 @@ abbrev pub least : {X : Type 0} → (X → X → Bool) → List X → Option X
 least lt [] = None
 least lt (x ∷ xs) = Some (lesser lt x (least lt xs))
 
--- the elements that come twice or more often
+-- the elements that occur twice or more often
 abbrev pub twice : {X : Type 0} → (X → X → Bool) → List X → List X
 twice eq xs = filter (λ x. nat_le 2 (count_by (λ y. eq y x) xs)) xs
 
@@ -38,14 +38,14 @@ offsets packet = map (λ page. page.offset) packet.normal ++ packet.zero
 abbrev pub is_outside : ℕ → ℕ → ℕ → Bool
 is_outside page_size pages offset = not (offset % page_size == 0) || nat_le pages (offset / page_size)
 
--- What is wrong with a packet that has pages, by the block that its id names, if it names one: it
--- names none, or else the first offset, by its number among all, at which that block has no page.
+-- The fault of a packet that has pages, by the block that its id names, if it names one: it names
+-- none, or else the first offset, by its number among all, at which that block has no page.
 abbrev pub offset_fault : RamTable → Fields → Option ℕ → Option RoundFault
 offset_fault table packet None = Some (UnknownBlock packet.number)
 offset_fault table packet (Some b) = option_map (Offset packet.number) (position (is_outside table.page_size (block table.blocks b).pages) (offsets packet))
 
--- What is wrong with the places of a packet's pages: its id is no block's, or one of its offsets is
--- no page's. The id of a packet without pages isn't tested.
+-- The fault of the places of a packet's pages: no block has its id, or no page has one of its
+-- offsets. The id of a packet without pages isn't tested.
 abbrev pub place_fault : RamTable → Fields → Option RoundFault
 place_fault table packet = if length (offsets packet) == 0 then None else offset_fault table packet (block_of table.blocks packet.id)
 
@@ -69,7 +69,7 @@ packet_pages table packet = pages_in table packet (unwrap_or (block_of table.blo
 abbrev pub numbers : List Fields → List ℕ
 numbers packets = map (λ packet. packet.number) packets
 
--- the missing numbers, of as many from the base on as there are packets
+-- the missing ones of the numbers from the base on, as many as there are packets
 abbrev pub absent : ℕ → List ℕ → List ℕ
 absent base ns = filter (λ n. not (list_any (λ m. m == n) ns)) (range_with_len base (length ns))
 
@@ -88,12 +88,9 @@ abbrev pub places_of : List Page → List Place
 places_of pages = map (λ page. page.place) pages
 
 -- Why a round is refused whose packets must be numbered from the base on: the first that applies.
---   the least number below the base,
---   the least number that comes twice,
---   the least of the consecutive numbers that is missing,
---   the packet of least number with a misplaced page,
---   the least place that comes twice, among the records and the packets together.
--- None if the round is lawful.
+-- the least number below the base, the least number that occurs twice, the least of the consecutive
+-- numbers that is missing, the packet of least number with a misplaced page, the least place that
+-- occurs twice, among the records and the packets together. None if the round is lawful.
 abbrev pub refusal : RamTable → ℕ → List Page → List Fields → Option RoundFault
 refusal table base records packets = first_some (
     option_map Foreign (least nat_lt (filter (λ n. nat_lt n base) (numbers packets))) ∷

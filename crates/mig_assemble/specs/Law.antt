@@ -1,4 +1,4 @@
--- What holds of rounds, whatever code judges them.
+-- Properties of rounds, whatever code judges them.
 use Rattle.std.specs.Prelude.{ℕ, ◌≡◌, ◌↔◌, List, None, All, IsPermutation}
 use Rattle.mig_mem.specs.RamTable.{RamTable}
 use Rattle.mig_mem.specs.Place.{IsPlace}

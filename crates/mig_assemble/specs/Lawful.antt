@@ -1,4 +1,4 @@
--- What a lawful round is, apart from the faults of others.
+-- The lawful round, apart from the faults of others.
 use Rattle.std.specs.Prelude.{ℕ, ◌≡◌, ◌≢◌, ◌/◌, ◌%◌, List, length, Some, All, AllPairs, IsPermutation}
 use Rattle.std.specs.List.{range_with_len}
 use Rattle.mig_mem.specs.RamTable.{RamTable, block_of}
@@ -21,7 +21,7 @@ pub record IsPageOffset (table : RamTable) (id : List ℕ) (offset : ℕ) : Type
 
 -- A round of page records and packets, which are to be numbered from the base on, is lawful under
 -- three conditions: the packets' numbers are consecutive from there; each page of each packet has a
--- place of the table; and no place comes twice, among the records and the packets' pages together.
+-- place of the table; and no place occurs twice, among the records and the packets' pages together.
 pub record IsLawful (table : RamTable) (base : ℕ) (records : List Page) (packets : List Fields) : Type 0 where
   pub has_run : AreRun base (numbers packets)
   pub has_places : All (λ packet. All (IsPageOffset table packet.id) (offsets packet)) packets

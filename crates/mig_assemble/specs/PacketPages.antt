@@ -6,7 +6,7 @@ use Rattle.mig_mem.specs.Image.{Page, zero_page}
 use Rattle.mig_packet.specs.Packet.{Fields, normal_count, zero_count, offset_at}
 use Rattle.mig_assemble.specs.Judging.{page_in}
 
--- the pages that come with their contents
+-- the pages with contents
 abbrev pub normal_pages : RamTable → ℕ → Fields → List Page
 normal_pages table b packet = map (λ page. page_in table b page.offset page.content) packet.normal
 

@@ -1,4 +1,4 @@
--- Numbers in ascending order, and what is searched in them.
+-- Numbers in ascending order, and searches in them.
 use Rattle.std.specs.Prelude.{ℕ, ◌+◌, ◌==◌, List, [], ◌∷◌, Option, Some, None, if◌then◌else◌, nat_lt, nat_eq}
 use Rattle.std.specs.List.{filter}
 use Rattle.std.specs.Option.{option_map, option_or}

@@ -24,7 +24,7 @@ target_over memory = record { memory = memory; rounds = 0; base = 0 }
 abbrev pub new_target : RamTable → LoadTarget
 new_target table = target_over (zero_image table)
 
--- the pages that the records of a round stand for, in their order
+-- the pages that the records of a round represent, in their order
 abbrev pub pages_of_round : RoundOfRecords → List Page
 pages_of_round round = map (page_of round.page_size) round.records
 

@@ -33,7 +33,7 @@ pub(crate) struct WrongPacket {
     pub(crate) fault: RoundFault,
 }
 
-/// What arrived so far of a round that isn't judged yet, without the pages' contents: a mark for
+/// The arrivals so far of a round that isn't judged yet, without the pages' contents: a mark for
 /// each page of the table, and a number for each packet.
 #[derive(Drop)]
 pub struct Arrivals<A: Allocator = Global> {

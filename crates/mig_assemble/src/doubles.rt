@@ -1,4 +1,4 @@
-//! Finds places that come twice in a round, for `judge`, by marking each place of the round. The
+//! Finds places that occur twice in a round, for `judge`, by marking each place of the round. The
 //! marks are removed one by one, so a small round costs little, however large the table is.
 
 ghost use Rattle.std.specs.Prelude.{◌≡◌, ◌<◌, ◌∷◌, [], map, length, All, None, false};
@@ -15,7 +15,7 @@ use mig_packet::Packet;
 use mig_stream::StreamRound;
 use std::alloc::Allocator;
 
-/// Returns the least place that comes twice, among the records of a round and the pages of its
+/// Returns the least place that occurs twice, among the records of a round and the pages of its
 /// packets together. `seen` has no mark before and after.
 pub(crate) fn double_place<A: Allocator, B: Allocator>(
     seen: &mut Dirty<A>,
@@ -35,7 +35,7 @@ pub(crate) fn double_place<A: Allocator, B: Allocator>(
     double
 }
 
-// Marks the places of a round. Returns the least that comes twice.
+// Marks the places of a round. Returns the least that occurs twice.
 fn mark_all<A: Allocator, B: Allocator>(
     seen: &mut Dirty<A>,
     round: &StreamRound<B>,
@@ -113,8 +113,8 @@ fn unmark<A: Allocator>(seen: &mut Dirty<A>, place: Place)
     seen.unmark(place);
 }
 
-/// Marks the places of records. `double` is the least place that came twice so far. Returns that
-/// place with the records.
+/// Marks the places of records. `double` is the least place that occurred twice so far. Returns
+/// that place with the records.
 pub(crate) fn mark_records<A: Allocator, B: Allocator>(
     seen: &mut Dirty<A>,
     double: Option<Place>,
@@ -131,7 +131,7 @@ pub(crate) fn mark_records<A: Allocator, B: Allocator>(
     double
 }
 
-/// Marks the places of a packet's pages. `double` is the least place that came twice so far.
+/// Marks the places of a packet's pages. `double` is the least place that occurred twice so far.
 /// Returns that place with the packet.
 pub(crate) fn mark_packet<A: Allocator>(
     seen: &mut Dirty<A>,
@@ -171,8 +171,8 @@ fn mark_pages<A: Allocator>(
     double
 }
 
-// Marks a place. `double` is the least place that came twice so far. Returns that place with this
-// one.
+// Marks a place. `double` is the least place that occurred twice so far. Returns that place with
+// this one.
 fn mark<A: Allocator>(seen: &mut Dirty<A>, double: Option<Place>, place: Place) -> Option<Place>
     requires { IsPlace seen.old.table place }
     ensures table { seen.new.table ≡ seen.old.table }

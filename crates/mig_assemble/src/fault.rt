@@ -12,7 +12,7 @@ use std::fmt::{self, Display, Formatter};
 pub enum RoundFault {
     /// The least packet number below the round's base.
     Foreign(u64),
-    /// The least packet number that comes twice.
+    /// The least packet number that occurs twice.
     Doubled(u64),
     /// The least packet number that is missing: there must be each of as many numbers as packets,
     /// from the base on, once.
@@ -24,7 +24,7 @@ pub enum RoundFault {
     /// of that block. They are the least number of a packet with a misplaced page, and the first
     /// such index. The normal pages count first.
     Offset(u64, usize),
-    /// The least place that comes twice, among the page records and the packets' pages together.
+    /// The least place that occurs twice, among the page records and the packets' pages together.
     DoublePage(Place),
     /// An allocation was refused.
     NoMemory,

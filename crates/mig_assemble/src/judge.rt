@@ -15,9 +15,9 @@ use mig_packet::Packet;
 use mig_stream::StreamRound;
 use std::alloc::Allocator;
 
-/// Returns why a round is refused. An `Ok` says that it is lawful. `NoMemory` may come in place of
-/// any result, since the call allocates for the packets' numbers. `seen` has no mark before and
-/// after the call. It marks the places of the round.
+/// Returns why a round is refused. An `Ok` says that it is lawful. `NoMemory` may be returned in
+/// place of any result, since the call allocates for the packets' numbers. `seen` has no mark
+/// before and after the call. It marks the places of the round.
 #[tactic(auto, using(crate::proofs::Parts::wholes))]
 pub(crate) fn judge<A: Allocator + Copy, B: Allocator>(
     alloc: A,

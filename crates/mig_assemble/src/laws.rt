@@ -1,4 +1,4 @@
-//! Laws of the definitions alone: what holds of rounds, whatever code judges them.
+//! Laws of the definitions alone: properties of rounds, whatever code judges them.
 //!
 //! Each law is the clause of a function that does nothing. So it is proved with the crate, and a
 //! caller who calls the function may use it.
@@ -12,7 +12,7 @@ pub fn round_is_lawful()
 {}
 
 /// The order of a round's packets changes neither whether it is refused, and why, nor the memory
-/// that it leaves. So the channels on which they came don't matter, nor when they came.
+/// that it leaves. So neither the channels nor the times of their arrival matter.
 pub fn packets_come_in_any_order()
     ensures { PacketsComeInAnyOrder }
 {}

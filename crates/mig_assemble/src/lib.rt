@@ -1,10 +1,10 @@
 //! The memory that a load builds: rounds are applied to it one after another, each in one step.
 //!
 //! A `Target` takes rounds as readers give them. A round of a single stream is a section, applied
-//! as it comes. A round of multifd is the page records of the main stream and the packets of all
-//! channels, `Gathered` in any order. It is judged in one step (`specs/Judging`), and a round that
-//! isn't lawful (`specs/Lawful`) changes nothing. The crates above have the streams that rounds
-//! come from, and the result of a complete load.
+//! when it is read. A round of multifd is the page records of the main stream and the packets of
+//! all channels, `Gathered` in any order. It is judged in one step (`specs/Judging`), and a round
+//! that isn't lawful (`specs/Lawful`) changes nothing. The crates above have the streams that
+//! rounds come from, and the result of a complete load.
 //!
 //! `Arrivals` is for a load that keeps no round: its caller writes each page as it arrives, and
 //! `Arrivals` judges the round as `Target::round` would.

@@ -80,7 +80,7 @@ pub(crate) fn page_count(packet: &Packet<'_>) -> usize
     packet.normal_len() + packet.zero_len()
 }
 
-/// Returns offset `i` of a packet; those of the normal pages come first.
+/// Returns offset `i` of a packet; those of the normal pages are first.
 #[tactic(auto, using(crate::proofs::PacketPlaces::offsets_len, crate::proofs::PacketPlaces::offset_is))]
 pub(crate) fn offset(packet: &Packet<'_>, i: usize) -> u64
     requires { i < length (offsets (fields packet.now)) }

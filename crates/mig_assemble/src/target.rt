@@ -155,7 +155,7 @@ impl<A: Allocator, M: GuestTarget> Target<A, M> {
         fits(self.memory.table(), round)
     }
 
-    /// Applies a round of page records, in the order of the stream. If a page comes more than once
+    /// Applies a round of page records, in the order of the stream. If a page occurs more than once
     /// the last one counts. A caller tests the round by `fits`.
     pub fn section<B: Allocator>(&mut self, round: &StreamRound<B>)
         requires fits { FitsTable self.old.memory.table round.now }

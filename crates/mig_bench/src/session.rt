@@ -39,7 +39,7 @@ fn has_source(channels: usize, source: Source) -> bool
 }
 
 impl Feeding {
-    // Creates a session. Returns None if an allocation is refused, or if no session has so many
+    // Creates a session. Returns None if an allocation is refused, or if no session has this many
     // channels.
     fn new(alloc: Global, channels: usize) -> Option<Feeding> {
         if channels == 0 || channels > 255 {

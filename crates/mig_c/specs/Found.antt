@@ -23,8 +23,8 @@ source_number origin.Main = 0
 source_number (origin.Channel j) = min (j + 1) (2 ^ 64 - 1)
 source_number origin.Round = 2 ^ 64 - 1
 
--- What a fault carries: flags, a byte, the number of a packet or of a block; and beside it the
--- number of an offset or of a page. Zeros, if it carries none.
+-- The details of a fault: first flags, a byte, the number of a packet or of a block; then the
+-- number of an offset or of a page. They are zeros if the fault has none.
 abbrev pub carried_of_stream : StreamFault → ℕ × ℕ
 carried_of_stream (stream.Flags flags) = (flags, 0)
 carried_of_stream (stream.Fill byte) = (byte, 0)
@@ -64,7 +64,7 @@ found_of f = record {
 abbrev pub no_fault : FoundFault
 no_fault = record { round = 0; source = 0; number = done; first = 0; second = 0; reserved = no_words }
 
--- the value for a load that goes on after some rounds
+-- the value for a load that continues after some rounds
 abbrev pub goes_on : ℕ → FoundFault
 goes_on rounds = record { round = rounds; source = 0; number = running; first = 0; second = 0; reserved = no_words }
 

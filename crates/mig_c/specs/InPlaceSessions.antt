@@ -36,7 +36,7 @@ Opens (Some table) uuid channels None made = ⊥
 Opens (Some table) uuid channels (Some frame) None = ⊥
 Opens (Some table) uuid channels (Some frame) (Some s) = BeginsInto table uuid channels frame s
 
--- What `new` does, given a table. It returns the first thing that is wrong.
+-- The effect of `new`, with a table. It returns the first error.
 pub record OpensInto (table : Option RamTable) (uuid : List ℕ) (channels frame : ℕ) (status : ℕ) (made : Option InPlaceLoad) : Type 0 where
   pub is_named : IsOneOf (done ∷ no_memory ∷ bad_channels ∷ bad_length ∷ bad_frame ∷ []) status
   pub opens : status ≡ done → Opens table uuid channels (frame_of frame) made
@@ -75,8 +75,9 @@ pub record FeedsMemory (from : Source) (piece : List ℕ) (before after : Image)
   pub same_table : new.table ≡ old.table
   pub rounds : old.rounds ≤ new.rounds
 
--- What `feed` does with blocks that hold these bytes. `taken` is how many bytes of the piece it
--- took. If an allocation was refused, nothing has changed, or the load has failed for good.
+-- The effect of `feed` with blocks that hold these bytes. `taken` is the number of bytes of the
+-- piece that it took. If an allocation was refused, nothing has changed, or the load has failed for
+-- good.
 pub record FeedsBlocks (from : Source) (piece : List ℕ) (before after : List (List ℕ)) (taken status : ℕ) (old new : InPlaceLoad) : Type 0 where
   pub is_named : IsOneOf (done ∷ no_memory ∷ bad_source ∷ is_over ∷ too_long ∷ bad_length ∷ []) status
   pub feeds : status ≡ done → FeedsMemory from piece (lent_image old.table before) (lent_image old.table after) taken done old new
@@ -96,7 +97,7 @@ pub record FeedsBlocks (from : Source) (piece : List ℕ) (before after : List (
   pub unfit : status ≡ bad_length → FitTable old.table before → ⊥
   pub fits : status ≡ done → FitTable old.table before
 
--- What `end` does to a source, whatever the memory holds. A verdict that is there stays.
+-- The effect of `end` on a source, whatever the memory holds. A verdict, once there is one, stays.
 pub record EndsSource (from : Source) (status : ℕ) (old new : InPlaceLoad) : Type 0 where
   pub is_named : IsOneOf (done ∷ bad_source ∷ []) status
   pub steps : status ≡ done → old.verdict ≡ Running → (memory : Image) → StepsOn (end_step from) memory old memory new

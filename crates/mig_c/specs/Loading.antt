@@ -1,4 +1,4 @@
--- What the calls of a loader do, by their status.
+-- The effects of a loader's calls, by status.
 use Rattle.std.specs.Prelude.{◌≡◌, ◌≢◌, ◌≤◌, ◌<◌, ◌+◌, ◌^◌, ◌++◌, ℕ, Bool, true, false, List, [], ◌∷◌, length, Option, None, Some, IsTrue, IsFalse, Result, ⊤}
 use Rattle.mig_single_load.specs.Settings.{single_of}
 use Rattle.mig_single_load.specs.declared.settings.LoadSettings.{LoadSettings}
@@ -21,7 +21,7 @@ Opens None made = ⊥
 Opens (Some given) None = ⊥
 Opens (Some given) (Some l) = IsFresh given l
 
--- What `new` does. It returns the first thing that is wrong.
+-- The effect of `new`. It returns the first error.
 pub record OpensLoader (page_size limit frame : ℕ) (status : ℕ) (made : Option Loader) : Type 0 where
   pub is_named : IsOneOf (done ∷ no_memory ∷ bad_page_size ∷ bad_limit ∷ bad_frame ∷ []) status
   pub opens : status ≡ done → Opens (asked_settings page_size limit frame) made
@@ -42,7 +42,7 @@ abbrev pub TakesAndWaits : List ℕ → Loader → Loader → Type 0
 TakesAndWaits piece old new = (given : LoadSettings) (text : List ℕ) → Loads given old text false
     → Loads given new (text ++ piece) false × Waits given new (text ++ piece)
 
--- What `feed` does. After the end byte, or after a fault of the stream's form, it never returns
+-- The effect of `feed`. After the end byte, or after a fault of the stream's form, it never returns
 -- `no_memory`.
 pub record Feeds (piece : List ℕ) (status : ℕ) (old new : Loader) : Type 0 where
   pub is_named : IsOneOf (done ∷ waits ∷ no_memory ∷ is_over ∷ too_long ∷ []) status
@@ -56,7 +56,7 @@ pub record Feeds (piece : List ℕ) (status : ℕ) (old new : Loader) : Type 0 w
   pub long : status ≡ too_long → 2 ^ 63 ≤ old.reader.fed + length piece
   pub short : status ≢ is_over → status ≢ too_long → old.reader.fed + length piece < 2 ^ 63
 
--- What `settle` does.
+-- The effect of `settle`.
 pub record Settles (status : ℕ) (old new : Loader) : Type 0 where
   pub is_named : IsOneOf (done ∷ no_memory ∷ []) status
   pub puts_all : status ≡ done → (given : LoadSettings) (text : List ℕ) (ended : Bool) → Loads given old text ended
@@ -65,7 +65,7 @@ pub record Settles (status : ℕ) (old new : Loader) : Type 0 where
       → Waits given old text
   pub same : status ≢ done → new ≡ old
 
--- What `end` does.
+-- The effect of `end`.
 abbrev pub Ends : Loader → Loader → Type 0
 Ends old new = new ≡ record old { reader = record old.reader { ended = true } }
 

@@ -1,4 +1,4 @@
--- What a handle of C owns.
+-- The value that a handle of C owns.
 use Rattle.std.specs.Prelude.{Option, None, Some}
 use base.Fml.{Fml, ftrue}
 use denote.RawPtr.{Ptr}

@@ -1,4 +1,4 @@
--- What the calls that write hellos and packets do, by status.
+-- The effects of the calls that write hellos and packets, by status.
 use Rattle.std.specs.Prelude.{◌≡◌, ◌≢◌, ◌≤◌, ◌<◌, ◌+◌, ◌*◌, ℕ, Bool, List, ◌∷◌, [], length, take}
 use Rattle.mig_packet.specs.PageSize.{IsPageSize, page_limit}
 use Rattle.mig_packet.specs.Hello.{written_hello}

@@ -1,4 +1,4 @@
--- What the calls that read a loaded memory do, by status.
+-- The effects of the calls that read a loaded memory, by status.
 use Rattle.std.specs.Prelude.{◌≡◌, ◌≢◌, ◌≤◌, ◌<◌, ◌+◌, ◌*◌, ◌%◌, ℕ, List, ◌∷◌, [], length, Option, Some, IfSome, IsSome}
 use Rattle.std.specs.Option.{option_map_or}
 use Rattle.mig_mem.specs.declared.place.Place.{Place}

@@ -74,14 +74,14 @@ InRoundOf IsSo (Round part) = IsSo part.before.table
 InRoundOf IsSo (Over text) = ⊥
 InRoundOf IsSo (LeftOpen text) = ⊥
 
--- no round is open, and the stream goes on
+-- no round is open, and the stream hasn't ended
 abbrev pub IsIdle : Sending → Type 0
 IsIdle (Idle w) = ⊤
 IsIdle (Round part) = ⊥
 IsIdle (Over text) = ⊥
 IsIdle (LeftOpen text) = ⊥
 
--- what it had sent and copied out is unchanged
+-- the bytes sent and copied out before are unchanged
 abbrev pub KeepsSent : Sending → Sending → Type 0
 KeepsSent old new = (table : RamTable) (drained : List ℕ) (rounds : List (List Page)) → HasSentRounds table drained rounds old → HasSentRounds table drained rounds new
 
@@ -95,14 +95,14 @@ Starts name table None = ⊥
 Starts name None (Some s) = ⊥
 Starts name (Some table) (Some s) = Sends table name [] [] s × IsIdle s.state
 
--- What `new_named` does with a name.
+-- The effect of `new_named` with a name.
 pub record StartsNamed (name : List ℕ) (table : Option RamTable) (status : ℕ) (made : Option Sender) : Type 0 where
   pub is_named : IsOneOf (done ∷ no_memory ∷ bad_length ∷ []) status
   pub starts : status ≡ done → Starts (Some name) table made
   pub long : status ≡ bad_length → most_name_bytes < length name
   pub short : status ≢ bad_length → length name ≤ most_name_bytes
 
--- What `begin_round` does.
+-- The effect of `begin_round`.
 pub record Begins (status : ℕ) (old new : Sending) : Type 0 where
   pub is_named : IsOneOf (done ∷ no_memory ∷ out_of_turn ∷ []) status
   pub begins : status ≡ done → HasPutPages [] new
@@ -111,7 +111,7 @@ pub record Begins (status : ℕ) (old new : Sending) : Type 0 where
   pub wrong : status ≡ out_of_turn → IsIdle old → ⊥
   pub in_turn : status ≢ out_of_turn → IsIdle old
 
--- What `put_page` does. It returns the first thing that is wrong.
+-- The effect of `put_page`. It returns the first error.
 pub record Puts (p : Place) (bytes : List ℕ) (status : ℕ) (old new : Sending) : Type 0 where
   pub is_named : IsOneOf (done ∷ no_memory ∷ no_page ∷ bad_length ∷ out_of_turn ∷ []) status
   pub puts : status ≡ done → (pages : List Page) → HasPutPages pages old → HasPutPages (pages ++ record { place = p; content = bytes } ∷ []) new
@@ -135,7 +135,7 @@ pub record Adds (p : Place) (bytes : List ℕ) (status : ℕ) (old new : PartSoF
   pub unfit : status ≡ bad_length → length bytes ≢ old.before.table.page_size
   pub fits : status ≢ no_page → status ≢ bad_length → length bytes ≡ old.before.table.page_size
 
--- What `end_round` does.
+-- The effect of `end_round`.
 pub record EndsRound (status : ℕ) (old new : Sending) : Type 0 where
   pub is_named : IsOneOf (done ∷ no_memory ∷ out_of_turn ∷ []) status
   pub ends : status ≡ done → (pages : List Page) → HasPutPages pages old → (table : RamTable) (drained : List ℕ) (rounds : List (List Page))
@@ -145,7 +145,7 @@ pub record EndsRound (status : ℕ) (old new : Sending) : Type 0 where
   pub wrong : status ≡ out_of_turn → IsOpen old → ⊥
   pub in_turn : status ≢ out_of_turn → IsOpen old
 
--- What `cancel_round` does.
+-- The effect of `cancel_round`.
 pub record Cancels (status : ℕ) (old new : Sending) : Type 0 where
   pub is_named : IsOneOf (done ∷ out_of_turn ∷ []) status
   pub idle : status ≡ done → IsIdle new
@@ -154,7 +154,7 @@ pub record Cancels (status : ℕ) (old new : Sending) : Type 0 where
   pub wrong : status ≡ out_of_turn → IsOpen old → ⊥
   pub in_turn : status ≢ out_of_turn → IsOpen old
 
--- What `finish` does.
+-- The effect of `finish`.
 pub record Finishes (status : ℕ) (old new : Sending) : Type 0 where
   pub is_named : IsOneOf (done ∷ no_memory ∷ out_of_turn ∷ []) status
   pub ends : status ≡ done → IsEnded new
@@ -163,7 +163,7 @@ pub record Finishes (status : ℕ) (old new : Sending) : Type 0 where
   pub wrong : status ≡ out_of_turn → IsIdle old → ⊥
   pub in_turn : status ≢ out_of_turn → IsIdle old
 
--- What `finish_open` does.
+-- The effect of `finish_open`.
 pub record FinishesOpen (status : ℕ) (old new : Sending) : Type 0 where
   pub is_named : IsOneOf (done ∷ no_memory ∷ out_of_turn ∷ []) status
   pub ends : status ≡ done → IsLeftOpen new
@@ -185,9 +185,9 @@ open_stream name table rounds = machine_written name table (map RoundPart rounds
 abbrev pub text_so_far : RamTable → List (List Page) → List ℕ
 text_so_far table rounds = written_so_far table (map RoundPart rounds)
 
--- What `drain` does: it copies the next `count` bytes to the front of a buffer. If it has none
--- between two rounds, all that was written so far was copied out; of a stream that is ended, all of
--- it. An open round stays open, with its pages.
+-- The effect of `drain`: it copies the next `count` bytes to the front of a buffer. If there are
+-- none between two rounds, all bytes written so far were copied out; if there are none after the
+-- end of the stream, all of it was. An open round stays open, with its pages.
 pub record Drains (count : ℕ) (out : List ℕ) (old new : Sender) : Type 0 where
   pub fits : count ≤ length out
   pub hands : (table : RamTable) (name : Option (List ℕ)) (given : List ℕ) (rounds : List (List Page)) → Sends table name given rounds old
@@ -240,7 +240,7 @@ pub record Shows (count : ℕ) (out : List ℕ) (s : Sender) : Type 0 where
 abbrev pub Peeks : ℕ → List ℕ → Sender → Sender → Type 0
 Peeks count out old new = Refills old new × Shows count out new
 
--- What `waiting` reports: how many bytes can be copied out, until more is written.
+-- The result of `waiting`: the number of bytes that can be copied out, until more is written.
 abbrev pub Counts : ℕ → Sender → Sender → Type 0
 Counts count old new = Refills old new × (count ≡ length (waiting new))
 

@@ -1,4 +1,4 @@
--- What the calls of a session do, by status.
+-- The effects of a session's calls, by status.
 use Rattle.std.specs.Prelude.{◌≡◌, ◌≢◌, ◌⊎◌, ◌≤◌, ◌<◌, ◌+◌, ◌-◌, ◌^◌, ℕ, List, [], ◌∷◌, length, IsTrue, IsFalse, if◌then◌else◌, ◌==◌, Option, None, Some}
 use Rattle.mig_session.specs.declared.source.Source.{Source}
 use Rattle.mig_session.specs.declared.source.Source.TheVariants as source
@@ -17,7 +17,7 @@ Opens None uuid channels made = ⊥
 Opens (Some given) uuid channels None = ⊥
 Opens (Some given) uuid channels (Some s) = StandsFor given uuid (no_texts channels) s
 
--- What `new` does. It returns the first thing that is wrong.
+-- The effect of `new`. It returns the first error.
 pub record OpensSession (page_size : ℕ) (uuid : List ℕ) (channels limit frame : ℕ) (status : ℕ) (made : Option LoadSession) : Type 0 where
   pub is_named : IsOneOf (done ∷ no_memory ∷ bad_page_size ∷ bad_limit ∷ bad_channels ∷ bad_length ∷ bad_frame ∷ []) status
   pub opens : status ≡ done → Opens (asked_settings page_size limit frame) uuid channels made
@@ -32,7 +32,7 @@ pub record OpensSession (page_size : ℕ) (uuid : List ℕ) (channels limit fram
   pub no_frame : status ≡ bad_frame → frame_of frame ≡ None
   pub has_frame : status ≢ bad_page_size → status ≢ bad_limit → status ≢ bad_channels → status ≢ bad_length → status ≢ bad_frame → frame_of frame ≢ None
 
--- What `feed` does to a source.
+-- The effect of `feed` on a source.
 pub record FeedsSource (from : Source) (piece : List ℕ) (status : ℕ) (old new : LoadSession) : Type 0 where
   pub is_named : IsOneOf (done ∷ no_memory ∷ bad_source ∷ is_over ∷ too_long ∷ []) status
   pub steps : status ≡ done → StepsOn (feed_step from piece) old new
@@ -47,7 +47,7 @@ pub record FeedsSource (from : Source) (piece : List ℕ) (status : ℕ) (old ne
   pub long : status ≡ too_long → 2 ^ 64 ≤ (count_of old.counts from).fed + length piece
   pub short : status ≢ bad_source → status ≢ is_over → status ≢ too_long → (count_of old.counts from).fed + length piece < 2 ^ 64
 
--- What `end` does to a source.
+-- The effect of `end` on a source.
 pub record EndsSource (from : Source) (status : ℕ) (old new : LoadSession) : Type 0 where
   pub is_named : IsOneOf (done ∷ bad_source ∷ []) status
   pub steps : status ≡ done → StepsOn (end_step from) old new

@@ -1,4 +1,4 @@
--- What the call that creates a table does, by status.
+-- The effect of the call that creates a table, by status.
 use Rattle.std.specs.Prelude.{◌≡◌, ◌≢◌, ℕ, List, Option, None, Some}
 use Rattle.mig_mem.specs.RamTable.{RamTable}
 use Rattle.mig_mem.specs.PageSize.{IsPageSize}

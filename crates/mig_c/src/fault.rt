@@ -20,9 +20,9 @@ pub struct FoundFault {
     pub source: u64,
     /// The fault's number.
     pub number: u32,
-    /// What the fault carries: flags, a byte, the number of a packet or of a block.
+    /// The fault's detail: flags, a byte, the number of a packet or of a block.
     pub first: u64,
-    /// What it carries beside that: the number of an offset, or of a page.
+    /// The fault's second detail: the number of an offset, or of a page.
     pub second: u64,
     /// Zeros, reserved for later versions.
     pub reserved: [u64; 3],
@@ -128,7 +128,7 @@ pub(crate) fn of_verdict(verdict: Result<(), LoadFault>, ended: bool) -> FoundFa
     }
 }
 
-/// Returns the value for a load that goes on after `rounds` rounds.
+/// Returns the value for a load that continues after `rounds` rounds.
 pub(crate) fn running(rounds: u64) -> FoundFault
     ensures { result ≡ goes_on rounds }
 {

@@ -21,8 +21,8 @@ use std::alloc::Global;
 use std::marker::Model;
 use uuid::Uuid;
 
-/// What a load keeps between its calls. The table is kept beside the state, for the memory that a
-/// call makes of C's blocks.
+/// The values that a load keeps between its calls. The table is kept next to the state, for the
+/// memory that a call makes of C's blocks.
 #[derive(Drop)]
 pub struct HeldSession {
     session: InPlaceSession<Global>,

@@ -1,5 +1,5 @@
 //! The calls of a load of one stream into blocks of C. The blocks are passed to the call that feeds
-//! it. Each page is written as soon as its bytes have come.
+//! it. Each page is written as soon as its bytes have arrived.
 
 ghost use Rattle.std.specs.Prelude.{◌≡◌, ◌≢◌, IsSome, IfOk, None, Some};
 ghost use Rattle.mig_mem.specs.Lent.{mut_lent_bytes};

@@ -1,5 +1,5 @@
 //! The calls of a load of several channels into blocks of C, which is fed in pieces by source. Each
-//! page is written as soon as its bytes have come.
+//! page is written as soon as its bytes have arrived.
 
 ghost use Rattle.std.specs.Prelude.{◌≡◌, ◌≢◌, ◌≤◌, IsSome, IfOk, None, Some};
 ghost use Rattle.mig_mem.specs.Lent.{mut_lent_bytes};

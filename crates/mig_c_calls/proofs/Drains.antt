@@ -58,7 +58,7 @@ drains_main count out old mid new refills hands same = record {
   all = λ is zero room. refills.all is (hands.none zero room);
 }
 
--- where bytes wait nothing is taken out
+-- if bytes wait nothing is taken out
 pub refills_not : (m : Multi) → waiting_in m.main ≢ [] → RefillsMain m m
 refills_not m waits = record {
   keeps = λ setting given rounds sends. sends;

@@ -239,7 +239,7 @@ worker_hands image sent given more front old new has_front same packs = record {
       (ap (λ (l : List ℕ). more ++ l) (sym has_front) ∙ sym (append_assoc more front (waiting_in new.drained))) packs.has_packed);
 }
 
--- what it wrote is taken out of it, where nothing waits
+-- what it wrote is taken out of it, if nothing waits
 pub worker_refills : (image : Image) (sent given more bytes : List ℕ) (old new : HeldWorker) → waiting_in old.drained ≡ [] → waiting_in new.drained ≡ bytes
     → ((image : Image) (before drained : List ℕ) → HasPacked image before (drained ++ old.worker.text) old.worker
     → HasPacked image before ((drained ++ bytes) ++ new.worker.text) new.worker)

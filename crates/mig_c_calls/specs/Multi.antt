@@ -1,5 +1,5 @@
--- A sender of C on several channels: what it has sent, what was copied out of its streams, and the
--- workers of its rounds, each with a handle of its own.
+-- A sender of C on several channels: the rounds that it has sent, the bytes that were copied out of
+-- its streams, and the workers of its rounds, each with a handle of its own.
 use Rattle.std.specs.Prelude.{◌≡◌, ◌≢◌, ◌⊎◌, ◌+◌, ◌≤◌, ◌<◌, ◌++◌, ℕ, List, [], ◌∷◌, drop, take, map, length, replicate, get_or, All, Option, None, Some, Result, IsOk, ◌↔◌, ⊤}
 use Rattle.std.specs.List.{fold, range_with_len}
 use Rattle.mig_mem.specs.RamTable.{RamTable}
@@ -51,11 +51,11 @@ pub record IsSenderOf (setting : MultiSetting) (s : MultiSending) : Type 0 where
   pub same_limit : s.limit ≡ setting.limit
   pub as_many : length s.channels ≡ setting.channels
 
--- what is left to copy out of a channel once the streams are ended
+-- the bytes that can be copied out of a channel once the streams are ended
 abbrev pub left_of : EndedStreams → ℕ → List ℕ
 left_of e channel = drop (get_or e.given.items channel 0) (get_or (texts_of e.sent.channels.items) channel [])
 
--- all bytes of each channel: what was copied out of it, and what is left
+-- all bytes of each channel: those copied out, and the rest
 abbrev pub all_channels : ℕ → Drained → EndedStreams → List (List ℕ)
 all_channels channels drained e = map (λ channel. drained.channel channel ++ left_of e channel) (range_with_len 0 channels)
 
@@ -69,8 +69,8 @@ SendsTo setting drained rounds (Over e) = (length e.given.items ≡ setting.chan
     (drained.main ++ e.sent.main.items) (all_channels setting.channels drained e)
 
 -- A round of these dirty pages is open, after these rounds. The workers that were given back packed
--- what they drew of it, from the pages of this image. For a channel whose worker is out, `drained`
--- has what was copied out of it before the worker was given out.
+-- the batches that they drew, from the pages of this image. For a channel whose worker is out,
+-- `drained` has the bytes copied out of it before the worker was given out.
 pub record IsInRound (setting : MultiSetting) (image : Image) (dirty : List Place) (drained : Drained) (rounds : List DealtRound) (r : OpenMulti) : Type 0 where
   pub old : MultiSending
   pub before : Drained
@@ -140,8 +140,8 @@ IsSame (Over s) (Over t) = s ≡ t
 -- ---- its workers
 
 -- The bytes of a worker's channel were `sent` after the rounds before. `given` of them was copied
--- out before the worker was given out. The worker has packed what it drew from the pages of this
--- image, and `more` was copied out of it.
+-- out before the worker was given out. The worker has packed the batches that it drew from the
+-- pages of this image, and `more` was copied out of it.
 pub record Packs (image : Image) (sent given more : List ℕ) (w : HeldWorker) : Type 0 where
   pub own : List ℕ
   pub has_sent : sent ≡ given ++ own
@@ -163,7 +163,7 @@ abbrev pub OfTable : (RamTable → Type 0) → Option RamTable → Type 0
 OfTable IsSo None = ⊤
 OfTable IsSo (Some table) = IsSo table
 
--- What `new` does, given a table. It returns the first thing that is wrong.
+-- The effect of `new`, with a table. It returns the first error.
 pub record OpensMulti (table : Option RamTable) (uuid : List ℕ) (channels limit : ℕ) (status : ℕ) (made : Option Multi) : Type 0 where
   pub is_named : IsOneOf (done ∷ no_memory ∷ bad_length ∷ no_channels ∷ bad_batch_limit ∷ []) status
   pub starts : status ≡ done → StartsOf table uuid channels limit made
@@ -194,7 +194,7 @@ IdleOf IsSo (Idle s) = IsSo s.main.table
 IdleOf IsSo (Round r) = ⊥
 IdleOf IsSo (Over e) = ⊥
 
--- What `begin_round` does with the dirty places that it is passed. Each counts once.
+-- The effect of `begin_round` with the dirty places that it is passed. Each counts once.
 pub record BeginsRound (places : List Place) (status : ℕ) (old new : MultiState) : Type 0 where
   pub is_named : IsOneOf (done ∷ no_memory ∷ no_page ∷ out_of_turn ∷ []) status
   pub begins : status ≡ done → (setting : MultiSetting) (image : Image) (drained : Drained) (rounds : List DealtRound) → SendsTo setting drained rounds old
@@ -226,8 +226,8 @@ pub record GivesNext (old new : OpenMulti) (w : HeldWorker) : Type 0 where
   pub none_wait : waiting_in w.drained ≡ []
   pub few : length old.spents + length old.seats ≤ length old.sender.channels
 
--- What `held_worker` does: it gives out the worker of the next channel, none of whose bytes were
--- copied out.
+-- The effect of `held_worker`: it gives out the worker of the next channel, none of whose bytes
+-- were copied out.
 pub record HandsOutWorker (status : ℕ) (old new : MultiState) (made : Option HeldWorker) : Type 0 where
   pub is_named : IsOneOf (done ∷ no_memory ∷ out_of_turn ∷ []) status
   pub next : status ≡ done → OfRound (λ r. HasMade (IsNext r) made) old
@@ -250,7 +250,7 @@ pub record StepsOn (image : Image) (status : ℕ) (old new : ChannelWork) : Type
   pub goes_on : status ≡ running → HasEnded new.hand → ⊥
   pub packed : (before drained : List ℕ) → HasPacked image before (drained ++ old.text) old → HasPacked image before (drained ++ new.text) new
 
--- What `step` does with blocks that hold these bytes.
+-- The effect of `step` with blocks that hold these bytes.
 pub record Steps (blocks : List (List ℕ)) (status : ℕ) (old new : HeldWorker) : Type 0 where
   pub is_named : IsOneOf (done ∷ running ∷ no_memory ∷ bad_length ∷ []) status
   pub fits : status ≢ bad_length → FitTable old.worker.terms.table blocks
@@ -261,8 +261,8 @@ pub record Steps (blocks : List (List ℕ)) (status : ℕ) (old new : HeldWorker
       → Packs (lent_image old.worker.terms.table blocks) sent given more old → Packs (lent_image old.worker.terms.table blocks) sent given more new
   pub same_waiting : new.drained ≡ old.drained
 
--- What `drain` of a worker does: it copies out the next bytes of its channel. 0 says that none is
--- left.
+-- The effect of `drain` of a worker: it copies out the next bytes of its channel. 0 says that none
+-- is left.
 pub record DrainsWorker (count : ℕ) (out : List ℕ) (old new : HeldWorker) : Type 0 where
   pub fits : count ≤ length out
   pub hands : (image : Image) (sent given more : List ℕ) → Packs image sent given more old → Packs image sent given (more ++ take count out) new
@@ -289,7 +289,7 @@ pub record CanComeBack (w : HeldWorker) (r : OpenMulti) : Type 0 where
   pub has_ended : HasEnded w.worker.hand
   pub none_wait : waiting_in w.drained ≡ []
 
--- What `give_back` does. With `done` the worker is gone.
+-- The effect of `give_back`. With `done` the worker is gone.
 pub record TakesBackWorker (status : ℕ) (w : HeldWorker) (old new : MultiState) (left : Option HeldWorker) : Type 0 where
   pub is_named : IsOneOf (done ∷ no_memory ∷ out_of_turn ∷ []) status
   pub takes : status ≡ done → (setting : MultiSetting) (image : Image) (dirty : List Place) (drained : Drained) (rounds : List DealtRound) (more : List ℕ)
@@ -316,8 +316,8 @@ TurnsBoth status (Some w) left None new = ⊤
 TurnsBoth status (Some w) left (Some old) None = ⊥
 TurnsBoth status (Some w) left (Some old) (Some new) = ChangesMulti (λ was is. TakesBackWorker status w was is left) old new
 
--- What `end_round` does, once all workers were given back: it sends a round of the dirty pages of
--- the image.
+-- The effect of `end_round`, once all workers were given back: it sends a round of the dirty pages
+-- of the image.
 pub record EndsRound (status : ℕ) (old new : MultiState) : Type 0 where
   pub is_named : IsOneOf (done ∷ no_memory ∷ out_of_turn ∷ []) status
   pub ends : status ≡ done → (setting : MultiSetting) (image : Image) (dirty : List Place) (drained : Drained) (rounds : List DealtRound)
@@ -328,7 +328,7 @@ pub record EndsRound (status : ℕ) (old new : MultiState) : Type 0 where
   pub wrong : status ≡ out_of_turn → OfRound (λ r. length r.spents ≡ length r.sender.channels) old → ⊥
   pub in_turn : status ≢ out_of_turn → OfRound (λ r. length r.spents ≡ length r.sender.channels) old
 
--- What `finish` does.
+-- The effect of `finish`.
 pub record Finishes (status : ℕ) (old new : MultiState) : Type 0 where
   pub is_named : IsOneOf (done ∷ no_memory ∷ out_of_turn ∷ []) status
   pub ends : status ≡ done → IsOver new
@@ -337,9 +337,9 @@ pub record Finishes (status : ℕ) (old new : MultiState) : Type 0 where
   pub wrong : status ≡ out_of_turn → IsIdle old → ⊥
   pub in_turn : status ≢ out_of_turn → IsIdle old
 
--- What `drain` does: it copies out the next bytes of the main stream. If it has none between two
--- rounds, all that was written so far was copied out; of streams that are ended, all of it. An open
--- round stays as it is.
+-- The effect of `drain`: it copies out the next bytes of the main stream. If there are none between
+-- two rounds, all bytes written so far were copied out; if there are none after the end of the
+-- streams, all of them were. An open round stays as it is.
 pub record DrainsMain (count : ℕ) (out : List ℕ) (old new : Multi) : Type 0 where
   pub fits : count ≤ length out
   pub hands : (setting : MultiSetting) (given : Drained) (rounds : List DealtRound) → Sends setting given rounds old
@@ -367,7 +367,7 @@ pub record RefillsMain (old new : Multi) : Type 0 where
   pub all : IsOver old.state → waiting_in new.main ≡ [] → (setting : MultiSetting) (given : Drained) (rounds : List DealtRound)
       → Sends setting given rounds old → given.main ≡ main setting.table (length rounds)
 
--- What `drain_channel` does: of ended streams it copies out what is left of a channel.
+-- The effect of `drain_channel`: after the end of the streams it copies out the rest of a channel.
 pub record DrainsChannel (channel count : ℕ) (out : List ℕ) (old new : MultiState) : Type 0 where
   pub fits : count ≤ length out
   pub hands : IsOver old → (setting : MultiSetting) (drained : Drained) (rounds : List DealtRound) → SendsTo setting drained rounds old

@@ -1,8 +1,8 @@
--- The statuses that calls return beside the numbers of faults.
+-- The statuses that calls return in addition to the numbers of faults.
 use Rattle.std.specs.Prelude.{ℕ, List, ◌==◌, IsTrue}
 use Rattle.std.specs.List.{list_any}
 
--- the call did what it says
+-- the call succeeded
 abbrev pub done : ℕ
 done = 0
 
@@ -18,7 +18,7 @@ channels = 61
 abbrev pub batch_limit : ℕ
 batch_limit = 62
 
--- the load goes on: more bytes are needed
+-- the load continues: more bytes are needed
 abbrev pub running : ℕ
 running = 100
 

@@ -1,4 +1,4 @@
-//! What the library for C does in its calls, but for handles and pointers: `mig_c` exports it.
+//! The calls of the library for C, without handles and pointers: `mig_c` exports them.
 //!
 //! A call of C returns a number (`status`). `Multi` is a sender on several channels, and a
 //! `HeldWorker` one of its workers (`sending`). They are kept between calls, and copy written bytes

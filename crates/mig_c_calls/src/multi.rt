@@ -312,8 +312,8 @@ impl Multi {
         })
     }
 
-    /// Begins a round of these dirty places. They may come in any order, and more than once.
-    /// Returns the status: `DONE`, `NO_MEMORY`, `NO_PAGE` or `OUT_OF_TURN`.
+    /// Begins a round of these dirty places. They may be in any order, and repeated. Returns the
+    /// status: `DONE`, `NO_MEMORY`, `NO_PAGE` or `OUT_OF_TURN`.
     pub fn begin_round(&mut self, alloc: Global, places: &[NamedPlace]) -> u32
         ensures { ChangesMulti (BeginsRound (map place_of places.now) result) self.old self.new }
     {

@@ -58,7 +58,7 @@ pub struct Multi {
     pub(crate) main: Waiting,
 }
 
-/// A worker, and the bytes that were drained of its channel last. The table is kept beside it, for
+/// A worker, and the bytes that were drained of its channel last. The table is kept next to it, for
 /// the memory that a call makes of C's blocks.
 #[derive(Drop)]
 pub struct HeldWorker {

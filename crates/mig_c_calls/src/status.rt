@@ -1,4 +1,4 @@
-//! The statuses that calls return beside the numbers of faults.
+//! The statuses that calls return in addition to the numbers of faults.
 
 /// The call did what it says.
 pub const DONE: u32 = 0;
@@ -12,7 +12,7 @@ pub const CHANNELS: u32 = 61;
 /// A batch limit of 0, or above the pages of a packet.
 pub const BATCH_LIMIT: u32 = 62;
 
-/// The load goes on: more bytes are needed.
+/// The load continues: more bytes are needed.
 pub const RUNNING: u32 = 100;
 
 /// The number of the fault of a stream that ends before its end byte.

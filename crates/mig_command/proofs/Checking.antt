@@ -92,7 +92,7 @@ pub compared_differs : (ps : List Place) (first : Place) (count : ℕ) → find 
 compared_differs [] first count e len = absurd cc
 compared_differs (p ∷ ps) first count e len = let some = rw (from_start p) at e in ap₂ Differs len (sym (some_same p first some))
 
--- so it is with what was loaded, where that is the guest's memory
+-- so it is with what was loaded, if that is the guest's memory
 pub same_pages : (m : Option Image) (a b : Image) (c : Comparison) → m ≡ Some a → m ≡ Some b → Compares a b c → c ≡ Same
 same_pages m a b c is also h = is_same a b c (some_same a b (sym is ∙ also)) h
 
@@ -123,7 +123,7 @@ compared_back image a r (inl back) faulty same = elim (same _ back.1 back.0) [
 ]
 compared_back image a r (inr want) faulty same = inr (_, faulty _ want, (_, refl, (refl, inr (a.rounds, refl))))
 
--- where the comparison is an error, it is of a refused allocation
+-- if the comparison is an error, it is of a refused allocation
 pub compared_err : {A : Type 0} (a : Loaded A) (r : Result (ℕ × Comparison) Answer) (answer : Answer) → HasCompared a r → r ≡ Err answer → IsWanting answer
 compared_err a r answer (inl all) bad = let good = all.1 in absurd cc
 compared_err a r answer (inr want) bad = subst IsWanting (err_same r want.0 answer want.1 bad) want.2
@@ -143,13 +143,13 @@ gives_back layout text sent image a out = elim out.is_loaded [
   | inr want ↦ inr want.has_verdict
 ]
 
--- so it is where there is such a stream
+-- so it is if there is such a stream
 pub text_back : {A B : Type 0} (layout : Layout) (text : List ℕ) (sent : Option (Vec ℕ B)) (image : Image) (a : Loaded A) → IsSomeAnd sent (λ t. IsRoundTrip layout text image t.items a)
     → GivesBack image a
 text_back layout text None image a out = absurd out
 text_back layout text (Some t) image a out = gives_back layout text t.items image a out
 
--- where the verdict is Ok, all that was sent is loaded
+-- if the verdict is Ok, all that was sent is loaded
 is_whole : {A : Type 0} (layout : Layout) (text sent : List ℕ) (image : Image) (a : Loaded A) → IsRoundTrip layout text image sent a → a.verdict ≡ Ok _
     → a ≡ loaded (table_in layout text) (rounds_of (snapshots_in layout text))
 is_whole layout text sent image a out good = elim out.is_loaded [ inl whole ↦ whole | inr want ↦ let bad = want.has_verdict in absurd cc ]
@@ -174,7 +174,7 @@ outcome layout text table ls image sent a is same_table same_lines within all_se
       is_loaded = load t (rounds_of (snapshots_in layout text)) is_t refl is_t.has_room (played_are_rounds t lines is_t within_t) text_is;
     }
 
--- what is known of the stream that was sent, where there is one
+-- what is known of the stream that was sent, if there is one
 pub outcomes : {A B : Type 0} (layout : Layout) (text : List ℕ) (table : RamTable) (ls : List ScenarioLine) (image : Image) (sent : Option (Vec ℕ B)) (a : Loaded A)
     → IsTable table → table ≡ table_in layout text → ls ≡ lines_of text → All (λ l. IsTrue (is_within table l)) ls → unsent (lines_of text) ≡ None
     → image ≡ (played table ls).image → IsSomeAnd sent (λ t. t.items ≡ single table (rounds_of (played table ls).snapshots))
@@ -272,7 +272,7 @@ told layout text sent c went main channels rounds = record {
 
 -- ---- all of it
 
--- where nothing was sent on channels, there are none
+-- if nothing was sent on channels, there are none
 pub none_gone : {B : Type 0} (layout : Layout) (text : List ℕ) (several : Option (Sent B)) → HasGone layout text several → several ≡ None → layout.channels ≡ 0
 none_gone layout text None went is = went
 none_gone layout text (Some t) went is = absurd cc
@@ -281,7 +281,7 @@ pub one_gone : {B : Type 0} (layout : Layout) (text : List ℕ) (several : Optio
     → HasGone layout text (Some sent)
 one_gone layout text several sent went is = subst (λ (o : Option (Sent _)). HasGone layout text o) is went
 
--- what is reported of the channels, where there are any
+-- what is reported of the channels, if there are any
 abbrev pub IsToldOf : Layout → List ℕ → Option ChannelsChecked → Type 0
 IsToldOf layout text several = MatchOption several (layout.channels ≡ 0) (λ c. IsTold (table_in layout text) layout (snapshots_in layout text) c)
 
@@ -307,7 +307,7 @@ is_checked layout text sent image c a out none good len sections said same =
     rw same (ap₂ (λ (m n : ℕ). let some : Option Report = Some (record { text = single_line m n ++ line ++ same_line; status = 0 }) in some) of_len of_sections) in
     (r, is_printed, inl is_report)
 
--- so it is where there is such a stream
+-- so it is if there is such a stream
 pub are_checked : {A B : Type 0} (layout : Layout) (text : List ℕ) (sent : Option (Vec ℕ B)) (image : Image) (c : Checked) (a : Loaded A)
     → IsSomeAnd sent (λ t. IsRoundTrip layout text image t.items a) → refusal (bytes_in layout.page_size) text ≡ None → a.verdict ≡ Ok _ → IfSome sent (λ t. c.single ≡ length t.items)
     → c.sections ≡ a.rounds → IsToldOf layout text c.several → c.comparison ≡ Same → Answers layout text (answers.Checked c)

@@ -1,4 +1,4 @@
--- What the command line is read as, where its words ask for a check.
+-- What the command line is read as, if its words ask for a check.
 use Rattle.std.proofs.Common.{ℕ, ◌≡◌, ◌<◌, ◌≤◌, ◌^◌, ◌∙◌, ◌||◌, ◌==◌, List, [], ◌∷◌, length, refl, sym, ap, ap₂, inl, inr, arith, Option, Some, None, Bool, true, false, codes, subst}
 use Rattle.std.specs.Prelude.{String, Result, Ok, Err}
 use Rattle.std.specs.Borrow.{Bor}

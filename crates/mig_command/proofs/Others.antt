@@ -24,7 +24,7 @@ stay_then from a b c x y = record {
   same_others = λ j other. y.same_others j other ∙ x.same_others j other;
 }
 
--- so it is where a source was pumped
+-- so it is if a source was pumped
 pub others_after : (counts : Counts) (from : Source) (pieces : List (List ℕ)) (r : Result ℕ PumpFault) → OthersStay from counts (counts_after counts from pieces r)
 others_after counts from pieces (Ok len) =
     stay_then from counts (with_fed counts from _) (with_end (with_fed counts from _) from) (with_other_count counts from _) (with_other_count (with_fed counts from _) from _)

@@ -1,4 +1,4 @@
--- What a check reports, and how the tool's answers are printed.
+-- The report of a check, and the output of the tool's answers.
 use Rattle.std.specs.Prelude.{◌≡◌, ◌⊎◌, ◌≤◌, ◌^◌, ◌-◌, ℕ, min, sum_by, All, List, map, [], ◌∷◌, ◌++◌, length, Option, None, Some, MatchOption, IsSomeAnd, IfSome, Result, Ok, Err, codes, decimal}
 use Rattle.std.specs.Option.{option_map}
 use Rattle.std.specs.Io.KnownBytes.{Consumes, IsAtEnd, Appends}
@@ -214,7 +214,7 @@ abbrev pub BringsBack : {A : Type 0} → RamTable → List Snapshot → Loaded A
 BringsBack table snapshots a = ((a.memory ≡ Some (after table (rounds_of snapshots))) × (a.rounds ≡ length snapshots) × (a.verdict ≡ Ok _))
     ⊎ (a.verdict ≡ no_memory_at a.rounds)
 
--- the answer of a load of what was sent on channels under the nil UUID
+-- the answer of a load of the streams that were sent on channels under the nil UUID
 abbrev pub IsLoadOfSent : {A B : Type 0} → ℕ → Sent B → Loaded A → Type 0
 IsLoadOfSent page_size sent a = (table : RamTable) (limit channels : ℕ) (snapshots : List Snapshot) → IsSentOf table zero_bytes limit channels snapshots sent
     → table.page_size ≡ page_size → BringsBack table snapshots a

@@ -31,7 +31,7 @@ module _ {A : Type 0} (f g : A → ℕ) where
   sum_by_none (x ∷ xs) h e = let s = sum_by-cons g x xs in let here : f x ≡ 0 = h 0 x refl (omega arith) in
       let r = sum_by_none xs (λ i v at. h (suc i) v at) (omega arith) in omega (arith, sum_by-cons f x xs)
 
-  -- where one member has all of g, and f is 0 wherever g is, that member has all of f
+  -- if one member has all of g, and f is 0 wherever g is, that member has all of f
   pub sum_by_alone : (l : List A) (i : ℕ) (v : A) → ((j : ℕ) (w : A) → get_elem? l j ≡ some w → g w ≡ 0 → f w ≡ 0) → get_elem? l i ≡ some v → sum_by g l ≡ g v
       → sum_by f l ≡ f v
   sum_by_alone [] i v h at e = absurd (some-ne-none v (sym at))
@@ -81,7 +81,7 @@ pub count_each : (xs : List ℕ) → count_by (λ _. true) xs ≡ length xs
 count_each [] = refl
 count_each (x ∷ xs) = omega (arith, count_each xs, count_by-cons (λ _. true) x xs)
 
--- where none passes, each fails
+-- if none passes, each fails
 pub none_pass : (m : ℕ) (xs : List ℕ) → count_by (λ x. leb m x) xs ≡ 0 → All (λ y. y < m) xs
 none_pass m [] e k d h = absurd (omega arith)
 none_pass m (x ∷ xs) e zero d h = let s = count_by-cons (λ y. leb m y) x xs in grind (arith, nat_tests)
@@ -110,7 +110,7 @@ found_at [] i a d e = absurd (some-ne-none a (sym e))
 found_at (x ∷ xs) zero a d e = some-injective x a e
 found_at (x ∷ xs) (suc i) a d e = found_at xs i a d e
 
--- where the sum over a list is 1, one member alone has it
+-- if the sum over a list is 1, one member alone has it
 module _ {A : Type 0} (f : A → ℕ) where
   pub record OneAlone (l : List A) : Type 0 where
     pub place : ℕ

@@ -1,4 +1,4 @@
--- Each step of a deal keeps its rule, and what a seat that stands for all seats knows at the end.
+-- Each step of a deal keeps its rule, and what a seat that represents all seats knows at the end.
 use Rattle.std.proofs.Common.{◌≡◌, ℕ, ◌+◌, ◌-◌, ◌%◌, ◌^◌, ◌<◌, ◌≤◌, Bool, true, cond, leb, ⊎_elim, List, [], ◌∷◌, ◌++◌, All, get_or, set, sym, refl, ap, ◌∙◌, subst, arith, append_assoc, append-nil, length, length-append, length-set, get_or-set_same}
 use Rattle.std.specs.Prelude.{count_by, sum_by, flat_map}
 use Rattle.std.specs.List.{range_with_len}
@@ -180,7 +180,7 @@ joins terms id seat given other word dealt at two at' = let all : Holding = toge
           record { few_lasts = omega arith; stops = λ place before. absurd (omega arith); idle = λ _. refl };
     }
 
--- the making: one seat that stands for all, and nothing drawn
+-- the making: one seat that represents all, and nothing drawn
 pub opens : (terms : Terms) → IsDealt terms (opening (terms.base ∷ []) [] (holding terms terms.seats [] []))
 opens terms = record {
   one_word = refl;
@@ -191,7 +191,7 @@ opens terms = record {
       (at_snoc [] (holding terms terms.seats [] []) seat id at);
 }
 
--- a seat that stands for all seats holds all numbers
+-- a seat that represents all seats holds all numbers
 pub ends : (terms : Terms) (id : ℕ) (seat : Holding) (word : Word) (numbers : List ℕ) (next : ℕ) → Seen (IsDealt terms) id seat word → seat.seats ≡ terms.seats → get_or word.words 0 0 ≡ next → HasSameNumbers (numbers_of seat) numbers
     → HasEachOnce terms.base next numbers × (last_count terms (numbers_of seat) ≡ terms.seats → 0 < terms.seats → next ≡ terms.base + terms.batches + terms.seats)
 ends terms id seat word numbers next (dealt, at) whole_deal is same =
@@ -210,7 +210,7 @@ finishes terms id seat words homes next numbers (word, seen, is_words, _, _) at 
     let is_next : get_or word.words 0 0 ≡ next = ap (λ (l : List ℕ). get_or l 0 0) is_words ∙ found_at words 0 next 0 at in
     let e = ends terms id seat word numbers next seen whole_deal is_next same in (e.0, e.1 all_last some_seat)
 
--- a seat that stands for all reads the word
+-- a seat that represents all reads the word
 pub finds_end : (slots id : ℕ) (terms : Terms) (stepper : Me (Unit {0}) Holding) → stepper.0.terms ≡ terms
     → Allows (IsDealt terms) slots id stepper 0 (λ n. n) (TellsEnd (step slots 0 0 0 none) stepper)
 finds_end slots id terms stepper of word dealt _ at small = let seat : Holding = stepper.0 in let k : ℕ = get_or word.words 0 0 in (

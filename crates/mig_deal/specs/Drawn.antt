@@ -1,4 +1,4 @@
--- What a draw returns.
+-- The result of a draw.
 use Rattle.std.specs.Prelude.{◌≡◌, ℕ, ◌<◌, ◌≤◌, All}
 use Rattle.mig_deal.specs.declared.seat.Drawn.{Drawn}
 use Rattle.mig_deal.specs.declared.seat.Drawn.TheVariants.{Work, Last}

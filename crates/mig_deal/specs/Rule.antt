@@ -33,7 +33,8 @@ last_count terms numbers = count_by (λ number. leb (terms.base + terms.batches)
 abbrev pub numbers_between : ℕ → ℕ → List ℕ
 numbers_between from to = range_with_len from (to - from)
 
--- two lists have the same numbers, each equally often, in any order: as many pass any test
+-- two lists have the same numbers, each equally often, in any order: for any test the same number
+-- of them passes
 abbrev pub HasSameNumbers : List ℕ → List ℕ → Type 0
 HasSameNumbers numbers others = (test : ℕ → Bool) → count_by test numbers ≡ count_by test others
 
@@ -41,14 +42,14 @@ HasSameNumbers numbers others = (test : ℕ → Bool) → count_by test numbers 
 abbrev pub IsWorkButNewest : Terms → List ℕ → Type 0
 IsWorkButNewest terms drawn = (place : ℕ) → place + 1 < length drawn → slice_index drawn place < terms.base + terms.batches
 
--- What holds of one seat: it holds at most one last number for each of the deal's seats that it
--- stands for; it drew nothing after a last number; if it stands for no seat, it holds no number.
+-- The invariant of one seat: it holds at most one last number for each of the deal's seats that it
+-- represents; it drew nothing after a last number; if it represents no seat, it holds no number.
 pub record IsLawfulSeat (terms : Terms) (seat : Holding) : Type 0 where
   pub few_lasts : last_count terms (numbers_of seat) ≤ seat.seats
   pub stops : IsWorkButNewest terms seat.drawn
   pub idle : seat.seats ≡ 0 → numbers_of seat ≡ []
 
--- the rule: the seats stand for all of the deal's, and together they hold each number from the base
+-- the rule: the seats represent all of the deal's, and together they hold each number from the base
 -- up to the next one once
 pub record IsDealt (terms : Terms) (word : Word) : Type 0 where
   pub one_word : length word.words ≡ 1
@@ -66,7 +67,7 @@ pub record HasNumber (before : Holding) (number : ℕ) (after : Holding) : Type 
 abbrev pub TellsNumber : Step (Unit {0}) → Me (Unit {0}) Holding → ℕ → Me (Unit {0}) Holding → Type 0
 TellsNumber _ before number after = HasNumber before.0 number after.0 × (after.1 ≡ before.1)
 
--- For a seat that stands for all of the deal's seats, each of which drew its last number: it holds
+-- For a seat that represents all of the deal's seats, each of which drew its last number: it holds
 -- each number from the base up to the next one once, and the next one is the deal's end.
 abbrev pub HasAllUpTo : Terms → Holding → ℕ → Type 0
 HasAllUpTo terms seat next = seat.seats ≡ terms.seats → last_count terms (numbers_of seat) ≡ terms.seats → 0 < terms.seats → (numbers : List ℕ) → HasSameNumbers (numbers_of seat) numbers
@@ -76,11 +77,11 @@ HasAllUpTo terms seat next = seat.seats ≡ terms.seats → last_count terms (nu
 abbrev pub TellsEnd : Step (Unit {0}) → Me (Unit {0}) Holding → ℕ → Me (Unit {0}) Holding → Type 0
 TellsEnd _ before number after = HasAllUpTo before.0.terms before.0 number
 
--- what is left of a seat that one is split off
+-- a seat after one was split off it
 abbrev pub without_one_seat : Holding → Holding
 without_one_seat seat = holding seat.terms (seat.seats - 1) seat.drawn seat.joined
 
--- the seat that is split off: it stands for one, and holds nothing
+-- the seat that is split off: it represents one, and holds nothing
 abbrev pub one_new_seat : Holding → Holding
 one_new_seat seat = holding seat.terms 1 [] []
 
@@ -88,7 +89,7 @@ one_new_seat seat = holding seat.terms 1 [] []
 abbrev pub together : Holding → Holding → Holding
 together seat other = holding seat.terms (seat.seats + other.seats) seat.drawn (seat.joined ++ numbers_of other)
 
--- what is left of a seat that was joined into another: it stands for no seat
+-- a seat after it was joined into another: it represents no seat
 abbrev pub nothing_held : Holding
 nothing_held = holding record { base = 0; batches = 0; seats = 0 } 0 [] []
 
@@ -103,7 +104,7 @@ terms_of deal = record { base = deal.base; batches = deal.batches; seats = deal.
 abbrev pub seat_view : TableId → Holding → SeatView
 seat_view id seat = record { deal = deal_view id seat.terms; drawn = seat.drawn }
 
--- A seat that a caller has stands for one, has no other joined into it, and has drawn `lasts` last
+-- A seat that a caller has represents one, has no other joined into it, and has drawn `lasts` last
 -- numbers: none while it may draw, one when it is spent.
 pub record IsSeatWithLasts (lasts : ℕ) (seat : Holding) : Type 0 where
   pub one : seat.seats ≡ 1

@@ -57,8 +57,8 @@ fn put<A: Allocator>(list: &mut Vec<Seat, A>, seat: Seat)
     }
 }
 
-// Splits one seat after the other off the first, which stands for all of them. The first seat is
-// put last.
+// Splits one seat after another off the first, which represents all of them. The first seat is put
+// last.
 fn split_seats<A: Allocator>(
     table: &Table<(), Holding, Terms, DealRule, A>,
     terms: Terms,

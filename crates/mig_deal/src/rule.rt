@@ -17,12 +17,12 @@ pub struct Terms {
     pub seats: usize,
 }
 
-/// What a seat stands for. No value of this type is made: it is known to proofs alone.
+/// The seats that a seat represents. No value of this type is made: only proofs know it.
 pub struct Holding {
     /// The terms of the seat's deal.
     pub terms: Terms,
-    /// How many of the deal's seats it stands for: one, but for the first seat until it is split,
-    /// and for the seats that are joined at the end.
+    /// The number of the deal's seats that it represents: one, except for the first seat until it
+    /// is split, and for the seats that are joined at the end.
     pub seats: usize,
     /// The numbers that it drew, in order.
     pub drawn: LinkedList<u64>,
@@ -30,7 +30,7 @@ pub struct Holding {
     pub joined: LinkedList<u64>,
 }
 
-/// What holds of a deal's word and of all seats between any two steps.
+/// The invariant of a deal's word and of all seats between any two steps.
 pub struct DealRule;
 
 impl TableRule<(), Holding, Terms> for DealRule {
@@ -51,7 +51,7 @@ impl Play<(), Holding> for DrawNumber {
     ghost then = { TellsNumber };
 }
 
-/// The step that splits a new seat off one that stands for several.
+/// The step that splits a new seat off one that represents several.
 pub struct SplitSeat;
 
 impl Split<Holding> for SplitSeat {
@@ -73,7 +73,7 @@ impl Join<Holding> for JoinSeats {
     ghost spent = { nothing_held };
 }
 
-/// The step by which a seat that stands for all reads the word.
+/// The step by which a seat that represents all reads the word.
 pub struct FindEnd;
 
 impl Play<(), Holding> for FindEnd {

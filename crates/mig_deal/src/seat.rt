@@ -35,7 +35,7 @@ impl fmt::Debug for Seat {
     }
 }
 
-/// What is left of a seat that has drawn its last number. It can't be copied. `Deal::close` and
+/// A spent seat, which has drawn its last number. It can't be copied. `Deal::close` and
 /// `Deal::end_number` take one for each seat of the deal. If one is dropped, neither can be called.
 #[derive(Drop)]
 pub struct Spent {
@@ -72,8 +72,8 @@ impl Spent {
     }
 }
 
-/// What a draw returns: a number that claims a batch, and the seat to go on with; or the seat's
-/// last number, which claims none.
+/// The result of a draw: a number that claims a batch, and the seat for further draws; or the
+/// seat's last number, which claims none.
 #[derive(Debug)]
 pub enum Drawn {
     Work(u64, Seat),

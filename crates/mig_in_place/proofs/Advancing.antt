@@ -122,7 +122,7 @@ module _ (f : Loading) (memory : Image) (s : InPlaceLoad) (loads : Loads f memor
   lawful_here : refusal_at k r.readings ≡ None
   lawful_here = not_refused k r.readings (passing r.readings r.are_readings)
 
-  -- no page lies wrong
+  -- no page is misplaced
   pub right : IsFalse s.round.has_misplaced
   right =
       let all : All (λ q. place_fault table q ≡ None) (packets_in holds.arrivals) = lawful_lies_right table s.base (records_in holds.arrivals) (packets_in holds.arrivals) lawful in

@@ -1,5 +1,5 @@
--- A round in hand holds the same where a channel has given the same heads and pages, as at the end
--- of a packet.
+-- The current round has the same arrivals if a channel has given the same heads and pages, as at
+-- the end of a packet.
 use Rattle.std.proofs.Common.{ℕ, ◌≡◌, Bool, true, false, List, [], ◌∷◌, ◌++◌, length, map, Some, None, refl, sym, ap, subst, ◌∙◌, arith}
 use Rattle.std.specs.Prelude.{IsPermutation, IsTrue, if◌then◌else◌}
 use Rattle.std.specs.List.{flat_map}

@@ -23,7 +23,7 @@ use Rattle.mig_in_place.specs.Sources.{KeptChannel, HoldsChannel, TellsChannelSt
 abbrev pub kept : PageHolder → Option ℕ → Bool → KeptChannel
 kept reader block is_whole = record { reader = reader; block = block; is_whole = is_whole }
 
--- ---- before the first byte, and once it is over
+-- ---- before the first byte, and after the end
 
 pub begins : (given : Settings) (table : RamTable) (reader : PageHolder) → Gives given [] (none_given given) reader → IsFalse reader.ended
     → HoldsChannel given table 0 no_text (none_given given) (kept reader None false)
@@ -70,7 +70,7 @@ rounds_given given table k text so_far c reading size holds is =
     let same : reading ≡ other = one.2 reading is ∙ sym (one.2 other is_other) in
     ap (λ (x : ChannelReading). x.rounds) same ∙ ap (λ (x : ChannelProgress). x.rounds) (read_as_given so_far.read so_far.packet holds.has_missing)
 
--- so many
+-- this many
 pub rounds_are : (given : Settings) (table : RamTable) (k : ℕ) (text : Text) (so_far : GivenSoFar) (c : KeptChannel) (reading : ChannelReading) → IsPageSize given.page_size
     → HoldsChannel given table k text so_far c → IsReading given text.bytes text.ended reading → length reading.rounds ≡ rounds_come k c.is_whole
 rounds_are given table k text so_far c reading size holds is =

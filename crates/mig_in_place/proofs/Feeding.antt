@@ -114,6 +114,6 @@ pub on_err : {T E P Q : Type 0} (r : Result T E) → OnErr r P → (P → Q) →
 on_err (Ok x) h f = tt
 on_err (Err e) h f = f h
 
--- where no byte was taken
+-- if no byte was taken
 pub none_behind : (from : Source) (piece : List ℕ) (f : Loading) (memory : Image) (s : InPlaceLoad) → Lacks f memory s → LacksBehind from piece f memory s
 none_behind from piece f memory s lacks = (0, omega arith, subst (λ (texts : Texts). Lacks (record f { texts = texts }) memory s) (sym (fed_none from f.texts)) lacks)

@@ -89,7 +89,7 @@ packet_noted head old mid pages.Nowhere also same lie =
 packet_noted head old mid (pages.In b) also same lie = noted_right (as_zeros head) old mid also same (right_of old.arrivals.seen.table (as_zeros head) lie.1.are_right)
 packet_noted head old mid pages.Misplaced also same lie = noted_wrong (as_zeros head) old mid also lie
 
--- what stood for some arrivals stands for some still
+-- what represented some arrivals represents some still
 pub also_some : (table : RamTable) (q : Fields) (old new : KeptRound) → AlsoKeeps (OnePacket q) old new → KeepsSome table old → KeepsSome table new
 also_some table q old new also some = (some.0 ++ OnePacket q ∷ [], also table some.0 some.1)
 

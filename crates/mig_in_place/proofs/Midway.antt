@@ -38,8 +38,8 @@ use Rattle.mig_in_place.proofs.Heads.{lies}
 use Rattle.mig_in_place.proofs.Channels.{kept, tells_whole, tells_end}
 use Rattle.mig_in_place.proofs.Came.{same_holds, after_by, with_open, with_ended, packet_ends}
 
--- So much of the channel was taken and given in a call that goes on. It doesn't have the round in
--- hand, and of the packet that was begun all pages may have come.
+-- This much of the channel was taken and given in a call that continues. It doesn't have the
+-- current round yet, and all pages of the packet that was begun may have arrived.
 pub record Amid (f : AtChannel) (l : SizeList) (text : Text) (so_far : GivenSoFar) (c : KeptChannel) (r : KeptRound) (memory : Image) : Type 0 where
   pub is_page_size : IsPageSize f.given.page_size
   pub has_page_size : f.given.page_size ≡ memory.table.page_size
@@ -531,7 +531,7 @@ at_first l piece c r memory open_ takes is keeps = record {
   );
 }
 
--- a step of the call, which takes so many bytes more
+-- a step of the call, which takes this many more bytes
 abbrev pub Moves : SizeList → List ℕ → KeptChannel → KeptRound → Image → KeptChannel → KeptRound → Image → Type 0
 Moves l bytes now after then next later last = (f : AtChannel) (text : Text) (so_far : GivenSoFar) → Amid f l text so_far now after then → AmidBehind f l text bytes next later last
 
@@ -578,7 +578,7 @@ at_last l piece n k m c r memory now after then next later last sum rests at = �
           (subst (λ (bytes : List ℕ). HoldsAt f l (record text { bytes = bytes }) behind.0 next later last) (more_text text piece n k) behind.1),
     )
 
--- where a head was refused
+-- if a head was refused
 pub at_refused : (l : SizeList) (piece : List ℕ) (n : ℕ) (c : KeptChannel) (r : KeptRound) (memory : Image) (now : KeptChannel) (after later : KeptRound) (then last : Image)
     → HolderTells now.reader (λ given text so_far. Comes given.page_size came.Head so_far) → later ≡ after → last ≡ then
     → IsAt l piece n c r memory now after then → HasReadSome l piece c r memory later last

@@ -1,4 +1,4 @@
--- A round in hand goes on by a packet's head, or by a page.
+-- The current round advances by a packet's head, or by a page.
 use Rattle.std.proofs.Common.{ℕ, ◌≡◌, ◌/◌, ◌||◌, Bool, true, false, List, [], ◌∷◌, ◌++◌, map, Option, Some, None, refl, sym, ap, subst, ◌∙◌, append_assoc, inl, inr}
 use Rattle.std.specs.Prelude.{IsPermutation, IsTrue, IsFalse, ◌⊎◌}
 use Rattle.std.specs.List.{All, flat_map}
@@ -116,8 +116,8 @@ heads_with k so_far head none =
     let G : List (List ℕ) = packets_given k so_far in
     ap (λ (l : List (List ℕ)). l ++ head ∷ []) (sym (ap (λ (o : Option OpenPacket). G ++ heads_begun o) none ∙ append-nil G))
 
--- What was written once a head was added: the zeros of its packet, or nothing where pages are known
--- to lie wrong.
+-- The pages written once a head was added: the zeros of its packet, or none if pages are known to
+-- be misplaced.
 pub record WroteZeros (table : RamTable) (head : List ℕ) (r : KeptRound) (before after : Image) : Type 0 where
   pub right : IsFalse r.has_misplaced → (after ≡ with_round before (zeros_begun table head)) ⊎ ((after ≡ before) × (zeros_begun table head ≡ []))
   pub named : IsFalse r.has_misplaced → All (λ page. IsTrue (has_place (head_places table head) page.place)) (zeros_begun table head)
@@ -252,7 +252,7 @@ heads_same : (k : ℕ) (so_far : GivenSoFar) (packet : OpenPacket) (offset : ℕ
     → heads_given k (with_next so_far packet offset content) ≡ heads_given k so_far
 heads_same k so_far packet offset content is = ap (λ (o : Option OpenPacket). packets_given k so_far ++ heads_begun o) (sym is)
 
--- What was written once a page was given: that page, or nothing where pages are known to lie wrong.
+-- The pages written once a page was given: that page, or none if pages are known to be misplaced.
 pub record WrotePage (table : RamTable) (head : List ℕ) (offset : ℕ) (content : List ℕ) (r : KeptRound) (before after : Image) : Type 0 where
   pub right : IsFalse r.has_misplaced → after ≡ with_page before (place_at (block_in table head) (offset / table.page_size)) content
   pub named : IsFalse r.has_misplaced → has_place (head_places table head) (place_at (block_in table head) (offset / table.page_size)) ≡ true

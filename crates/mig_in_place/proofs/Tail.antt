@@ -36,7 +36,7 @@ not_false : (b : Bool) → not b ≡ false → b ≡ true
 not_false true e = refl
 not_false false e = absurd cc
 
--- where a main stream may end it has no tail
+-- if a main stream may end it has no tail
 no_tail : (ends : Bool) (c : StreamProgress) → c.mode ≡ Main → ends ≡ true → has_tail ends c ≡ false → c.records ≡ []
 no_tail ends c main is none =
     let t : (true && not (is_single Main) && not (length c.records == 0)) ≡ false = rw (is, main) at none in

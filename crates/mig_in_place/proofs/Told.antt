@@ -1,4 +1,4 @@
--- What the sources of a load in place tell together at the round in hand.
+-- The verdict of the sources of a load in place at the current round.
 use Rattle.std.proofs.Common.{ℕ, ◌≡◌, ◌+◌, Bool, true, false, List, [], ◌∷◌, ◌++◌, length, map, Option, Some, None, refl, sym, ap, subst, ◌∙◌, inl, inr, arith}
 use Rattle.std.specs.Prelude.{if◌then◌else◌, IsFalse, zip}
 use Rattle.std.specs.List.{AllZip, flat_map, enumerate_from}
@@ -156,7 +156,7 @@ module _ (f : Loading) (memory : Image) (s : InPlaceLoad) (loads : Loads f memor
 
 -- ---- the verdict of the sources
 
--- with a verdict of the sources the load stands for them
+-- with a verdict of the sources the load represents them
 same_running : (load : LoadSettings) (uuid : List ℕ) (first : Image) (texts : Texts) (memory : Image) (s : InPlaceLoad) (v : Verdict) → IsRunning load uuid first texts memory s
     → IsRunning load uuid first texts memory (record s { verdict = v })
 same_running load uuid first texts memory s v r = record {

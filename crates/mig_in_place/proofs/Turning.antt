@@ -344,7 +344,7 @@ kept_pump chooses most (Ok verdict) old new (turns, mid, taken, few, stops, is) 
 kept_pump chooses most (Err e) old new (turns, mid, from, taken, few, last) ne =
     kept_both old mid new (kept_turns chooses turns old mid taken) (kept_fault chooses from e mid new (λ is. ne (ap (λ (x : TurnFault). let r : Result Verdict TurnFault = Err x in r) is)) last)
 
--- What a pump has come to after so many of its turns.
+-- The state of a pump after this many of its turns.
 pub record TurnsSoFar {O : Type 0} (chooses : O → InPlaceLoad → ℕ → O → Type 0) (count : ℕ) (old new : AtTurns O) : Type 0 where
   pub turns : List (Source × Turn)
   pub as_many : length turns ≡ count

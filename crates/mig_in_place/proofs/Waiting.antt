@@ -118,7 +118,7 @@ any_kept k n (x ∷ befores) (y ∷ nows) kept =
     ap (λ (s : Status). is_pending s || list_any waits (map (standing_at k) (enumerate_from (n + 1) nows))) kept.0
     ∙ ap (λ (b : Bool). is_pending (channel_status k x) || b) (any_kept k (n + 1) befores nows kept.1)
 
--- ---- a load runs where a source is pending
+-- ---- a load runs if a source is pending
 
 none_passes : {X : Type 0} (test : X → Bool) (xs : List X) → list_any test xs ≡ false → All (λ x. test x ≡ false) xs
 none_passes test [] e = All-nil (λ x. test x ≡ false)

@@ -1,5 +1,5 @@
 -- The answer of a load of several channels into existing memory, which writes each page as soon as
--- it has come.
+-- it has arrived.
 use Rattle.std.specs.Prelude.{ℕ, ◌≡◌, ◌<◌, List, map, IsTrue, None}
 use Rattle.std.specs.List.{range_with_len}
 use Rattle.mig_mem.specs.declared.place.Place.{Place}
@@ -28,8 +28,8 @@ pub record HoldsElsewhere (kept : Image) (IsOpen : Place → Type 0) (memory : I
   pub same_table : memory.table ≡ kept.table
   pub elsewhere : (p : Place) → IsPlace kept.table p → (IsOpen p → ⊥) → content_at memory p ≡ content_at kept p
 
--- The memory has k rounds on top of what it held. The places that the next round names so far may
--- have any contents.
+-- The memory has k rounds on top of its earlier content. The places that the next round names so
+-- far may have any contents.
 abbrev pub HasRoundsOnto : LoadSettings → List ℕ → Image → Texts → Readings → Image → ℕ → Type 0
 HasRoundsOnto given uuid first texts readings memory k =
     HoldsElsewhere (rounds_onto first k readings) (IsNamed given uuid first.table k texts) memory

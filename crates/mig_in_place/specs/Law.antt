@@ -1,4 +1,4 @@
--- What holds of each answer of a load in place.
+-- Properties of each answer of a load in place.
 use Rattle.std.specs.Prelude.{ℕ, ◌≡◌, ◌≢◌, ◌≤◌, List, None, length}
 use Rattle.mig_mem.specs.RamTable.{IsTable}
 use Rattle.mig_mem.specs.Image.{Image, IsImage}
@@ -28,32 +28,32 @@ InPlaceTellsAlike = (given : LoadSettings) (uuid : List ℕ) (first : Image) (te
     → IsInPlaceAnswer given uuid first texts memory rounds verdict → IsAnswer (for_table first.table given) uuid texts answer → verdict ≢ failed 0 origin.Main fault.OtherTable
     → (rounds ≡ answer.rounds) × (verdict ≡ answer.verdict)
 
--- If the load is done the memory has all rounds on top of what it held, and nothing else.
+-- If the load is done the memory has all rounds on top of its earlier content, and nothing else.
 abbrev pub InPlaceDoneIsExact : Type 0
 InPlaceDoneIsExact = (given : LoadSettings) (uuid : List ℕ) (first : Image) (texts : Texts) (memory : Image) (rounds : ℕ) → IsTable first.table → IsImage first → IsImage memory
     → (answer : IsInPlaceAnswer given uuid first texts memory rounds Done) → memory ≡ rounds_onto first rounds answer.readings
 
 -- Bytes of a source that aren't taken change no answer, nor does its end after them. So the answer
--- on the bytes taken is that on all bytes that have come to the caller.
+-- on the bytes taken is that on all bytes that the caller has.
 abbrev pub WaitingBytesChangeNothing : Type 0
 WaitingBytesChangeNothing = (given : LoadSettings) (uuid : List ℕ) (first : Image) (texts : Texts) (memory : Image) (rounds : ℕ) (from : Source) (new : Text) → IsTable first.table
     → GoesOn (text_of texts from) new → (TakesBytes (for_table first.table given) uuid rounds texts from → ⊥)
     → IsInPlaceAnswer given uuid first texts memory rounds Running → IsInPlaceAnswer given uuid first (at_source from (λ text. new) texts) memory rounds Running
 
--- As long as a load runs it takes bytes of some source, whatever has come.
+-- As long as a load runs it takes bytes of some source, whatever bytes it has.
 abbrev pub RunningTakesSome : Type 0
 RunningTakesSome = (given : LoadSettings) (uuid : List ℕ) (first : Image) (texts : Texts) (memory : Image) (rounds : ℕ) → IsTable first.table
     → IsInPlaceAnswer given uuid first texts memory rounds Running → (from : Source) × HasSource (counts_in texts) from × TakesBytes (for_table first.table given) uuid rounds texts from
 
--- What a sender on several channels has sent of the memory's table is loaded: the memory has the
--- rounds sent on top of what it held.
+-- The streams of a sender on several channels with the memory's table are loaded: the memory has
+-- the rounds sent, on top of its earlier content.
 abbrev pub SentIsLoadedInPlace : Type 0
 SentIsLoadedInPlace = (uuid : List ℕ) (limit : ℕ) (first : Image) (rounds : List DealtRound) (main : List ℕ) (channels : List (List ℕ)) (memory : Image) (k : ℕ) (verdict : Verdict)
     → IsTable first.table → IsImage first → IsImage memory → IsSentInAnyOrder first.table uuid rounds main channels → total_bytes first.table ≤ limit
     → IsInPlaceAnswer (ram_settings first.table.page_size limit) uuid first (ended_texts main channels) memory k verdict
     → (verdict ≡ Done) × (k ≡ length rounds) × (memory ≡ with_rounds first (sent_rounds rounds))
 
--- What the sender has sent with a machine's main stream is loaded in a machine's frame, whatever
+-- The sender's streams with a machine's main stream are loaded in a machine's frame, whatever
 -- follows RAM's END. Any number of page records may wait.
 abbrev pub MachineSentIsLoadedInPlace : Type 0
 MachineSentIsLoadedInPlace = (given : LoadSettings) (uuid : List ℕ) (first : Image) (rounds : List DealtRound) (main : List ℕ) (channels : List (List ℕ)) (memory : Image) (k : ℕ) (verdict : Verdict)

@@ -1,5 +1,5 @@
--- To read first, in this order: the places that a round names so far; the answer of a load in
--- place; what an `InPlaceSession` stands for; the laws
+-- Read first, in this order: the places that a round names so far; the answer of a load in place;
+-- what an `InPlaceSession` represents; the laws
 pub mod Named
 pub mod Answer
 pub mod Session
@@ -7,6 +7,6 @@ pub mod Law
 -- Turns of sources, whose bytes wait in buffers
 pub mod Turns
 pub mod TurnFaultNumber
--- Private: what is kept of the current round, and of the sources
+-- Private: the values kept of the current round, and of the sources
 pub mod Round
 pub mod Sources

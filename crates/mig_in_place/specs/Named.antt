@@ -1,5 +1,5 @@
 -- The places that a round names so far: those of its page records, and those of the pages of each
--- packet whose head has come.
+-- packet whose head has arrived.
 use Rattle.std.specs.Prelude.{ℕ, ◌⊎◌, ◌&&◌, if◌then◌else◌, nat_le, is_none, IsTrue, List, [], ◌∷◌, ◌++◌, length, map, get_or, Option, Some, None, Contains}
 use Rattle.std.specs.List.{flat_map}
 use Rattle.mig_mem.specs.declared.place.Place.{Place}
@@ -16,7 +16,8 @@ use Rattle.mig_single_load.specs.Settings.{main_of}
 use Rattle.mig_single_load.specs.declared.settings.LoadSettings.{LoadSettings}
 use Rattle.mig_answer.specs.Texts.{Text, Texts}
 
--- what has come of round k: all of it, or, if it is the open one, what has come of that
+-- the records or packets of round k so far: all of them, or, if it is the open round, those read so
+-- far
 abbrev pub round_so_far : {X : Type 0} → ℕ → List (List X) → List X → List X
 round_so_far k rounds in_hand = get_or rounds k in_hand
 
@@ -26,7 +27,7 @@ pub record MainNames (given : stream.Settings) (k : ℕ) (text : List ℕ) (p : 
   pub is_reading : stream.IsReading given text reading
   pub has_record : IsTrue (has_place (map (λ r. r.place) (round_so_far k reading.rounds is_reading.to.records)) p)
 
--- the packet whose head has come without a fault, while pages are missing: the bytes after the
+-- the packet whose head has arrived without a fault, while pages are missing: the bytes after the
 -- complete packets
 abbrev pub begun : ChannelProgress → Option ℕ → List ℕ → List (List ℕ)
 begun c None rest = []
@@ -36,7 +37,7 @@ begun c (Some id) rest = if nat_le (head_len c.page_size) (length rest) && is_no
 abbrev pub packet_places : RamTable → List ℕ → List Place
 packet_places table packet = places_of (arrival_pages table (OnePacket (fields_of table.page_size packet)))
 
--- The channel has a packet with a page of this place, whose head came in round k.
+-- The channel has a packet with a page of this place, whose head arrived in round k.
 pub record ChannelNames (given : channel.Settings) (table : RamTable) (k : ℕ) (text : Text) (p : Place) : Type 0 where
   pub reading : channel.ChannelReading
   pub is_reading : channel.IsReading given text.bytes text.ended reading

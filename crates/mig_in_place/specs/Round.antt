@@ -1,4 +1,4 @@
--- What is kept of the current round: numbers and places, without the pages' contents.
+-- The values kept of the current round: numbers and places, without the pages' contents.
 use Rattle.std.specs.Prelude.{ℕ, ◌≡◌, ◌≢◌, true, ◌+◌, ◌++◌, ◌∷◌, [], Bool, List, length, map, Some, None}
 use Rattle.std.specs.List.{list_any, range_with_len}
 use Rattle.std.specs.Option.{is_some}
@@ -43,18 +43,18 @@ with_pages (pages.In b) r = r
 abbrev pub any_misplaced : RamTable → List Fields → Bool
 any_misplaced table packets = list_any (λ packet. is_some (place_fault table packet)) packets
 
--- What is kept stands for a list of arrivals, of a round of this table.
+-- The kept values represent a list of arrivals, of a round of this table.
 pub record Keeps (table : RamTable) (came : List Arrival) (r : KeptRound) : Type 0 where
   pub has_come : HasCome table came r.arrivals
   pub has_misplaced : r.has_misplaced ≡ any_misplaced table (packets_in came)
 
--- this has come too, after what had come before
+-- this arrival was added, after those before
 abbrev pub AlsoKeeps : Arrival → KeptRound → KeptRound → Type 0
 AlsoKeeps more old new = (table : RamTable) (came : List Arrival) → Keeps table came old → Keeps table (came ++ more ∷ []) new
 
 abbrev pub KeepsSame : KeptRound → KeptRound → Type 0
 KeepsSame old new = (table : RamTable) (came : List Arrival) → Keeps table came old → Keeps table came new
 
--- it stands for some list of arrivals
+-- it represents some list of arrivals
 abbrev pub KeepsSome : RamTable → KeptRound → Type 0
 KeepsSome table r = (came : List Arrival) × Keeps table came r

@@ -1,5 +1,5 @@
--- What an `InPlaceSession` holds, the streams and the memory that it stands for, and which bytes it
--- takes. The memory is passed to each call.
+-- The state of an `InPlaceSession`, the streams and the memory that it represents, and the bytes
+-- that it takes. The memory is passed to each call.
 use Rattle.std.specs.Prelude.{ℕ, ◌≡◌, ◌≢◌, ◌<◌, ◌≤◌, ◌^◌, false, List, [], length, map, zip, get_or, All, IsTrue, IsFalse, IfSome, slice_get, take, ⊤, ◌⊎◌, Option, Some, None, if◌then◌else◌}
 use Rattle.std.specs.List.{AllZip}
 use Rattle.mig_mem.specs.PageSize.{IsPageSize}
@@ -32,13 +32,13 @@ use Rattle.mig_in_place.specs.declared.main_stream.SizeList.{SizeList}
 use Rattle.mig_in_place.specs.Round.{KeptRound, Keeps, KeepsSome}
 use Rattle.mig_in_place.specs.Sources.{KeptMain, KeptSources, StandsAt, IsChannelOf, TellsList, TellsTakes, HasHelloAlone, WritesPages, HoldsMain, HoldsChannel, HoldsRound}
 
--- ---- what it holds
+-- ---- its state
 
 pub record InPlaceLoad : Type 0 where
   -- the memory's table
   pub table : RamTable
   pub sources : KeptSources
-  -- what has come of the current round
+  -- the arrivals of the current round
   pub round : KeptRound
   -- how many rounds were judged lawful, and how many packets they had
   pub rounds : ℕ
@@ -57,7 +57,7 @@ abbrev pub status_of : ℕ → Readings → Source → Status
 status_of k readings source.Main = main_status k readings.main
 status_of k readings (source.Channel j) = get_or (map (channel_status k) readings.channels) j Pending
 
--- A channel is held back after its hello as long as the main stream's size list may still come:
+-- A channel is held back after its hello as long as the main stream's size list may still follow:
 -- otherwise its pages would be written before the table is known.
 abbrev pub IsHeldBack : Readings → Source → Type 0
 IsHeldBack readings source.Main = ⊥
@@ -72,14 +72,14 @@ pub record TakesBytes (given : LoadSettings) (uuid : List ℕ) (k : ℕ) (texts 
   pub is_pending : status_of k readings from ≡ Pending
   pub is_free : IsHeldBack readings from → ⊥
 
--- ---- what it stands for
+-- ---- the streams that it represents
 
--- the pages of the main stream's records of the current round, if it has come
+-- the pages of the main stream's records of the current round, if the round is complete
 abbrev pub records_come : ℕ → ℕ → Readings → KeptMain → List Page
 records_come page_size k readings m = if m.is_whole then record_pages_at page_size k readings else []
 
--- While a load runs: what is kept of each source, and of the current round. Before the table is
--- known nothing was written.
+-- While a load runs: the state of each source, and of the current round. Before the table is known
+-- nothing was written.
 pub record IsRunning (given : LoadSettings) (uuid : List ℕ) (first : Image) (texts : Texts) (memory : Image) (s : InPlaceLoad) : Type 0 where
   pub readings : Readings
   pub are_readings : AreReadings given uuid texts readings
@@ -108,15 +108,15 @@ pub record StandsFor (given : LoadSettings) (uuid : List ℕ) (first : Image) (t
   pub is_answer : IsInPlaceAnswer given uuid first texts memory s.rounds s.verdict
   pub runs : s.verdict ≡ Running → IsRunning (for_table first.table given) uuid first texts memory s
 
--- What `StandsFor` says, after a refused allocation.
+-- `StandsFor`, after a refused allocation.
 pub record LacksMemory (given : LoadSettings) (uuid : List ℕ) (first : Image) (texts : Texts) (memory : Image) (s : InPlaceLoad) : Type 0 where
   pub is_table : IsTable first.table
   pub is_image : IsImage first
   pub same_table : first.table ≡ s.table
   pub is_without : IsInPlaceWithoutMemory given uuid first texts memory s.rounds s.verdict
 
--- A call takes this step: if the load stood for some streams with the memory before it, it stands
--- for them with the step done, with the memory after it.
+-- A call takes this step: if the load represented some streams with the memory before it, it
+-- represents them with the step done, with the memory after it.
 abbrev pub StepsOn : (Texts → Texts) → Image → InPlaceLoad → Image → InPlaceLoad → Type 0
 StepsOn step before old after new = (given : LoadSettings) (uuid : List ℕ) (first : Image) (texts : Texts)
     → StandsFor given uuid first texts before old → StandsFor given uuid first (step texts) after new
@@ -131,8 +131,8 @@ abbrev pub RunsOut : Source → List ℕ → Image → InPlaceLoad → Image →
 RunsOut from piece before old after new = (given : LoadSettings) (uuid : List ℕ) (first : Image) (texts : Texts)
     → StandsFor given uuid first texts before old → (n : ℕ) × (n ≤ length piece) × LacksMemory given uuid first (feed_step from (take n piece) texts) after new
 
--- a statement on a load and a memory that depends on nothing else than the streams that they stand
--- for
+-- a statement on a load and a memory that depends on nothing else than the streams that they
+-- represent
 abbrev pub Tells : Image → InPlaceLoad → (LoadSettings → List ℕ → Image → Texts → Type 0) → Type 0
 Tells memory s says = (given : LoadSettings) (uuid : List ℕ) (first : Image) (texts : Texts) → StandsFor given uuid first texts memory s → says given uuid first texts
 
@@ -155,7 +155,7 @@ pub record Loads (f : Loading) (memory : Image) (s : InPlaceLoad) : Type 0 where
 abbrev pub Stands : Loading → Image → InPlaceLoad → Type 0
 Stands f memory s = StandsFor f.given f.uuid f.first f.texts memory s
 
--- The sources give no verdict at the current round: all have it, and no hello's id comes again.
+-- The sources give no verdict at the current round: all have it, and no hello's id is repeated.
 abbrev pub IsDue : Loading → ℕ → Type 0
 IsDue f k = (readings : Readings) → AreReadings (for_table f.first.table f.given) f.uuid f.texts readings
     → first_some (verdicts_told k (main_at k readings) (channels_at k readings) (repeated_hello (hello_ids readings))) ≡ None
@@ -182,7 +182,7 @@ pub record IsUnsettled (f : Loading) (memory : Image) (s : InPlaceLoad) : Type 0
   pub runs : s.verdict ≡ Running → Loads f memory s
   pub stands : s.verdict ≢ Running → Stands f memory s
 
--- it stands for the streams, with a refused allocation
+-- it represents the streams, with a refused allocation
 abbrev pub Lacks : Loading → Image → InPlaceLoad → Type 0
 Lacks f memory s = LacksMemory f.given f.uuid f.first f.texts memory (record s { verdict = failed s.rounds origin.Round fault.NoMemory })
 
@@ -212,7 +212,7 @@ pub record IsMainOf (table : RamTable) (m : KeptMain) : Type 0 where
   pub has_page_size : given.page_size ≡ table.page_size
   pub is_own : HasTable given text.bytes None ⊎ HasTable given text.bytes (Some table)
 
--- What holds of each load, with room for the statuses and hellos of its channels.
+-- The invariant of each load, with room for the statuses and hellos of its channels.
 pub record IsLoad (s : InPlaceLoad) (statuses hellos : ℕ) : Type 0 where
   pub channels : All (IsChannelOf s.table) s.sources.channels
   pub round : KeepsSome s.table s.round

@@ -1,5 +1,5 @@
--- What a load in place keeps of its sources, and what came of the current round. All of it is
--- private, but for the counts.
+-- The state of a load in place on its sources, and the arrivals of the current round. All of it is
+-- private, except for the counts.
 use Rattle.std.specs.Prelude.{ℕ, ◌≡◌, ◌≢◌, ◌⊎◌, ◌+◌, ◌<◌, ◌≤◌, ◌++◌, ◌∷◌, [], Bool, true, false, List, length, map, All, IsTrue, take, ◌↔◌, IsFalse, IfSome, Option, Some, None, IsPermutation}
 use Rattle.std.specs.List.{flat_map}
 use Rattle.std.specs.Option.{IsSomeAnd, unwrap_or}
@@ -32,11 +32,11 @@ use Rattle.mig_in_place.specs.declared.main_stream.SizeList.TheVariants as list
 use Rattle.mig_in_place.specs.Named.{round_so_far}
 use Rattle.mig_in_place.specs.Round.{offsets_in, as_zeros, LieIn, KeptRound, Keeps, AlsoKeeps}
 
--- ---- what is kept
+-- ---- the state
 
 pub record KeptMain : Type 0 where
   pub reader : stream_reader.Reader
-  -- whether the current round has come, and was taken from the reader
+  -- whether the current round is complete, and was taken from the reader
   pub is_whole : Bool
 
 pub record KeptChannel : Type 0 where
@@ -63,9 +63,9 @@ counts_of s = record { main = main_count s.main; channels = map channel_count s.
 abbrev pub at_next_round : KeptChannel → KeptChannel
 at_next_round c = record c { is_whole = false }
 
--- ---- what is kept of one source, whose first k rounds were judged
+-- ---- the state of one source, whose first k rounds were judged
 
--- the rounds judged, and the current one if it has come
+-- the rounds judged, and the current one if it is complete
 abbrev pub rounds_come : ℕ → Bool → ℕ
 rounds_come k false = k
 rounds_come k true = k + 1
@@ -113,7 +113,7 @@ pub record HasHelloAlone (so_far : GivenSoFar) : Type 0 where
 abbrev pub WritesPages : GivenSoFar → KeptChannel → Type 0
 WritesPages so_far c = IfSome so_far.packet (λ packet. length (offsets_in packet.head) ≢ 0 → c.block ≢ None)
 
--- What holds of a channel of a load into memory of this table, whatever the memory holds: its
+-- The invariant of a channel of a load into memory of this table, whatever the memory holds: its
 -- reader gave something, and the pages of a packet that was begun are written into its block.
 pub record IsChannelOf (table : RamTable) (c : KeptChannel) : Type 0 where
   pub given : channel.Settings
@@ -139,9 +139,10 @@ abbrev pub TellsHello : KeptChannel → Option ℕ → Type 0
 TellsHello c hello = (given : channel.Settings) (table : RamTable) (k : ℕ) (text : Text) (so_far : GivenSoFar) (reading : channel.ChannelReading) → IsPageSize given.page_size
     → HoldsChannel given table k text so_far c → channel.IsReading given text.bytes text.ended reading → hello ≡ reading.hello
 
--- ---- what came of round k
+-- ---- the arrivals of round k
 
--- what each channel gave, and the pages of the main stream's records, which come at once
+-- the pages that each channel gave, and the pages of the main stream's records, which arrive
+-- together
 pub record CameSoFar : Type 0 where
   pub records : List Page
   pub channels : List GivenSoFar
@@ -186,8 +187,8 @@ head_places table head = places_of (arrival_pages table (OnePacket (as_zeros hea
 abbrev pub named_places : RamTable → ℕ → CameSoFar → List Place
 named_places table k came = places_of came.records ++ flat_map (head_places table) (flat_map (heads_given k) came.channels)
 
--- What is kept of round k, and the memory, which held `kept` before it. Each page that was written
--- has a place that the round names. If no page is misplaced all pages that came were written.
+-- The state of round k, and the memory, which held `kept` before it. Each page that was written has
+-- a place that the round names. If no page is misplaced all pages that arrived were written.
 pub record HoldsRound (table : RamTable) (kept : Image) (k : ℕ) (came : CameSoFar) (r : KeptRound) (memory : Image) : Type 0 where
   pub arrivals : List Arrival
   pub keeps : Keeps table arrivals r
@@ -229,14 +230,14 @@ TellsList m l = (given : LoadSettings) (k : ℕ) (text : Text) (reading : stream
 
 -- ---- during a call
 
--- one channel of a load, while the current round comes
+-- one channel of a load, during the current round
 pub record AtChannel : Type 0 where
   pub given : channel.Settings
   -- the memory before round k
   pub kept : Image
   pub k : ℕ
-  -- what came of the other sources: the main stream's pages, and what the channels before and after
-  -- it gave
+  -- the arrivals of the other sources: the main stream's pages, and those of the channels before
+  -- and after this one
   pub records : List Page
   pub before : List GivenSoFar
   pub after : List GivenSoFar
@@ -252,7 +253,7 @@ pub record HoldsAt (f : AtChannel) (l : SizeList) (text : Text) (so_far : GivenS
   pub same_table : r.arrivals.seen.table ≡ memory.table
   pub holds : HoldsChannel f.given memory.table f.k text so_far c
   pub round : l ≡ list.Complete → HoldsRound memory.table f.kept f.k (came_with f so_far) r memory
-  -- while the size list is awaited nothing comes but the hello
+  -- before the size list only the hello is read
   pub is_alone : l ≡ list.Awaited → HasHelloAlone so_far
   -- no page is written while the table isn't known
   pub is_unwritten : l ≢ list.Complete → c.block ≡ None
@@ -276,7 +277,7 @@ AddsPage offset content block r memory then = (f : AtChannel) (so_far : GivenSoF
     → WritesInto memory.table packet.head r block → HoldsRound memory.table f.kept f.k (came_with f so_far) r memory
     → HoldsRound memory.table f.kept f.k (came_with f (record so_far { packet = with_page offset content so_far.packet })) r then
 
--- a channel is held back, by the id of its hello if that has come
+-- a channel is held back, by the id of its hello if that has arrived
 abbrev pub holds_back : SizeList → Option ℕ → Bool
 holds_back list.Awaited (Some id) = true
 holds_back list.Awaited None = false
@@ -289,13 +290,13 @@ TellsTakes l c takes = (given : channel.Settings) (table : RamTable) (k : ℕ) (
     → HoldsChannel given table k text so_far c → channel.IsReading given text.bytes text.ended reading
     → (IsTrue takes ↔ ((channel_status k reading ≡ Pending) × (l ≡ list.Awaited → reading.hello ≡ None)))
 
--- What reading a piece leaves, `taken` bytes of which were taken.
+-- The state after reading a piece, `taken` bytes of which were taken.
 abbrev pub HasRead : SizeList → List ℕ → ℕ → KeptChannel → KeptRound → Image → KeptChannel → KeptRound → Image → Type 0
 HasRead l piece n c r memory new after then = (f : AtChannel) (text : Text) (so_far : GivenSoFar) → HoldsAt f l text so_far c r memory
     → (gave : GivenSoFar) × HoldsAt f l (with_piece (take n piece) text) gave new after then
 
--- What it leaves after a refused allocation: all that was written is of the bytes before the head
--- whose packet couldn't be added.
+-- The state after a refused allocation: all that was written is of the bytes before the head whose
+-- packet couldn't be added.
 abbrev pub HasReadSome : SizeList → List ℕ → KeptChannel → KeptRound → Image → KeptRound → Image → Type 0
 HasReadSome l piece c r memory after then = (f : AtChannel) (text : Text) (so_far : GivenSoFar) → HoldsAt f l text so_far c r memory
     → (n : ℕ) × (some : KeptChannel) × (gave : GivenSoFar) × (n ≤ length piece) × HoldsAt f l (with_piece (take n piece) text) gave some after then

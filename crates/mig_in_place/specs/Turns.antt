@@ -1,5 +1,5 @@
--- Turns: a source's bytes are read into a buffer of its own, and a load in place takes from it what
--- belongs to the current round. The others wait there.
+-- Turns: a source's bytes are read into a buffer of its own, and a load in place takes those of the
+-- current round from it. The others wait there.
 use Rattle.std.specs.Prelude.{ℕ, ◌≡◌, ◌≢◌, ◌+◌, ◌<◌, ◌≤◌, ◌^◌, ◌⊎◌, true, List, [], ◌∷◌, ◌++◌, length, take, drop, get_or, slice_set, IsTrue, IsFalse, Option, None, Some, Result, Ok, Err, if◌then◌else◌, nat_lt}
 use Rattle.std.specs.Io.KnownBytes.{Consumes, IsAtEnd, Keeps}
 use Rattle.mig_mem.specs.Image.{Image}
@@ -21,14 +21,14 @@ use Rattle.mig_in_place.specs.declared.source_reader.TurnFault.TheVariants as fa
 use Rattle.mig_in_place.specs.Sources.{counts_of}
 use Rattle.mig_in_place.specs.Session.{InPlaceLoad, TakesBytes, StandsFor, StepsOn, RunsOut, Tells, text_of}
 
--- ---- what is read
+-- ---- reads
 
 -- a source's reader, and its buffer
 pub record KeptSource : Type 0 where
   pub reads : ReadsSoFar
   -- how often the reader may still be read
   pub left : ℕ
-  -- the bytes that the reader still has to give, where they are known
+  -- the bytes that the reader will give, if they are known
   pub remaining : Option (List ℕ)
   -- the bytes that were read, and weren't taken yet
   pub waiting : List ℕ
@@ -130,7 +130,8 @@ pub record HasFailedRead (from : Source) (old new : AtTurn) : Type 0 where
   pub same_load : new.load ≡ old.load
   pub same_memory : new.memory ≡ old.memory
 
--- The memory has another table than the load. Both are as they were, and the bytes wait.
+-- The memory has another table than the load. The memory and the load are as they were, and the
+-- bytes wait.
 pub record IsOfOther (from : Source) (old new : AtTurn) : Type 0 where
   pub takes : Takes from old.memory old.load
   pub has_bytes : HasBytes old.source new.source
@@ -144,7 +145,7 @@ pub record HasRunOut (from : Source) (old new : AtTurn) : Type 0 where
   pub has_bytes : HasBytes old.source new.source
   pub runs_out : RunsOut from new.source.waiting old.memory old.load new.memory new.load
 
--- What a turn of a source leaves, by its result.
+-- The effect of a source's turn, by its result.
 abbrev pub TurnsTo : Source → Result Turn TurnFault → AtTurn → AtTurn → Type 0
 TurnsTo from (Ok (turn.Taken n)) old new = HasTaken from n old new
 TurnsTo from (Ok turn.Ended) old new = HasEnded from old new
@@ -193,9 +194,9 @@ pub record CanTurn {O : Type 0} (t : AtTurns O) (from : Source) : Type 0 where
 abbrev pub CantTurn : {O : Type 0} → AtTurns O → Source → Type 0
 CantTurn t from = number_of from < length t.sources → HasRoom t.load from → TakesNone from t.memory t.load
 
--- None of the bytes that wait in buffers are taken. The order was asked, which chooses so (the
--- order before, the load, the number of a source, and the order after). It chose the source, or
--- else one that can't have a turn.
+-- The load takes none of the bytes that wait in buffers. The order was asked: this is its choice,
+-- from the order before, the load, the number of a source, and the order after. It chose the
+-- source, or else a source that can't have a turn.
 pub record IsChosen {O : Type 0} (chooses : O → InPlaceLoad → ℕ → O → Type 0) (t : AtTurns O) (after : O) (from : Source) : Type 0 where
   pub none_waits : (other : Source) → (source_in t.sources other).waiting ≢ [] → CantTurn t other
   pub number : ℕ
@@ -231,15 +232,15 @@ TakeTurns chooses (t ∷ turns) old new = (mid : AtTurns _) × TakesTurn chooses
 abbrev pub Stops : {O : Type 0} → (O → InPlaceLoad → ℕ → O → Type 0) → ℕ → ℕ → AtTurns O → AtTurns O → Type 0
 Stops chooses most count old new = ((count ≡ most) × (new ≡ old)) ⊎ (NoneIsNext chooses old new.order × (new ≡ record old { order = new.order }))
 
--- What a pump of at most `most` turns leaves. With Ok the verdict is the load's. With Err the last
--- turn failed.
+-- The effect of a pump of at most `most` turns. With Ok the verdict is the load's. With Err the
+-- last turn failed.
 abbrev pub Pumps : {O : Type 0} → (O → InPlaceLoad → ℕ → O → Type 0) → ℕ → Result Verdict TurnFault → AtTurns O → AtTurns O → Type 0
 Pumps chooses most (Ok verdict) old new = (turns : List (Source × Turn)) × (mid : AtTurns _)
     × TakeTurns chooses turns old mid × (length turns ≤ most) × Stops chooses most (length turns) mid new × (verdict ≡ new.load.verdict)
 Pumps chooses most (Err fault) old new = (turns : List (Source × Turn)) × (mid : AtTurns _) × (from : Source)
     × TakeTurns chooses turns old mid × (length turns < most) × TakesTurn chooses from (Err fault) mid new
 
--- ---- what comes of a source
+-- ---- the bytes of a source
 
 -- a source's bytes that a load took, and how many it counts
 pub record Came : Type 0 where
@@ -269,13 +270,13 @@ pub record ComesTo (before after : KeptSource) (old new : Came) : Type 0 where
   pub ends : ((new.text.ended ≡ old.text.ended) × (new.count.ended ≡ old.count.ended)) ⊎ IsOver old new after
   pub stays : IsTrue old.count.ended → (after ≡ before) × (new ≡ old)
 
--- This holds of all sources of a load, which stood for some streams and then stands for others.
+-- This holds of all sources of a load, which represented some streams and then represents others.
 pub record HaveCome {O : Type 0} (old new : AtTurns O) (before after : Texts) : Type 0 where
   pub same_sources : length new.sources ≡ length old.sources
   pub same_channels : length after.channels ≡ length before.channels
   pub comes : (from : Source) → ComesTo (source_in old.sources from) (source_in new.sources from) (came_in old before from) (came_in new after from)
 
--- If the load stood for some streams, it stands for them with the bytes that were taken: no byte
+-- If the load represented some streams, it represents them with the bytes that were taken: no byte
 -- that was read is lost, and none is taken twice.
 abbrev pub KeepsBytes : {O : Type 0} → AtTurns O → AtTurns O → Type 0
 KeepsBytes old new = (given : LoadSettings) (uuid : List ℕ) (first : Image) (texts : Texts) → StandsFor given uuid first texts old.memory old.load

@@ -1,4 +1,4 @@
-//! What a load in place keeps of a channel: the reader, and the state of the current round.
+//! A channel of a load in place: the reader, and the state of the current round.
 
 ghost use Rattle.std.specs.Prelude.{ℕ, ◌≡◌, ◌≢◌, ◌+◌, ◌<◌, ◌≤◌, ◌^◌, List, Option, length, true, false, None, Some, IsTrue, IsFalse, IfOk, IfSome, IfNone, OnOk, OnErr, ◌/◌};
 ghost use Rattle.std.specs.Option.{option_map};
@@ -25,17 +25,17 @@ use std::alloc::{Allocator, Global};
 use std::marker::Model;
 use uuid::Uuid;
 
-/// A channel, as far as its bytes have come.
+/// A channel, with its bytes so far.
 #[derive(Drop)]
 pub(crate) struct Channel<A: Allocator = Global> {
     reader: PageReader<A>,
     // the block of the packet that was begun, if its pages are to be written
     block: Option<usize>,
-    // whether the current round has come
+    // whether the current round is complete
     is_whole: bool,
 }
 
-// Returns whether a channel is held back, by the id of its hello if that has come.
+// Returns whether a channel is held back, by the id of its hello if that has arrived.
 fn holds_back(list: SizeList, hello: Option<u8>) -> bool
     ensures { result ≡ holds_back list hello }
 {
@@ -133,7 +133,7 @@ impl<A: Allocator> Channel<A> {
         }
     }
 
-    // Adds the packet whose head has come, and writes its pages of zeros. If the round has a
+    // Adds the packet whose head has arrived, and writes its pages of zeros. If the round has a
     // misplaced page, none is written.
     fn begin_packet<M: GuestTarget>(
         &mut self,
@@ -224,7 +224,7 @@ impl<A: Allocator> Channel<A> {
         is_pending(self.status())
     }
 
-    // Returns whether the hello has come, while the main stream's size list may still come.
+    // Returns whether the hello has arrived, while the main stream's size list may still follow.
     fn is_held_back(&self, list: SizeList) -> bool
         ensures { (hello : Option ℕ) × TellsHello self.now hello × (result ≡ holds_back list hello) }
     {

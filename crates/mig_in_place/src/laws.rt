@@ -23,12 +23,12 @@ pub fn running_takes_some()
     ensures { RunningTakesSome }
 {}
 
-/// What a sender on several channels has sent is loaded in place.
+/// The streams of a sender on several channels are loaded in place.
 pub fn sent_is_loaded_in_place()
     ensures { SentIsLoadedInPlace }
 {}
 
-/// What a sender on several channels has sent with a machine's main stream is loaded in place,
+/// The streams of a sender on several channels with a machine's main stream are loaded in place,
 /// whatever follows RAM's END.
 pub fn machine_sent_is_loaded_in_place()
     ensures { MachineSentIsLoadedInPlace }

@@ -1,10 +1,11 @@
-//! Loads several channels into existing memory, each page as soon as its bytes have come. Of a
-//! round it keeps the packets' numbers and a mark for each page. It also keeps the main stream's
-//! page records, and writes them once their FLUSH has come and their round is the current one.
+//! Loads several channels into existing memory, each page as soon as its bytes have arrived. Of the
+//! current round it keeps the packets' numbers and a mark for each page. It also keeps the main
+//! stream's page records, and writes them once their FLUSH has arrived and their round is the
+//! current one.
 //!
 //! An `InPlaceSession` is for a guest whose memory the caller has mapped where it is to run. A
 //! `Session` (`mig_session`) keeps each round until all sources have it, and judges it before it
-//! writes a page of it. So its memory has complete lawful rounds alone. An `InPlaceSession` writes
+//! writes a page of it. So its memory has only complete lawful rounds. An `InPlaceSession` writes
 //! first and judges at the round's end. So its memory may hold anything at the places that the
 //! unfinished round names. Both return the same verdict.
 //!

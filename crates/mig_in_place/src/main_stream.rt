@@ -1,4 +1,4 @@
-//! What a load in place keeps of its main stream: the reader, and the state of the current round.
+//! The main stream of a load in place: the reader, and the state of the current round.
 
 ghost use Rattle.std.specs.Prelude.{ℕ, ◌≡◌, ◌+◌, ◌<◌, ◌≤◌, ◌^◌, true, false, List, All, length, None, Some, IsTrue, IsFalse, IfSome, IfNone, OnOk, OnErr};
 ghost use Rattle.std.specs.Option.{option_copied};
@@ -25,9 +25,9 @@ use std::marker::Model;
 pub(crate) enum SizeList {
     /// It is complete.
     Complete,
-    /// It may still come.
+    /// It may still follow.
     Awaited,
-    /// It doesn't come: the stream ended before it, or has a fault there.
+    /// It is missing: the stream ended before it, or has a fault there.
     Lost,
 }
 
@@ -38,11 +38,11 @@ pub(crate) fn is_pending(status: Status) -> bool
     matches!(status, Status::Pending)
 }
 
-/// The main stream, as far as its bytes have come.
+/// The main stream, with its bytes so far.
 #[derive(Drop)]
 pub(crate) struct MainStream<A: Allocator = Global> {
     reader: StreamReader<'static, A>,
-    // whether the current round has come, and was taken from the reader
+    // whether the current round is complete, and was taken from the reader
     is_whole: bool,
 }
 
@@ -95,7 +95,7 @@ impl<A: Allocator + Copy> MainStream<A> {
 }
 
 impl<A: Allocator> MainStream<A> {
-    /// Takes the current round, if it has come and wasn't taken.
+    /// Takes the current round, if it is complete and wasn't taken.
     pub(crate) fn take_round(&mut self) -> Option<StreamRound<'static, A>>
         ensures stands { (given : Settings) (k : ℕ) (text : Text) → StandsAt given k text self.old → StandsAt given k text self.new }
         ensures none { IfNone result (self.new ≡ self.old) }

@@ -172,8 +172,8 @@ fn turn_of<P: PieceReader, A: Allocator, B: Allocator + Copy, M: GuestTarget>(
 /// read. A source with waiting bytes that the load takes has the next turn. If there is none,
 /// `order` chooses.
 ///
-/// Returns the verdict. It is `Running` after all the turns, or if a source that is still to come
-/// has no reader. Then it can be pumped on.
+/// Returns the verdict. It is `Running` after all the turns, or if only sources without a reader
+/// can have a turn. Then it can be pumped on.
 ///
 /// # Errors
 ///

@@ -1,4 +1,4 @@
-//! Writes the pages of zeros of a packet as soon as its head has come.
+//! Writes the pages of zeros of a packet as soon as its head has arrived.
 
 ghost use Rattle.std.specs.Prelude.{◌≡◌};
 ghost use Rattle.mig_mem.specs.Round.{with_round};

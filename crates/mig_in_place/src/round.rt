@@ -1,4 +1,4 @@
-//! The current round of a load in place: what has come of it, without the pages' contents.
+//! The current round of a load in place: its arrivals so far, without the pages' contents.
 
 ghost use Rattle.std.specs.Prelude.{◌≡◌, ◌+◌, ◌<◌, ◌≤◌, ◌^◌, [], All, length, None, Some, IfOk, IfErr, OnOk, OnErr, get_or, position, IsTrue};
 ghost use Rattle.mig_packet.specs.Lent.{fields};
@@ -26,7 +26,7 @@ pub(crate) enum Pages {
     Misplaced,
 }
 
-/// What has come of the current round: its numbers, its places, and whether pages are misplaced.
+/// The arrivals of the current round: its numbers, its places, and whether pages are misplaced.
 #[derive(Drop)]
 pub(crate) struct RoundInHand<A: Allocator = Global> {
     arrivals: Arrivals<A>,
@@ -60,7 +60,7 @@ fn page_count(head: &PacketHead<'_>) -> usize
     head.normal_len() + head.zero_len()
 }
 
-// Returns offset `i` of a packet; those of the normal pages come first.
+// Returns offset `i` of a packet; those of the normal pages are first.
 #[tactic(auto, using(crate::proofs::Heads::count, crate::proofs::Heads::offset_is))]
 fn offset(head: &PacketHead<'_>, i: usize) -> u64
     requires { i < length (offsets_in head.now.bytes.now) }
@@ -148,7 +148,7 @@ fn zeros_of<'b, A: Allocator>(
 }
 
 impl<A: Allocator + Copy> RoundInHand<A> {
-    /// Creates the round of `table` of which nothing has come.
+    /// Creates the round of `table`, without arrivals.
     ///
     /// # Errors
     ///
@@ -167,7 +167,7 @@ impl<A: Allocator + Copy> RoundInHand<A> {
 }
 
 impl<A: Allocator> RoundInHand<A> {
-    /// Returns how many packets have come.
+    /// Returns the number of packets so far.
     pub(crate) fn len(&self) -> usize
         ensures { result ≡ length self.now.arrivals.numbers }
     {
@@ -232,7 +232,7 @@ impl<A: Allocator> RoundInHand<A> {
         self.arrivals.packet(&packet)
     }
 
-    /// Judges what has come as the complete round, whose packets are numbered from `base` on.
+    /// Judges the arrivals as the complete round, whose packets are numbered from `base` on.
     pub(crate) fn judge(&mut self, base: u64) -> Result<(), RoundFault>
         requires { base + length self.old.arrivals.numbers ≤ 2 ^ 63 }
         ensures lawful { OnOk result (IsJudged base self.old.arrivals None) }
@@ -243,7 +243,7 @@ impl<A: Allocator> RoundInHand<A> {
         self.arrivals.judge(base)
     }
 
-    /// Goes on to the next round, of which nothing has come.
+    /// Begins the next round, without arrivals.
     pub(crate) fn clear(&mut self)
         ensures { Keeps self.old.arrivals.seen.table [] self.new }
     {

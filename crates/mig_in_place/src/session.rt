@@ -39,13 +39,13 @@ use std::marker::Model;
 use uuid::Uuid;
 
 // Packets are numbered below 2^63, and as many rounds are counted. More are refused with
-// `NoMemory`. No stream in memory has so many.
+// `NoMemory`. No stream in memory has that many.
 const PACKET_LIMIT: u64 = 1 << 63;
 
 const ROUND_LIMIT: u64 = 1 << 63;
 
 /// Loads a guest from the pieces of a main stream and of its channels, into memory that is passed
-/// with each piece. It writes each page once: a channel's when its bytes have come.
+/// with each piece. It writes each page once: a channel's when its bytes have arrived.
 ///
 /// A channel takes bytes up to the end of the current round. What follows waits with the caller
 /// until all sources have the round, and it was judged. The main stream takes a whole piece, and
@@ -159,8 +159,8 @@ fn is_of_other_table<A: Allocator>(main: &MainStream<A>, table: &Table<A>) -> bo
     }
 }
 
-// Takes the main stream's records of the current round, if they have come, adds them to the round,
-// and writes them, as long as no page is known to be misplaced.
+// Takes the main stream's records of the current round, if they have arrived, adds them to the
+// round, and writes them, as long as no page is known to be misplaced.
 fn take_main_round<A: Allocator, M: GuestTarget>(
     main: &mut MainStream<A>,
     round: &mut RoundInHand<A>,
@@ -442,7 +442,7 @@ impl<A: Allocator + Copy> InPlaceSession<A> {
 }
 
 impl<A: Allocator> InPlaceSession<A> {
-    // Judges what has come.
+    // Judges the bytes so far.
     fn settle<M: GuestTarget>(&mut self, memory: &mut M) -> Result<(), NoMemory>
         requires { (M.image memory.old).table ≡ self.old.table }
         ensures stands { OnOk result ((f : Loading) → IsUnsettled f (M.image memory.old) self.old → Stands f (M.image memory.new) self.new) }
@@ -513,7 +513,7 @@ impl<A: Allocator> InPlaceSession<A> {
         }
     }
 
-    // Counts the current round, which is lawful, and goes on to the next one.
+    // Counts the current round, which is lawful, and begins the next one.
     fn advance<M: GuestTarget>(&mut self, memory: &mut M)
         requires table { (M.image memory.old).table ≡ self.old.table }
         requires runs { self.old.verdict ≡ running }

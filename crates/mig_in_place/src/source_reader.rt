@@ -25,7 +25,7 @@ pub(crate) const PIECE_LIMIT: usize = 65_536;
 
 const READ_LIMIT: u64 = 1 << 62;
 
-/// What a turn of a source did.
+/// The result of a source's turn.
 #[derive(Clone, Copy, Debug, PartialEq, Eq)]
 pub enum Turn {
     /// The load took this many bytes of it.
@@ -199,7 +199,7 @@ impl<P: PieceReader, A: Allocator> SourceReader<P, A> {
     /// # Errors
     ///
     /// - `Read`: the read failed. Nothing else has changed.
-    /// - `OtherTable`: `memory` has another table than the load. What was read waits.
+    /// - `OtherTable`: `memory` has another table than the load. The bytes that were read wait.
     /// - `NoMemory`: an allocation was refused. The load has failed for good.
     pub fn turn<B: Allocator + Copy, M: GuestTarget>(
         &mut self,

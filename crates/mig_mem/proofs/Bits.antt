@@ -129,7 +129,7 @@ unset_word words i from q none lo hi =
     let word : q / 64 ≡ i = omega arith in
     unset_from_bit words q (ap (λ (n : ℕ). bit_at (get_or words n 0) (q % 64)) word ∙ none (q % 64) (omega arith) (omega arith))
 
--- the first mark, where none stands before a word
+-- the first mark, if none stands before a word
 pub first_in_word : (words : List ℕ) (from i low b : ℕ) → i < length words → IsLowestBit (get_or words i 0) low b → from ≤ i * 64 + low
     → ((q : ℕ) → from ≤ q → q < i * 64 + low → is_set words q ≡ false) → IsFirstSet words from (i * 64 + b)
 first_in_word words from i low b within is past none =

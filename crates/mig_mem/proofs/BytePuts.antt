@@ -42,7 +42,7 @@ puts_more size b first old mid new xs ys one two = record {
       two.each q there ∙ ap (λ (was : List ℕ). given size p ys was) (one.each q room) ∙ sym (given-append size p xs ys (part_at size old q));
 }
 
--- one page, where it lies there
+-- one page, if it lies there
 pub puts_one : (size b first : ℕ) (old new : List ℕ) (x : RoundPage) → x.place.block ≡ b → first ≤ x.place.page → ChangesPart size old new (x.place.page - first) (bytes_given size x) → PutsAll size b first old new (x ∷ [])
 puts_one size b first old new x same low c = record {
   len = c.len;

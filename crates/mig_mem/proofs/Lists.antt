@@ -1,4 +1,4 @@
--- Lists and tests: what std's pages lack, for every crate above.
+-- Lemmas on lists and tests that std lacks, for all crates above.
 use Rattle.std.proofs.Common.{ℕ, ◌≡◌, ◌<◌, ◌≤◌, ◌+◌, List, [], ◌∷◌, length, get_or, map, refl, sym, ap, ◌∙◌, inl, inr, arith, zero, suc, Option, Some, None, Bool, true, false, cond}
 use Rattle.std.specs.Prelude.{position, nat_lt}
 use Rattle.std.specs.Bool.{then_some}

@@ -1,4 +1,4 @@
--- Sets of a table's places, and the marks that stand for them.
+-- Sets of a table's places, and the marks that represent them.
 use Rattle.std.proofs.Common.{ℕ, ◌≡◌, ◌<◌, ◌≤◌, ◌+◌, ◌-◌, ◌*◌, ◌/◌, ◌%◌, ◌^◌, List, [], ◌∷◌, length, map, get_or, set, replicate, refl, sym, ap, ◌∙◌, inl, inr, arith, Bool, true, false, ◌||◌, ◌&&◌, get_or-set_same, get_or-set_other}
 use Rattle.std.specs.Prelude.{IsTrue, ◌==◌, not}
 use Rattle.std.specs.List.{range_with_len, list_any, filter, sum_by}
@@ -139,7 +139,7 @@ count_few table f is =
     let less : total_pages table.blocks ≤ total_pages table.blocks * table.page_size = grind arith in
     omega (arith, length-places table)
 
--- ---- the marks that stand for a set
+-- ---- the marks that represent a set
 
 abbrev pub marks_at : {A : Type 0} → List (Vec ℕ A) → Place → Bool
 marks_at words = is_marked (buffers_of words)
@@ -171,7 +171,7 @@ pub mark_seen : {A : Type 0} (table : RamTable) (words : List (Vec ℕ A)) (p : 
 mark_seen table words p x slice seen room is e same read =
     sym (mark_read table words p x room is e) ∙ ap (λ (l : List ℕ). is_set l p.page) (sym same) ∙ sym read
 
--- a row is short: so many pages has no block
+-- a row is short: no block has that many pages
 pub row_short : {A : Type 0} (table : RamTable) (words : List (Vec ℕ A)) (i : ℕ) (x : Vec ℕ A) → IsTable table → HasWords table (buffers_of words) → i < length table.blocks
     → x ≡ get_or words i x → length x.items < 2 ^ 50
 row_short {A} table words i x is room lt e =
@@ -223,7 +223,7 @@ marked_more {A} table words count p x v counted is e len more new =
       ap (λ (l : List Place). record { table = table; marked = l }) all ∙ sym (where_with table (marks_at words) p),
     )
 
--- one place more, where the row was written through its slice
+-- one place more, if the row was written through its slice
 pub slice_more : {A : Type 0} (table : RamTable) (words : List (Vec ℕ A)) (count : ℕ) (p : Place) (x : Vec ℕ A) (slice new : List ℕ) → IsCounted table words count → IsPlace table p
     → x ≡ get_or words p.block x → slice ≡ x.items → length slice ≡ x.len → length new ≡ length slice → ((q : ℕ) → is_set new q ≡ (q == p.page || is_set slice q)) → marks_at words p ≡ false
     → IsCounted table (set words p.block (with_items x new)) (count + 1) × (set_in table (set words p.block (with_items x new)) ≡ with_place (set_in table words) p)
@@ -305,7 +305,7 @@ marked_fewer {A} table words count p x v counted is e len fewer there =
       ),
     )
 
--- one place fewer, where the row was written through its slice
+-- one place fewer, if the row was written through its slice
 pub slice_fewer : {A : Type 0} (table : RamTable) (words : List (Vec ℕ A)) (count : ℕ) (p : Place) (x : Vec ℕ A) (slice new : List ℕ) → IsCounted table words count → IsPlace table p
     → x ≡ get_or words p.block x → slice ≡ x.items → length slice ≡ x.len → length new ≡ length slice → ((q : ℕ) → is_set new q ≡ (is_set slice q && not (q == p.page))) → marks_at words p ≡ true
     → (1 ≤ count) × (IsCounted table (set words p.block (with_items x new)) (count - 1) × (set_in table (set words p.block (with_items x new)) ≡ without_place (set_in table words) p))

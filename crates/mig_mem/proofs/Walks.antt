@@ -38,7 +38,7 @@ All-from_has P (q ∷ qs) h = All-cons P q qs (h q (has_itself q qs)) (All-from_
 
 -- ---- the first that passes
 
--- a place of a list in order that passes, where none before it does
+-- a place of a list in order that passes, if none before it does
 pub find_first : (f : Place → Bool) (p : Place) (ps : List Place) → InOrder place_lt ps → has_place ps p ≡ true → f p ≡ true
     → ((q : Place) → has_place ps q ≡ true → place_lt q p ≡ true → f q ≡ false) → find f ps ≡ Some p
 find_first f p [] order has passes before = absurd cc

@@ -15,7 +15,7 @@ pub record Image : Type 0 where
   pub pages : List Page
 
 -- A memory has one page for each place of its table, in the order of the places, and no other. Each
--- has the table's page size. `IsTable` says beside it that the table is lawful.
+-- has the table's page size. `IsTable` says that the table is lawful.
 pub record IsImage (m : Image) : Type 0 where
   pub has_places : map (λ x. x.place) m.pages ≡ places m.table
   pub has_sizes : All (λ x. length x.content ≡ m.table.page_size) m.pages

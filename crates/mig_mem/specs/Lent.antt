@@ -19,7 +19,7 @@ mut_lent_bytes blocks = map (λ b. b.now) blocks
 abbrev pub bytes_of_block : List (List ℕ) → ℕ → List ℕ
 bytes_of_block blocks i = slice_index_or blocks i []
 
--- Bytes fit a table: there are bytes for each block, as many as its pages have, and no others.
+-- Bytes fit a table: each block has exactly the bytes of its pages, and there are no other bytes.
 pub record FitTable (table : RamTable) (blocks : List (List ℕ)) : Type 0 where
   pub same_count : length blocks ≡ length table.blocks
   pub has_sizes : (i : ℕ) → i < length table.blocks → length (bytes_of_block blocks i) ≡ (block table.blocks i).pages * table.page_size

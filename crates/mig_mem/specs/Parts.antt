@@ -12,7 +12,7 @@ pub record ChangesPart {T : Type 0} (size : ℕ) (old new : List T) (part : ℕ)
   pub here : part_at size new part ≡ content
   pub others : (q : ℕ) → q ≢ part → part_at size new q ≡ part_at size old q
 
--- the part of a slot: the slots are numbered from 1 on, and 0 stands for a part of zeros
+-- the part of a slot: the slots are numbered from 1 on, and 0 represents a part of zeros
 abbrev pub slot_part : ℕ → List ℕ → ℕ → List ℕ
 slot_part size items zero = replicate size 0
 slot_part size items (suc k) = part_at size items k

@@ -19,7 +19,7 @@ HasPageSize size x = IfSome x.content (λ bytes. length bytes.now ≡ size)
 abbrev pub round_page : ℕ → RoundPage → Page
 round_page size x = record { place = x.place; content = bytes_given size x }
 
--- the content of a place after some pages: that of the last page there, or else what it was
+-- the content of a place after some pages: that of the last page there, or else the old content
 abbrev pub given : ℕ → Place → List RoundPage → List ℕ → List ℕ
 given size p [] was = was
 given size p (x ∷ xs) was = given size p xs (if place_eq x.place p then bytes_given size x else was)

@@ -14,11 +14,11 @@ pub record RamTable : Type 0 where
   pub page_size : ℕ
   pub blocks : List Block
 
--- the block that an id with its number of pages stands for
+-- the block that an id with its number of pages represents
 abbrev pub entry_block : {A : Type 0} → Vec ℕ A × ℕ → Block
 entry_block e = record { id = e.0.items; pages = e.1 }
 
--- the table that a list of them stands for
+-- the table that a list of them represents
 abbrev pub table_from : {A : Type 0} → ℕ → List (Vec ℕ A × ℕ) → RamTable
 table_from page_size list = record { page_size = page_size; blocks = map entry_block list }
 

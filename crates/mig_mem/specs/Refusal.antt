@@ -9,7 +9,7 @@ use Rattle.mig_mem.specs.RamTable.{Block, RamTable, IsTable, block, is_id, max_b
 use Rattle.mig_mem.specs.declared.fault.TableFault.{TableFault}
 use Rattle.mig_mem.specs.declared.fault.TableFault.TheVariants.{NoBlocks, TooManyBlocks, Id, IdTwice, NoPages, TooLarge, NoMemory}
 
--- what is wrong with an entry, given the entries before it
+-- the fault of an entry, given the entries before it
 unfoldable pub block_refusal : List Block → Block → Option TableFault
 block_refusal before b = first_some (
     then_some (not (is_id b.id)) (Id (length before))
@@ -17,7 +17,7 @@ block_refusal before b = first_some (
     ∷ (then_some (b.pages == 0) (NoPages (length before))
     ∷ [])))
 
--- what is wrong with the entry with a number
+-- the fault of the entry with a number
 abbrev pub entry_refusal : List Block → ℕ → Option TableFault
 entry_refusal blocks i = block_refusal (take i blocks) (block blocks i)
 

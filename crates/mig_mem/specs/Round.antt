@@ -32,7 +32,7 @@ pub record IsRound (table : RamTable) (round : List Page) : Type 0 where
   pub has_sizes : All (λ x. length x.content ≡ table.page_size) round
 
 -- The memory with a round applied has at each place the content of the last page of the round
--- there, or else what it had.
+-- there, or else the old content.
 abbrev pub with_round : Image → List Page → Image
 with_round m round = image_of m.table (λ p. option_map_or (λ x. x.content) (last_at p round) (content_at m p))
 

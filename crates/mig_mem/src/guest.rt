@@ -100,7 +100,7 @@ impl<A: Allocator> GuestTarget for Memory<A> {
 /// Guest memory into which one call writes all pages of a round, by several threads.
 pub trait ThreadedTarget: GuestTarget {
     /// Writes the pages of a round by at most `threads` threads, including the caller's. All others
-    /// have ended when the call returns. If a page comes more than once, the last one counts. A
+    /// have ended when the call returns. If a page occurs more than once, the last one counts. A
     /// caller tests each place by `Table::holds`.
     fn put_pages<R: Threads + Sync>(&mut self, rt: &R, threads: u64, pages: &[RoundPage<'_>])
         requires sync { IsSync R.row }

@@ -94,8 +94,8 @@ impl<'a, 'b, A: Allocator> LentMemoryMut<'a, 'b, A> {
     /// Writes the pages of a round by at most `threads` threads, including the caller's. All others
     /// have ended when the call returns.
     ///
-    /// If a page comes more than once, the last one counts. A page whose place is outside the table
-    /// isn't written.
+    /// If a page occurs more than once, the last one counts. A page whose place is outside the
+    /// table isn't written.
     ///
     /// The blocks are written one after another. A thread has about 1,024 pages of a block or more,
     /// and there are no more threads than the round has pages for. So a round or a block of fewer

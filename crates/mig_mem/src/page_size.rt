@@ -1,5 +1,5 @@
-//! The sizes that a guest's page may have, for every crate above. `mig_packet` uses no crate of
-//! this repository, and has a module of its own for them.
+//! The sizes that a guest's page may have, for all crates above. `mig_packet` uses no crate of this
+//! repository, and has a module of its own for them.
 
 ghost use Rattle.std.specs.Prelude.{◌↔◌, IsTrue};
 ghost use Rattle.mig_mem.specs.PageSize.{IsPageSize};

@@ -2,7 +2,7 @@
 //! block that no other writes.
 //!
 //! Each thread walks all pages of the round, in their order, and writes those that lie in its part.
-//! So the pages need no sorting and no memory. If a page comes twice, the last one counts.
+//! So the pages need no sorting and no memory. If a page occurs twice, the last one counts.
 
 ghost use Rattle.std.specs.Prelude.{ℕ, [], ◌∷◌, ◌≡◌, ◌/◌, ◌<◌, ◌≤◌, ◌^◌, length, map, All};
 ghost use Rattle.mig_mem.specs.Lent.{mut_lent_bytes, bytes_of_block, lent_image, FitTable};

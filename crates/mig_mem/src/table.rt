@@ -111,8 +111,8 @@ fn number_of(bytes: &[u8]) -> u128 {
     number
 }
 
-// Compares two ids that share a front: by their lengths, then by eight bytes at a time, and in the
-// end by their last eight bytes, which include those that the whole words leave.
+// Compares two ids that share a front: by their lengths, then by eight bytes at a time, and finally
+// by their last eight bytes, which include those that the whole words leave.
 fn compare_ids(a: &[u8], b: &[u8]) -> Ordering {
     if a.len() != b.len() {
         return a.len().cmp(&b.len());

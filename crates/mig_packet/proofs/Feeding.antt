@@ -62,7 +62,7 @@ reads_behind c d to item rest pending left s is none d_is r = record {
   has_rest = r.has_rest;
 }
 
--- ---- what is taken where memory runs out
+-- ---- what is taken if memory runs out
 
 pub taken_behind : (c d to : ChannelProgress) (item rest : List ℕ) → IsItem c.page_size c.hello item → first_fault c item ≡ None → d ≡ after c item
     → HasTaken d rest to → HasTaken c (item ++ rest) to

@@ -24,7 +24,7 @@ pub faulty : (c : ChannelProgress) (mid behind all : List ℕ) (f : ChannelFault
     → mid ++ behind ≡ all → due_fault c all ≡ Some f
 faulty c mid behind all f le fault e = ap (due_fault c) (sym e) ∙ due-append c mid behind f (due_is c mid le ∙ fault)
 
--- where the judged bytes have no fault, the bytes that they grew to have none
+-- if the judged bytes have no fault, the bytes that they grew to have none
 pub still_faultless : (c : ChannelProgress) (mid new : List ℕ) → judged_len c.page_size c.hello ≤ length mid → first_fault c mid ≡ None
     → take (length mid) new ≡ mid → first_fault c new ≡ None
 still_faultless c mid new le none kept =

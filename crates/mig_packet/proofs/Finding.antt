@@ -51,7 +51,7 @@ one_packet page_size a b x y s t e =
 pub no_longer : (page_size : ℕ) (a b : List ℕ) → IsPacketText page_size a → IsPacketText page_size (a ++ b) → b ≡ []
 no_longer page_size a b s t = sym (one_packet page_size (a ++ b) a [] b t s (append-nil (a ++ b))).1
 
--- where a front is a packet, that packet is read
+-- if a front is a packet, that packet is read
 pub found : (page_size : ℕ) (bytes front more : List ℕ) (said : Fields) (r : PacketRead) → ReadsPacket page_size bytes r → bytes ≡ front ++ more
     → IsPacket page_size front said → FindsPacket front said r
 found page_size bytes front more said (packet.Whole k n) reads e is =

@@ -37,7 +37,7 @@ pub judged_le_len : (p : ℕ) (h : Option ℕ) (bytes : List ℕ) → judged_len
 judged_le_len p None bytes = omega arith
 judged_le_len p (Some id) bytes = omega arith
 
--- where the bytes are as many, the front is the item
+-- if the bytes are as many, the front is the item
 pub item_at : (p : ℕ) (h : Option ℕ) (rest : List ℕ) → item_len p h rest ≤ length rest → IsItem p h (take (item_len p h rest) rest)
 item_at p h rest le =
     let n : ℕ = item_len p h rest in
@@ -46,7 +46,7 @@ item_at p h rest le =
     len_stays p h (take n rest) (drop n rest) (omega (arith, judged_le_len p h rest)) in
     len ∙ ap (item_len p h) (sym (take-append-drop n rest)) ∙ same
 
--- where the bytes are fewer than the item's, no front of them is the item
+-- if the bytes are fewer than the item's, no front of them is the item
 pub no_item : (p : ℕ) (h : Option ℕ) (rest : List ℕ) → length rest < item_len p h rest → (item more : List ℕ) → rest ≡ item ++ more → IsItem p h item → ⊥
 no_item p h rest lt item more e is =
     let same : item_len p h rest ≡ length item = ap (item_len p h) e ∙ len-append p h item more is in

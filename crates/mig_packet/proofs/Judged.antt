@@ -1,5 +1,4 @@
--- What is judged of an item: its fields stay where more follows, and without a fault it is a
--- packet.
+-- What is judged of an item: its fields stay if more follows, and without a fault it is a packet.
 use Rattle.std.proofs.Common.{◌≡◌, ◌≢◌, ℕ, ◌+◌, ◌-◌, ◌*◌, ◌≤◌, Bool, true, false, not, eqb, ltb, List}
 use Rattle.std.proofs.Common.{[], ◌∷◌, ◌++◌, length, take, drop, None, refl, ap, ◌∙◌, arith}
 use Rattle.std.specs.Prelude.{◌&&◌, slice_range}

@@ -183,7 +183,7 @@ packet_reads from c id front text p kept e leads has_text is short none =
           }
     ] refl
 
--- where pages are left, what was read is still before the packet
+-- if pages are left, what was read is still before the packet
 pub still_open : (from c : ChannelProgress) (text : List ℕ) (p : OpenPacket) (kept : List ℕ) (s : ChannelState) → length p.pages < normal_count p.head
     → Reads from text (read_to c (Some p)) (open_bytes (Some p) ++ kept) s → Reads from text c (bytes_of p ++ kept) s
 still_open from c text p kept s few r =
@@ -191,7 +191,7 @@ still_open from c text p kept s few r =
     (let other : length p.pages ≢ normal_count p.head = omega (arith, few) in differ (length p.pages) (normal_count p.head) other) in
     subst (λ (b : Bool). Reads from text (cond b (after_packet c (bytes_of p)) c) (cond b [] (bytes_of p) ++ kept) s) incomplete r
 
--- where none is left, the packet was read
+-- if none is left, the packet was read
 pub complete_read : (from c : ChannelProgress) (text : List ℕ) (p : OpenPacket) (kept : List ℕ) (s : ChannelState) → length p.pages ≡ normal_count p.head
     → Reads from text (read_to c (Some p)) (open_bytes (Some p) ++ kept) s → Reads from text (after_packet c (bytes_of p)) kept s
 complete_read from c text p kept s all r =
@@ -238,7 +238,7 @@ page_in size bytes offset i = record { offset = offset i; content = content_at s
 page_same : (m n : ℕ) (x y : List ℕ) → m ≡ n → x ≡ y → ◌≡◌ {A = NormalPage} (record { offset = m; content = x }) (record { offset = n; content = y })
 page_same m n x y offset content = cc
 
--- the content that stands after so many bytes
+-- the content after this many bytes
 content_there : (size i : ℕ) (bytes before content rest : List ℕ) → length before ≡ head_len size + i * size → length content ≡ size
     → bytes ≡ before ++ (content ++ rest) → content_at size bytes i ≡ content
 content_there size i bytes before content rest len whole e =

@@ -1,4 +1,4 @@
--- What a reader of pages stands for after each answer.
+-- What a reader of pages represents after each answer.
 use Rattle.std.proofs.Common.{◌≡◌, ◌≢◌, ℕ, ◌+◌, ◌<◌, Bool, true, false, cond, not, List, [], ◌∷◌, ◌++◌}
 use Rattle.std.proofs.Common.{length, take, Option, Some, None, refl, sym, ap, subst, ◌∙◌, append_assoc, inl, inr, arith}
 use Rattle.std.proofs.lemmas.List.{append-nil, length-append, length-take-le}
@@ -127,7 +127,7 @@ moves_hello given text read None id taken old new m fed g =
 
 -- ---- a packet that goes on
 
--- what a reader stands for that has begun a packet
+-- what a reader represents that has begun a packet
 gives_packet : (given : Settings) (text front : List ℕ) (read : ChannelProgress) (p : OpenPacket) (id : ℕ) (kept : List ℕ) (new : PageHolder)
     → IsPageSize given.page_size → Front (from given) front read → text ≡ front ++ (bytes_of p ++ kept) → read.hello ≡ Some id → IsOpenPacket given.page_size p
     → length kept < given.page_size → (length p.pages ≡ normal_count p.head → kept ≡ [])

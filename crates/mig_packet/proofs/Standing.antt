@@ -1,4 +1,4 @@
--- What a reader stands for after a call, and what it returns.
+-- What a reader represents after a call, and what it returns.
 use Rattle.std.proofs.Common.{◌≡◌, ◌≢◌, ℕ, ◌+◌, ◌-◌, ◌<◌, get_or, Bool, true, false, List, [], ◌∷◌, ◌++◌, length}
 use Rattle.std.proofs.Common.{Option, Some, None, refl, sym, ap, subst, ◌∙◌, append_assoc, arith}
 use Rattle.std.specs.Prelude.{IfSome, IfNone}
@@ -90,7 +90,7 @@ taken_on old new round same same_pending same_found same_valid same_fed same_end
       has_valid_up_to = omega (arith, s.has_valid_up_to, same_valid);
     }
 
--- where the first round that a reader holds was taken from it
+-- the first round that a reader holds was taken from it
 abbrev IsTakenFrom : ChannelProgress → ChannelProgress → RoundOfPackets → Type 0
 IsTakenFrom old new r = old ≡ with_taken (r.packets ∷ []) new
 
@@ -112,7 +112,7 @@ fewer_each (Some r) old new c d e f h =
 
 -- ---- what a reader returns is the reading
 
--- the reading of the bytes that it stands for
+-- the reading of the bytes that it represents
 abbrev told : (r : Reader) (taken : List (List (List ℕ))) (ended : Bool) (rest : List ℕ) → ChannelReading
 told r taken ended rest =
     record { hello = r.progress.hello; rounds = taken ++ r.progress.rounds; state = state_at ended (with_taken taken r.progress) rest r.found }
@@ -147,7 +147,7 @@ state_stands r state e = λ given so_far s. (
       ∙ state_kept so_far.ended r.progress s.rounds s.rest r.pending r.found s.has_pending,
 )
 
--- a reader that reads on stands for no bytes with a fault
+-- a reader that reads on represents no bytes with a fault
 pub not_settled : (r : Reader) → r.found ≡ Reading → Tells r (λ given so_far. IsSettled given so_far.text → ⊥)
 not_settled r reading = λ given so_far s settled.
     let is : IsReading given so_far.text false settled.1.0 = settled.1.1 in

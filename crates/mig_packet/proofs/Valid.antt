@@ -1,4 +1,4 @@
--- Up to where bytes are valid: one place, which longer bytes only move on.
+-- The valid prefix of bytes: its length is one number, which more bytes can only increase.
 use Rattle.std.proofs.Common.{◌≡◌, ◌≢◌, ℕ, ◌≤◌, ◌+◌, true, false, Option, Some, None, List, [], ◌∷◌, ◌++◌, length, refl, sym, ap, subst, ◌∙◌, append_assoc, arith}
 use Rattle.std.specs.List.{concat}
 use Rattle.std.proofs.lemmas.List.{length-append}
@@ -108,7 +108,7 @@ stays given text more m n v w settled =
 pub stays_valid : LongerTextsStayValid
 stays_valid = λ given text more m n v w. (longest given (text ++ more) m n (more_front given text more m (front_of given text m v)) w, λ settled. stays given text more m n v w settled)
 
--- ---- where a channel has ended
+-- ---- a channel that has ended
 
 -- a channel that has ended is closed after a SYNC packet, at its last byte
 closed_end : (hello : Option ℕ) (rest : List ℕ) (packets : List (List ℕ)) → state_at_end hello rest packets ≡ Closed → rest ≡ []

@@ -1,4 +1,4 @@
--- What items leave as it was, so that a reader can go back.
+-- The values that items don't change, so that a reader can go back.
 use Rattle.std.specs.Prelude.{◌≡◌, ◌⊎◌, ℕ, List, [], ◌∷◌, ◌++◌, length, take, slice_index_or}
 use Rattle.mig_packet.specs.declared.progress.Checkpoint.{Checkpoint}
 use Rattle.mig_packet.specs.Progress.{ChannelProgress}
@@ -15,7 +15,7 @@ HasGrownBy old more new =
     ⊎ ((others : List (List (List ℕ))) × (new.rounds ≡ old.rounds ++ (old.packets ++ more) ∷ others))
 
 -- Items only add to what was read before them. These packets are the first that they added. The
--- checkpoint keeps whether the hello came.
+-- checkpoint keeps whether the hello was read.
 pub record IsLater (old : ChannelProgress) (more : List (List ℕ)) (new : ChannelProgress) : Type 0 where
   pub same_page_size : new.page_size ≡ old.page_size
   pub same_uuid : new.uuid ≡ old.uuid

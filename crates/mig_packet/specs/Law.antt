@@ -1,4 +1,4 @@
--- What holds of hellos, packets and channels, whatever code writes and reads them.
+-- Properties of hellos, packets and channels, whatever code writes and reads them.
 use Rattle.std.specs.Prelude.{◌≡◌, ◌≢◌, ℕ, ◌≤◌, Bool, true, false, List, [], ◌∷◌, ◌++◌, length, All, Some, None, IsTrue, IsFalse}
 use Rattle.mig_packet.specs.PageSize.{IsPageSize}
 use Rattle.mig_packet.specs.Hello.{IsHello, written_hello}
@@ -86,6 +86,6 @@ pub record HasFaultAt (given : Settings) (text : List ℕ) (n : ℕ) (fault : Ch
   pub leads : Front (start given.page_size given.uuid given.channels) front to
   pub has_fault : due_fault to rest ≡ Some fault
 
--- A bad channel is valid up to where the item at fault begins.
+-- A bad channel is valid up to the beginning of the item at fault.
 abbrev pub BadIsValidBefore : Type 0
 BadIsValidBefore = (given : Settings) (text : List ℕ) (n : ℕ) (fault : ChannelFault) → HasState given text false (Bad fault) → IsValidUpTo given text n → HasFaultAt given text n fault

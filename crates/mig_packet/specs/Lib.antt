@@ -9,7 +9,7 @@ pub mod Written
 pub mod Lent
 pub mod FaultNumber
 -- Then the hello or packet at the beginning of bytes, how a channel's bytes are read, what a reader
--- of them stands for, and the laws.
+-- of them represents, and the laws.
 pub mod FrontRead
 pub mod Progress
 pub mod Reading

@@ -18,11 +18,11 @@ flags_in bytes = be32_at 8 bytes
 abbrev pub is_sync : List ℕ → Bool
 is_sync bytes = flags_in bytes == 1
 
--- `normal_pages`: how many pages come with their contents
+-- `normal_pages`: the number of pages with contents
 abbrev pub normal_count : List ℕ → ℕ
 normal_count bytes = be32_at 16 bytes
 
--- `next_packet_size`: how many bytes the contents have, as the head says
+-- `next_packet_size`: the number of bytes of the contents, according to the head
 abbrev pub contents_len_in : List ℕ → ℕ
 contents_len_in bytes = be32_at 20 bytes
 
@@ -30,7 +30,7 @@ contents_len_in bytes = be32_at 20 bytes
 abbrev pub number_in : List ℕ → ℕ
 number_in bytes = be64_at 24 bytes
 
--- `zero_pages`: how many pages are zeros, and come without contents
+-- `zero_pages`: the number of pages of zeros, which have no contents in the packet
 abbrev pub zero_count : List ℕ → ℕ
 zero_count bytes = be32_at 32 bytes
 
@@ -38,7 +38,7 @@ zero_count bytes = be32_at 32 bytes
 abbrev pub id_in : List ℕ → List ℕ
 id_in bytes = before_first (λ byte. byte == 0) (slice_range bytes 64 319)
 
--- offset i in the block: those of the normal pages come first, then those of the zero pages
+-- offset i in the block: those of the normal pages are first, then those of the zero pages
 abbrev pub offset_at : List ℕ → ℕ → ℕ
 offset_at bytes i = be64_at (320 + 8 * i) bytes
 

@@ -1,5 +1,5 @@
--- A reader of a channel that gives each page once its bytes have come, before its packet and its
--- round are complete; and what it stands for.
+-- A reader of a channel that gives each page once its bytes have arrived, before its packet and its
+-- round are complete; and what it represents.
 use Rattle.std.specs.Prelude.{◌≡◌, ◌≢◌, ℕ, ◌+◌, ◌-◌, ◌*◌, ◌<◌, ◌≤◌, Bool, true, false, ◌==◌, if◌then◌else◌, List, [], ◌∷◌, ◌++◌}
 use Rattle.std.specs.Prelude.{length, map, Option, Some, None, IfSome, IsTrue, IsFalse, ⊤, ◌⊎◌}
 use Rattle.std.specs.List.{All, flat_map, range_with_len}
@@ -16,7 +16,7 @@ use Rattle.mig_packet.specs.PacketHead.{IsPacketHead}
 use Rattle.mig_packet.specs.Progress.{ChannelProgress, start, judged_len, after_packet}
 use Rattle.mig_packet.specs.Reading.{Reads, Settings, ChannelReading, IsReading}
 
--- ---- what was given
+-- ---- the results given
 
 -- the packet that was begun: its head, and its normal pages that were given
 pub record OpenPacket : Type 0 where
@@ -38,7 +38,7 @@ bytes_of packet = packet.head ++ flat_map (λ page. page.content) packet.pages
 abbrev pub is_complete : OpenPacket → Bool
 is_complete packet = length packet.pages == normal_count packet.head
 
--- what was given so far
+-- the results given so far
 pub record GivenSoFar : Type 0 where
   -- the hello, the packets of the complete rounds, and those of the open round
   pub read : ChannelProgress
@@ -57,7 +57,7 @@ abbrev pub with_packet : ChannelProgress → Option OpenPacket → ChannelProgre
 with_packet read None = read
 with_packet read (Some packet) = after_packet read (bytes_of packet)
 
--- ---- what a reader stands for
+-- ---- what a reader represents
 
 -- what such a reader holds
 pub record PageHolder : Type 0 where
@@ -87,7 +87,7 @@ abbrev pub head_kept : Option (List ℕ × ℕ) → List ℕ
 head_kept None = []
 head_kept (Some packet) = packet.0
 
--- what was given, after this result
+-- the results given, with this one
 abbrev pub with_came : Came → PageHolder → GivenSoFar → GivenSoFar
 with_came (came.Hello id) r so_far = record so_far { read = record so_far.read { hello = Some id } }
 with_came came.Head r so_far = record so_far { packet = Some (record { head = head_kept r.packet; pages = [] }) }
@@ -120,15 +120,14 @@ pub record Gives (given : Settings) (text : List ℕ) (so_far : GivenSoFar) (r :
   pub is_page_size : IsPageSize given.page_size
   pub has_settings : r.given ≡ given
   pub has_fed : r.fed ≡ length text
-  -- the bytes are read to what was given, and left are pages that were given and bytes that are
-  -- kept
+  -- the bytes are read as the results given; left are pages that were given and bytes that are kept
   pub reads : Reads (start given.page_size given.uuid given.channels) text (read_to so_far.read so_far.packet) (open_bytes so_far.packet ++ r.kept) r.found
   pub is_open : IfSome so_far.packet (IsOpenPacket given.page_size)
   pub has_packet : r.packet ≡ kept_of so_far.packet
   pub has_hello : r.hello ≡ so_far.read.hello
   pub has_packets : r.has_packets ≡ has_any so_far.read.packets
 
--- a statement on a reader that depends on nothing else than what it stands for
+-- a statement on a reader that depends on nothing else than what it represents
 abbrev pub HolderTells : PageHolder → (Settings → List ℕ → GivenSoFar → Type 0) → Type 0
 HolderTells r says = (given : Settings) (text : List ℕ) (so_far : GivenSoFar) → Gives given text so_far r → says given text so_far
 
@@ -147,7 +146,7 @@ pub record Completes (page_size : ℕ) (packet : OpenPacket) (sync : Bool) : Typ
   pub has_sync : said.sync ≡ sync
   pub has_pages : said.normal ≡ packet.pages
 
--- the result that follows what was given so far
+-- the result that follows those given so far
 abbrev pub Comes : ℕ → Came → GivenSoFar → Type 0
 Comes page_size (came.Hello id) so_far = (so_far.read.hello ≡ None) × (so_far.packet ≡ None)
 Comes page_size came.Head so_far = (so_far.read.hello ≢ None) × (so_far.packet ≡ None)
@@ -198,7 +197,7 @@ LeavesLess came.More taken piece old new = ⊤
 LeavesLess came.Over taken piece old new = ⊤
 LeavesLess other taken piece old new = left (length piece - taken) new < left (length piece) old
 
--- ---- what it returns
+-- ---- its results
 
 -- the head of the packet that was begun
 abbrev pub head_of : Option OpenPacket → Option (List ℕ)
@@ -222,7 +221,7 @@ abbrev pub begun_in : Bool → List ℕ → List ℕ
 begun_in true page = []
 begun_in false page = page
 
--- what is kept of a hello or a head, or after a head of a page
+-- the bytes kept of a hello or a head, or after a head of a page
 abbrev pub kept_in : Option ℕ → Bool → List ℕ → List ℕ → List ℕ
 kept_in None has_page head page = head
 kept_in (Some i) has_page head page = begun_in has_page page
@@ -236,7 +235,7 @@ abbrev pub packet_in : Option ℕ → List ℕ → Option (List ℕ × ℕ)
 packet_in None head = None
 packet_in (Some i) head = Some (head, i)
 
--- What is kept is a part of what comes next. A packet that was begun has its head, and some of its
+-- The kept bytes are a part of the next item. A packet that was begun has its head, and some of its
 -- pages were given.
 abbrev pub IsPart : ℕ → Option ℕ → Option ℕ → List ℕ → List ℕ → ChannelState → Type 0
 IsPart page_size hello None head kept found = found ≡ Reading → length kept < judged_len page_size hello

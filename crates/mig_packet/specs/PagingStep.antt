@@ -14,7 +14,7 @@ use Rattle.mig_packet.specs.Progress.{start, judged_len, faults}
 use Rattle.mig_packet.specs.Reading.{Settings}
 use Rattle.mig_packet.specs.Paging.{PageHolder, content_of, Stops, IsShort, CopiesCutPages}
 
--- the first fault of the hello or head that comes next
+-- the first fault of the next hello or head
 abbrev pub fault_of : Settings → Option ℕ → List ℕ → Option ChannelFault
 fault_of given hello bytes = first_of (faults (start given.page_size given.uuid given.channels) hello bytes)
 
@@ -68,7 +68,7 @@ Gains came.Head count = 0 < count
 Gains (came.Page offset page) count = 0 < count
 Gains other count = ⊤
 
--- What one call does, which takes `count` bytes of a piece.
+-- The effect of one call, which takes `count` bytes of a piece.
 pub record Steps (answer : Came) (count : ℕ) (piece : List ℕ) (old new : PageHolder) : Type 0 where
   pub takes : count ≤ length piece
   pub gains : Gains answer count

@@ -28,7 +28,7 @@ pub record ArePackets (page_size : ℕ) (packets : List (List ℕ)) (rounds : Li
   pub in_open_round : All (IsPacketText page_size) packets
   pub in_rounds : All (All (IsPacketText page_size)) rounds
 
--- ---- the item that comes next: the hello, and after it a packet with its pages
+-- ---- the next item: the hello, and after it a packet with its pages
 
 -- with how many bytes it is tested
 abbrev pub judged_len : ℕ → Option ℕ → ℕ

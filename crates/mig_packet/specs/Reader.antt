@@ -1,4 +1,4 @@
--- What a reader holds, and the bytes that it stands for.
+-- The state of a reader, and the bytes that it represents.
 use Rattle.std.specs.Prelude.{◌≡◌, ◌≢◌, ℕ, ◌+◌, ◌<◌, ◌≤◌, Bool, true, false, List, [], ◌++◌, length, slice_index_or, Option, None}
 use Rattle.mig_packet.specs.declared.state.ChannelState.{ChannelState}
 use Rattle.mig_packet.specs.declared.state.ChannelState.TheVariants.{Reading}
@@ -21,7 +21,7 @@ pub record Reader : Type 0 where
   pub fed : ℕ
   pub ended : Bool
 
--- These bytes are a part of the item that comes next, not all of it, and no fault of it is known.
+-- These bytes are a part of the next item, not all of it, and no fault of it is known.
 pub record IsUnfinished (c : ChannelProgress) (bytes : List ℕ) : Type 0 where
   pub has_no_fault : due_fault c bytes ≡ None
   pub is_short : judged_len c.page_size c.hello ≤ length bytes → length bytes < item_len c.page_size c.hello bytes
@@ -38,7 +38,7 @@ pub record ReadsOn (from : ChannelProgress) (bytes : List ℕ) (to : ChannelProg
 abbrev pub with_taken : List (List (List ℕ)) → ChannelProgress → ChannelProgress
 with_taken taken c = record c { rounds = taken ++ c.rounds }
 
--- ---- what a reader stands for
+-- ---- what a reader represents
 
 -- what a reader was given so far: these bytes, whether the channel was ended, and how many rounds
 -- were taken from it
@@ -63,8 +63,8 @@ over so_far = record so_far { ended = true }
 abbrev pub one_taken : SoFar → SoFar
 one_taken so_far = record so_far { taken = so_far.taken + 1 }
 
--- A reader stands for what it was given so far, with these settings. The rounds that were taken
--- come before those that it holds.
+-- A reader represents the bytes fed so far, with these settings. The rounds that were taken come
+-- before those that it holds.
 pub record Stands (given : Settings) (so_far : SoFar) (r : Reader) : Type 0 where
   pub has_fed : r.fed ≡ length so_far.text
   pub has_ended : r.ended ≡ so_far.ended
@@ -75,11 +75,12 @@ pub record Stands (given : Settings) (so_far : SoFar) (r : Reader) : Type 0 wher
   pub has_pending : r.found ≡ Reading → rest ≡ r.pending
   pub has_valid_up_to : r.valid_up_to + length rest ≡ length so_far.text
 
--- a step of a call: if the reader stood for something before, it stands for that with the step done
+-- a step of a call: if the reader represented something before, it represents that with the step
+-- done
 abbrev pub StepsOn : (SoFar → SoFar) → Reader → Reader → Type 0
 StepsOn step old new = (given : Settings) (so_far : SoFar) → Stands given so_far old → Stands given (step so_far) new
 
--- a statement on a reader that depends on nothing else than what it stands for
+-- a statement on a reader that depends on nothing else than what it represents
 abbrev pub Tells : Reader → (Settings → SoFar → Type 0) → Type 0
 Tells r says = (given : Settings) (so_far : SoFar) → Stands given so_far r → says given so_far
 

@@ -1,4 +1,4 @@
--- What the next bytes of a channel are, for a reader that gives page by page.
+-- The next bytes of a channel, for a reader that gives page by page.
 use Rattle.std.specs.Prelude.{◌≡◌, ◌≢◌, ◌⊎◌, ◌<◌, ◌+◌, ℕ, List, [], length, Option, None, Some, IsTrue, IsFalse}
 use Rattle.std.specs.Option.{IsSomeAnd}
 use Rattle.mig_packet.specs.declared.state.ChannelState.TheVariants.{Reading}
@@ -12,12 +12,12 @@ use Rattle.mig_packet.specs.Paging.{PageHolder}
 abbrev pub ReadsMore : PageHolder → Type 0
 ReadsMore r = (r.found ≡ Reading) × IsFalse r.ended
 
--- this many pages of the packet that was begun are still to come, at least one, the next at this
--- offset
+-- this many pages of the packet that was begun are missing, at least one, the next at this offset
 abbrev pub HasPagesLeft : ℕ → ℕ → (List ℕ × ℕ) → Type 0
 HasPagesLeft offset count packet = (packet.1 + count ≡ normal_count packet.0) × (0 < count) × (offset ≡ offset_at packet.0 packet.1)
 
--- how many bytes come next: those of a hello or a head, or of a page of the packet that was begun
+-- the number of the next item's bytes: those of a hello or a head, or of a page of the packet that
+-- was begun
 abbrev pub next_len : PageHolder → ℕ
 next_len r = len_of r.packet
   where
@@ -29,8 +29,8 @@ next_len r = len_of r.packet
 abbrev pub IsAllGiven : PageHolder → Type 0
 IsAllGiven r = IsSomeAnd r.packet (λ packet. packet.1 ≡ normal_count packet.0)
 
--- A page is wanted if no byte of it has come; otherwise the bytes that complete what has begun to
--- come. Nothing is wanted of a complete packet, or if nothing more is read.
+-- A page is wanted if no byte of it has arrived; otherwise the bytes that complete the begun item
+-- are wanted. Nothing is wanted after a complete packet, or if no more is read.
 abbrev pub IsWanted : Wanted → PageHolder → Type 0
 IsWanted (wanted.Page offset count) r = ReadsMore r × (r.kept ≡ []) × IsSomeAnd r.packet (HasPagesLeft offset count)
 IsWanted (wanted.Bytes n) r = ReadsMore r × (0 < n) × (length r.kept + n ≡ next_len r) × ((r.packet ≡ None) ⊎ (r.kept ≢ []))

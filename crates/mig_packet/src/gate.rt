@@ -1,7 +1,7 @@
 //! Gates, at which a test may hold the threads that send or load, to see how they run. The workers
 //! of `mig_send` and `mig_relay` pass them.
 
-/// What a thread has just done, with the number of the packet or item.
+/// The step that a thread has just done, with the number of the packet or item.
 #[derive(Clone, Copy, Debug, PartialEq, Eq)]
 pub enum Step {
     /// A sending worker drew this packet number. A worker passes this for its last draw, too.
@@ -15,7 +15,7 @@ pub enum Step {
 }
 
 /// The gate that a worker passes after each step. A test's gate may hold the worker there. `pass`
-/// must return in the end, or a caller that waits for the worker waits for ever.
+/// must return eventually, or a caller that waits for the worker waits for ever.
 pub trait Gate {
     /// Is called after the worker of `channel`, from 0, has done `step`.
     fn pass(&self, channel: usize, step: Step);

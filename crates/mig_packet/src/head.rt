@@ -1,4 +1,5 @@
-//! The head of a packet, before its pages have come. A `PageReader` gives it first of each packet.
+//! The head of a packet, before its pages have arrived. A `PageReader` gives it first of each
+//! packet.
 
 ghost use Rattle.std.specs.Prelude.{◌≡◌, ◌+◌, ◌<◌};
 ghost use Rattle.mig_packet.specs.PageSize.{IsPageSize, IsPageSize-prop};
@@ -48,7 +49,7 @@ impl<'a> PacketHead<'a> {
         id_of(self.bytes)
     }
 
-    /// Returns how many of its pages come with their contents.
+    /// Returns the number of its pages that have their contents in the packet.
     pub fn normal_len(&self) -> usize
         ensures { result ≡ normal_count self.now.bytes.now }
     {
@@ -62,7 +63,7 @@ impl<'a> PacketHead<'a> {
         zero_count_of(self.bytes)
     }
 
-    /// Returns the offset of page `i` in its block, in bytes. The normal pages come first, then the
+    /// Returns the offset of page `i` in its block, in bytes. The normal pages are first, then the
     /// zero pages. It may be any number.
     pub fn offset(&self, i: usize) -> u64
         requires { i < normal_count self.now.bytes.now + zero_count self.now.bytes.now }

@@ -1,4 +1,4 @@
-//! Laws of the definitions alone: what holds of hellos, packets and channels, whatever code writes
+//! Laws of the definitions alone: properties of hellos, packets and channels, whatever code writes
 //! and reads them.
 //!
 //! Each law is the clause of a function that does nothing. So it is proved with the crate, and a

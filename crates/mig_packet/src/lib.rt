@@ -6,7 +6,7 @@
 //! - `Hello`, `Packet`: the layout of a hello and of a packet.
 //! - `Written`: the packet that is written for some fields.
 //! - `Progress`, `Reading`: how any bytes of a channel are read, with every fault by name.
-//! - `Reader`: what a reader stands for.
+//! - `Reader`: what a reader represents.
 //! - `ChannelItems`: the items of a channel that has ended.
 //! - `Law`: the laws between them.
 //!
@@ -14,8 +14,8 @@
 //! Only contracts of private functions name `Taking`, `Later`, `Filling` and `PagingStep`.
 //!
 //! `hello`, `put_packet` and `PacketFields` write. `read_hello` and `read_packet` read at the
-//! beginning of bytes. A `ChannelReader` reads a channel that comes in pieces, and keeps its
-//! rounds. A `PageReader` gives each page once its bytes have come, and keeps none.
+//! beginning of bytes. A `ChannelReader` reads a channel that is fed in pieces, and keeps its
+//! rounds. A `PageReader` gives each page once its bytes have arrived, and keeps none.
 //!
 //! Other crates test whether the packets of a round fit together, apply their pages, and have the
 //! threads that send and load.

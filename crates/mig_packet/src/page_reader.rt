@@ -1,5 +1,5 @@
-//! The reader of a channel that gives each page once its bytes have come. A load into memory that
-//! the caller lends has one for each channel, and keeps no round.
+//! The reader of a channel that gives each page once its bytes have arrived. A load into memory
+//! that the caller lends has one for each channel, and keeps no round.
 //!
 //! It keeps the head of the packet that is being read, and the first bytes of an incomplete hello,
 //! head or page. A page that is complete in a piece is lent from it. All its memory is allocated
@@ -54,7 +54,7 @@ pub enum Came<'b> {
     Over,
 }
 
-/// Reads a channel from pieces of its bytes, and gives each page once its bytes have come.
+/// Reads a channel from pieces of its bytes, and gives each page once its bytes have arrived.
 #[derive(Drop)]
 pub struct PageReader<A: Allocator = Global> {
     pub(crate) page_size: u64,
@@ -273,7 +273,7 @@ impl<A: Allocator> PageReader<A> {
     }
 
     /// Reads on in `piece`, the next bytes of the channel, up to the result that it returns. Also
-    /// returns how many bytes of the piece were taken: the next call goes on after them. It
+    /// returns how many bytes of the piece were taken: the next call continues after them. It
     /// allocates nothing.
     ///
     /// `Came::Packet` takes no bytes. So call it until it returns `Came::More` or `Came::Over`,

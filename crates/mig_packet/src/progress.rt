@@ -83,7 +83,7 @@ impl<A: Allocator + Copy> Progress<A> {
         Vec::new(self.alloc)
     }
 
-    /// Takes the item that comes next, and copies what it keeps of it. An `Err` changes nothing.
+    /// Takes the next item, and copies what it keeps of it. An `Err` changes nothing.
     pub(crate) fn take(&mut self, item: &[u8]) -> Result<(), NoMemory>
         requires whole { IsItem self.old.page_size self.old.hello item.now }
         requires faultless { first_fault self.old item.now ≡ None }
@@ -101,8 +101,8 @@ impl<A: Allocator + Copy> Progress<A> {
         }
     }
 
-    /// Takes the packet that comes next, whose bytes it keeps where they are. An `Err` changes
-    /// nothing, and returns the packet.
+    /// Takes the next packet, whose bytes it keeps where they are. An `Err` changes nothing, and
+    /// returns the packet.
     pub(crate) fn take_packet(&mut self, packet: PacketText<A>) -> Result<(), PacketText<A>>
         requires { IsPacketText self.old.page_size packet }
         ensures ok { OnOk result (self.new ≡ after_packet self.old packet) }

@@ -1,10 +1,9 @@
-//! The reader of a channel that comes in pieces. A session of `mig_session` has one for each
+//! The reader of a channel that is fed in pieces. A session of `mig_session` has one for each
 //! channel.
 //!
-//! It keeps what was read as a `Progress`. Of the channel's bytes it keeps only those of an item
-//! that isn't complete yet. It reads a piece in place, but for the bytes that complete such an
-//! item. A packet that comes in pieces is kept where its bytes were gathered. So each byte of a
-//! packet is copied once.
+//! It keeps what was read as a `Progress`. It keeps only the channel's bytes of an item that isn't
+//! complete yet. It reads a piece in place, but for the bytes that complete such an item. A packet
+//! that was cut is kept where its bytes were gathered. So each byte of a packet is copied once.
 
 ghost use Rattle.std.specs.Prelude.{◌≡◌, ◌≢◌, ◌+◌, ◌<◌, ◌≤◌, ◌^◌, ◌++◌, ℕ, List, [], length, take, true};
 ghost use Rattle.std.specs.Prelude.{IsTrue, IsFalse, IsOk, None, IfOk, IfSome, IfNone, OnOk, OnErr};

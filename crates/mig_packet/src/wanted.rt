@@ -16,8 +16,8 @@ use std::alloc::Allocator;
 #[derive(Clone, Copy, Debug, PartialEq, Eq)]
 pub enum Wanted {
     /// The content of the page at this offset in the block of the packet's head, in bytes, from its
-    /// first byte on. The second number says how many normal pages of the packet are still to come,
-    /// this one among them. Their contents follow one another.
+    /// first byte on. The second number is the number of normal pages of the packet from this one
+    /// on. Their contents follow one another.
     Page(u64, usize),
     /// This many bytes, at least 1, complete a hello, a head or a page.
     Bytes(usize),

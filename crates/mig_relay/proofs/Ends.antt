@@ -194,7 +194,7 @@ takes v w m p q r is same b e =
     let done = ap (λ (u : Log). u.done) e in
     (item_of_message v.source m, passed_on v w m p q r is same source done, begun_now v w m source done b)
 
--- where the stop was popped, all items were
+-- if the stop was popped, all items were
 pub is_through : (page_size : ℕ) (text : List ℕ) (items : List Item) (over : Bool) (v : Log) (p : QueueEnd) (q : TableId) → queue_end q v.source (items_in v) ≡ p
     → IsCollecting page_size text items over v → over ≡ true → IsThrough p
 is_through page_size text items over v p q is k yes_ = subst IsThrough is (items_law v.source v.done (k.whole yes_))

@@ -118,7 +118,7 @@ front_goes_on c (item ∷ items) none =
       rest.1 ∙ ap (λ (l : List Message). l ++ rest.0) (item_behind c c.hello item refl none) ∙ append_assoc (front_messages c) (m ∷ []) rest.0,
     )
 
--- where a reading goes on from there, the channel's messages begin with those before
+-- if a reading goes on from there, the channel's messages begin with those before
 begins_there : (k : Cursor) (text more : List ℕ) (c to : ChannelProgress) (rest : List ℕ) (found : ChannelState) → HasNoneBefore c
     → Reads (start k.page_size k.uuid k.channels) text to rest found → Reads c more to rest found → BeginsMessages (text_of k text) (front_messages c)
 begins_there k text more c to rest found none whole r =
@@ -175,7 +175,7 @@ within_item text at len le long =
 behind_hello : Cursor → Cursor
 behind_hello k = record k { at = k.at + hello_len; greeted = true }
 
--- where nothing was read before, this is the next item
+-- if nothing was read before, this is the next item
 hello_item : (k : Cursor) (text : List ℕ) (done : List Message) (id : ℕ) (b : IsBehind k text done) → k.greeted ≡ false → id < k.channels
     → IsHello k.uuid id (take hello_len (drop k.at text))
     → IsItem b.c.page_size b.c.hello (take hello_len (drop k.at text)) × (first_fault b.c (take hello_len (drop k.at text)) ≡ None)

@@ -24,7 +24,7 @@ use Rattle.mig_answer.specs.Putting.{HasLoaded}
 use Rattle.mig_answer.proofs.Putting.{table_is}
 use Rattle.mig_relay.proofs.RelayRounds.{size_is}
 
--- a complete main stream, so many of whose rounds were taken
+-- a complete main stream, this many of whose rounds were taken
 abbrev pub main_so_far : List ℕ → ℕ → SoFar
 main_so_far text n = record { text = text; ended = true; taken = n }
 

@@ -34,7 +34,7 @@ some_messages source size_is =
       record { to = are.to; rest = are.rest; found = are.found; reads = are.reads; has_messages = refl },
     )
 
--- ---- where a front's packets lie
+-- ---- the places of a prefix's packets
 
 -- one packet more
 pub more_packets : (c : ChannelProgress) (packet : List ℕ) → all_packets (after_packet c packet) ≡ all_packets c ++ packet ∷ []
@@ -188,7 +188,7 @@ hello_items p text (Some id) = refl
 
 -- ---- the messages of a front
 
--- where the packets of a front begin, if there are any
+-- the beginning of a prefix's packets, if there are any
 begins_packets : (p : ℕ) (c : ChannelProgress) (text front rest : List ℕ) (l : IsLaid p c front) → text ≡ front ++ rest → text ≡ l.hello ++ (concat (all_packets c) ++ rest)
 begins_packets p c text front rest l e = e ∙ ap (λ (x : List ℕ). x ++ rest) l.has_front ∙ append_assoc l.hello (concat (all_packets c)) rest
 

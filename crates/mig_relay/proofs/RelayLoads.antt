@@ -82,7 +82,7 @@ same_standings k from [] = refl
 same_standings k from (items ∷ received) =
     ap (λ (l : List Standing). told_standing (from, status_in k items) ∷ l) (same_standings k (from + 1) received)
 
--- after the first round no hello comes again
+-- after the first round no hello is repeated
 no_repeat : (l : Load) (k : ℕ) (places : List ℕ) (ends : List QueueEnd) → Loading l (suc k) places ends → repeated_hello (hello_ids l.readings) ≡ None
 no_repeat l k places ends loading =
     let t : passes 0 l.readings ≡ true = loading.have_passed 0 (omega arith) in
@@ -164,14 +164,14 @@ done_is_clean k m cs repeated done = elim (cases_Bool (list_all (λ (s : Standin
       absurd (first_is (λ (x : Verdict). x ≢ Done) (verdicts_told k m cs repeated) Done all done refl)
 ]
 
--- where a channel is clean its stop was taken
+-- if a channel is clean its stop was taken
 clean_is_through : (k : ℕ) (p : QueueEnd) → HasEnough k p → is_clean (status_in k p.passed) ≡ true → IsThrough p
 clean_is_through k p told clean = elim told.1 [
   | inl more ↦ let whole = ap is_clean (status_whole k (round_count p.passed) (end_in p.passed) more) in absurd cc
   | inr all ↦ all
 ]
 
--- where all are, all were
+-- if all are, all were
 all_through : (k from : ℕ) (ends : List QueueEnd) → All (HasEnough k) ends
     → list_all (λ (s : Standing). is_clean s.status) (map told_standing (enumerate_from from (map (status_in k) (received_of ends)))) ≡ true → All IsThrough ends
 all_through k from [] told clean = All-nil IsThrough

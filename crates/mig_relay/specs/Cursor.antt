@@ -38,7 +38,7 @@ pub record IsBehind (k : Cursor) (text : List ℕ) (done : List Message) : Type 
   pub goes_on : Reads c (drop k.at text) to rest found
   pub whole : Reads (start k.page_size k.uuid k.channels) text to rest found
 
--- this is the message that comes next, and the cursor after it
+-- this is the next message, and the cursor after it
 pub record Finds (k : Cursor) (text : List ℕ) (message : Message) (behind : Cursor) : Type 0 where
   pub next : (done : List Message) → IsBehind k text done → BeginsMessages (text_of k text) (done ++ message ∷ [])
   pub goes_on : is_last message ≡ false → (done : List Message) → IsBehind k text done → IsBehind behind text (done ++ message ∷ [])

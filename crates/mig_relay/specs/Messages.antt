@@ -13,7 +13,7 @@ use Rattle.mig_relay.specs.declared.message.Message.{Message}
 use Rattle.mig_relay.specs.declared.message.Message.TheVariants as message
 use Rattle.mig_relay.specs.RelayItems.{end_fault}
 
--- the item that a message stands for
+-- the item that a message represents
 abbrev pub item_in : ℕ → List ℕ → Message → ChannelItem
 item_in page_size text (message.Hello id) = Hello id
 item_in page_size text (message.Page at len) = Page (fields_of page_size (take len (drop at text)))
@@ -63,7 +63,7 @@ IsMessageIn page_size text (message.Hello id) = ⊤
 IsMessageIn page_size text (message.Page at len) = (at + len ≤ length text) × IsPacketText page_size (take len (drop at text))
 IsMessageIn page_size text (message.Stop end) = ⊤
 
--- nothing comes after it
+-- nothing follows it
 abbrev pub is_last : Message → Bool
 is_last (message.Hello id) = false
 is_last (message.Page at len) = false

@@ -1,4 +1,4 @@
--- A load of a relay's items: what it takes of each channel, and the round that is judged.
+-- A load of a relay's items: the items that it takes of each channel, and the round that is judged.
 use Rattle.std.specs.Prelude.{◌≡◌, ◌≢◌, ◌⊎◌, ℕ, ◌+◌, ◌<◌, ◌≤◌, Bool, true, List, [], ◌∷◌, ◌++◌, length, map, take, slice_get, slice_set, Option, Some, None, IsTrue, All, Result, ⊤, ◌==◌, ◌^◌, if◌then◌else◌, get_or, is_ok}
 use Rattle.std.specs.List.{AllZip}
 use Rattle.mig_mem.specs.PageSize.{IsPageSize}
@@ -51,14 +51,14 @@ pub record IsRelay (ends : List QueueEnd) : Type 0 where
 abbrev pub received_of : List QueueEnd → List (List ChannelItem)
 received_of ends = map (λ p. p.passed) ends
 
--- the queue and the channel are unchanged, and what was taken begins with what was taken before
+-- the queue and the channel are unchanged, and the items taken begin with those taken before
 pub record Continues (old new : QueueEnd) : Type 0 where
   pub same_queue : new.queue ≡ old.queue
   pub same_source : new.source ≡ old.source
   pub begins : IsFront old.passed new.passed
 
--- What a load that counts `rounds` rounds has taken: their SYNC packets at least, and the stop if
--- it is done.
+-- The items that a load that counts `rounds` rounds has taken: at least their SYNC packets, and the
+-- stop if it is done.
 pub record HasReceived (rounds : ℕ) (done : Bool) (old new : QueueEnd) : Type 0 where
   pub continues : Continues old new
   pub has_rounds : rounds ≤ round_count new.passed
@@ -153,7 +153,7 @@ pub record Load : Type 0 where
   pub texts : List (List ℕ)
   pub readings : Readings
 
--- A load has come to round k: the rounds before it pass, and these are the channels, processed up
+-- A load has reached round k: the rounds before it pass, and these are the channels, processed up
 -- to it.
 pub record Loading (l : Load) (k : ℕ) (places : List ℕ) (ends : List QueueEnd) : Type 0 where
   pub is_page_size : IsPageSize l.given.page_size
@@ -182,13 +182,14 @@ IsAnswered l k verdict = (IsFirstStop l.readings k × (verdict_at k l.readings �
 abbrev pub HaveRounds : ℕ → List QueueEnd → Type 0
 HaveRounds k ends = All (λ p. k ≤ round_count p.passed) ends
 
--- The result of a load that ends at round k: its verdict, and what it took of the channels.
+-- The result of a load that ends at round k: its verdict, and the items that it took of the
+-- channels.
 pub record HasEnded (l : Load) (k : ℕ) (verdict : Result ⊤ LoadFault) (ends : List QueueEnd) : Type 0 where
   pub is_answered : IsAnswered l k verdict
   pub have_rounds : HaveRounds k ends
   pub through : is_ok verdict ≡ true → All IsThrough ends
 
--- a load has come to a round of these records, which the main stream has; the rounds before it are
+-- a load has reached a round of these records, which the main stream has; the rounds before it are
 -- applied
 pub record ComesToRound (l : Load) (target : LoadTarget) (places : List ℕ) (ends : List QueueEnd) (round : RoundOfRecords) : Type 0 where
   pub loading : Loading l target.rounds places ends
@@ -199,7 +200,7 @@ pub record ComesToRound (l : Load) (target : LoadTarget) (places : List ℕ) (en
   pub is_round : round.records ≡ get_or l.readings.main.rounds target.rounds []
   pub fits : FitsTable target.memory.table round
 
--- The result of judging a round. With None it is applied, and the next one comes. Otherwise the
+-- The result of judging a round. With None it is applied, and the next one follows. Otherwise the
 -- load has ended, and the memory is unchanged.
 abbrev pub HasJudged : Load → LoadTarget → Option (Result ⊤ LoadFault) → LoadTarget → List ℕ → List QueueEnd → Type 0
 HasJudged l old None new places ends =

@@ -13,7 +13,7 @@ use std::alloc::{Allocator, Global};
 use std::marker::Model;
 use std::sync::Wait;
 
-/// The items of one channel as they come. Contracts see its queue, its bytes, and the items that
+/// The items of one channel, in their order. Contracts see its queue, its bytes, and the items that
 /// were popped.
 #[derive(Drop)]
 pub struct Channel<'a, A: Allocator = Global> {

@@ -48,8 +48,8 @@ impl<'a, A: Allocator> Debug for Feeder<'a, A> {
     }
 }
 
-/// What is left of a feeder that has pushed its channel's stop. Contracts see its queue, its bytes,
-/// and the items that were pushed.
+/// A feeder that has pushed its channel's stop. Contracts see its queue, its bytes, and the items
+/// that were pushed.
 #[derive(Drop)]
 pub struct Fed<A: Allocator = Global> {
     sender: Sender<A>,
@@ -84,7 +84,7 @@ pub enum FeederStep<'a, A: Allocator = Global> {
     Ended(Fed<A>),
 }
 
-/// Prints which of the two it is, and no more.
+/// Prints only which of the two it is.
 impl<'a, A: Allocator> Debug for FeederStep<'a, A> {
     fn fmt<W: fmt::Write>(&self, f: &mut Formatter<W>) -> fmt::Result {
         match self {

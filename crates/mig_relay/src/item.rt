@@ -18,6 +18,6 @@ pub enum Item<'a> {
     Hello(u8),
     /// A packet.
     Page(Packet<'a>),
-    /// The end of the channel, which comes once, and last.
+    /// The end of the channel, which is the last item.
     Stop(ChannelEnd),
 }

@@ -21,7 +21,7 @@ pub struct ChannelText {
     pub text: LinkedList<u8>,
 }
 
-/// What a pass knows: whether it pushes, whether it pops, the channel, and the messages that it
+/// A pass's record: whether it pushes, whether it pops, the channel, and the messages that it
 /// pushed or popped. No value of this type is made.
 pub struct Log {
     pub feeds: bool,
@@ -30,9 +30,9 @@ pub struct Log {
     pub done: LinkedList<Message>,
 }
 
-/// What holds of a queue and its passes between any two steps. The messages popped, and then those
-/// in the queue, are those pushed, which are the first of the channel. One pass pushes, and one
-/// pops.
+/// The invariant of a queue and its passes between any two steps. The messages popped, and then
+/// those in the queue, are those pushed, which are the first of the channel. One pass pushes, and
+/// one pops.
 pub struct InOrder;
 
 impl Protocol<Message, Log> for InOrder {

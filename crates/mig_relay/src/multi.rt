@@ -28,7 +28,7 @@ use uuid::Uuid;
 // how many items the queue of a channel holds
 const QUEUE_CAPACITY: usize = 64;
 
-/// Loads a guest from a complete main stream and complete channels, which may come in any order.
+/// Loads a guest from a complete main stream and complete channels, which may be in any order.
 /// Pages have `page_size` bytes, and hellos name `uuid`. The blocks may have `limit` bytes
 /// together.
 ///
@@ -74,8 +74,8 @@ pub fn load_multi<
 }
 
 /// Loads a guest from a complete main stream and complete channels, as `load_multi` does, with the
-/// main stream read with `settings`. What a sender wrote with a machine's main stream is loaded in
-/// the machine's frame, whatever follows RAM's END.
+/// main stream read with `settings`. The streams of a sender with a machine's main stream are
+/// loaded in the machine's frame, whatever follows RAM's END.
 ///
 /// # Errors
 ///

@@ -20,8 +20,8 @@ use std::marker::Model;
 use std::sync::Wait;
 use uuid::Uuid;
 
-/// The items of all channels as they come. Contracts see each channel's queue, its bytes, and the
-/// items that were taken from it.
+/// The items of all channels, in the order of each channel. Contracts see each channel's queue, its
+/// bytes, and the items that were taken from it.
 #[derive(Drop)]
 pub struct Collector<'a, A: Allocator = Global> {
     channels: Vec<Channel<'a, A>, A>,

@@ -1,5 +1,5 @@
-//! The load of the items of a relay, round by round. `load_multi` calls it beside its workers, and
-//! so may callers with a relay of their own.
+//! The load of the items of a relay, round by round. `load_multi` calls it while its workers run,
+//! and so may callers with a relay of their own.
 
 ghost use Rattle.std.specs.Prelude.{ℕ, ◌≡◌, ◌≢◌, ◌<◌, ◌≤◌, ◌^◌, [], List, None, map, replicate, is_ok, IsTrue, All, IfOk, OnOk};
 ghost use Rattle.std.specs.List.{AllZip};
@@ -34,7 +34,7 @@ fn repeated_at<A: Allocator>(round: u64, collector: &Collector<'_, A>) -> Option
 }
 
 // Takes a round of all channels, and gathers its packets. Returns the verdict of the sources there.
-// If all have the round, and no hello comes again, returns None.
+// If all have the round, and no hello is repeated, returns None.
 fn told_at<'a, R: Wait, A: Allocator + Copy>(
     wait: &R,
     alloc: A,

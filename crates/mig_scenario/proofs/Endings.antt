@@ -20,7 +20,7 @@ after_last-more p xs y other =
     let count : length (xs ++ y ∷ []) - suffix_len (λ x. not (p x)) (xs ++ y ∷ []) ≡ length xs - suffix_len (λ x. not (p x)) xs = omega arith in
     ap (λ (n : ℕ). drop n (xs ++ y ∷ [])) count ∙ drop-append-le (length xs - suffix_len (λ x. not (p x)) xs) xs (y ∷ []) (omega arith)
 
--- where no element passes, none did before the last one, and the last one does not
+-- if no element passes, none did before the last one, and the last one does not
 place_none : (n l : ℕ) → cond (nat_lt n l) (Some n) None ≡ None → l ≤ n
 place_none n l h = elim (cases_Bool (nat_lt n l)) [
   | inl t ↦ let some : cond (nat_lt n l) (Some n) None ≡ Some n = cond-true (nat_lt n l) (Some n) None t in absurd cc

@@ -1,4 +1,4 @@
--- The marks of a scenario's guest are faithful: what its rounds leave is its memory, where no step
+-- The marks of a scenario's guest are faithful: what its rounds leave is its memory, if no step
 -- follows the last of them.
 use Rattle.std.proofs.Common.{ℕ, ◌≡◌, ◌*◌, ◌/◌, ◌%◌, List, [], ◌∷◌, ◌++◌, length, set, replicate, refl, sym, ap, subst, ◌∙◌, inl, inr, append_assoc, append-nil, None, true, false, ◌||◌, ◌&&◌, cond}
 use Rattle.std.specs.Prelude.{All, Contains, IsTrue, position, nat_lt}
@@ -178,7 +178,7 @@ played_tracked table ls is within = lines_tracked table (new_guest table) ls is 
 
 -- ---- the last round
 
--- where no step follows the last round of these lines, the guest's image was sent
+-- if no step follows the last round of these lines, the guest's image was sent
 abbrev IsSent : RamTable → List ScenarioLine → ScenarioGuest → Type 0
 IsSent table ls g = position is_step (after_last is_round ls) ≡ None → g.image ≡ sent_image table g
 

@@ -9,7 +9,7 @@ use Rattle.mig_scenario.specs.declared.fault.ScenarioFault.TheVariants as fault
 use Rattle.mig_scenario.specs.Line.{ScenarioLine, lines, line_of}
 use Rattle.mig_scenario.specs.Scenario.{forms, first_line}
 
--- what is left of an input, where a line follows
+-- what is left of an input, if a line follows
 abbrev pub left_forms : Option (Bor (List ℕ)) → List (Option ScenarioLine)
 left_forms None = []
 left_forms (Some text) = forms text.now

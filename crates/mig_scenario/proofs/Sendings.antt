@@ -34,7 +34,7 @@ keeps_then a b c x y = record {
 keeps_same : (a : MultiSending) → KeepsSetting a a
 keeps_same a = record { same_table = refl; same_uuid = refl; same_limit = refl; as_many = refl }
 
--- a sender on several channels keeps its setting, where there is one
+-- a sender on several channels keeps its setting, if there is one
 abbrev pub IsKept : Option MultiSending → Option MultiSending → Type 0
 IsKept old new = MatchOption old (new ≡ None) (λ s. IsSomeAnd new (λ t. KeepsSetting s t))
 
@@ -83,7 +83,7 @@ texts_like table old new snapshots texts like are = record {
   several_texts = several_like table snapshots old.several new.several texts.several like.several_like are.several_texts;
 }
 
--- where there is a sender of a single stream, there is its stream
+-- if there is a sender of a single stream, there is its stream
 pub has_text : {X Y : Type 0} (s : Option X) (text : Option Y) (P : Y → Type 0) → is_some s ≡ true
     → MatchOption s (text ≡ None) (λ x. IsSomeAnd text P) → IsSomeAnd text P
 has_text None text P e h = absurd cc

@@ -21,7 +21,7 @@ past_end p xs h =
     let at = position_or_len p xs in
     ltb-false at (length xs) (no_answer (nat_lt at (length xs)) at h)
 
--- where one passes, what stands before it and the pieces of what stands after it
+-- if one passes, what stands before it and the pieces of what stands after it
 pub split_found : {X : Type 0} (p : X → Bool) (xs : List X) (i : ℕ) (d : X) → position p xs ≡ Some i
     → (slice_split p xs ≡ take i xs ∷ slice_split p (take (length xs - (i + 1)) (drop (i + 1) xs)))
     × (length (take (length xs - (i + 1)) (drop (i + 1) xs)) < length xs)
@@ -35,7 +35,7 @@ split_found {X} p xs i d h =
     subst (λ (n : ℕ). slice_split p xs ≡ take n xs ∷ slice_split p (drop (n + 1) xs)) both.1 (slice_split_first p xs d within) in
     (cut ∙ ap (λ (ys : List X). take i xs ∷ slice_split p ys) (sym whole), omega (arith, both.1, within, len, ap length whole))
 
--- where none passes, the list
+-- if none passes, the list
 pub split_missed : {X : Type 0} (p : X → Bool) (xs : List X) (d : X) → position p xs ≡ None → slice_split p xs ≡ xs ∷ []
 split_missed p xs d h =
     let past = past_end p xs h in

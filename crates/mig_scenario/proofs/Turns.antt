@@ -15,7 +15,7 @@ all_of o = mapped_same (λ j. 0 + j) (λ j. j) o (λ j. omega arith) ∙ option_
 
 -- ---- the first block after the first step
 
--- of the lines from a number on, where a step is known to stand before them or isn't
+-- of the lines from a number on, if a step is known to stand before them or isn't
 abbrev pub late_from : Bool → ℕ → List ScenarioLine → Option ℕ
 late_from has_step i [] = None
 late_from has_step i (EmptyLine ∷ ls) = late_from has_step (i + 1) ls
@@ -32,7 +32,7 @@ late_with i (EmptyLine ∷ ls) = late_with (i + 1) ls ∙ other_block i EmptyLin
 late_with i (BlockLine pages id ∷ ls) = rw (position-cons is_block (BlockLine pages id) ls) refl
 late_with i (StepLine step ∷ ls) = late_with (i + 1) ls ∙ other_block i (StepLine step) ls refl
 
--- where the first step stands one line further on
+-- if the first step stands one line further on
 late_later : (l : ScenarioLine) (ls : List ScenarioLine) (o : Option ℕ)
     → option_and_then (λ i. option_map (λ j. i + suc j) (position is_block (drop i (l ∷ ls)))) (option_map suc o)
     ≡ option_map suc (option_and_then (λ i. option_map (λ j. i + suc j) (position is_block (drop i ls))) o)
@@ -53,7 +53,7 @@ late_step i l ls e n =
     (sym (mapped_twice (λ j. i + j) (λ j. 0 + suc j) (λ j. i + suc j) (option_map suc (position is_block ls)) (λ j. omega arith)
     ∙ shifted (λ j. i + suc j) (λ j. i + 1 + suc j) (position is_block ls) (λ j. omega arith)))
 
--- where none does
+-- if none does
 late_without : (i : ℕ) (ls : List ScenarioLine) → late_from false i ls ≡ option_map (λ j. i + j) (late_block ls)
 late_without i [] = refl
 late_without i (EmptyLine ∷ ls) = late_without (i + 1) ls ∙ late_shifted i EmptyLine ls refl

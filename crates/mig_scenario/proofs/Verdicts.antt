@@ -77,7 +77,7 @@ pub not_refused : (size : ℕ) (text : List ℕ) (ls : List ScenarioLine) → fo
     → first_line (λ l. not (is_within (table_of size ls) l)) ls ≡ None → unsent ls ≡ None → refusal size text ≡ None
 not_refused size text ls h a b c d = judged size text ls h ∙ no_fault (late_block ls) (table_refusal (table_of size ls)) (outside size ls) (unsent ls) a b c d
 
--- ---- where no line passes a test
+-- ---- if no line passes a test
 
 no_place : (o : Option ℕ) → option_map suc o ≡ None → o ≡ None
 no_place None e = refl

@@ -15,7 +15,7 @@ pub data ScenarioLine : Type 0 where
   BlockLine : ℕ → List ℕ → ScenarioLine
   StepLine : Step → ScenarioLine
 
--- lines end with 0x0A, and what follows the last of these is a line too
+-- lines end with 0x0A, and the bytes after the last of these are a line, too
 abbrev pub lines : List ℕ → List (List ℕ)
 lines text = slice_split (λ byte. byte == 0x0A) text
 

@@ -155,7 +155,7 @@ shared deal image batches (b ∷ before) (Done written ∷ slots) (s ∷ spents)
 shared deal image batches (b ∷ before) (Waiting seat text ∷ slots) (s ∷ spents) done spent = absurd done.0
 shared deal image batches (b ∷ before) (Running ∷ slots) (s ∷ spents) done spent = absurd done.0
 
--- where the deal is ended and all had memory, the channels carry a dealing
+-- if the deal is ended and all had memory, the channels carry a dealing
 pub carried : {A : Type 0} (deal : DealView) (image : Image) (batches : List BatchOfPages) (before after : List (List ℕ)) (slots : List (Slot A)) (spents : List SeatView)
     (made : Result (Unit {0}) NoMemory) (base next : ℕ) → AreShared deal image batches before slots spents → after ≡ map slot_text slots → OnOk made (All HadMemory slots)
     → deal.base ≡ base → deal.batches ≡ length batches → deal.seats ≡ length before → length spents ≡ length before

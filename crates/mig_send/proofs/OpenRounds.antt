@@ -270,7 +270,7 @@ ended image drained old round main base rounds next is_image of_table is come al
           some sent;
     }
 
--- where none of its bytes was drained, it is a round as any other
+-- if none of its bytes was drained, it is a round as any other
 pub undrained : (snapshot : Snapshot) (old new : MultiSending) → HasSentRound none_drained snapshot old new → HasSentOne snapshot old new
 undrained snapshot old new sent = record {
   round = sent.round;

@@ -54,7 +54,7 @@ from_place p (q ∷ qs) order has = elim (cases_Bool (place_eq q p)) [
       rw (before, before_too) (from_place p qs order.1 in_rest)
 ]
 
--- where nothing is found from a place on, there is nothing
+-- if nothing is found from a place on, there is nothing
 filter_nothing : (f : Place → Bool) (ps : List Place) → find f ps ≡ None → filter f ps ≡ []
 filter_nothing f [] none = refl
 filter_nothing f (q ∷ qs) none = elim (cases_Bool (f q)) [

@@ -70,7 +70,7 @@ share_ends image terms before whole spent last one no_work =
           ∙ append_assoc before (flat_map f so_far.numbers) (sync_packet image.table.page_size last);
     }
 
--- what is in hand is written
+-- the current packet is written
 written_packed : (image : Image) (terms : RoundTerms) (before whole : List ℕ) (in_hand : Hand) → HasPackedTo image terms before whole in_hand
     → HasPackedTo image terms before (whole ++ hand_bytes image terms in_hand) (after_packet in_hand)
 written_packed image terms before whole (Drawing seat) packed = subst (λ (l : List ℕ). HasPackedSoFar image terms seat before l) (sym (append-nil whole)) packed

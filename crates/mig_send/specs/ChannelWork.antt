@@ -1,5 +1,5 @@
--- A worker of one channel that its caller steps: what it shares with the other workers of its
--- round, its state, and what its channel's bytes have of the round.
+-- A worker of one channel that its caller steps: the values shared with the other workers of its
+-- round, its state, and its channel's part of the round.
 use Rattle.std.specs.Prelude.{ℕ, ◌≡◌, ◌<◌, ◌≤◌, List, [], ◌∷◌, ◌++◌, length, flat_map, All, AllPairs, Result, OnOk, OnErr, ⊤}
 use Rattle.mig_mem.specs.RamTable.{RamTable}
 use Rattle.mig_mem.specs.Image.{Image}
@@ -18,7 +18,7 @@ pub record RoundTerms : Type 0 where
   pub table : RamTable
   pub batches : List BatchOfPages
 
--- a worker: what it shares, its channel, its state, and the bytes that weren't drained
+-- a worker: the shared values, its channel, its state, and the bytes that weren't drained
 pub record ChannelWork : Type 0 where
   pub terms : RoundTerms
   pub channel : ℕ
@@ -112,10 +112,10 @@ pub record HasStepped (image : Image) (made : Result (Unit {0}) NoMemory) (old n
   pub same_channel : new.channel ≡ old.channel
   pub is_step : IsStep image old.terms made old.hand new.hand old.text new.text
 
--- ---- what it has packed
+-- ---- the packets of a worker
 
--- The seat has drawn numbers that claim batches, and the channel has, after what it had before the
--- round, their packets.
+-- The seat has drawn numbers that claim batches, and the channel has their packets after its bytes
+-- before the round.
 pub record HasPackedSoFar (image : Image) (terms : RoundTerms) (seat : SeatView) (before whole : List ℕ) : Type 0 where
   pub numbers : List ℕ
   pub has_drawn : seat ≡ record { deal = terms.deal; drawn = numbers }
@@ -142,7 +142,7 @@ HasPackedTo image terms before whole (Ending spent last) = HasOneInHand image te
 HasPackedTo image terms before whole (Ended spent) = HasPackedShare image terms spent before whole
 HasPackedTo image terms before whole Moving = ⊥
 
--- The worker has packed what it drew from the pages of this image. Its channel had some bytes
--- before the round. All of its bytes are these and what was written since, drained or not.
+-- The worker has packed the batches that it drew, from the pages of this image. Its channel had
+-- some bytes before the round. All of its bytes are these and those written since, drained or not.
 abbrev pub HasPacked : Image → (before whole : List ℕ) → ChannelWork → Type 0
 HasPacked image before whole work = HasPackedTo image work.terms before whole work.hand

@@ -17,30 +17,30 @@ pub record IsDealing (base batches : ℕ) (shares : List Share) : Type 0 where
   pub has_lasts : HasEachOnce (base + batches) (base + batches + length shares) (map (λ (share : Share). share.last) shares)
   pub rise : All (λ (share : Share). AllPairs (λ a b. a < b) share.numbers) shares
 
--- ---- what is sent of it
+-- ---- the bytes sent of a dealing
 
 -- the packet with SYNC and without pages, by which a channel ends a round
 abbrev pub sync_packet : ℕ → ℕ → List ℕ
 sync_packet page_size number = written_packet page_size number true [] [] [] []
 
--- what is sent of a share: the packets that its numbers claim, in their order, and a SYNC packet of
--- its last number
+-- the bytes sent of a share: the packets that its numbers claim, in their order, and a SYNC packet
+-- of its last number
 abbrev pub share_text : ℕ → Image → List BatchOfPages → Share → List ℕ
 share_text base image batches share =
     flat_map (λ number. (claimed_packet base image batches number).bytes) share.numbers ++ sync_packet image.table.page_size share.last
 
--- what is sent of a worker's result: its packets, in their order, and a SYNC packet of its last
+-- the bytes sent of a worker's result: its packets, in their order, and a SYNC packet of its last
 -- number
 abbrev pub answer_text : ℕ → List PackedBatch → ℕ → List ℕ
 answer_text page_size packets last = flat_map (λ packed. packed.bytes) packets ++ sync_packet page_size last
 
--- a worker's result is what is sent of a share
+-- a worker's result gives the bytes sent of a share
 abbrev pub IsSent : {A : Type 0} → ℕ → Image → List BatchOfPages → Share → Worked A → Type 0
 IsSent base image batches share worked =
     IfOk worked.packets (λ packets. answer_text image.table.page_size packets.items worked.last ≡ share_text base image batches share)
 
--- Workers' results deal a round's batches from a base on: what is sent of them are the shares of a
--- dealing.
+-- Workers' results deal a round's batches from a base on: the bytes sent of them are those of a
+-- dealing's shares.
 pub record MakeADealing {A : Type 0} (base : ℕ) (image : Image) (batches : List BatchOfPages) (answers : List (Worked A)) : Type 0 where
   pub shares : List Share
   pub is_dealing : IsDealing base (length batches) shares

@@ -47,11 +47,11 @@ AreNumbered from (round ∷ rounds) = (round.base ≡ from) × AreNumbered (from
 abbrev pub no_share : Share
 no_share = record { numbers = []; last = 0 }
 
--- what a channel carries of a round: what is sent of its share
+-- a channel's part of a round: the bytes sent of its share
 abbrev pub round_text : ℕ → DealtRound → List ℕ
 round_text channel round = share_text round.base round.snapshot.image round.batches (get_or round.shares channel no_share)
 
--- a channel's bytes: its hello, and then what it carries of each round
+-- a channel's bytes: its hello, and then its part of each round
 abbrev pub channel_text : List ℕ → List DealtRound → ℕ → List ℕ
 channel_text uuid rounds channel = written_hello uuid channel ++ flat_map (round_text channel) rounds
 
@@ -70,8 +70,7 @@ pub record IsSetting (table : RamTable) (uuid : List ℕ) (channels limit : ℕ)
   pub has_limit : (0 < limit) × (limit ≤ page_limit table.page_size)
 
 -- The streams of some rounds. Each round was dealt, and their packets are numbered from 0 on within
--- 64 bits. The main stream has a FLUSH for each, and each channel its hello and what it carries of
--- each.
+-- 64 bits. The main stream has a FLUSH for each, and each channel its hello and its part of each.
 pub record IsSending (table : RamTable) (uuid : List ℕ) (limit channels : ℕ) (rounds : List DealtRound) (main_text : List ℕ) (texts : List (List ℕ)) : Type 0 where
   pub is_set : IsSetting table uuid channels limit
   pub are_dealt : All (IsDealtRound table limit channels) rounds

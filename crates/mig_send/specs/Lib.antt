@@ -1,8 +1,8 @@
--- To read first, in this order: what a single stream has been sent, the batches of a round, their
--- packets, what one worker draws, what it fills with its packets, and the dealing that workers make
--- together. Then rounds that are dealt over several channels, what their streams are read as, and
--- the sender of these. Last the workers of a round, a worker that its caller steps, and the round
--- of such workers.
+-- Read first, in this order: the rounds sent on a single stream, the batches of a round, their
+-- packets, one worker's draws, the sink that it fills with its packets, and the dealing that
+-- workers make together. Then rounds that are dealt over several channels, what their streams are
+-- read as, and the sender of these. Last the workers of a round, a worker that its caller steps,
+-- and the round of such workers.
 pub mod Sending
 pub mod Batches
 pub mod Packing

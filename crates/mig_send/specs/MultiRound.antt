@@ -33,8 +33,9 @@ dirty_of terms = flat_map batch_places terms.batches
 abbrev pub handed_out : OpenMulti → ℕ
 handed_out round = length round.sender.channels - length round.seats
 
--- What holds of each open round: its batches are those of its dirty places, its deal has one number
--- for each and a seat for each channel, and goes on where the sender's packets end.
+-- The invariant of an open round: its batches are those of its dirty places, its deal has one
+-- number for each and a seat for each channel, and its numbers follow those of the sender's
+-- packets.
 pub record IsOpenMulti (round : OpenMulti) : Type 0 where
   pub same_table : round.terms.table ≡ round.sender.main.table
   pub claims : ClaimsBatches round.terms.deal round.terms.table round.terms.batches
@@ -47,7 +48,7 @@ pub record IsOpenMulti (round : OpenMulti) : Type 0 where
   pub are_own : All (λ spent. spent.deal ≡ round.terms.deal) round.spents
   pub are_few : length round.spents + length round.seats ≤ length round.sender.channels
 
--- ---- how far a round has come
+-- ---- the progress of a round
 
 -- no channel's bytes were drained in the round
 abbrev pub none_drained : ℕ → List ℕ
@@ -87,8 +88,8 @@ IsBeginFault table other Limit = ⊥
 IsBeginFault table other OtherTable = other ≡ table → ⊥
 IsBeginFault table other NoMemory = other ≡ table
 
--- What the workers share has these batches of a table, which the numbers from a base on claim, and
--- there is a new seat for each worker.
+-- The workers share these batches of a table, which the numbers from a base on claim, and there is
+-- a new seat for each worker.
 pub record IsDealtTo (base : ℕ) (table : RamTable) (batches : List BatchOfPages) (workers : ℕ) (terms : RoundTerms) (seats : List SeatView) : Type 0 where
   pub same_table : terms.table ≡ table
   pub same_batches : terms.batches ≡ batches
@@ -126,7 +127,7 @@ pub record TakesBack (worker : ChannelWork) (old new : OpenMulti) : Type 0 where
 
 -- ---- the round sent
 
--- what was drained, and these bytes of each channel
+-- the bytes drained, and these bytes of each channel
 abbrev pub with_channels : Drained → (ℕ → List ℕ) → Drained
 with_channels drained more = record drained { channel = λ channel. drained.channel channel ++ more channel }
 
@@ -141,8 +142,8 @@ pub record HasSentRound (drained : ℕ → List ℕ) (snapshot : Snapshot) (old 
   pub has_sent : (before : Drained) (rounds : List DealtRound) → HasSentRounds before old rounds
       → HasSentRounds (with_channels before drained) new (rounds ++ round ∷ [])
 
--- The round is ended: if it was begun by a sender and came this far, that sender has sent it, as
--- `MultiSender::round` does.
+-- The round is ended: if it was begun by a sender and has this progress, that sender has sent it,
+-- as `MultiSender::round` does.
 pub record EndsRound (round : OpenMulti) (sender : MultiSending) : Type 0 where
   pub same_setting : KeepsSetting round.sender sender
   pub has_sent : (image : Image) (drained : ℕ → List ℕ) (old : MultiSending) → IsImage image → image.table ≡ round.sender.main.table

@@ -1,4 +1,4 @@
--- A sender on several channels: what it has sent, and what was drained of it.
+-- A sender on several channels: the rounds that it has sent, and the bytes drained from it.
 use Rattle.std.specs.Prelude.{ℕ, ◌≡◌, ◌+◌, ◌^◌, ◌≤◌, ◌<◌, List, [], ◌∷◌, ◌++◌, length, map, replicate, take, get_or, sum_by, All, Vec, ◌⊎◌, ◌==◌, if◌then◌else◌}
 use Rattle.std.specs.List.{range_with_len}
 use Rattle.mig_mem.specs.RamTable.{RamTable}
@@ -32,14 +32,14 @@ cut_texts [] texts = texts
 cut_texts (len ∷ lens) [] = []
 cut_texts (len ∷ lens) (text ∷ texts) = take len text ∷ cut_texts lens texts
 
--- What holds of each: it was made within the limits, each round had a packet, and the packets are
--- numbered within 64 bits.
+-- The invariant of each: it was made within the limits, each round had a packet, and the packets
+-- are numbered within 64 bits.
 pub record IsMultiSending (sender : MultiSending) : Type 0 where
   pub is_set : IsSetting sender.main.table sender.uuid (length sender.channels) sender.limit
   pub has_rounds : sender.rounds ≤ sender.base
   pub has_base : sender.base < 2 ^ 64
 
--- what was drained of a sender: of its main stream, and of each channel
+-- the bytes drained from a sender: from its main stream, and from each channel
 pub record Drained : Type 0 where
   pub main : List ℕ
   pub channel : ℕ → List ℕ
@@ -59,7 +59,7 @@ pub record HasSentRounds (drained : Drained) (sender : MultiSending) (rounds : L
   pub has_base : sender.base ≡ sum_by packet_count rounds
   pub has_rounds : sender.rounds ≡ length rounds
 
--- all bytes of the channels: what was drained of each, and what was left of it
+-- all bytes of the channels: those drained from each, and the rest
 abbrev pub whole_texts : Drained → List (List ℕ) → List (List ℕ)
 whole_texts drained channels = map (λ channel. drained.channel channel ++ get_or channels channel []) (range_with_len 0 (length channels))
 
@@ -76,7 +76,7 @@ pub record KeepsCounts (old new : MultiSending) : Type 0 where
   pub same_base : new.base ≡ old.base
   pub same_rounds : new.rounds ≡ old.rounds
 
--- what was drained, and these bytes of the main stream, or of a channel
+-- the bytes drained, and these bytes of the main stream, or of a channel
 abbrev pub with_main : Drained → List ℕ → Drained
 with_main drained bytes = record drained { main = drained.main ++ bytes }
 

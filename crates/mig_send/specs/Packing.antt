@@ -12,7 +12,7 @@ use Rattle.mig_send.specs.Batches.{BatchOfPages, batch_places}
 
 -- ---- the packet of a batch
 
--- The pages that aren't zeros, which come with their contents, and those that are.
+-- The pages that aren't zeros, with their contents, and those that are.
 abbrev pub normals_of : List Page → List Page
 normals_of pages = filter (λ page. not (is_zero page.content)) pages
 
@@ -55,9 +55,9 @@ pub record PackedBatch : Type 0 where
   pub number : ℕ
   pub bytes : List ℕ
 
--- What the bytes of a packed packet show: they are the written packet of that number, without SYNC,
--- of at least one page and no more than a packet may have. None of its normal pages is zeros, and
--- its normal and its zero pages ascend.
+-- The bytes of a packed packet: they are the written packet of that number, without SYNC, of at
+-- least one page and no more than a packet may have. No normal page is zeros, and the normal and
+-- the zero pages ascend.
 pub record IsPacked (packed : PackedBatch) : Type 0 where
   pub id : List ℕ
   pub normal : List ℕ
@@ -78,7 +78,7 @@ packed_of image batch number = record {
   bytes = packet_of image.table.page_size number (block image.table.blocks batch.block).id (round_of image (batch_places batch));
 }
 
--- bytes, or another list, go on from what they were, or are that alone
+-- the bytes, or another list, are the old ones with these after them, or these only
 pub record IsPrefix {E : Type 0} (front text : List E) : Type 0 where
   pub rest : List E
   pub is_text : text ≡ front ++ rest

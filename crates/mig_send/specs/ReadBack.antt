@@ -1,4 +1,4 @@
--- What the streams of a sending are read as.
+-- The readings of a sending's streams.
 use Rattle.std.specs.Prelude.{ℕ, ◌≡◌, ◌<◌, ◌≤◌, ◌^◌, ◌*◌, true, false, List, [], ◌∷◌, ◌++◌, length, map, flat_map, replicate, get_or, Option, Some, None, IfSome}
 use Rattle.mig_mem.specs.RamTable.{RamTable, IsTable, block}
 use Rattle.mig_mem.specs.Image.{Image, IsImage}
@@ -32,19 +32,20 @@ share_packets base image batches share =
 abbrev pub round_packets : ℕ → DealtRound → List (List ℕ)
 round_packets channel round = share_packets round.base round.snapshot.image round.batches (get_or round.shares channel no_share)
 
--- what a complete channel says: its own number in its hello, the packets of each round, and that it
--- is closed
+-- the reading of a complete channel: its own number in its hello, the packets of each round, and
+-- that it is closed
 abbrev pub channel_told : List DealtRound → ℕ → ChannelReading
 channel_told rounds channel = record { hello = Some channel; rounds = map (round_packets channel) rounds; state = Closed }
 
--- and its items: the hello, what each packet says, one after another, and a stop without a fault
+-- and its items: the hello, the fields of each packet, one after another, and a stop without a
+-- fault
 abbrev pub channel_items : ℕ → List DealtRound → ℕ → List ChannelItem
 channel_items page_size rounds channel =
     Hello channel ∷ map (λ packet. Page (fields_of page_size packet)) (flat_map (round_packets channel) rounds) ++ Stop None ∷ []
 
 -- ---- the law
 
--- The streams of a sending are read back: the main stream as its table and so many rounds without a
+-- The streams of a sending are read back: the main stream as its table and as many rounds without a
 -- record, and each channel as the packets that it carries of each round.
 pub record AreReadBack (table : RamTable) (uuid : List ℕ) (channels : ℕ) (rounds : List DealtRound) (main_text : List ℕ) (texts : List (List ℕ)) : Type 0 where
   pub main_is_read : (limit : ℕ) → total_bytes table ≤ limit
@@ -59,7 +60,7 @@ SendingsAreReadBack = (table : RamTable) (uuid : List ℕ) (limit channels : ℕ
     → IsSending table uuid limit channels rounds main_text texts → AreReadBack table uuid channels rounds main_text texts
 
 -- So are those whose main stream is a machine's: it is read in a machine's frame as its table and
--- so many rounds without a record, whatever follows RAM's END.
+-- as many rounds without a record, whatever follows RAM's END.
 abbrev pub MachineSendingsAreReadBack : Type 0
 MachineSendingsAreReadBack = (name : Option (List ℕ)) (table : RamTable) (uuid : List ℕ) (limit channels : ℕ) (rounds : List DealtRound) (main_text : List ℕ) (texts : List (List ℕ))
     → IfSome name (λ bytes. length bytes ≤ most_name_bytes) → IsMachineSending name table uuid limit channels rounds main_text texts
@@ -67,9 +68,9 @@ MachineSendingsAreReadBack = (name : Option (List ℕ)) (table : RamTable) (uuid
     → stream.IsReading (stream.in_frame Machine (stream.settings Main table.page_size most)) (main_text ++ rest) (closed table (replicate (length rounds) [])))
     × AreReadBack table uuid channels rounds (main table (length rounds)) texts
 
--- ---- what the packets say
+-- ---- the fields of packets
 
--- what the packet of a batch says: its number, its block's id, and its pages, those that aren't
+-- the fields of a batch's packet: its number, its block's id, and its pages, those that aren't
 -- zeros with their contents
 abbrev pub batch_fields : Image → BatchOfPages → ℕ → Fields
 batch_fields image batch number = record {
@@ -80,7 +81,7 @@ batch_fields image batch number = record {
   zero = offsets_of image.table.page_size (zeros_of (round_of image (batch_places batch)));
 }
 
--- The packet of a batch says the batch's pages, and a SYNC packet says its number and nothing more.
+-- The packet of a batch has the batch's pages, and a SYNC packet has only its number.
 pub record SayTheirPages : Type 0 where
   pub batch_says : (image : Image) (batch : BatchOfPages) (number : ℕ) → IsTable image.table → IsImage image → IsBatch image.table batch → number < 2 ^ 64
       → fields_of image.table.page_size (packed_of image batch number).bytes ≡ batch_fields image batch number

@@ -1,4 +1,4 @@
--- What a sender of a single stream has sent, and why a round is refused.
+-- The rounds that a sender of a single stream has sent, and why a round is refused.
 use Rattle.std.specs.Prelude.{◌≡◌, ℕ, List, map}
 use Rattle.mig_mem.specs.RamTable.{RamTable}
 use Rattle.mig_mem.specs.Image.{Page, Image}

@@ -1,5 +1,5 @@
--- What one worker does with the numbers that it draws: it fills a sink, which is a list of packets,
--- or the bytes of a channel.
+-- The effect of one worker's numbers on its sink, which is a list of packets, or the bytes of a
+-- channel.
 use Rattle.std.specs.Prelude.{ℕ, ◌≡◌, List, ◌++◌, map, flat_map, OnOk}
 use Rattle.mig_mem.specs.Image.{Image}
 use Rattle.mig_deal.specs.Deal.{SeatView}
@@ -13,9 +13,9 @@ abbrev pub claimed_entries : {E : Type 0} → (PackedBatch → List E) → ℕ �
 claimed_entries entries base image batches numbers =
     flat_map entries (map (claimed_packet base image batches) numbers)
 
--- The result of a worker that filled a sink: it drew a share, and the sink has, after what it had
--- before, the entries of the packets that the share's numbers claim. If an allocation was refused,
--- the sink begins with what it had before.
+-- The result of a worker that filled a sink: it drew a share, and the sink has, after its entries
+-- before, those of the packets that the share's numbers claim. If an allocation was refused, the
+-- sink begins with its entries before.
 pub record HasFilled {E : Type 0} (entries : PackedBatch → List E) (image : Image)
     (batches : List BatchOfPages) (seat : SeatView) (before after : List E) (filled : Filled) : Type 0 where
   pub share : Share

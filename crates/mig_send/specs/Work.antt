@@ -1,4 +1,4 @@
--- What one worker does of a round: the numbers that it draws, and the packets that it makes of the
+-- One worker's part of a round: the numbers that it draws, and the packets that it makes of the
 -- batches that these claim.
 use Rattle.std.specs.Prelude.{ℕ, ◌≡◌, ◌-◌, ◌<◌, ◌≤◌, List, [], ◌∷◌, ◌++◌, length, map, get_or, All, AllPairs, IfOk}
 use Rattle.mig_mem.specs.RamTable.{RamTable}
@@ -26,15 +26,16 @@ pub record Share : Type 0 where
   pub numbers : List ℕ
   pub last : ℕ
 
--- What a seat has drawn since: numbers that claim batches, rising, and then one that claims none.
+-- The numbers that a seat has drawn since: rising numbers that claim batches, and then one that
+-- claims none.
 pub record HasShare (seat spent : SeatView) (share : Share) : Type 0 where
   pub has_drawn : spent ≡ record { deal = seat.deal; drawn = seat.drawn ++ share.numbers ++ share.last ∷ [] }
   pub claim_batches : All (λ number. (seat.deal.base ≤ number) × (number < end_of_work seat.deal)) share.numbers
   pub rise : AllPairs (λ a b. a < b) share.numbers
   pub claims_none : (end_of_work seat.deal ≤ share.last) × (share.last < end_of_deal seat.deal)
 
--- What a worker returns: the share that it drew, and, if it returns packets, those that the share's
--- numbers claim, in their order.
+-- The result of a worker: the share that it drew, and, if it returns packets, those that the
+-- share's numbers claim, in their order.
 pub record HasWorked {A : Type 0} (image : Image) (batches : List BatchOfPages) (seat : SeatView) (worked : Worked A) : Type 0 where
   pub share : Share
   pub has_share : HasShare seat worked.spent share

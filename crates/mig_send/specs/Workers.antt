@@ -14,7 +14,7 @@ use Rattle.mig_send.specs.DealtRounds.{no_share}
 
 -- ---- one worker
 
--- The result of a worker that began with some bytes: these, and after them what is sent of the
+-- The result of a worker that began with some bytes: these, and after them the bytes sent of the
 -- share that the worker drew. If an allocation was refused, a part of it, or none.
 pub record HasWritten {A : Type 0} (image : Image) (batches : List BatchOfPages) (seat : SeatView) (before : List ℕ) (written : Written A) : Type 0 where
   pub share : Share
@@ -62,8 +62,8 @@ HasSpent Running spent = ⊥
 
 -- ---- all workers
 
--- The channels carry a dealing of the batches from a base on: each has, after what it had, what is
--- sent of its share.
+-- The channels carry a dealing of the batches from a base on: each has, after its bytes before,
+-- those sent of its share.
 pub record CarryDealing (base : ℕ) (image : Image) (batches : List BatchOfPages) (before after : List (List ℕ)) : Type 0 where
   pub shares : List Share
   pub is_dealing : IsDealing base (length batches) shares

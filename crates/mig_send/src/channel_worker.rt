@@ -29,7 +29,7 @@ pub(crate) enum Hand {
     Claimed(Seat, u64),
     /// Its last number, whose SYNC packet isn't written yet.
     Ending(Spent, u64),
-    /// What is left of its seat.
+    /// Its spent seat.
     Ended(Spent),
     /// No number, while a step runs.
     Moving,
@@ -194,8 +194,9 @@ impl<A: Allocator> ChannelWorker<A> {
         )
     }
 
-    /// Moves the bytes of its channel that were written and not drained yet into `bytes`. What the
-    /// buffer held is dropped, and its room is used for what is written next. It allocates nothing.
+    /// Moves the bytes of its channel that were written and not drained yet into `bytes`. The
+    /// buffer's old bytes are dropped, and its room is used for the bytes that are written next. It
+    /// allocates nothing.
     pub fn drain_into(&mut self, bytes: &mut Vec<u8, A>)
         ensures all { bytes.new.items ≡ self.old.text }
         ensures rest { self.new ≡ record self.old { text = [] } }

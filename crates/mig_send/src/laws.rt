@@ -6,10 +6,10 @@
 
 ghost use Rattle.mig_send.specs.ReadBack.{SendingsAreReadBack, MachineSendingsAreReadBack, SayTheirPages};
 
-/// What a sender on several channels writes is read back. The main stream is read as its table and
-/// as many rounds without a record as were sent. Each channel is read, at once or piece by piece,
-/// as its hello and the packets that it carries of each round. The last packet of a round alone has
-/// SYNC. So each reader finds the channel closed, with as many rounds.
+/// The streams of a sender on several channels are read back. The main stream is read as its table
+/// and as many rounds without a record as were sent. Each channel is read, at once or piece by
+/// piece, as its hello and the packets that it carries of each round. Only the last packet of a
+/// round has SYNC. So each reader finds the channel closed, with as many rounds.
 pub fn sendings_are_read_back()
     ensures { SendingsAreReadBack }
 {
@@ -17,8 +17,8 @@ pub fn sendings_are_read_back()
     mig_stream::spelled_is_read();
 }
 
-/// What a sender on several channels writes in a machine's stream (`MultiSender::finish_open`) is
-/// read back, with a machine's name of at most 1,024 bytes or without one: the main stream in a
+/// The streams of a sender on several channels in a machine's frame (`MultiSender::finish_open`)
+/// are read back, with a machine's name of at most 1,024 bytes or without one: the main stream in a
 /// machine's frame, whatever follows RAM's END, and the channels as in `sendings_are_read_back`.
 pub fn machine_sendings_are_read_back()
     ensures { MachineSendingsAreReadBack }

@@ -1,9 +1,9 @@
 //! Senders of guest memory: they write the streams of a migration from images of a guest and its
 //! dirty pages.
 //!
-//! `SingleSender` writes all rounds into one stream. `MultiSender` sends them on several channels
-//! beside a main stream: it cuts the dirty pages of a round into batches (`cut`), and runs a worker
-//! for each channel. A worker draws numbers from the round's deal, and appends to its channel the
+//! `SingleSender` writes all rounds into one stream. `MultiSender` sends them on a main stream and
+//! several channels: it cuts the dirty pages of a round into batches (`cut`), and runs a worker for
+//! each channel. A worker draws numbers from the round's deal, and appends to its channel the
 //! packets of the batches that these claim.
 //!
 //! A caller with threads of its own begins a round by `MultiSender::begin_round`, and steps the
@@ -42,5 +42,5 @@ pub use packed::{Packed, pack};
 pub use single::{OpenRound, SingleSender};
 pub use worker::{Worked, work, workers_make_a_dealing};
 
-/// What a worker passes after each of its steps, for tests that hold workers.
+/// The gate that a worker passes after each of its steps, for tests that hold workers.
 pub use mig_packet::{Gate, OpenGate, Step};

@@ -1,5 +1,5 @@
 //! The sender on several channels, for hypervisors: a main stream with a FLUSH for each round, and
-//! the rounds' packets on the channels beside it.
+//! channels with the rounds' packets.
 
 ghost use Rattle.std.specs.Prelude.{◌≡◌, ◌↔◌, ◌<◌, ◌≤◌, ◌++◌, ◌∷◌, [], List, ℕ, Option, Some, None, Err, length, map, replicate, IfOk, IfErr, OnOk, OnErr, vec_len};
 ghost use Rattle.std.specs.List.{range_with_len};
@@ -29,9 +29,9 @@ use uuid::Uuid;
 // The highest number that a round may begin with.
 pub(crate) const LAST_BASE: u64 = 1 << 63;
 
-/// Sends the rounds of one guest on several channels beside a main stream (QEMU's multifd
-/// migration, without compression). Each round is dealt to as many workers as there are channels,
-/// each on a thread of its own.
+/// Sends the rounds of one guest on a main stream and several channels (QEMU's multifd migration,
+/// without compression). Each round is dealt to as many workers as there are channels, each on a
+/// thread of its own.
 ///
 /// # Examples
 ///
@@ -314,9 +314,9 @@ impl<A: Allocator> MultiSender<A> {
         self.rounds
     }
 
-    /// Moves the bytes of the main stream that were written and not drained yet into `bytes`. What
-    /// the buffer held is dropped, and its room is used for what is written next. It allocates
-    /// nothing.
+    /// Moves the bytes of the main stream that were written and not drained yet into `bytes`. The
+    /// buffer's old bytes are dropped, and its room is used for the bytes that are written next. It
+    /// allocates nothing.
     pub fn drain_main(&mut self, bytes: &mut Vec<u8, A>)
         ensures counts { KeepsCounts self.old self.new }
         ensures all { (drained : Drained) (rounds : List DealtRound) → HasSentRounds drained self.old rounds
@@ -375,7 +375,7 @@ impl<A: Allocator> MultiSender<A> {
     }
 
     /// Ends RAM's sections of the main stream without the stream's end byte, and returns of each
-    /// stream the bytes that weren't drained. The caller goes on with the sections of devices and
+    /// stream the bytes that weren't drained. The caller then writes the sections of devices and
     /// the end byte on the main stream. The main stream is then a machine's, up to the footer of
     /// RAM's END. With a configuration after the file header, it is that of a machine of that name.
     ///

@@ -144,7 +144,7 @@ impl<A: Allocator + Copy> MultiSender<A> {
 }
 
 impl<A: Allocator> MultiSender<A> {
-    // Sets the bytes of a channel that the round holds. What it held is dropped.
+    // Sets the bytes of a channel that the round holds. Its old bytes are dropped.
     fn put_channel(&mut self, channel: usize, text: Vec<u8, A>)
         requires { channel < length self.old.channels }
         ensures { self.new ≡ record self.old { channels = slice_set self.old.channels channel text.items } }

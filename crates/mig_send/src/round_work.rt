@@ -1,4 +1,5 @@
-//! What the workers of a round share that run on threads of the caller's (`channel_worker`).
+//! The values that a round's workers share, if they run on threads of the caller's
+//! (`channel_worker`).
 
 use crate::Batch;
 use mig_deal::Deal;

@@ -146,8 +146,8 @@ impl<A: Allocator> SingleSender<A> {
         self.writer.drain()
     }
 
-    /// Drains into `bytes`, as `drain` does. What the buffer held is dropped, and its room is used
-    /// for what is written next. So two buffers suffice for a stream of any length.
+    /// Drains into `bytes`, as `drain` does. The buffer's old bytes are dropped, and its room is
+    /// used for the bytes that are written next. So two buffers suffice for a stream of any length.
     pub fn drain_into(&mut self, bytes: &mut Vec<u8, A>)
         ensures table { self.new.table ≡ self.old.table }
         ensures all { (drained : List ℕ) (rounds : List (List Page)) → HasSentDrained drained self.old rounds
@@ -175,7 +175,7 @@ impl<A: Allocator> SingleSender<A> {
     }
 
     /// Ends RAM's sections without the stream's end byte, and returns the bytes that weren't
-    /// drained. The caller goes on with the sections of devices and the end byte. The drained bytes
+    /// drained. The caller then writes the sections of devices and the end byte. The drained bytes
     /// and these are a machine's stream of the rounds, up to the footer of RAM's END. With a
     /// configuration after the file header, they are that of a machine of that name.
     ///
@@ -229,7 +229,7 @@ impl<A: Allocator> OpenRound<A> {
     }
 
     /// Sends a page: a place of the table, which a caller tests by `Table::holds`, and its bytes.
-    /// Places come in any order. If a place comes more than once, the last page counts.
+    /// Places may be in any order. If a place occurs more than once, the last page counts.
     ///
     /// # Errors
     ///

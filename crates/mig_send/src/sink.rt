@@ -42,8 +42,8 @@ pub(crate) trait Sink {
         ensures prefix { IsPrefix (held self.old) (held self.new) };
 }
 
-/// The result of a worker beside its sink: whether there was memory for all of its packets, its
-/// last number, and what is left of its seat.
+/// The result of a worker, other than its sink: whether there was memory for all of its packets,
+/// its last number, and its spent seat.
 pub(crate) struct Filled {
     pub(crate) made: Result<(), NoMemory>,
     pub(crate) last: u64,

@@ -18,9 +18,9 @@ use mig_packet::{Gate, Step};
 use std::alloc::{Allocator, Global};
 use std::fmt::{self, Debug, Formatter};
 
-/// What a worker returns: its packets in the order of their numbers, or `NoMemory`; its last
-/// number, which claims no batch; and what is left of its seat. `Deal::close` and
-/// `Deal::end_number` take that of each worker. If one is dropped, neither can be called.
+/// The result of a worker: its packets in the order of their numbers, or `NoMemory`; its last
+/// number, which claims no batch; and its spent seat. `Deal::close` and `Deal::end_number` take
+/// that of each worker. If one is dropped, neither can be called.
 #[derive(Drop)]
 pub struct Worked<A: Allocator = Global> {
     pub packets: Result<Vec<Packed<A>, A>, NoMemory>,
@@ -103,7 +103,7 @@ impl<A: Allocator + Copy> Sink for Vec<Packed<A>, A> {
     }
 }
 
-/// What workers return is a dealing, under these conditions. Each worker had a seat of one deal
+/// The workers' results are a dealing, under these conditions. Each worker had a seat of one deal
 /// that had drawn nothing. All seats were used. All workers returned packets. The deal had as many
 /// batches as there are.
 ///

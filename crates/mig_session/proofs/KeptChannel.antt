@@ -57,7 +57,7 @@ fed_behind given k text piece old now r size step holds = record {
   has_none = tt;
 }
 
--- where none does
+-- if none does
 pub fed_open : (given : Settings) (k : ℕ) (text : Text) (piece : List ℕ) (old now : Reader) → StepsOn (read_piece piece) old now → HoldsChannel given k text (kept old None)
     → Stands given (channel_so_far (with_piece piece text) k) now
 fed_open given k text piece old now step holds = step given (channel_so_far text k) holds.stands
@@ -71,7 +71,7 @@ holds_over given k text old now (Some r) step holds = record { stands = step giv
 
 -- ---- what it says
 
--- how many rounds a reading has, of which so many were taken
+-- the number of rounds of a reading, of which this many were taken
 taken_are_there : (given : Settings) (text : Text) (taken : ℕ) (r : Reader) (reading : ChannelReading) → Stands given (channel_so_far text taken) r
     → IsReading given text.bytes text.ended reading → taken ≤ length reading.rounds
 taken_are_there given text taken r reading stands is =
@@ -89,7 +89,7 @@ taken_are_there given text taken r reading stands is =
     let same = (same_rounds given text.bytes text.ended text.ended reading other is is_other).0 in
     omega (arith, ap (λ (l : List (List (List ℕ))). length l) same, length-append stands.rounds r.progress.rounds, stands.has_taken)
 
--- where no round waits there is none
+-- if no round waits there is none
 none_further : (given : Settings) (k : ℕ) (text : Text) (reading : ChannelReading) → IsPageSize given.page_size
     → ((i : ℕ) (packets : List (List ℕ)) → HasRound given text.bytes i packets → i < k) → IsReading given text.bytes text.ended reading → length reading.rounds ≤ k
 none_further given k text reading size none is = elim (cases_lt k (length reading.rounds)) [

@@ -86,7 +86,7 @@ fed_behind given k text piece old now r size step holds =
       has_none = tt;
     }
 
--- where none does
+-- if none does
 pub fed_open : (given : Settings) (k : ℕ) (text : Text) (piece : List ℕ) (old now : Reader) → StepsOn (read_piece piece) old now → HoldsMain given k text (kept old None)
     → Stands given (main_so_far (with_piece piece text) k) now
 fed_open given k text piece old now step holds = step given (main_so_far text k) holds.stands

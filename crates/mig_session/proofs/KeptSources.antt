@@ -136,7 +136,7 @@ channel_steps given uuid k j step texts s c holds here =
           (zip_set (HoldsChannel channel_given k) texts.channels s.channels j text c holds.channels here);
     }
 
--- and up to where it is valid is noted
+-- and its valid prefix is noted
 pub main_noted : (given : LoadSettings) (uuid : List ℕ) (step : Text → Text) (texts : Texts) (places : Places) (n : ℕ) (o : Option ℕ) → HasPlaces given uuid texts places
     → IsMainValidUpTo (main_of given) (step texts.main).bytes n → HasClosedAt (main_of given) (step texts.main).bytes o
     → HasPlaces given uuid (at_source source.Main step texts) (record places { main = n; closed_at = o })
@@ -155,7 +155,7 @@ channel_noted given uuid j step texts places n have valid =
           (subst (λ (many : ℕ). AllZip (are_valid many) texts.channels places.channels) (sym (length-set texts.channels j text)) have.channels) valid;
     }
 
--- the channel that was read stands for the stream with the step
+-- the channel that was read represents the stream with the step
 pub channel_stands : (given : LoadSettings) (uuid : List ℕ) (k j : ℕ) (step : Text → Text) (texts : Texts) (s : FedSources) (c : FedChannel) → Holds given uuid k (at_source (source.Channel j) step texts) s → slice_get s.channels j ≡ Some c
     → HoldsChannel (settings given.page_size uuid (length (at_source (source.Channel j) step texts).channels)) k (step (get_or texts.channels j no_text)) c
 channel_stands given uuid k j step texts s c holds there =
@@ -199,7 +199,7 @@ channels_have given k from (text ∷ texts) (r ∷ readings) (c ∷ channels) si
     All-cons (λ c. c.round ≢ None) c channels (channel.whole_waits given k text c r size holds.0 are.0 (All-head IsWhole here rest whole))
     (channels_have given k (from + 1) texts readings channels size holds.1 are.1 (All-tail IsWhole here rest whole))
 
--- where there is no verdict the round is here of each
+-- if there is no verdict the round is here of each
 pub have_round : (given : LoadSettings) (uuid : List ℕ) (k : ℕ) (texts : Texts) (readings : Readings) (s : FedSources) → IsPageSize given.page_size → Holds given uuid k texts s
     → AreReadings given uuid texts readings → IsDue k readings → HaveRound s
 have_round given uuid k texts readings s size holds are due =

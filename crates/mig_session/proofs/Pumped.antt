@@ -111,7 +111,7 @@ pub record HasPumped (from : Source) (pieces : List (List ℕ)) (reads_before re
   pub settled : old.verdict ≢ Running → answer_in new ≡ answer_in old
   pub keeps : KeepsRounds old new
 
--- so it was in so many turns, and no allocation was refused
+-- this was so in this many turns, and no allocation was refused
 pub record SoFar (from : Source) (turn total : ℕ) (reads_before reads : ReadsSoFar) (before left : Option (List ℕ)) (old new : LoadSession) : Type 0 where
   pub pieces : List (List ℕ)
   pub has_turns : length pieces ≡ turn
@@ -142,7 +142,7 @@ begins from reads before s = record {
   steps = λ given uuid texts stands. stands;
 }
 
--- a read gave a piece of so many bytes
+-- a read gave a piece of this many bytes
 pub record ReadsPiece (n : ℕ) (piece : List ℕ) (reads_before reads : ReadsSoFar) (before left : Option (List ℕ)) : Type 0 where
   pub is_piece : IsPiece piece
   pub has_len : length piece ≡ n
@@ -174,7 +174,7 @@ pub record Feeds (from : Source) (piece : List ℕ) (old new : LoadSession) : Ty
 pub keeps_on : (a b c : LoadSession) → KeepsRounds a b → KeepsRounds b c → KeepsRounds a c
 keeps_on a b c p q = record { more_rounds = omega (arith, p.more_rounds, q.more_rounds); has_memory = λ some. q.has_memory (p.has_memory some) }
 
--- a load that is over has stayed so
+-- a load that has its verdict keeps it
 pub stays_over : (a b : LoadSession) → answer_in b ≡ answer_in a → a.verdict ≢ Running → b.verdict ≢ Running
 stays_over a b same over runs = over (sym (ap (λ (x : Answer). x.verdict) same) ∙ runs)
 

@@ -1,4 +1,4 @@
--- What a session stands for: before the first piece, after each, and once a source has ended.
+-- What a session represents: before the first piece, after each, and once a source has ended.
 use Rattle.std.proofs.Common.{ℕ, zero, suc, ◌≡◌, ◌≢◌, ◌⊎◌, ◌+◌, ◌<◌, Bool, true, false, List, [], ◌∷◌, ◌++◌, append_assoc, length, map, set, get_or, replicate, refl, sym, ap, subst, ◌∙◌, cond, inl, inr, Option, Some, None, arith}
 use Rattle.std.specs.Prelude.{nat_lt, ◌==◌, IsFalse, slice_get, Result, Ok, Err, IfOk, OnOk, IfSome}
 use Rattle.std.specs.List.{AllZip, All, enumerate_from, range_with_len}
@@ -167,7 +167,7 @@ advances_further f s new target texts readings advances goes are holds = record 
 
 -- ---- a session that runs
 
--- what it stands for, as far as it has advanced
+-- what it represents, as far as it has advanced
 pub feeding_of : (given : LoadSettings) (uuid : List ℕ) (texts : Texts) (s : LoadSession) (sources : FedSources) → s.sources ≡ Some sources → (stands : StandsFor given uuid texts s)
     → Advances (record { given = given; uuid = uuid; texts = texts; readings = stands.is_answer.readings }) sources s.target
 feeding_of given uuid texts s sources some stands =
@@ -197,7 +197,7 @@ bases given uuid texts readings (Some t) size are has = record {
   is_few = has.has_put.is_few;
 }
 
--- the verdict is found: the session stands for the streams
+-- the verdict is found: the session represents the streams
 pub stands_told : (given : LoadSettings) (uuid : List ℕ) (texts : Texts) (readings : Readings) (counts : Counts) (places : Option Places) (kept : Option FedSources) (sources : FedSources) (target : Option LoadTarget) (verdict : Verdict)
     → IsPageSize given.page_size → AreReadings given uuid texts readings → counts ≡ counts_in texts → Holds given uuid (rounds_loaded target) texts sources → HasRounds readings target
     → TellsVerdict readings target verdict → (kept ≡ Some sources) ⊎ (kept ≡ None) → HavePlaces given uuid texts places
@@ -437,7 +437,7 @@ as_many : (from : Source) (texts : Texts) → length (end_step from texts).chann
 as_many source.Main texts = refl
 as_many (source.Channel j) texts = length-set texts.channels j (over (get_or texts.channels j no_text))
 
--- where a source was pending there is a verdict once a source has ended
+-- if a source was pending there is a verdict once a source has ended
 pub still_told : (given : LoadSettings) (uuid : List ℕ) (k : ℕ) (from : Source) (texts : Texts) (before now : Readings) → IsPageSize given.page_size → AreReadings given uuid texts before
     → AreReadings given uuid (end_step from texts) now → IsFirstStop before k → Running ≡ verdict_at k before → IsDue k now → ⊥
 still_told given uuid k from texts before now size are_before are_now stop running due =
@@ -500,7 +500,7 @@ pub there_fed : (counts : Counts) (from : Source) (n : ℕ) → HasSource counts
 there_fed counts source.Main n there = tt
 there_fed counts (source.Channel j) n there = subst (λ (k : ℕ). j < k) (sym (length-set counts.channels j _)) there
 
--- where a piece of a source was taken, the places are those with it
+-- if a piece of a source was taken, the places are those with it
 abbrev pub Notes : Source → List ℕ → FedSources → Option Places → Option Places → Type 0
 Notes from piece sources old new = (given : LoadSettings) (uuid : List ℕ) (k : ℕ) (texts : Texts) → IsPageSize given.page_size → Holds given uuid k texts sources
     → HavePlaces given uuid texts old → HavePlaces given uuid (feed_step from piece texts) new
@@ -647,9 +647,9 @@ is_session_still counts places kept sources target verdict keeps counted some = 
     go Done k c = rw (k.1 (λ e. absurd cc)) tt
     go (Failed f) k c = rw (k.1 (λ e. absurd cc)) tt
 
--- ---- up to where the streams are valid
+-- ---- the valid prefixes of the streams
 
--- what is so of the streams that it stands for as read
+-- what is so of the streams that it represents as read
 pub as_read : (given : LoadSettings) (uuid : List ℕ) (texts : Texts) (s t : LoadSession) (IsSo : Texts → Type 0) → t ≡ s → IsSession t → (stands : StandsFor given uuid texts s) → IsSo stands.read
     → AsRead given uuid texts s IsSo
 as_read given uuid texts s t IsSo same is stands so =
@@ -688,7 +688,7 @@ source_read given uuid texts s p (source.Channel j) stands some there =
     (omega (arith, below, length-map texts.channels count_in, as_many_texts read.channels texts.channels stands.goes_on.channels)) in
     subst (λ (o : Option ℕ). IsSourceValidUpTo given uuid read (source.Channel j) o) (sym here.1) here.2
 
--- a stream that is closed is so where other bytes follow
+-- a stream that is closed is so if other bytes follow
 closed_more : (given : StreamSettings) (text more : List ℕ) (n : ℕ) → stream.IsClosedAt given text n → stream.IsClosedAt given (text ++ more) n
 closed_more given text more n c = record {
   fits = omega (arith, c.fits, length-append text more);
@@ -700,7 +700,7 @@ closed_on : (given : StreamSettings) (a b : Text) (o : Option ℕ) → GoesOn a 
 closed_on given a b None go has = tt
 closed_on given a b (Some n) go has = subst (λ (l : List ℕ). stream.IsClosedAt given l n) (sym go.has_bytes) (closed_more given a.bytes go.more n has)
 
--- where the main stream was closed when it was read, it is closed
+-- if the main stream was closed when it was read, it is closed
 pub closed_still : (s : LoadSession) (o : Option ℕ) (p : Places) → s.places ≡ Some p → o ≡ p.closed_at
     → IfSome o (λ n. (given : LoadSettings) (uuid : List ℕ) (texts : Texts) → StandsFor given uuid texts s → stream.IsClosedAt (main_of given) texts.main.bytes n)
 closed_still s None p some is = tt

@@ -28,7 +28,7 @@ none_of_any test (x ∷ xs) e = elim (cases_Bool (test x)) [
   | inr f ↦ All-cons (λ y. test y ≡ false) x xs f (none_of_any test xs (let rest : list_any test (x ∷ xs) ≡ list_any test xs = rw f refl in sym rest ∙ e))
 ]
 
--- where there is no verdict no source is pending
+-- if there is no verdict no source is pending
 settled_where_due : (k : ℕ) (m : Standing) (cs : List Standing) (repeated : Option ℕ) → first_some (verdicts_told k m cs repeated) ≡ None → All IsSettled (m ∷ cs)
 settled_where_due k m cs repeated none =
     none_of_any (λ (s : Standing). is_pending s.status) (m ∷ cs) (then_none (list_any (λ (s : Standing). is_pending s.status) (m ∷ cs)) Running (first_none

@@ -1,5 +1,5 @@
--- To read first: what callers see of a session. `Sources` has its counts, and then, private, what
--- is kept of each source.
+-- Read first: the state of a session that callers see. `Sources` has its counts, and then, private,
+-- the state of each source.
 pub mod Session
 pub mod Sources
 -- Private: how a session advances

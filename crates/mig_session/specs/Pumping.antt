@@ -11,7 +11,7 @@ use Rattle.mig_session.specs.Sources.{Counts}
 use Rattle.mig_session.specs.Advancing.{failed_without_memory}
 use Rattle.mig_session.specs.Session.{LoadSession, answer_in, feed_step, end_step, with_fed, with_end, StepsOn, RunsOut, StillLacks}
 
--- ---- what was read
+-- ---- reads
 
 -- the most bytes of one read
 abbrev pub piece_limit : ℕ
@@ -22,9 +22,9 @@ pub record IsPiece (piece : List ℕ) : Type 0 where
   pub is_some : 0 < length piece
   pub is_short : length piece ≤ piece_limit
 
--- What the reader's counts say of a result. Ok: one read was an end, and none failed. Read: one
--- failed, and none was an end. TooManyTurns: there were all the reads that were allowed, and each
--- gave bytes. NoMemory: each gave bytes.
+-- The reader's counts for each result. Ok: one read was an end, and none failed. Read: one failed,
+-- and none was an end. TooManyTurns: there were all the reads that were allowed, and each gave
+-- bytes. NoMemory: each gave bytes.
 abbrev pub Explains : ℕ → ReadsSoFar → ReadsSoFar → Result ℕ PumpFault → Type 0
 Explains turns old new (Ok len) = (new.ends ≡ old.ends + 1) × (new.failed ≡ old.failed)
 Explains turns old new (Err Read) = (new.ends ≡ old.ends) × (new.failed ≡ old.failed + 1)
@@ -39,14 +39,14 @@ reads_after old pieces (Err TooManyTurns) = after_pieces old pieces
 reads_after old pieces (Err NoMemory) = after_pieces old pieces
 
 -- The reader gave these pieces, in this order. At Ok the number is that of their bytes, and no more
--- are to come.
+-- bytes follow.
 pub record HasRead (pieces : List (List ℕ)) (result : Result ℕ PumpFault) (before after : Option (List ℕ)) : Type 0 where
   pub are_pieces : All IsPiece pieces
   pub are_given : Consumes before after (concat pieces)
   pub has_len : IfOk result (λ len. len ≡ length (concat pieces))
   pub is_at_end : IfOk result (λ len. IsAtEnd after)
 
--- ---- what was fed
+-- ---- fed pieces
 
 -- the streams with these pieces of a source fed, one after another
 abbrev pub piece_steps : Source → List (List ℕ) → Texts → Texts
@@ -68,7 +68,7 @@ pub record HasRunOut (source : Source) (pieces : List (List ℕ)) (old new : Loa
   pub runs_out : RunsOut (piece_steps source pieces) old new
   pub has_verdict : new.verdict ≡ failed_without_memory (answer_in new).rounds
 
--- The effect of a pump that fed these pieces on the streams that a session stands for. With
+-- The effect of a pump that fed these pieces on the streams that a session represents. With
 -- NoMemory an allocation was refused in the last piece, or the pump's buffer was refused, and
 -- nothing has changed.
 abbrev pub PumpsOn : Source → List (List ℕ) → Result ℕ PumpFault → LoadSession → LoadSession → Type 0

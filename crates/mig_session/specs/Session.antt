@@ -1,4 +1,4 @@
--- A load whose streams come in pieces: what a session holds, and the streams that it stands for.
+-- A load whose streams are fed in pieces: what a session holds, and the streams that it represents.
 use Rattle.std.specs.Prelude.{ℕ, ◌≡◌, ◌≢◌, ◌≤◌, ◌<◌, ◌+◌, ◌^◌, true, false, List, length, map, slice_get, slice_set, get_or, Option, None, Some, IfSome, ⊤}
 use Rattle.std.specs.List.{AllZip}
 use Rattle.std.specs.Option.{option_map, option_map_or}
@@ -28,11 +28,11 @@ use Rattle.mig_session.specs.Sources.{Counts, Places, FedSources, counts_of, Hol
 -- ---- what a session holds
 
 pub record LoadSession : Type 0 where
-  -- how much of each stream has come
+  -- the counts of each stream's bytes
   pub counts : Counts
   -- up to which byte each was valid, as far as it was read; None after a refused allocation
   pub places : Option Places
-  -- what is kept of each source, while the load runs
+  -- the state of each source, while the load runs
   pub sources : Option FedSources
   -- None before the size list is complete, or if the memory couldn't be allocated
   pub target : Option LoadTarget
@@ -56,7 +56,7 @@ HasSource counts (source.Channel j) = j < length counts.channels
 abbrev pub no_count : Count
 no_count = record { fed = 0; ended = false }
 
--- how much of a source has come
+-- the count of a source's bytes
 abbrev pub count_of : Counts → Source → Count
 count_of counts source.Main = counts.main
 count_of counts (source.Channel j) = get_or counts.channels j no_count
@@ -72,7 +72,7 @@ with_fed counts from len = with_count counts from (record (count_of counts from)
 abbrev pub with_end : Counts → Source → Counts
 with_end counts from = with_count counts from (record (count_of counts from) { ended = true })
 
--- ---- the streams that it stands for
+-- ---- the streams that it represents
 
 abbrev pub count_in : Text → Count
 count_in text = record { fed = length text.bytes; ended = text.ended }
@@ -85,7 +85,7 @@ abbrev pub at_source : Source → (Text → Text) → Texts → Texts
 at_source source.Main step texts = record texts { main = step texts.main }
 at_source (source.Channel j) step texts = record texts { channels = slice_set texts.channels j (step (get_or texts.channels j no_text)) }
 
--- a piece of a source has come
+-- a piece of a source was fed
 abbrev pub feed_step : Source → List ℕ → Texts → Texts
 feed_step from piece texts = at_source from (with_piece piece) texts
 
@@ -129,9 +129,9 @@ IsSourceValidUpTo given uuid texts (source.Channel j) (Some n) =
 
 -- ---- the streams, and the session's answer on them
 
--- The session was made with these settings and UUID, and these bytes of the streams have come. It
+-- The session was made with these settings and UUID, and these bytes of the streams were fed. It
 -- has their answer. While it runs, it has read all of them. After that, it has read as much as its
--- answer rests on.
+-- answer depends on.
 pub record StandsFor (given : LoadSettings) (uuid : List ℕ) (texts : Texts) (s : LoadSession) : Type 0 where
   pub is_page_size : IsPageSize given.page_size
   pub has_counts : s.counts ≡ counts_in texts
@@ -154,7 +154,7 @@ pub record HasRead (given : LoadSettings) (uuid : List ℕ) (texts : Texts) (s :
 abbrev pub AsRead : LoadSettings → List ℕ → Texts → LoadSession → (Texts → Type 0) → Type 0
 AsRead given uuid texts s IsSo = (read : Texts) × HasRead given uuid texts s read × IsSo read
 
--- The session stands for these streams after a refused allocation: its answer is the one for that,
+-- The session represents these streams after a refused allocation: its answer is the one for that,
 -- and stays.
 pub record LacksMemory (given : LoadSettings) (uuid : List ℕ) (texts : Texts) (s : LoadSession) : Type 0 where
   pub is_page_size : IsPageSize given.page_size
@@ -162,8 +162,8 @@ pub record LacksMemory (given : LoadSettings) (uuid : List ℕ) (texts : Texts) 
   pub is_without : IsWithoutMemory given uuid texts (answer_in s)
   pub has_no_places : s.places ≡ None
 
--- A call takes this step: if the session stood for some streams before it, it stands for them with
--- the step done.
+-- A call takes this step: if the session represented some streams before it, it represents them
+-- with the step done.
 abbrev pub StepsOn : (Texts → Texts) → LoadSession → LoadSession → Type 0
 StepsOn step old new = (given : LoadSettings) (uuid : List ℕ) (texts : Texts) → StandsFor given uuid texts old → StandsFor given uuid (step texts) new
 
@@ -188,23 +188,23 @@ pub record StandsForSome (s : LoadSession) : Type 0 where
   pub texts : Texts
   pub stands : StandsFor given uuid texts s
 
--- It keeps its sources while it runs. Their readers were given what it counts, and it stands for
--- some streams.
+-- It keeps its sources while it runs. Their readers were fed the bytes that it counts, and it
+-- represents some streams.
 pub record IsSession (s : LoadSession) : Type 0 where
   pub is_open : s.verdict ≡ Running → s.sources ≢ None
   pub is_settled : s.verdict ≢ Running → s.sources ≡ None
   pub has_counts : IfSome s.sources (λ sources. counts_of sources ≡ s.counts)
   pub stands : s.sources ≢ None → StandsForSome s
 
--- ---- what was sent
+-- ---- the streams of a sender
 
--- What a sender on several channels has sent, fed in any pieces and order, is loaded.
+-- The streams of a sender on several channels, fed in any pieces and order, are loaded.
 abbrev pub LoadsSent : LoadSession → Type 0
 LoadsSent s = (table : RamTable) (uuid : List ℕ) (limit : ℕ) (rounds : List DealtRound) (main : List ℕ) (channels : List (List ℕ))
     → IsSentInAnyOrder table uuid rounds main channels → total_bytes table ≤ limit
     → StandsFor (ram_settings table.page_size limit) uuid (ended_texts main channels) s → answer_in s ≡ sent_answer table rounds
 
--- What the sender has sent with a machine's main stream is loaded too, whatever follows RAM's END.
+-- The sender's streams with a machine's main stream are loaded, too, whatever follows RAM's END.
 abbrev pub LoadsMachineSent : LoadSession → Type 0
 LoadsMachineSent s = (given : LoadSettings) (table : RamTable) (uuid : List ℕ) (rounds : List DealtRound) (main : List ℕ) (channels : List (List ℕ))
     → given.frame ≡ Machine → given.waiting ≡ None → table.page_size ≡ given.page_size → total_bytes table ≤ given.limit → IsMachineSentInAnyOrder table uuid rounds main channels

@@ -1,4 +1,4 @@
--- What a session keeps of each source: its reader, and the complete round that is judged next.
+-- A session's state of each source: its reader, and the complete round that is judged next.
 use Rattle.std.specs.Prelude.{ℕ, ◌≡◌, ◌≢◌, ◌+◌, ◌<◌, List, [], length, map, Option, None, Some, IfSome, IfNone, All}
 use Rattle.std.specs.List.{AllZip, flat_map}
 use Rattle.std.specs.Option.{option_map_or}
@@ -22,7 +22,7 @@ use Rattle.mig_answer.specs.Status.{main_status, channel_status}
 use Rattle.mig_answer.specs.Texts.{Text, Texts, Readings, IsMainReading, AreReadings}
 use Rattle.mig_answer.specs.MultiLoad.{main_at, channels_at, hello_ids, repeated_hello, verdicts_told}
 
--- ---- what is kept
+-- ---- the state
 
 pub record FedMain : Type 0 where
   pub reader : stream_reader.Reader
@@ -37,7 +37,7 @@ pub record FedSources : Type 0 where
   pub main : FedMain
   pub channels : List FedChannel
 
--- how much of each source has come
+-- the counts of each source's bytes
 pub record Counts : Type 0 where
   pub main : Count
   pub channels : List Count
@@ -57,7 +57,7 @@ channel_count c = record { fed = c.reader.fed; ended = c.reader.ended }
 abbrev pub counts_of : FedSources → Counts
 counts_of s = record { main = main_count s.main; channels = map channel_count s.channels }
 
--- ---- what is kept of one source, whose first k rounds were judged
+-- ---- the state of one source, whose first k rounds were judged
 
 -- a number of rounds, and the one that was taken from the reader, if there is one
 abbrev pub with_one : {X : Type 0} → ℕ → Option X → ℕ
@@ -76,8 +76,8 @@ pub record IsMainRound (given : stream.Settings) (k : ℕ) (text : List ℕ) (ro
   pub has_records : stream_reader.HasRound given text k round.records
   pub has_places : (table : RamTable) → stream_reader.HasTable given text (Some table) → All (λ x. IsPlace table x.place) round.records
 
--- This much of the main stream has come, and its first k rounds were judged; the next one is here,
--- or isn't complete.
+-- This much of the main stream was fed, and its first k rounds were judged; the next one is
+-- complete and kept, or incomplete.
 pub record HoldsMain (given : stream.Settings) (k : ℕ) (text : Text) (m : FedMain) : Type 0 where
   pub stands : stream_reader.Stands given (main_so_far text (with_one k m.round)) m.reader
   pub has_round : IfSome m.round (IsMainRound given k text.bytes)
@@ -88,14 +88,14 @@ pub record IsChannelRound (given : channel.Settings) (k : ℕ) (text : List ℕ)
   pub has_page_size : round.page_size ≡ given.page_size
   pub has_packets : channel_reader.HasRound given text k round.packets
 
--- This much of a channel has come, and its first k rounds were judged; the next one is here, or
--- isn't complete.
+-- This much of a channel was fed, and its first k rounds were judged; the next one is complete and
+-- kept, or incomplete.
 pub record HoldsChannel (given : channel.Settings) (k : ℕ) (text : Text) (c : FedChannel) : Type 0 where
   pub stands : channel_reader.Stands given (channel_so_far text (with_one k c.round)) c.reader
   pub has_round : IfSome c.round (IsChannelRound given k text.bytes)
   pub has_none : IfNone c.round ((i : ℕ) (packets : List (List ℕ)) → channel_reader.HasRound given text.bytes i packets → i < k)
 
--- this much of each source has come, and the first k rounds were judged
+-- this much of each source was fed, and the first k rounds were judged
 pub record Holds (given : LoadSettings) (uuid : List ℕ) (k : ℕ) (texts : Texts) (s : FedSources) : Type 0 where
   pub main : HoldsMain (main_of given) k texts.main s.main
   pub channels : AllZip (HoldsChannel (channel.settings given.page_size uuid (length texts.channels)) k) texts.channels s.channels
@@ -116,7 +116,7 @@ abbrev pub TellsHello : FedChannel → Option ℕ → Type 0
 TellsHello c hello = (given : channel.Settings) (k : ℕ) (text : Text) (reading : channel.ChannelReading) → IsPageSize given.page_size
     → HoldsChannel given k text c → channel.IsReading given text.bytes text.ended reading → hello ≡ reading.hello
 
--- this is the sources' verdict at round k; None if all have it, and no hello comes again
+-- this is the sources' verdict at round k; None if all have it, and no hello is repeated
 abbrev pub TellsAll : ℕ → FedSources → Option Verdict → Type 0
 TellsAll k s told = (given : LoadSettings) (uuid : List ℕ) (texts : Texts) (readings : Readings) → IsPageSize given.page_size
     → Holds given uuid k texts s → AreReadings given uuid texts readings
@@ -140,7 +140,7 @@ packets_of_all channels = flat_map packets_of channels
 abbrev pub IsOfSize : ℕ → FedChannel → Type 0
 IsOfSize page_size c = IfSome c.round (λ round. round.page_size ≡ page_size)
 
--- A source goes on to the next round: it holds what its reader had of it.
+-- A source moves on to the next round: it holds its reader's part of it.
 abbrev pub TakesMain : FedMain → FedMain → Type 0
 TakesMain old new = (given : stream.Settings) (k : ℕ) (text : Text) → stream_reader.Stands given (main_so_far text k) old.reader → HoldsMain given k text new
 

@@ -1,4 +1,4 @@
-//! What a session keeps of a channel, for `sources`: the reader, and the round that is judged next.
+//! A session's state of a channel, for `sources`: the reader, and the round that is judged next.
 
 ghost use Rattle.std.specs.Prelude.{ℕ, true, false, ◌≡◌, ◌+◌, ◌++◌, ◌<◌, ◌≤◌, ◌^◌, IsFalse, OnOk, OnErr, All, length, map};
 ghost use Rattle.mig_packet.specs.PageSize.{IsPageSize};
@@ -16,7 +16,7 @@ use std::alloc::{Allocator, Global};
 use std::marker::Model;
 use uuid::Uuid;
 
-/// A channel, as far as its bytes have come.
+/// A channel, with its bytes so far.
 #[derive(Drop)]
 pub(crate) struct ChannelSource<A: Allocator = Global> {
     reader: ChannelReader<A>,
@@ -33,7 +33,7 @@ impl<A: Allocator> Model for ChannelSource<A> {
 }
 
 impl<A: Allocator + Copy> ChannelSource<A> {
-    /// Creates a channel of which nothing has come.
+    /// Creates a channel before its first byte.
     pub(crate) fn new(alloc: A, page_size: u64, uuid: Uuid, channels: usize) -> ChannelSource<A>
         requires page_size { IsPageSize page_size }
         requires channels { (0 < channels) × (channels ≤ 255) }

@@ -1,4 +1,4 @@
-//! How much of each source has come, for `Session`. It also returns these counts after it has
+//! The counts of each source's bytes, for `Session`. It also returns these counts after it has
 //! dropped its readers.
 
 ghost use Rattle.std.specs.Prelude.{◌≡◌, ◌+◌, ◌<◌, ◌≤◌, ◌^◌, IfOk, length, replicate};
@@ -9,7 +9,7 @@ use mig_mem::NoMemory;
 use std::alloc::{Allocator, Global};
 use std::marker::Model;
 
-/// How much of a source has come.
+/// The count of a source's bytes, and whether it has ended.
 #[derive(Clone, Copy)]
 pub struct Count {
     /// The number of bytes.
@@ -23,7 +23,7 @@ const NOTHING: Count = Count {
     ended: false,
 };
 
-/// How much of each source has come.
+/// The counts of all sources.
 #[derive(Drop)]
 pub(crate) struct SourceCounts<A: Allocator = Global> {
     main: Count,

@@ -1,4 +1,4 @@
-//! What a session keeps of its main stream, for `sources`: the reader, and the round that is judged
+//! A session's state of its main stream, for `sources`: the reader, and the round that is judged
 //! next.
 
 ghost use Rattle.std.specs.Prelude.{ℕ, true, false, ◌≡◌, ◌+◌, ◌<◌, ◌≤◌, ◌^◌, List, IsFalse, IfSome, OnOk, OnErr, length, Some};
@@ -17,7 +17,7 @@ use mig_stream::{Mode, StreamReader, StreamRound};
 use std::alloc::{Allocator, Global};
 use std::marker::Model;
 
-/// The main stream, as far as its bytes have come.
+/// The main stream, with its bytes so far.
 #[derive(Drop)]
 pub(crate) struct MainSource<A: Allocator = Global> {
     reader: StreamReader<'static, A>,
@@ -34,7 +34,7 @@ impl<A: Allocator> Model for MainSource<A> {
 }
 
 impl<A: Allocator + Copy> MainSource<A> {
-    /// Creates a main stream of which nothing has come.
+    /// Creates a main stream before its first byte.
     pub(crate) fn new(alloc: A, settings: LoadSettings) -> MainSource<A>
         requires page_size { IsPageSize settings.page_size }
         requires limit { settings.limit ≤ 2 ^ 40 }

@@ -18,7 +18,7 @@ pub trait PieceReader {
     // How often the reader was read, how many of these reads failed, and how many found the end.
     ghost reads: { Self → ReadsSoFar };
 
-    // The bytes that are still to come, if they are known.
+    // The bytes that will follow, if they are known.
     ghost remaining: { Self → Option (List ℕ) } = { λ _. None };
 
     /// Reads into the beginning of `piece`, and returns the number of bytes. It is 0 at the end of
@@ -77,7 +77,7 @@ impl ReadCounts {
 }
 
 /// A reader of pieces over any reader. Each error of that reader is a failed read, an interrupted
-/// read too. What comes next is still to be read.
+/// read too. The bytes after it can still be read.
 #[derive(Drop)]
 pub struct Counted<R> {
     reader: R,

@@ -1,5 +1,5 @@
-//! The load of streams on several channels that come in pieces, in any order: for callers that read
-//! from connections, and for `pump`.
+//! The load of streams on several channels that are fed in pieces, in any order: for callers that
+//! read from connections, and for `pump`.
 
 ghost use Rattle.std.specs.Prelude.{ℕ, ◌≡◌, ◌≢◌, ◌+◌, ◌<◌, ◌≤◌, ◌^◌, ◌↔◌, IsTrue, List, Option, None, Some, IsOk, IsFalse, IfOk, IfSome, OnOk, OnErr, length, map, replicate};
 ghost use Rattle.std.specs.Option.{option_copied, unwrap_or};
@@ -28,7 +28,7 @@ use std::fmt::{self, Debug, Formatter};
 use std::marker::Model;
 use uuid::Uuid;
 
-/// Loads a guest from the pieces of a main stream and of its channels, as they come.
+/// Loads a guest from the pieces of a main stream and of its channels, in any order.
 ///
 /// A round is checked and applied when its last source completes it, and its buffers are freed. So
 /// between calls a session holds the guest. It also buffers the rounds that not every source has
@@ -173,7 +173,7 @@ fn told_without_table<A: Allocator>(sources: &mut Sources<A>) -> Verdict
     }
 }
 
-// Judges what has come. Returns the verdict.
+// Judges the bytes so far. Returns the verdict.
 fn advance<A: Allocator + Copy>(
     alloc: A,
     sources: &mut Sources<A>,
@@ -204,7 +204,7 @@ fn note<A: Allocator>(sources: &Sources<A>, source: Source, places: &mut Option<
     }
 }
 
-// Takes a piece, and judges what has come. Returns the verdict.
+// Takes a piece, and judges the bytes so far. Returns the verdict.
 fn take<A: Allocator + Copy>(
     alloc: A,
     sources: &mut Sources<A>,
@@ -243,7 +243,7 @@ fn end_source<A: Allocator>(sources: &mut Sources<A>, source: Source, rounds: u6
     sources.told(rounds).unwrap_or(Verdict::Running)
 }
 
-// Drops the sources if the load is over.
+// Drops the sources if the load has its verdict.
 fn keep<A: Allocator>(sources: &mut Option<Sources<A>>, verdict: Verdict)
     ensures running { verdict ≡ running → sources.new ≡ sources.old }
     ensures settled { verdict ≢ running → sources.new ≡ None }
@@ -399,8 +399,8 @@ impl<A: Allocator> Session<A> {
         }
     }
 
-    /// Returns whether a piece of `len` bytes of `source` has room: fewer than 2^64 bytes of it
-    /// have come with that piece.
+    /// Returns whether a piece of `len` bytes of `source` has room: with that piece fewer than 2^64
+    /// of its bytes were fed.
     pub fn has_room(&self, source: Source, len: usize) -> bool
         requires { HasSource self.now.counts source }
         ensures { IsTrue result ↔ (count_of self.now.counts source).fed + len < 2 ^ 64 }
@@ -463,9 +463,10 @@ impl<A: Allocator> Session<A> {
 
     /// Returns the verdict on the bytes so far.
     ///
-    /// What a sender on several channels has sent is done, with the memory after its rounds, once
-    /// all sources were fed and ended. They may be fed in any pieces and in any order. The session
-    /// must have the sender's page size and UUID, and a limit of at least the table's bytes.
+    /// The load of a sender's streams on several channels is done, with the memory after its
+    /// rounds, once all sources were fed and ended. They may be fed in any pieces and in any order.
+    /// The session must have the sender's page size and UUID, and a limit of at least the table's
+    /// bytes.
     ///
     /// A `Failed` has one of these, and never `OtherTable`:
     ///

@@ -1,4 +1,4 @@
-//! What a session keeps of all its sources, and their verdict at the round that is judged next.
+//! A session's state of all its sources, and their verdict at the round that is judged next.
 //! `Session` has it while it runs.
 
 ghost use Rattle.std.specs.Prelude.{ℕ, ◌≡◌, ◌≢◌, ◌+◌, ◌<◌, ◌≤◌, ◌^◌, ◌++◌, List, [], None, IsFalse, IfOk, OnOk, OnErr, All, length, map, replicate, vec_len, vec_capacity};
@@ -28,7 +28,7 @@ use std::alloc::{Allocator, Global};
 use std::marker::Model;
 use uuid::Uuid;
 
-/// All sources, as far as their bytes have come.
+/// All sources, with their bytes so far.
 #[derive(Drop)]
 pub(crate) struct Sources<A: Allocator = Global> {
     alloc: A,
@@ -50,7 +50,7 @@ impl<A: Allocator> Model for Sources<A> {
     ghost invariant = { λ s. (length s.channels.items ≤ vec_capacity s.statuses) × (length s.channels.items ≤ vec_capacity s.hellos) };
 }
 
-// Creates channels of which nothing has come.
+// Creates channels before their first bytes.
 fn no_channels<A: Allocator + Copy>(
     alloc: A,
     page_size: u64,
@@ -121,7 +121,7 @@ fn next_of_all<A: Allocator>(channels: &mut Vec<ChannelSource<A>, A>)
 }
 
 impl<A: Allocator + Copy> Sources<A> {
-    /// Creates sources of which nothing has come.
+    /// Creates sources before their first bytes.
     pub(crate) fn new(
         alloc: A,
         settings: LoadSettings,
@@ -208,7 +208,7 @@ impl<A: Allocator> Sources<A> {
     }
 
     /// Returns the sources' verdict at round `round`, up to which all were judged. If all have it,
-    /// and no hello comes again, returns None.
+    /// and no hello is repeated, returns None.
     pub(crate) fn told(&mut self, round: u64) -> Option<Verdict>
         ensures told { TellsAll round self.old result }
         ensures same { self.new ≡ self.old }

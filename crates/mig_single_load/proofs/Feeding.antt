@@ -21,7 +21,7 @@ use Rattle.mig_single_load.specs.declared.settings.LoadSettings.{LoadSettings}
 use Rattle.mig_single_load.specs.Loader.{loader, sections_loaded, put_so_far, HasAllSections, Waits, Loads, HasFirst, WasFed, LoadsSome, WasFedSome}
 use Rattle.mig_single_load.proofs.Sections.{pages_in, same_reading, are_given, none_there, fed_of}
 
--- what is in the memory stays the front of the stream, where more bytes follow
+-- what is in the memory stays the front of the stream, if more bytes follow
 first_stays : (given : LoadSettings) (first : Image) (text piece : List ℕ) (ended : Bool) (r : Reader) (t : LoadTarget) → IsPageSize given.page_size
     → Stands (single_of given) (put_so_far text ended t.rounds) r → HasFirst given first text t → HasFirst given first (text ++ piece) t
 first_stays given first text piece ended r t size stands has =
@@ -123,7 +123,7 @@ waits_now given r s o u text ended fed wait same =
     (subst (λ (x : Option LoadTarget). Loads given (loader r x) text ended × Waits given (loader r x) text) (sym same.1)
     (record { is_page_size = fed.is_page_size; stands = fed.stands; has_sections = inr wait }, wait))
 
--- some stream that it stands for, after its sections were applied or couldn't be
+-- some stream that it represents, after its sections were applied or couldn't be
 pub settled_some : {E : Type 0} (result : Result ⊤ E) (r s : Reader) (o u : Option LoadTarget) → WasFedSome (loader r o)
     → OnOk result ((given : LoadSettings) (text : List ℕ) (ended : Bool) → WasFed given (loader r o) text ended → Loads given (loader s u) text ended × HasAllSections given (loader s u) text)
     → OnErr result ((given : LoadSettings) (text : List ℕ) (ended : Bool) → WasFed given (loader r o) text ended → Waits given (loader r o) text)

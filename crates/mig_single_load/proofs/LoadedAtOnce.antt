@@ -165,7 +165,7 @@ fewer_section gave next r s are less = subst (λ (x : Given). calls next s < cal
 
 -- ---- the end
 
--- Where the stream is closed the memory is that after its sections.
+-- If the stream is closed the memory is that after its sections.
 closed_answer : {A : Type 0} (given : LoadSettings) (text : List ℕ) (table : RamTable) (r : Giver) (m : Image) (sections : ℕ) → HasPut given text table (End Closed) r m sections
     → IsSingleAnswer {A = A} given text (record { memory = Some m; rounds = sections; verdict = Ok _ })
 closed_answer given text table r m sections h =

@@ -1,4 +1,4 @@
--- A load in place that writes each page as it comes: its loops, and what it stands for between
+-- A load in place that writes each page as it is read: its loops, and what it represents between
 -- calls.
 use Rattle.std.proofs.Common.{ℕ, suc, cond, ◌≡◌, ◌≢◌, ◌⊎◌, ◌+◌, ◌<◌, ◌^◌, false, arith, List, [], ◌∷◌, ◌++◌, length, map, Option, Some, None, All, refl, sym, ap, ◌∙◌, subst, inl, inr, append_assoc}
 use Rattle.std.specs.Prelude.{IfSome, Result, Ok, Err, OnErr, ⊤}
@@ -94,7 +94,7 @@ some_last : {X : Type 0} (xs : List X) (x : X) → xs ++ x ∷ [] ≡ [] → ⊥
 some_last {X} [] x e = absurd cc
 some_last {X} (y ∷ xs) x e = absurd cc
 
--- where all together is nothing, nothing was given last
+-- if all together is nothing, nothing was given last
 given_none : (gave : Given) (records : List PageRecord) (so_far : GivenSoFar) → (with_given gave records so_far).sections ≡ [] → (with_given gave records so_far).open_section ≡ []
     → with_given gave records so_far ≡ so_far
 given_none Records records so_far no_sections none =
@@ -234,7 +234,7 @@ fewer Records next r s more less = omega (arith, few_first next r s less)
 fewer Section next r s more less = omega (arith, few_first next r s less)
 fewer (End found) next r s more less = absurd (more tt)
 
--- ---- where a piece was read
+-- ---- if a piece was read
 
 -- the stream has the memory's table, or none
 pub own_of : (given : LoadSettings) (first : Image) (text : List ℕ) (reading : StreamReading) → IsPageSize first.table.page_size → IsReading (settings_of first given) text reading → IsOfTable given first.table text
@@ -435,7 +435,7 @@ verdict_onto given first text m n pause found at v st is =
       other = λ o. absurd (apart first reading so.0 o);
     }
 
--- ---- where it is closed, and up to where it is valid
+-- ---- the byte at which it is closed, and its valid prefix
 
 pub closed_onto : (given : LoadSettings) (first : Image) (text : List ℕ) (m : Image) (n : ℕ) (pause : Option Paused) (at : ℕ) → StandsOnto given first text m n pause (load_state.Stream Closed at)
     → HasClosedAtOnto given first text (Some at)
@@ -504,7 +504,7 @@ valid_told given first text m n pause load_state.NoMemory st = absurd (of_none f
 
 -- ---- a stream that isn't read on
 
--- how a stream stands stays, where it is at its end or has a fault
+-- how a stream stands stays, if it is at its end or has a fault
 ends_more : (c : StreamProgress) (rest piece : List ℕ) (s : StreamState) → s ≢ Reading → Ends c rest s → Ends c (rest ++ piece) s
 ends_more c rest piece Reading over e = absurd (over refl)
 ends_more c rest piece Closed over e = e
@@ -660,7 +660,7 @@ found_on given first text piece p q m new n more fresh r s gave found f at own p
     (stands_at given first (text ++ piece) all.0 q new more all.1.gives.is_page_size all.3 has (pauses (settings_of first given) (text ++ piece) all.0 all.1.gives) all.2 all.1.has_sections k
     (tells (λ none. let bad : Some found ≡ None = sym all.1.has_none_left.has_found ∙ none in absurd cc) (settings_of first given) (text ++ piece) all.0 all.1.gives few))
 
--- and of any stream so much was given
+-- and this much was given of any stream
 pub found_on_some : (given : LoadSettings) (fed : ℕ) (table : RamTable) (piece : List ℕ) (p q : Paused) (n more : ℕ) (fresh r s : Giver) (gave : Given) (found : StreamState) → Found p piece fresh r gave
     → PausesSome given table p n fed → (whole_table r.progress ≡ None) ⊎ (whole_table r.progress ≡ Some table) → GivesAll gave r n found s more
     → ((single : Settings) (text : List ℕ) (so_far : GivenSoFar) → Gives single text so_far s → PausesAt single text so_far q) → PausesSome given table q more (fed + length piece)
@@ -708,7 +708,7 @@ in_place_past memory given first s text piece none loads =
     in_place_on memory memory given first s text piece None s.state s.rounds loads
     (stands_more given first text piece memory s.rounds s.state loads.is_table.has_page_size (subst (λ (o : Option Paused). StandsOnto given first text memory s.rounds o s.state) none loads.stands))
 
--- ---- where memory was refused
+-- ---- if memory was refused
 
 -- whatever is answered, this holds of it where it is an Err
 pub any_err : {X Y : Type 0} (r : Result X Y) (P : Type 0) → P → OnErr r P
@@ -794,7 +794,7 @@ lacks_more memory given first s text piece lacks = record {
 
 -- ---- laws
 
--- where no record is of a place
+-- if no record is of a place
 last_none : (first : Image) (p : Place) (records : List PageRecord) → All (λ r. r.place ≢ p) records → last_at p (pages_on first records) ≡ None
 last_none first p [] all = last_at-nil p
 last_none first p (r ∷ records) all =

@@ -188,7 +188,7 @@ none_there given text r size has =
 pub loads_all : (given : LoadSettings) (l : Loader) (text : List ℕ) (ended : Bool) → WasFed given l text ended → HasAllSections given l text → Loads given l text ended × HasAllSections given l text
 loads_all given l text ended fed all = (record { is_page_size = fed.is_page_size; stands = fed.stands; has_sections = inl all }, all)
 
--- ---- what a loader stands for
+-- ---- what a loader represents
 
 -- a memory after complete sections is one of the stream's table
 table_there : (p : ℕ) (m : Image) (o : Option RamTable) (sections : List (List PageRecord)) → Some m ≡ memory_after p o sections
@@ -213,7 +213,7 @@ first_of_all given text r t size all =
           ∙ onto-zeros t.memory.table (pages_in given.page_size (take t.rounds reading.rounds));
     }
 
--- a loader that stands for a stream was fed it
+-- a loader that represents a stream was fed it
 pub fed_of : (given : LoadSettings) (r : Reader) (o : Option LoadTarget) (text : List ℕ) (ended : Bool) → Loads given (loader r o) text ended → WasFed given (loader r o) text ended
 fed_of given r None text ended loads = record { is_page_size = loads.is_page_size; stands = loads.stands; has_first = tt }
 fed_of given r (Some t) text ended loads = record {
@@ -225,7 +225,7 @@ fed_of given r (Some t) text ended loads = record {
   ];
 }
 
--- where there is a memory no section waits
+-- if there is a memory no section waits
 pub all_there : (given : LoadSettings) (r : Reader) (o : Option LoadTarget) (t : LoadTarget) (text : List ℕ) (ended : Bool) → o ≡ Some t → Loads given (loader r o) text ended
     → HasAllSections given (loader r o) text
 all_there given r o t text ended is loads = elim loads.has_sections [
@@ -309,7 +309,7 @@ load_answers given l text a size (inr both) = inr (rw both.1 (none_put given tex
 pub empty_ends : (rounds : List (List Page)) → all_pages ([] ∷ rounds ++ [] ∷ []) ≡ all_pages rounds
 empty_ends rounds = all_pages-push ([] ∷ rounds) [] ∙ append-nil (all_pages rounds)
 
--- the records of the rounds stand for their pages
+-- the records of the rounds represent their pages
 pub pages_sent : (table : RamTable) (rounds : List (List Page)) → All (IsRound table) rounds → pages_in table.page_size (map (map written_record) rounds) ≡ rounds
 pages_sent table [] all = refl
 pages_sent table (round ∷ rounds) all =

@@ -1,9 +1,9 @@
--- To read first, in this order: what is passed to a load, the answer of a load of a single stream,
--- and the numbers of the faults of every load
+-- Read first, in this order: the arguments of a load, the answer of a load of a single stream, and
+-- the numbers of the faults of every load
 pub mod Settings
 pub mod SingleLoad
 pub mod LoadFaultNumber
--- What is loaded of a sender's machine's stream
+-- The load of a sender's machine's stream
 pub mod MachineSent
 -- Loads that are fed in pieces: into a memory of their own, and into one that exists already, each
 -- page written when its bytes have come

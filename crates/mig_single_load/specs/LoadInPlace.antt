@@ -81,7 +81,7 @@ pub record PausesOnto (given : LoadSettings) (first : Image) (text : List ℕ) (
   pub has_memory : memory ≡ with_round first (given_pages first so_far)
   pub has_sections : sections ≡ length so_far.sections
 
--- the state by a reading of the stream: it goes on, is closed, has a fault, or has another table
+-- the state by a reading of the stream: it continues, is closed, has a fault, or has another table
 abbrev pub IsInState : Image → StreamReading → Option Paused → LoadState → Type 0
 IsInState first reading (Some p) (load_state.Stream found at) = IsOfOwnTable first reading × (found ≡ state.Reading) × (reading.state ≡ found)
 IsInState first reading None (load_state.Stream found at) = IsOfOwnTable first reading × (found ≢ state.Reading) × (reading.state ≡ found)
@@ -155,8 +155,8 @@ pub record IsValidUpToOnto (given : LoadSettings) (first : Image) (text : List �
 
 -- ---- after a refused allocation
 
--- The memory has the first of the stream's page records, in their order, on top of what it held.
--- Those of the sections counted are among them.
+-- The memory has the first of the stream's page records, in their order, on top of its earlier
+-- content. Those of the sections counted are among them.
 pub record HasSomeOnto (given : LoadSettings) (first : Image) (text : List ℕ) (memory : Image) (sections : ℕ) : Type 0 where
   pub so_far : GivenSoFar
   pub reader : Giver

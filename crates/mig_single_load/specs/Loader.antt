@@ -1,4 +1,4 @@
--- A loader that is fed a single stream in pieces, and what it stands for.
+-- A loader that is fed a single stream in pieces, and what it represents.
 use Rattle.std.specs.Prelude.{◌≡◌, ◌⊎◌, ◌<◌, ◌^◌, ℕ, Bool, List, length, map, take, Option, None, Some, IfSome, Result, ⊤}
 use Rattle.std.specs.Option.{option_map, option_map_or}
 use Rattle.mig_mem.specs.PageSize.{IsPageSize}
@@ -83,7 +83,8 @@ Answers given l text a =
 
 -- ---- during a call
 
--- The first sections of the stream are in the memory, on top of what it held: as many as it counts.
+-- The first sections of the stream are in the memory, on top of its earlier content: as many as the
+-- loader counts.
 pub record HasFirst (given : LoadSettings) (first : Image) (text : List ℕ) (t : LoadTarget) : Type 0 where
   pub has_table : HasTable (single_of given) text (Some first.table)
   pub has_memory : (reading : StreamReading) → IsReading (single_of given) text reading
@@ -126,7 +127,7 @@ pub record WasFedSome (l : Loader) : Type 0 where
   pub is_short : length text < 2 ^ 63
   pub has_fed : WasFed given l text ended
 
--- It stands for some stream, of fewer than 2^63 bytes.
+-- It represents some stream, of fewer than 2^63 bytes.
 pub record LoadsSome (l : Loader) : Type 0 where
   pub given : LoadSettings
   pub text : List ℕ

@@ -1,4 +1,4 @@
--- What a sender writes of RAM in a machine's stream.
+-- A sender's RAM sections in a machine's stream.
 use Rattle.std.specs.Prelude.{◌≡◌, ◌≤◌, ◌++◌, ℕ, List, map, length, Option, IfSome, All}
 use Rattle.mig_mem.specs.RamTable.{RamTable, IsTable}
 use Rattle.mig_mem.specs.Image.{Page}

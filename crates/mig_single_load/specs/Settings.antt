@@ -1,5 +1,4 @@
--- The settings that a caller passes to a load beside its streams, and those of the streams'
--- readers.
+-- The settings that a caller passes to a load with its streams, and those of the streams' readers.
 use Rattle.std.specs.Prelude.{ℕ, None}
 use Rattle.mig_mem.specs.RamTable.{RamTable}
 use Rattle.mig_stream.specs.declared.item.Frame.TheVariants.{Ram}

@@ -34,7 +34,7 @@ pub enum Fault {
     Round(RoundFault),
     /// The channel's hello names the id of an earlier channel.
     HelloTwice,
-    /// The channel goes on after the main stream has ended.
+    /// The channel continues after the main stream has ended.
     Extra,
     /// The channel has ended before the main stream.
     Short,
@@ -70,7 +70,7 @@ pub struct LoadFault {
     pub round: u64,
     /// Where the fault is.
     pub source: Origin,
-    /// What it is.
+    /// The fault.
     pub fault: Fault,
 }
 

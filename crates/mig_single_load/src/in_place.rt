@@ -1,4 +1,4 @@
-//! The loader of a single stream that comes in pieces, into existing memory: for hypervisors that
+//! The loader of a single stream that is fed in pieces, into existing memory: for hypervisors that
 //! lend their blocks.
 
 ghost use Rattle.std.specs.Prelude.{◌≡◌, ◌≢◌, ◌+◌, ◌<◌, ◌≤◌, ◌^◌, ◌++◌, ℕ, Bool, List, [], length, true, false, IsFalse, IsOk, OnOk, OnErr, IfOk, IfErr};

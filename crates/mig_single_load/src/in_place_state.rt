@@ -38,8 +38,8 @@ pub(crate) enum LoadState {
 }
 
 /// Loads a guest from the pieces of a single stream into memory that is passed with each piece. It
-/// writes each page once, when its bytes have come. No section is kept: between two calls the load
-/// holds the beginning of one item of the stream at most.
+/// writes each page once, when its bytes have arrived. No section is kept: between two calls the
+/// load holds the beginning of one item of the stream at most.
 ///
 /// At any time the memory has all page records read so far, on top of what it held at first. Those
 /// of a section that isn't complete are there, too. They stay there if the stream turns out to be
@@ -47,7 +47,7 @@ pub(crate) enum LoadState {
 /// `InPlaceLoader` is this with its memory.
 ///
 /// Each piece is fed with the memory as the piece before left it. The stream must have the memory's
-/// table: the same blocks in the same order. Of a stream of another table nothing is written, and
+/// table: the same blocks in the same order. No page of a stream of another table is written, and
 /// the verdict is `OtherTable`.
 ///
 /// # Examples

@@ -1,4 +1,4 @@
-//! What a load returns: `load_single`, `SingleLoader::finish`, `load_multi` and `load_relayed`.
+//! The result of `load_single`, `SingleLoader::finish`, `load_multi` and `load_relayed`.
 
 use crate::LoadFault;
 use mig_mem::Memory;

@@ -1,4 +1,4 @@
-//! The loader of a single stream that comes in pieces, into a memory of its own: for callers that
+//! The loader of a single stream that is fed in pieces, into a memory of its own: for callers that
 //! read from a connection.
 
 ghost use Rattle.std.specs.Prelude.{◌≡◌, ◌+◌, ◌<◌, ◌≤◌, ◌^◌, ◌++◌, ℕ, Bool, List, [], length, true, false, IsFalse, IsOk, OnOk, OnErr, IfErr};
@@ -106,7 +106,7 @@ impl<A: Allocator + Copy> SingleLoader<A> {
     }
 
     /// Takes the next piece of the stream, and applies the sections that it completes. After the
-    /// end byte, or a fault, the piece's bytes are only counted, and `NoMemory` doesn't come.
+    /// end byte, or a fault, the piece's bytes are only counted, and `NoMemory` isn't returned.
     ///
     /// # Errors
     ///

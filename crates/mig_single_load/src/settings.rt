@@ -1,4 +1,4 @@
-//! The settings that a caller passes to a load beside its streams. The constructors that end with
+//! The settings that a caller passes to a load with its streams. The constructors that end with
 //! `_in` take them.
 
 ghost use Rattle.std.specs.Prelude.{◌≡◌};
@@ -29,7 +29,7 @@ pub struct LoadSettings {
     /// The most bytes that the guest's blocks may have together. A stream that declares more is
     /// refused.
     pub limit: u64,
-    /// What the stream is read as: RAM's sections alone, or a machine's stream.
+    /// The stream's frame: RAM's sections alone, or a machine's stream.
     pub frame: Frame,
     /// The most page records of a section of a single stream, or of a round of a main stream: these
     /// wait until it is complete. One more is the fault `StreamFault::Waiting`. `None` is any

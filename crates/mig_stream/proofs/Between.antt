@@ -21,7 +21,7 @@ use Rattle.mig_stream.specs.Reading.{AreFaultless, after_all, Front}
 use Rattle.mig_stream.proofs.Feeding.{front_item}
 use Rattle.mig_stream.proofs.Steps.{IsLater-front}
 
--- where no section is open, no record waits
+-- if no section is open, no record waits
 abbrev IsEmpty : Due → List PageRecord → Type 0
 IsEmpty RecordHead records = ⊤
 IsEmpty ListEntry records = ⊤
@@ -58,7 +58,7 @@ type_empty c b e =
 type_byte_empty : (c : StreamProgress) (before : Before) (b : ℕ) → c.records ≡ [] → StaysEmpty (after_type_byte c before b)
 type_byte_empty c before b e = cond_both (is_passed c.frame before b) _ _ StaysEmpty (λ _. e) (λ _. type_empty c b e)
 
--- where no record waits, no item but those of a section wants any
+-- if no record waits, no item but those of a section wants any
 empty_due : (d : Due) (records : List PageRecord) → records ≡ [] → IsEmpty d records
 empty_due d records e = subst (IsEmpty d) (sym e) (no_records d)
 

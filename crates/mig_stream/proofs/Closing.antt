@@ -1,4 +1,4 @@
--- Where a stream is closed, and up to where it is valid.
+-- The byte at which a stream is closed, and its valid prefix.
 use Rattle.std.proofs.Common.{◌≡◌, ◌≢◌, ℕ, ◌+◌, ◌-◌, ◌<◌, ◌^◌, List, [], ◌++◌, length, take, drop, Option, Some, None, refl, sym, ap, subst, ◌∙◌, arith}
 use Rattle.std.specs.Prelude.{IfSome}
 use Rattle.std.proofs.lemmas.List.{append-nil, length-append, length-drop, take_at, drop_at, take-append-drop}
@@ -62,7 +62,7 @@ behind_stands r closed given text so_far g =
       has_rest = sym (ap (drop (length g.front)) g.has_text ∙ drop_at g.front r.rest (length g.front) refl);
     }
 
--- ---- up to where a stream is valid
+-- ---- the valid prefix of a stream
 
 pub valid_stands : (r : Reader) → Tells r (λ given so_far. IsValidUpTo given so_far.text r.valid_up_to)
 valid_stands r given so_far s = record {
@@ -73,7 +73,7 @@ valid_stands r given so_far s = record {
   has_length = omega (arith, s.has_valid_up_to, ap length s.reads.has_text, length-append s.reads.front s.rest);
 }
 
--- how long the front is, where so many bytes were fed and these are left
+-- the length of the prefix, if this many bytes were fed and these are left
 front_length : (text front rest : List ℕ) (fed n : ℕ) → text ≡ front ++ rest → fed ≡ length text → n ≡ fed - length rest → length front ≡ n
 front_length text front rest fed n is fed_is n_is = omega (arith, n_is, fed_is, ap length is, length-append front rest)
 

@@ -101,7 +101,7 @@ reads_behind c d to item rest pending left s is none d_is r = record {
   has_rest = r.has_rest;
 }
 
--- ---- what is taken where memory runs out
+-- ---- what is taken if memory runs out
 
 pub taken_none : (c : StreamProgress) (bytes : List ℕ) → HasTaken c bytes c
 taken_none c bytes = record { front = []; rest = bytes; has_bytes = refl; leads = Front-none c }

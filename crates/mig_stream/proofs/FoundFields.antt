@@ -1,4 +1,4 @@
--- What the bytes of an item are, where its tests have found no fault: numbers, flags, counted ids.
+-- What the bytes of an item are, if its tests have found no fault: numbers, flags, counted ids.
 use Rattle.std.proofs.Common.{◌≡◌, ℕ, suc, ◌+◌, ◌-◌, ◌*◌, ◌/◌, ◌%◌, ◌^◌, ◌<◌, Bool, true, false, cond, eqb, List, [], ◌∷◌, ◌++◌, length, get_or, take, Option, Some, None, refl, sym, ap, ◌∙◌, inl, inr, arith}
 use Rattle.std.specs.Prelude.{All, find}
 use Rattle.std.specs.Int.{w32, w64, to_be_bytes, from_be_bytes}

@@ -46,7 +46,7 @@ pub record RestOfList (Behind : StreamProgress → List ℕ → Type 0) (c : Str
 
 -- ---- what an entry without a fault is
 
--- what the five tests of an entry say, where none has found a fault
+-- what the five tests of an entry say, if none has found a fault
 pub record IsEntry (c : StreamProgress) (item : List ℕ) : Type 0 where
   pub has_few : length c.blocks < 256
   pub has_id : IsTrue (is_id (id_in item))

@@ -1,5 +1,5 @@
--- What is left of a stream from the file header, the configuration or START on, where its items
--- were read without a fault.
+-- What is left of a stream from the file header, the configuration or START on, if its items were
+-- read without a fault.
 use Rattle.std.proofs.Common.{◌≡◌, ℕ, ◌+◌, ◌^◌, ◌<◌, ◌≤◌, true, false, not, eqb, ltb, List, [], ◌∷◌, ◌++◌, length, get_or, Option, Some, None, refl, sym, ap, ◌∙◌, append_assoc, arith}
 use Rattle.std.specs.Prelude.{IfSome, slice_range}
 use Rattle.std.specs.Int.{w32, to_be_bytes}
@@ -161,7 +161,7 @@ pub record RestOfSubsection (to c : StreamProgress) (bytes : List ℕ) : Type 0 
 pub subsection_at : (to c : StreamProgress) (d : Due) (bytes : List ℕ) → RestOfSubsection to (record c { due = d }) bytes → RestOfSubsection to c bytes
 subsection_at to c d bytes r = record { held = r.held; tail = r.tail; has_bytes = r.has_bytes; is_body = r.is_body; rest = configured_at to c d r.tail r.rest }
 
--- the names of so many capabilities
+-- the names of this many capabilities
 pub record RestOfNames (to c : StreamProgress) (n : ℕ) (bytes : List ℕ) : Type 0 where
   pub names : List (List ℕ)
   pub has_length : length names ≡ n

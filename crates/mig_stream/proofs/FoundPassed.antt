@@ -1,4 +1,4 @@
--- What an item that is passed over is, where its tests have found no fault.
+-- What an item that is passed over is, if its tests have found no fault.
 use Rattle.std.proofs.Common.{◌≡◌, ℕ, ◌+◌, ◌*◌, ◌/◌, ◌%◌, ◌^◌, ◌<◌, Bool, true, false, not, cond, eqb, List, [], ◌∷◌, ◌++◌, length, get_or, Option, Some, None, refl, sym, ap, subst, ◌∙◌, arith}
 use Rattle.std.specs.Prelude.{is_none, ◌||◌}
 use Rattle.std.specs.Str.{bytes_eq}

@@ -17,7 +17,7 @@ use Rattle.mig_stream.proofs.FoundList.{RestOfEntries, RestOfList}
 use Rattle.mig_stream.proofs.FoundTail.{RestOfEnd, RestOfParts, Behind}
 use Rattle.mig_stream.proofs.FoundOpening.{RestOfStart, RestOfCommands, RestOfConfigured, RestOfBodyOf, RestOfSubsection, RestOfNames, RestOfConfigName, RestOfConfigLength, RestOfOpening, RestOfFile}
 
--- what is left from a type byte on, up to where the reading stands at `to`
+-- the rest from a type byte on, up to the point of the reading `to`
 abbrev pub RestAtType : StreamProgress → StreamProgress → Before → List ℕ → Type 0
 RestAtType to c before.FileHeader bytes = c.left ≡ None → RestOfOpening to c bytes
 RestAtType to c before.Configuration bytes = c.left ≡ None → RestOfConfigured to c bytes

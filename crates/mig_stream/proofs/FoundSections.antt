@@ -1,5 +1,5 @@
--- What is left of a section from an EOS, a FLUSH, a footer or a section head on, where its items
--- were read without a fault.
+-- What is left of a section from an EOS, a FLUSH, a footer or a section head on, if its items were
+-- read without a fault.
 use Rattle.std.proofs.Common.{◌≡◌, ℕ, ◌+◌, ◌*◌, false, not, eqb, List, [], ◌∷◌, ◌++◌, length, get_or, None, sym, ap, ◌∙◌, inl, inr, arith}
 use Rattle.std.specs.Prelude.{◌&&◌}
 use Rattle.std.specs.Int.{w32, w64, to_be_bytes}

@@ -75,7 +75,7 @@ size-append p Footer item more w = sym w
 size-append p (Passed passed) item more w = passed-append passed item more w
 size-append p Nothing item more w = sym w
 
--- where the bytes are fewer than the item's, no front of them is the item
+-- if the bytes are fewer than the item's, no front of them is the item
 pub no_item : (p : ℕ) (d : Due) (rest : List ℕ) → length rest < size p d rest → (item more : List ℕ) → rest ≡ item ++ more → IsItem p d item → ⊥
 no_item p d rest lt item more e is =
     let same : size p d rest ≡ length item = ap (size p d) e ∙ size-append p d item more is.is_whole in

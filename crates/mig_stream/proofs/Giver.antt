@@ -258,7 +258,7 @@ all_last so_far old new records is =
     ∙ ap (λ (x : List (List PageRecord)). record new { rounds = x }) (sym (append_assoc q (whole ∷ []) new.rounds))
     ∙ ap (with_taken (q ++ whole ∷ [])) (sym (none_open new))
 
--- where none is whole, the records that wait are of the open section
+-- if none is whole, the records that wait are of the open section
 all_more : (so_far : GivenSoFar) (old new : StreamProgress) → old.rounds ≡ [] → new ≡ record old { records = [] } → all_read so_far old ≡ all_read (with_more old.records so_far) new
 all_more so_far old new none is =
     let q : List (List PageRecord) = so_far.sections in
@@ -401,7 +401,7 @@ more_places given text so_far old records table are none g f =
 
 -- ---- the end
 
--- Where all was given, and it reads no further, what was given is the reading.
+-- If all was given, and it reads no further, what was given is the reading.
 pub ends_so : (given : Settings) (text : List ℕ) (so_far : GivenSoFar) (r : Giver) (found : StreamState) → r.progress.rounds ≡ [] → r.progress.records ≡ [] → r.found ≡ Some found
     → Gives given text so_far r → HasReading given text so_far found
 ends_so given text so_far r found none nothing is g =

@@ -106,7 +106,7 @@ last_at : (xs : List (List ℕ)) (x : List ℕ) (i : ℕ) → i ≡ length xs �
 last_at [] x i is = rw is refl
 last_at (y ∷ xs) x i is = rw is (last_at xs x (length xs) refl)
 
--- a span that is there in both, where its buffers have the same bytes at it
+-- a span that is there in both, if its buffers have the same bytes at it
 span_kept : (old new : List (List ℕ)) (s : Span) (x y : List ℕ) → IsWithin old s → get_or old s.owner [] ≡ x → get_or new s.owner [] ≡ y → s.owner < length new → s.end ≤ length y
     → take (s.end - s.start) (drop s.start y) ≡ take (s.end - s.start) (drop s.start x) → IsWithin new s × (bytes_at new s ≡ bytes_at old s)
 span_kept old new s x y is was now lt fits same = (

@@ -34,7 +34,7 @@ use Rattle.mig_stream.proofs.Steps.{passed, IsLater-front}
 
 -- ---- no more rounds than bytes
 
--- at most so many rounds more
+-- at most this many more rounds
 abbrev HasFew : List (List PageRecord) → ℕ → StreamProgress → Type 0
 HasFew rounds n c = length c.rounds ≤ length rounds + n
 
@@ -60,7 +60,7 @@ few_whole : (mode : Mode) (rounds : List (List PageRecord)) (records : List Page
 few_whole Single rounds records = omega (arith, length-append rounds (records ∷ []))
 few_whole Main rounds records = omega arith
 
--- an item makes one round whole at most, and none where it is empty
+-- an item makes one round whole at most, and none if it is empty
 few_item : (c : StreamProgress) (d : Due) (item : List ℕ) → length item ≡ size c.page_size d item → HasFew c.rounds (length item) (after_item c d item)
 few_item c FileHeader item whole = omega arith
 few_item c (TypeByte before) item whole = few_type_byte c before (slice_index item 0) (length item)
@@ -175,7 +175,7 @@ waits_head : (c : StreamProgress) (flags : ℕ) (kind : Option RecordKind) (page
 waits_head c flags None page w free = absurd (let clash = passes_first (head_faults c flags None page) free in cc)
 waits_head c flags (Some kind) page w free = waits_kind c kind page w (passes_first (kind_faults c kind page) free)
 
--- where an entry leaves some bytes, some were left before it, and an entry follows
+-- if an entry leaves some bytes, some were left before it, and an entry follows
 left_before : (left : Option ℕ) (n : ℕ) → (unwrap_or left 0 - n == 0) ≡ false → is_used_up left ≡ false
 left_before None n open_ = refl
 left_before (Some k) n open_ = false_from_ne_true (eqb k 0) (λ e. eqb-false (k - n) 0 open_ (omega (arith, eqb-true k 0 e)))

@@ -151,7 +151,7 @@ rounds_read Main sections rounds are =
       main_rounds [] [] sections ∙ ap (rounds_after [] []) all ∙ rounds_after-flushed [] groups none ∙ sym are.3,
     )
 
--- What is read after sections is what a stream says of them, where no record is left.
+-- What is read after sections is what a stream says of them, if no record is left.
 pub rounds_spelled : (mode : Mode) (sections : List (List Record)) → FlushesFit mode sections → HasNoTail mode (records_behind mode [] sections)
     → AreRounds mode sections (rounds_behind mode [] [] sections)
 rounds_spelled Single sections (inl e) tail = absurd cc

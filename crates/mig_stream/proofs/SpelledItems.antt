@@ -144,12 +144,12 @@ no_tail false true h = refl
 no_tail false false (inl e) = absurd cc
 no_tail false false (inr e) = absurd cc
 
--- where no record is left, their number is 0
+-- if no record is left, their number is 0
 is_empty : (mode : Mode) (records : List PageRecord) → HasNoTail mode records → (is_single mode ≡ true) ⊎ (eqb (length records) 0 ≡ true)
 is_empty mode records (inl e) = inl e
 is_empty mode records (inr e) = inr (ap (λ (x : List PageRecord). eqb (length x) 0) e)
 
--- the end byte, where no record is left that no FLUSH followed
+-- the end byte, if no record is left that no FLUSH followed
 pub end_front : (c : StreamProgress) → HasNoTail c.mode c.records → Front (record c { due = TypeByte before.LastFooter }) (end_byte ∷ []) (record c { due = Nothing })
 end_front c none =
     let free = no_tail (is_single c.mode) (eqb (length c.records) 0) (is_empty c.mode c.records none) in

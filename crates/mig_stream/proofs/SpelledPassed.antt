@@ -50,7 +50,7 @@ command_bytes_front c b x is =
     let free : first_fault (record c { due = Passed (item.Command b) }) (command_bytes x) ≡ None = rw (number, is.has_number) refl in
     item_front (record c { due = Passed (item.Command b) }) (command_bytes x) (λ e. absurd cc) whole free
 
--- a COMMAND, where one may stand
+-- a COMMAND, if one may stand
 pub command_front : (c : StreamProgress) (b : Before) (x : Command) → is_machine c.frame ≡ true → may_pass b command_type ≡ true → IsCommand x
     → Front (record c { due = TypeByte b }) (command x) (record c { due = TypeByte (behind_command b) })
 command_front c b x machine may is = Front-append _ _ _ _ _ (passed_type_front c b command_type machine may refl) (command_bytes_front c (behind_command b) x is)

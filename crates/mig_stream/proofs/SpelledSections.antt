@@ -48,7 +48,7 @@ abbrev pub named_behind : Option ℕ → List (List Record) → Option ℕ
 named_behind named [] = named
 named_behind named (records ∷ others) = named_behind (named_after named records) others
 
--- how far a stream has been read after its end byte, where these sections were the last ones
+-- how far a stream has been read after its end byte, if these sections were the last ones
 abbrev pub at_end : StreamProgress → List (List Record) → StreamProgress
 at_end c others = record c {
   due = Nothing;

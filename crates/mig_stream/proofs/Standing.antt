@@ -1,4 +1,4 @@
--- What a reader stands for after a call, and what it returns.
+-- What a reader represents after a call, and what it returns.
 use Rattle.std.proofs.Common.{◌≡◌, ◌≢◌, ℕ, ◌+◌, ◌-◌, ◌<◌, get_or, Bool, true, false, All, List, [], ◌∷◌, ◌++◌, length, Option, Some, None, refl, sym, ap, subst, ◌∙◌, append_assoc, arith}
 use Rattle.std.specs.Prelude.{IfSome, IfNone}
 use Rattle.std.proofs.lemmas.List.{length-append, append-nil, get_or_at}
@@ -123,7 +123,7 @@ fewer_each (Some r) old new p0 p1 e f h =
 
 -- ---- what a reader returns is the reading
 
--- the reading of the stream that it stands for
+-- the reading of the stream that it represents
 abbrev told : (r : Reader) (taken : List (List PageRecord)) → StreamReading
 told r taken = record { table = whole_table r.progress; rounds = taken ++ r.progress.rounds; state = r.found }
 

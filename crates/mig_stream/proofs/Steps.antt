@@ -113,7 +113,7 @@ blocks_by mid new (whole b r) = ([], b ∙ sym (append-nil mid.blocks))
 
 -- ---- a whole table stays
 
--- where there is no fault, the first test doesn't hold, and there is none after it
+-- if there is no fault, the first test doesn't hold, and there is none after it
 pub passed : (b : Bool) (f : StreamFault) (more : List (Bool × StreamFault)) → first_of ((b, f) ∷ more) ≡ None → (b ≡ false) × (first_of more ≡ None)
 passed true f more e = absurd cc
 passed false f more e = (refl, e)

@@ -41,7 +41,7 @@ no_position {X} p xs k d none lt =
     no_answer true n h = absurd cc
     no_answer false n h = refl
 
--- where no block before has an id, none of them has it
+-- if no block before has an id, none of them has it
 pub new_id : (before : List Block) (b : Block) (k : ℕ) (d : Block) → block_of before b.id ≡ None → k < length before → (get_or before k d).id ≢ b.id
 new_id before b k d none lt e =
     let fails : bytes_eq (get_or before k d).id b.id ≡ false = no_position (λ (x : Block). bytes_eq x.id b.id) before k d none lt in

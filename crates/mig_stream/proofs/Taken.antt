@@ -52,7 +52,7 @@ page_taken c place content due len =
     subst (Front c content) (ap (λ (d : Due). after (record c { due = d }) content) due) (front_item c content item faultless) in
     (content, sym (append-nil content), leads)
 
--- Where the content is the caller's, its record was given.
+-- If the content is the caller's, its record was given.
 pub took_page : (given : Settings) (text content : List ℕ) (so_far : GivenSoFar) (p q : Paused) (place : Place) → page_due p ≡ Some place → length content ≡ p.progress.page_size
     → p.progress.records ≡ [] → p.progress.rounds ≡ [] → q.progress ≡ record p.progress { due = RecordHead; room = less_room p.progress.room } → q.pending ≡ p.pending → q.fed ≡ min (p.fed + length content) (2 ^ 64 - 1)
     → PausesAt given text so_far p → PausesAt given (text ++ content) (with_more (page_record place content ∷ []) so_far) q

@@ -13,7 +13,7 @@ use Rattle.mig_stream.specs.Progress.{StreamProgress, is_used_up}
 use Rattle.mig_stream.specs.Entries.{Listed, AreListed, WereListed}
 use Rattle.mig_stream.specs.Later.{checkpoint_of, HasGrown, IsLater, WasSaved}
 
--- where a round ended after the mark, its first records are those of the mark
+-- if a round ended after the mark, its first records are those of the mark
 pub open_round : (c now : StreamProgress) (n m : ℕ) (x : List PageRecord) (left : List (List PageRecord)) → n ≡ length c.rounds → m ≡ length c.records → HasGrown c now → n < length now.rounds
     → x ≡ get_or now.rounds n x → left ≡ take n (remove now.rounds n) → (take m x ≡ c.records) × (left ≡ c.rounds)
 open_round c now n m x left n_is m_is (inl h) lt is left_is = absurd (omega (arith, ap length h.0))
@@ -25,7 +25,7 @@ open_round c now n m x left n_is m_is (inr h) lt is left_is =
       left_is ∙ take_at (take n now.rounds) (drop (suc n) now.rounds) n long ∙ front,
     )
 
--- where none ended, its records are the first of those that are there
+-- if none ended, its records are the first of those that are there
 pub same_round : (c now : StreamProgress) (n m : ℕ) → n ≡ length c.rounds → m ≡ length c.records → HasGrown c now → length now.rounds ≤ n → (take m now.records ≡ c.records) × (now.rounds ≡ c.rounds)
 same_round c now n m n_is m_is (inl h) le = (ap (take m) h.2 ∙ take_at c.records h.1 m (sym m_is), h.0)
 same_round c now n m n_is m_is (inr h) le = absurd (omega (arith, ap length h.2, length-append c.rounds ((c.records ++ h.0) ∷ h.1)))

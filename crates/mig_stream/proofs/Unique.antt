@@ -17,7 +17,7 @@ one_item p d a b x y i j e =
     let same : a ≡ b = sym (take_at a x (length a) refl) ∙ ap (take (length a)) e ∙ take_at b y (length a) (sym len) in
     (same, sym (drop_at a x (length a) refl) ∙ ap (drop (length a)) e ∙ drop_at b y (length a) (sym len))
 
--- where a free item stands, a stream doesn't end
+-- if a free item stands, a stream doesn't end
 pub no_end : (c : StreamProgress) (item x rest : List ℕ) (s : StreamState) → IsItem c.page_size c.due item → first_fault c item ≡ None → rest ≡ item ++ x → Ends c rest s → ⊥
 no_end c item x rest Closed is free e end = is.is_due end
 no_end c item x rest Reading is free e end = end.1 item x e is

@@ -1,4 +1,4 @@
--- Up to where a stream is valid: one place, which longer streams only move on.
+-- The valid prefix of a stream: its length is one number, which more bytes can only increase.
 use Rattle.std.proofs.Common.{◌≡◌, ◌≢◌, ℕ, ◌≤◌, ◌<◌, ◌+◌, List, [], ◌∷◌, ◌++◌, length, false, inl, inr, refl, sym, ap, subst, ◌∙◌, append_assoc, arith}
 use Rattle.std.specs.List.{concat}
 use Rattle.std.proofs.lemmas.Bool.{cases_lt}
@@ -105,7 +105,7 @@ stays given text more m n v w settled =
 pub stays_valid : LongerTextsStayValid
 stays_valid = λ given text more m n v w. (longest given (text ++ more) m n (more_front given text more m (front_of given text m v)) w, λ settled. stays given text more m n v w settled)
 
--- ---- where a stream has ended
+-- ---- a stream that has ended
 
 valid_closed : (given : Settings) (text : List ℕ) (n : ℕ) → HasState given text false Closed → IsValidUpTo given text n → IsClosedAt given text n
 valid_closed given text n h v =

@@ -24,7 +24,7 @@ use Rattle.mig_stream.specs.Giving.{Giver, waiting_in, to_go, left, LeavesLess}
 use Rattle.mig_stream.proofs.Feeding.{front_item}
 use Rattle.mig_stream.proofs.Steps.{IsLater-front}
 
--- at most so many more than there were
+-- at most this many more than before
 abbrev HasFew : ℕ → ℕ → StreamProgress → Type 0
 HasFew before n c = waiting_in c ≤ before + n
 
@@ -50,7 +50,7 @@ few_footer : (mode : Mode) (rounds : List (List PageRecord)) (records : List Pag
 few_footer Single rounds records = omega (arith, length-append rounds (records ∷ []))
 few_footer Main rounds records = omega arith
 
--- an item adds one at most, and none where it is empty
+-- an item adds one at most, and none if it is empty
 few_item : (c : StreamProgress) (d : Due) (item : List ℕ) → 0 < c.page_size → length item ≡ size c.page_size d item → HasFew (waiting_in c) (length item) (after_item c d item)
 few_item c FileHeader item some whole = omega arith
 few_item c (TypeByte before) item some whole = few_type_byte c before (slice_index item 0) (length item)

@@ -154,7 +154,8 @@ finished drained w parts h =
 
 -- ---- a part, page after page
 
--- the part of a writer that had so many bytes of a stream, and this block named last, when it began
+-- the part of a writer that had this many bytes of a stream, and this block named last, when it
+-- began
 abbrev pub part_from : ℕ → Option ℕ → Writer → PartSoFar
 part_from len named w = record { before = record { table = w.table; text = take len w.text; named = named }; now = w }
 

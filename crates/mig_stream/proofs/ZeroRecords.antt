@@ -131,7 +131,7 @@ taken_within old new bytes n h = record {
 pub tail_from : (bytes : List ℕ) (n : ℕ) → take (length bytes - n) (drop n bytes) ≡ drop n bytes
 tail_from bytes n = take_all (length bytes - n) (drop n bytes) (omega (arith, length-drop n bytes))
 
--- what was taken where the records after were refused
+-- what was taken if the records after were refused
 pub records_stop : (old mid new : StreamProgress) (bytes rest : List ℕ) (n : ℕ) → HasTakenRecords old bytes n mid → rest ≡ drop n bytes → HasTaken mid rest new → HasTaken old bytes new
 records_stop old mid new bytes rest n a is b = record {
   front = take n bytes ++ b.front;

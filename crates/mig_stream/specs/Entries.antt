@@ -18,7 +18,8 @@ pub record Listed : Type 0 where
 abbrev pub listed_table : ℕ → Option ℕ → List Block → Option RamTable
 listed_table page_size left blocks = then_some (is_used_up left) (record { page_size = page_size; blocks = blocks })
 
--- What is known of the blocks so far: all that a lawful table keeps, but that there is a block.
+-- The invariant of the blocks so far: all conditions of a lawful table, except that there is a
+-- block.
 pub record AreListed (page_size limit : ℕ) (left : Option ℕ) (blocks : List Block) : Type 0 where
   pub has_page_size : IsPageSize page_size
   pub has_limit : limit ≤ 2 ^ 40

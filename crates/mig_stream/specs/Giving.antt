@@ -1,5 +1,5 @@
--- A reader that gives the page records of a single stream as they come, before their section is
--- complete, and what it stands for.
+-- A reader that gives the page records of a single stream as they are read, before their section is
+-- complete, and the stream that it represents.
 use Rattle.std.specs.Prelude.{◌≡◌, ◌<◌, ℕ, ◌+◌, ◌*◌, ◌^◌, List, [], ◌∷◌, ◌++◌, length, drop, Option, None, Some, IfSome, ⊤, ◌⊎◌}
 use Rattle.mig_mem.specs.PageSize.{IsPageSize}
 use Rattle.mig_stream.specs.declared.item.Mode.TheVariants.{Single}
@@ -21,7 +21,7 @@ pub record Giver : Type 0 where
   pub rest : List ℕ
   -- the state of the rest, once it reads no further
   pub found : Option StreamState
-  -- what it gave last
+  -- its last result
   pub given : RoundOfRecords
   -- how many bytes the stream has up to the end of the rest
   pub fed : ℕ
@@ -48,7 +48,7 @@ with_given Records records so_far = with_more records so_far
 with_given Section records so_far = with_last records so_far
 with_given (End found) records so_far = so_far
 
--- ---- what was given, before what was not
+-- ---- the records given, before the others
 
 -- the first round with more records before its own; it is the open one if none is complete
 abbrev pub rounds_behind : List PageRecord → List (List PageRecord) → List (List PageRecord)
@@ -66,7 +66,7 @@ with_open before c = record c { records = records_behind before c.rounds c.recor
 abbrev pub all_read : GivenSoFar → StreamProgress → StreamProgress
 all_read so_far c = with_taken so_far.sections (with_open so_far.open_section c)
 
--- ---- what the reader stands for
+-- ---- what the reader represents
 
 -- The reader was made with these settings and this stream, and gave this so far.
 pub record Gives (given : Settings) (text : List ℕ) (so_far : GivenSoFar) (r : Giver) : Type 0 where
@@ -101,9 +101,9 @@ abbrev pub LeavesLess : Given → Giver → Giver → Type 0
 LeavesLess (End found) old new = ⊤
 LeavesLess other old new = left new < left old
 
--- ---- what it returns
+-- ---- its results
 
--- a statement on a reader that depends on nothing else than what it stands for
+-- a statement on a reader that depends on nothing else than what it represents
 abbrev pub GiverTells : Giver → (Settings → List ℕ → GivenSoFar → Type 0) → Type 0
 GiverTells r says = (given : Settings) (text : List ℕ) (so_far : GivenSoFar) → Gives given text so_far r → says given text so_far
 
@@ -121,7 +121,7 @@ abbrev pub EndsSo : Given → Settings → List ℕ → GivenSoFar → Type 0
 EndsSo (End found) given text so_far = HasReading given text so_far found
 EndsSo other given text so_far = ⊤
 
--- what is given at the end: the state of the stream, and no records
+-- the result at the end: the state of the stream, and no records
 abbrev pub TellsFound : Given → Giver → Type 0
 TellsFound (End found) r = (r.found ≡ Some found) × (r.given.records ≡ [])
 TellsFound other r = ⊤
@@ -145,8 +145,8 @@ abbrev pub LeavesNone : Given → Giver → Type 0
 LeavesNone (End found) r = HasNoneLeft found r
 LeavesNone other r = ⊤
 
--- what is kept between two pieces: how far the stream was read, the bytes after that, and the
--- number of all bytes
+-- the state between two pieces: how far the stream was read, the bytes after that, and the number
+-- of all bytes
 pub record Paused : Type 0 where
   pub progress : StreamProgress
   pub pending : List ℕ
@@ -166,8 +166,8 @@ PauseTells p says = (given : Settings) (text : List ℕ) (so_far : GivenSoFar) �
 
 -- ---- private
 
--- The pending bytes of earlier pieces are a part of an item; so is all that is left, once no more
--- of it is read. Nothing is pending if the stream is closed: what is left is then in the last
+-- The pending bytes of earlier pieces are a part of an item; so are all unread bytes, once no more
+-- can be read. Nothing is pending if the stream is closed: the unread bytes are then in the last
 -- piece.
 abbrev pub IsUnread : Option StreamState → StreamProgress → List ℕ → List ℕ → Type 0
 IsUnread None c pending rest = (pending ≡ []) ⊎ IsUnfinished c pending
@@ -175,7 +175,7 @@ IsUnread (Some Reading) c pending rest = IsUnfinished c (pending ++ rest)
 IsUnread (Some Closed) c pending rest = pending ≡ []
 IsUnread (Some other) c pending rest = ⊤
 
--- all was given, and what is kept is a part of an item
+-- all records were given, and the kept bytes are a part of an item
 pub record IsPaused (p : Paused) : Type 0 where
   pub is_unfinished : IsUnfinished p.progress p.pending
   pub has_no_records : p.progress.records ≡ []

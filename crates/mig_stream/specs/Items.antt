@@ -241,7 +241,7 @@ abbrev pub body_of : Option Subsection → Due
 body_of None = Nothing
 body_of (Some subsection) = Passed (SubsectionBody subsection)
 
--- the item after the count of capabilities, or after one of them, with this many to come
+-- the item after the count of capabilities, or after one of them, with this many after it
 abbrev pub capabilities_due : ℕ → Due
 capabilities_due others = if others == 0 then TypeByte before.Configuration else Passed (Capability (others - 1))
 
@@ -285,7 +285,7 @@ footer_of section.End = before.LastFooter
 abbrev pub behind_footer : Frame → Section → Due
 behind_footer frame kind = if closes frame kind then Nothing else TypeByte (footer_of kind)
 
--- In a single stream a section is a round; in a main stream the round goes on after the footer.
+-- In a single stream a section is a round; in a main stream the round continues after the footer.
 abbrev pub open_room : Mode → Option ℕ → Option ℕ → Option ℕ
 open_room mode None room = None
 open_room Single (Some waiting) room = Some waiting

@@ -1,4 +1,4 @@
--- What a reader keeps of the pages that it has read.
+-- The pages that a reader keeps.
 use Rattle.std.specs.Prelude.{ℕ, ◌≡◌, ◌-◌, ◌<◌, ◌≤◌, ◌^◌, List, [], ◌∷◌, ◌++◌, length, map, take, drop, slice_index_or, Option, Some, None, ⊤}
 use Rattle.mig_mem.specs.declared.place.Place.{Place}
 use Rattle.mig_mem.specs.Place.{place_at}
@@ -74,7 +74,7 @@ AreHeldAfter buffers (r ∷ rs) = IsHeld buffers r × AreHeldAfter (buffers ++ b
 abbrev pub IsShort : Place → Type 0
 IsShort p = (p.block < 2 ^ 8) × (p.page < 2 ^ 32)
 
--- the place of the page that comes next, if there is one
+-- the place of the next page, if there is one
 abbrev pub HasShortPlace : Due → Type 0
 HasShortPlace (Content filling place) = IsShort place
 HasShortPlace due = ⊤

@@ -1,4 +1,4 @@
--- What items leave as it was, so that a reader can go back.
+-- The values that items don't change, so that a reader can go back.
 use Rattle.std.specs.Prelude.{◌≡◌, ◌⊎◌, List, ◌∷◌, ◌++◌, length, true}
 use Rattle.mig_mem.specs.RamTable.{Block}
 use Rattle.mig_stream.specs.declared.progress.Checkpoint.{Checkpoint}

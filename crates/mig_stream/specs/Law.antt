@@ -1,4 +1,4 @@
--- What holds between the streams and their readings.
+-- Relations of streams and their readings.
 use Rattle.std.specs.Prelude.{◌≡◌, ◌≢◌, ◌↔◌, ℕ, ◌≤◌, ◌<◌, ◌^◌, false, List, [], ◌∷◌, ◌++◌, length, map, replicate, Some, None, All}
 use Rattle.mig_mem.specs.PageSize.{IsPageSize}
 use Rattle.mig_mem.specs.RamTable.{RamTable, IsTable}
@@ -77,17 +77,17 @@ MachineClosedIsText = (mode : Mode) (limit : ℕ) (bytes : List ℕ) (table : Ra
     → IsPageSize table.page_size → limit ≤ 2 ^ 40 → All (λ byte. byte < 2 ^ 8) bytes
     → IsReading (in_frame Machine (settings mode table.page_size limit)) bytes (closed table rounds) ↔ HasMachineText mode limit bytes table rounds
 
--- What a writer writes of rounds is a single stream of them, with an empty round for START and for
--- END.
+-- The bytes that a writer writes of rounds are a single stream of them, with an empty round for
+-- START and for END.
 abbrev pub SinglesAreTexts : Type 0
 SinglesAreTexts = (limit : ℕ) (table : RamTable) (rounds : List (List Page)) → IsTable table → total_bytes table ≤ limit → All (IsRound table) rounds
     → IsText Single limit (single table rounds) table ([] ∷ map (map written_record) rounds ++ [] ∷ [])
 
--- What a writer writes of FLUSHes alone is a main stream of as many empty rounds.
+-- The bytes that a writer writes of only FLUSHes are a main stream of as many empty rounds.
 abbrev pub MainsAreTexts : Type 0
 MainsAreTexts = (limit : ℕ) (table : RamTable) (n : ℕ) → IsTable table → total_bytes table ≤ limit → IsText Main limit (main table n) table (replicate n [])
 
--- The records that a writer writes of a round stand for the pages of that round.
+-- The records that a writer writes of a round represent the pages of that round.
 abbrev pub RecordsStandForPages : Type 0
 RecordsStandForPages = (table : RamTable) (round : List Page) → IsRound table round → map (page_of table.page_size) (map written_record round) ≡ round
 
@@ -102,7 +102,7 @@ abbrev pub ReadingsKeepLimits : Type 0
 ReadingsKeepLimits = (given : Settings) (text : List ℕ) (reading : StreamReading) → IsPageSize given.page_size
     → IsReading given text reading → KeepsLimits given.page_size text reading
 
--- What is read of a stream stays, whatever bytes follow: its complete rounds are the first ones of
+-- The reading of a stream stays, whatever bytes follow: its complete rounds are the first ones of
 -- the longer stream, and its table is that stream's too. After the end byte, or a fault, nothing
 -- changes.
 pub record StaysRead (before now : StreamReading) : Type 0 where
@@ -115,7 +115,7 @@ abbrev pub LongerTextsStay : Type 0
 LongerTextsStay = (given : Settings) (text more : List ℕ) (before now : StreamReading) → IsPageSize given.page_size
     → IsReading given text before → IsReading given (text ++ more) now → StaysRead before now
 
--- ---- up to where a stream is valid
+-- ---- the valid prefix of a stream
 
 -- A stream is valid up to exactly one offset, and no front of it is longer.
 abbrev pub IsValidUpToOnePlace : Type 0
@@ -129,7 +129,7 @@ abbrev pub LongerTextsStayValid : Type 0
 LongerTextsStayValid = (given : Settings) (text more : List ℕ) (m n : ℕ) → IsValidUpTo given text m → IsValidUpTo given (text ++ more) n
     → (m ≤ n) × (IsSettled given text → m ≡ n)
 
--- A closed stream is valid up to where it is closed.
+-- A closed stream is valid up to the byte at which it is closed.
 abbrev pub ClosedIsValid : Type 0
 ClosedIsValid = (given : Settings) (text : List ℕ) (n : ℕ) → HasState given text false Closed → IsValidUpTo given text n ↔ IsClosedAt given text n
 
@@ -146,6 +146,6 @@ pub record HasFaultAt (given : Settings) (text : List ℕ) (n : ℕ) (fault : St
   pub is_item : IsItem to.page_size to.due item
   pub has_fault : first_fault to item ≡ Some fault
 
--- A bad stream is valid up to where the item at fault begins.
+-- A bad stream is valid up to the beginning of the item at fault.
 abbrev pub BadIsValidBefore : Type 0
 BadIsValidBefore = (given : Settings) (text : List ℕ) (n : ℕ) (fault : StreamFault) → HasState given text false (Bad fault) → IsValidUpTo given text n → HasFaultAt given text n fault

@@ -16,7 +16,7 @@ pub mod Giving
 pub mod Wanted
 pub mod Law
 pub mod FaultNumber
--- What reading keeps, and how it goes back. Only private contracts cite these.
+-- The values that reading keeps, and how it goes back. Only private contracts cite these.
 pub mod Taking
 pub mod Entries
 pub mod Later

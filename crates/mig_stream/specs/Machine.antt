@@ -17,7 +17,7 @@ use Rattle.mig_stream.specs.Text.{Record, Follow, all_records, body, section, Ar
 
 -- ---- COMMANDs
 
--- the number of a COMMAND, and what it carries
+-- the number of a COMMAND, and its data
 pub record Command : Type 0 where
   pub number : ℕ
   pub carried : List ℕ
@@ -35,8 +35,8 @@ pub record IsCommand (c : Command) : Type 0 where
 
 -- ---- the configuration
 
--- What a subsection of the configuration holds: the bits of a page's offset, the machine's UUID, or
--- the names of capabilities.
+-- The content of a subsection of the configuration: the bits of a page's offset, the machine's
+-- UUID, or the names of capabilities.
 pub data SubsectionBody : Type 0 where
   PageBits : ℕ → SubsectionBody
   Uuid : List ℕ → SubsectionBody
@@ -57,7 +57,7 @@ pub record IsCapability (name : List ℕ) : Type 0 where
   pub has_length : length name < 2 ^ 8
   pub keeps_layout : list_any (λ known. bytes_eq name known) layout_capabilities ≡ false
 
--- What a subsection may hold, in a stream with this page size: a page has 2^bits bytes.
+-- A valid content of a subsection, in a stream with this page size: a page has 2^bits bytes.
 abbrev pub IsSubsectionBody : ℕ → SubsectionBody → Type 0
 IsSubsectionBody page_size (PageBits bits) = bits < 2 ^ 32 × (2 ^ bits ≡ page_size)
 IsSubsectionBody page_size (Uuid uuid) = length uuid ≡ 16

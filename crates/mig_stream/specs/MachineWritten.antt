@@ -1,4 +1,4 @@
--- What a writer writes of RAM in a machine's stream. The caller writes the devices after it.
+-- A writer's RAM sections in a machine's stream. The caller writes the devices after them.
 use Rattle.std.specs.Prelude.{◌≡◌, ℕ, ◌≤◌, List, [], ◌∷◌, ◌++◌, length, map, replicate, Option, None, IfSome, All}
 use Rattle.mig_mem.specs.Image.{Page}
 use Rattle.mig_mem.specs.RamTable.{RamTable, IsTable}
@@ -33,7 +33,8 @@ abbrev pub ConfiguredIsClosed : Type 0
 ConfiguredIsClosed = (name : Option (List ℕ)) (table : RamTable) (parts : List Part) (bytes : List ℕ) → file_header ++ bytes ≡ written table parts
     → file_header ++ configuration name ++ bytes ≡ machine_closed name table parts
 
--- What a writer so writes of rounds, or of FLUSHes, is a machine's stream.
+-- The bytes that a writer writes for a machine's stream, of rounds or of FLUSHes, are a machine's
+-- stream.
 abbrev pub MachineSinglesAreTexts : Type 0
 MachineSinglesAreTexts = (limit : ℕ) (name : Option (List ℕ)) (table : RamTable) (rounds : List (List Page)) → IfSome name (λ bytes. length bytes ≤ most_name_bytes)
     → IsTable table → total_bytes table ≤ limit → All (IsRound table) rounds

@@ -18,7 +18,7 @@ pub record StreamProgress : Type 0 where
   pub page_size : ℕ
   pub limit : ℕ
   pub waiting : Option ℕ
-  -- the item that comes next
+  -- the next item
   pub due : Due
   -- the section that is read, and START's section id
   pub section : Section

@@ -1,4 +1,4 @@
--- What a reader holds, and the bytes that it stands for.
+-- The state of a reader, and the bytes that it represents.
 use Rattle.std.specs.Prelude.{◌≡◌, ◌≢◌, ℕ, ◌+◌, ◌<◌, ◌≤◌, Bool, true, false, List, [], ◌++◌, length, take, slice_index_or, Option, Some, None}
 use Rattle.mig_mem.specs.RamTable.{RamTable}
 use Rattle.mig_stream.specs.declared.item.StreamState.{StreamState}
@@ -37,7 +37,7 @@ pub record ReadsOn (from : StreamProgress) (bytes : List ℕ) (to : StreamProgre
 abbrev pub with_taken : List (List PageRecord) → StreamProgress → StreamProgress
 with_taken taken c = record c { rounds = taken ++ c.rounds }
 
--- ---- what a reader stands for
+-- ---- what a reader represents
 
 -- what a reader was given so far: this stream, whether it was ended, and how many rounds were taken
 -- from it
@@ -72,12 +72,12 @@ pub record Stands (given : Settings) (so_far : SoFar) (r : Reader) : Type 0 wher
   pub has_pending : r.found ≡ Reading → rest ≡ r.pending
   pub has_valid_up_to : r.valid_up_to + length rest ≡ length so_far.text
 
--- A call takes this step: if the reader stood for this before it, it stands for it with the step
+-- A call takes this step: if the reader represented this before it, it represents it with the step
 -- done.
 abbrev pub StepsOn : (SoFar → SoFar) → Reader → Reader → Type 0
 StepsOn step old new = (given : Settings) (so_far : SoFar) → Stands given so_far old → Stands given (step so_far) new
 
--- a statement on a reader that depends on nothing else than what it stands for
+-- a statement on a reader that depends on nothing else than what it represents
 abbrev pub Tells : Reader → (Settings → SoFar → Type 0) → Type 0
 Tells r says = (given : Settings) (so_far : SoFar) → Stands given so_far r → says given so_far
 
@@ -85,7 +85,7 @@ Tells r says = (given : Settings) (so_far : SoFar) → Stands given so_far r →
 abbrev pub waiting : Reader → ℕ
 waiting r = length r.progress.rounds
 
--- ---- what the reading of a stream says
+-- ---- the reading of a stream
 
 -- the state of a stream that may have ended
 abbrev pub HasState : Settings → List ℕ → Bool → StreamState → Type 0

@@ -57,7 +57,7 @@ state_at true Closed = Closed
 state_at true (Bad fault) = Bad fault
 state_at false state = state
 
--- what is read of a stream so far: its table, its complete rounds, and its state
+-- the reading of a stream so far: its table, its complete rounds, and its state
 pub record StreamReading : Type 0 where
   pub table : Option RamTable
   pub rounds : List (List PageRecord)

@@ -41,8 +41,8 @@ pub record HasTaken (old : StreamProgress) (bytes : List ℕ) (new : StreamProgr
 abbrev pub HasTakenTo : StreamProgress → List ℕ → List ℕ → StreamProgress → Type 0
 HasTakenTo old bytes rest new = (front : List ℕ) × (bytes ≡ front ++ rest) × Front old front new
 
--- The first n bytes, complete records without a fault, were taken. A record comes next, and the
--- table stays.
+-- The first n bytes, complete records without a fault, were taken. A record is next, and the table
+-- stays.
 pub record HasTakenRecords (old : StreamProgress) (bytes : List ℕ) (n : ℕ) (new : StreamProgress) : Type 0 where
   pub fits : n ≤ length bytes
   pub leads : Front old (take n bytes) new

@@ -1,4 +1,4 @@
--- What the next bytes of a paused stream are.
+-- The next bytes of a paused stream.
 use Rattle.std.specs.Prelude.{◌≡◌, ◌<◌, ℕ, List, [], ◌∷◌, ◌++◌, length, Option, None, Some}
 use Rattle.mig_mem.specs.declared.place.Place.{Place}
 use Rattle.mig_stream.specs.declared.item.Filling.TheVariants.{Zero, Normal}
@@ -7,12 +7,12 @@ use Rattle.mig_stream.specs.declared.item.Due.TheVariants.{FileHeader, TypeByte,
 use Rattle.mig_stream.specs.Reader.{IsUnfinished}
 use Rattle.mig_stream.specs.Giving.{Paused}
 
--- the page whose content comes next
+-- the page whose content is next
 abbrev pub page_in : Due → Option Place
 page_in (Content Normal place) = Some place
 page_in other = None
 
--- The page whose content comes next, from its first byte on.
+-- The page whose content is next, from its first byte on.
 abbrev pub page_due : Paused → Option Place
 page_due p = page_due_after p.pending p.progress.due
   where

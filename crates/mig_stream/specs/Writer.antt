@@ -1,4 +1,4 @@
--- A writer of a stream, and what it was given.
+-- A writer of a stream, and the rounds that it was passed.
 use Rattle.std.specs.Prelude.{◌≡◌, ℕ, List, [], ◌∷◌, ◌++◌, length, take, Option, None}
 use Rattle.std.specs.List.{flat_map}
 use Rattle.mig_mem.specs.Image.{Page}

@@ -8,7 +8,7 @@ use Rattle.mig_stream.specs.Format.{end_byte}
 use Rattle.mig_stream.specs.PageRecord.{PageRecord}
 use Rattle.mig_stream.specs.Text.{Record, PageOf, FlushMark, named_after, body, section, file_header, start_head, size_list}
 
--- what is written as one PART: a round of pages, or a FLUSH
+-- the content of one PART: a round of pages, or a FLUSH
 pub data Part : Type 0 where
   RoundPart : List Page → Part
   FlushPart : Part

@@ -1,4 +1,4 @@
-//! The reader of a single stream that gives page records as they come: of a complete stream, or
+//! The reader of a single stream that gives page records as they are read: of a complete stream, or
 //! piece after piece, with a `Pause` between two. `load_single` reads a complete stream by it, and
 //! `InPlaceState` the pieces as they come.
 //!
@@ -31,7 +31,7 @@ use std::alloc::{Allocator, Global};
 use std::marker::Model;
 use std::{fmt, mem};
 
-/// What a call of `RecordReader::read_on` returns.
+/// The result of `RecordReader::read_on`.
 #[derive(Clone, Copy, Debug, PartialEq, Eq)]
 pub enum Given {
     /// Page records of a section that isn't complete yet. There may be none.
@@ -43,8 +43,8 @@ pub enum Given {
 }
 
 /// Reads a complete single stream, or its next piece after a `Pause`, and gives its page records as
-/// they come. It lends their pages from those bytes, but for a page whose first bytes an earlier
-/// piece had.
+/// they are read. It lends their pages from those bytes, but for a page whose first bytes an
+/// earlier piece had.
 #[derive(Drop)]
 pub struct RecordReader<'a, A: Allocator = Global> {
     progress: Progress<'a, A>,
@@ -478,8 +478,8 @@ impl<'a, A: Allocator> RecordReader<'a, A> {
         }
     }
 
-    /// Returns the stream's table, as soon as the size list was read completely. Page records come
-    /// after it.
+    /// Returns the stream's table, as soon as the size list was read completely. Page records
+    /// follow it.
     pub fn table(&self) -> Option<&Table<A>>
         ensures whole { option_copied result ≡ whole_table self.now.progress }
         ensures table { IfSome (option_copied result) (λ table. GiverTells self.now (λ given text so_far. HasTable given text (Some table))) }

@@ -1,5 +1,5 @@
 //! The items that a stream is read by, as plain names, for the definitions and for `items`,
-//! `progress` and `reader`. What each of them has to look like stands in `specs/`.
+//! `progress` and `reader`. `specs/` has the format of each.
 
 use crate::StreamFault;
 use mig_mem::Place;
@@ -7,14 +7,14 @@ use mig_mem::Place;
 /// Which kind of stream bytes are.
 #[derive(Clone, Copy, Debug, PartialEq, Eq)]
 pub enum Mode {
-    /// All pages come in this stream; each section is a round.
+    /// All pages are in this stream; each section is a round.
     Single,
-    /// The main stream of multifd: a round ends with each FLUSH, and its other pages come on the
+    /// The main stream of multifd: a round ends with each FLUSH, and its other pages are on the
     /// channels.
     Main,
 }
 
-/// Which sections a stream has beside RAM's.
+/// The sections that a stream has in addition to RAM's.
 #[derive(Clone, Copy, Debug, PartialEq, Eq)]
 pub enum Frame {
     /// None: the stream is RAM's sections between the file header and the end byte.
@@ -24,12 +24,12 @@ pub enum Frame {
     /// is a fault. The stream is closed by the footer of RAM's END, and the bytes after it, the
     /// devices' sections, are left to the caller.
     ///
-    /// A COMMAND has up to 65,539 bytes after its type byte. Where pieces cut it, a reader keeps
-    /// those that came.
+    /// A COMMAND has up to 65,539 bytes after its type byte. If pieces cut it, a reader keeps the
+    /// bytes so far.
     Machine,
 }
 
-/// How far a stream has come.
+/// The state of a stream.
 #[derive(Clone, Copy, Debug, PartialEq, Eq)]
 pub enum StreamState {
     /// More bytes are needed.
@@ -49,13 +49,13 @@ pub enum Section {
     End,
 }
 
-/// What a type byte follows.
+/// The item before a type byte.
 #[derive(Clone, Copy)]
 pub enum Before {
     FileHeader,
     /// The configuration, or a subsection of it.
     Configuration,
-    /// A COMMAND, where START is still to come.
+    /// A COMMAND before START.
     Command,
     /// The footer of START or of a PART.
     Footer,
@@ -106,13 +106,13 @@ pub enum PassedItem {
     Command(Before),
     /// The name and the version of a subsection, after its type byte.
     SubsectionHead,
-    /// What a subsection holds; of the capabilities only their number.
+    /// The content of a subsection; for capabilities only their number.
     SubsectionBody(Subsection),
-    /// The name of a capability, and how many others come after it.
+    /// The name of a capability, and the number of others after it.
     Capability(u32),
 }
 
-/// The item of a stream that comes next.
+/// The next item of a stream.
 #[derive(Clone, Copy)]
 pub enum Due {
     /// The magic and the version.
@@ -130,7 +130,7 @@ pub enum Due {
     ListEntry,
     /// The length byte and the id of a page record, of a page with this number in its block.
     BlockName(Filling, u64),
-    /// What a page record holds of the page at this place.
+    /// The content in a page record, for the page at this place.
     Content(Filling, Place),
     Footer,
     /// An item of a machine's stream that is passed over.

@@ -1,4 +1,4 @@
-//! Takes each kind of item of a stream. `Progress::run` calls it for the kind that comes next.
+//! Takes each kind of item of a stream. `Progress::run` calls it for the next kind.
 //!
 //! Each function takes one complete item of one kind: it tests it, in the order of the item's
 //! faults, and notes its values.
@@ -441,7 +441,7 @@ fn is_layout(name: &[u8]) -> bool
     name == IGNORE_SHARED || name == MAPPED_RAM
 }
 
-// Returns the item after the count of capabilities, or after one of them, if `others` more come.
+// Returns the item after the count of capabilities, or after one of them, if `others` more follow.
 fn capabilities_due(others: u32) -> Due
     ensures { result ≡ capabilities_due others }
 {

@@ -1,5 +1,5 @@
-//! Laws of the definitions alone: what holds between streams and their readings, whatever code
-//! writes and reads them.
+//! Laws of the definitions alone: relations of streams and their readings, whatever code writes and
+//! reads them.
 //!
 //! Each law is the clause of a function that does nothing. So it is proved with the crate, and a
 //! caller who calls the function may use it.
@@ -35,9 +35,9 @@ pub fn bytes_have_one_text()
     ensures { HasOneText }
 {}
 
-/// What a writer writes of rounds of a lawful table within the limit is a single stream. It has a
-/// round for START and one for END around them, and its records stand for the pages of the rounds.
-/// What a writer writes of FLUSHes is a main stream with as many rounds.
+/// The bytes that a writer writes of rounds of a lawful table within the limit are a single stream.
+/// It has a round for START and one for END around them, and its records represent the pages of the
+/// rounds. The bytes that it writes of FLUSHes are a main stream with as many rounds.
 pub fn written_is_text()
     ensures single { SinglesAreTexts }
     ensures main { MainsAreTexts }
@@ -50,7 +50,7 @@ pub fn readings_keep_limits()
     ensures { ReadingsKeepLimits }
 {}
 
-/// What is read of a stream stays, whatever bytes follow: its complete rounds are the first ones of
+/// The reading of a stream stays, whatever bytes follow: its complete rounds are the first ones of
 /// the longer stream, and its table is that stream's too. After the end byte, or a fault, nothing
 /// changes.
 pub fn longer_texts_stay()
@@ -74,8 +74,9 @@ pub fn machine_closed_is_text()
     ensures { MachineClosedIsText }
 {}
 
-/// What a writer writes of rounds, or of FLUSHes, for a machine's stream is one, of these rounds.
-/// That holds with a machine's name of at most 1,024 bytes before RAM's START, and without one.
+/// The bytes that a writer writes for a machine's stream, of rounds or of FLUSHes, are a machine's
+/// stream of these rounds. That holds with a machine's name of at most 1,024 bytes before RAM's
+/// START, and without one.
 pub fn machine_written_is_text()
     ensures single { MachineSinglesAreTexts }
     ensures main { MachineMainsAreTexts }

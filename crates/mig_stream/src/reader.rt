@@ -1,8 +1,7 @@
-//! The reader of a stream that comes in pieces, or is complete. Loaders keep one.
+//! The reader of a stream that is fed in pieces, or is complete. Loaders keep one.
 //!
-//! It keeps what was read as a `Progress`. Of the stream's bytes it keeps only those of an item
-//! that isn't complete yet. It reads a piece in place, but for the bytes that complete such an
-//! item.
+//! It keeps what was read as a `Progress`. It keeps only the stream's bytes of an item that isn't
+//! complete yet. It reads a piece in place, but for the bytes that complete such an item.
 
 ghost use Rattle.std.specs.Prelude.{◌≡◌, ◌≢◌, ◌+◌, ◌<◌, ◌≤◌, ◌^◌, ◌++◌, ◌↔◌, ℕ, Bool, List, [], ◌∷◌, length, take, true, false, IsTrue, IsFalse, IsOk, Some, All, IfOk, IfSome, IfNone, OnOk, OnErr};
 ghost use Rattle.std.specs.Option.{option_copied};

@@ -38,8 +38,8 @@ impl<A: Allocator + Copy> Pause<A> {
         Wanted::Bytes(size - self.pending.len())
     }
 
-    /// Takes all of the content of the page that comes next, as the next bytes of the stream. The
-    /// bytes are neither read nor kept: the caller already has the page where it belongs.
+    /// Takes all of the content of the next page, as the next bytes of the stream. The bytes are
+    /// neither read nor kept: the caller already has the page where it belongs.
     pub fn take_page(&mut self, content: &[u8])
         requires due { IsSome (page_due self.old) }
         requires len { length content.now ≡ self.old.progress.page_size }

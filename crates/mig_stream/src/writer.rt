@@ -335,8 +335,8 @@ impl<A: Allocator> StreamWriter<A> {
         bytes
     }
 
-    /// Drains into `bytes`, as `drain` does. What the buffer held is dropped, and its room is used
-    /// for what is written next. So two buffers suffice for a stream of any length.
+    /// Drains into `bytes`, as `drain` does. The buffer's old bytes are dropped, and its room is
+    /// used for the bytes that are written next. So two buffers suffice for a stream of any length.
     pub fn drain_into(&mut self, bytes: &mut Vec<u8, A>)
         ensures table { self.new.table ≡ self.old.table }
         ensures all { (drained : List ℕ) (parts : List Part) → HasDrained drained self.old parts
@@ -362,7 +362,7 @@ impl<A: Allocator> StreamWriter<A> {
     }
 
     /// Ends RAM's sections without the stream's end byte, and returns the bytes that weren't
-    /// drained. The caller goes on with the sections of devices and the end byte
+    /// drained. The caller then writes the sections of devices and the end byte
     /// (`qemu_savevm_state_complete_precopy` in QEMU's `migration/savevm.c`).
     ///
     /// # Errors
@@ -434,7 +434,7 @@ impl<A: Allocator> OpenPart<A> {
     }
 
     /// Writes a page: a place of the table, which a caller tests by `Table::holds`, and its bytes.
-    /// Places come in any order. If a place comes more than once, the last page counts.
+    /// Places may be in any order. If a place occurs more than once, the last page counts.
     ///
     /// # Errors
     ///

@@ -31,9 +31,9 @@ const CONTINUED_LEN: usize = 9;
 const NEAR: usize = 1 << 14;
 
 impl<'a, A: Allocator> Progress<'a, A> {
-    /// If a record comes next, takes the records of zero pages at the front of the bytes, as long
-    /// as they are complete and without a fault. If there are very many, it takes those in the
-    /// first `NEAR` bytes. Returns the bytes after them. After an `Err` some were taken.
+    /// If a record is next, takes the records of zero pages at the front of the bytes, as long as
+    /// they are complete and without a fault. If there are very many, it takes those in the first
+    /// `NEAR` bytes. Returns the bytes after them. After an `Err` some were taken.
     #[tactic(auto, using(crate::proofs::ZeroRecords::none_taken))]
     #[inline(always)]
     pub(crate) fn pass_zeros<'b>(&mut self, text: Piece<'a, 'b>) -> Result<Piece<'a, 'b>, NoMemory>
@@ -48,7 +48,7 @@ impl<'a, A: Allocator> Progress<'a, A> {
         }
     }
 
-    // Takes the records of zero pages as `pass_zeros` does, if a record comes next.
+    // Takes the records of zero pages as `pass_zeros` does, if a record is next.
     #[tactic(auto, using(crate::proofs::ZeroRecords::records_none))]
     fn pass_zero_records<'b>(&mut self, text: Piece<'a, 'b>) -> Result<Piece<'a, 'b>, NoMemory>
         requires { self.old.due ≡ due.RecordHead }

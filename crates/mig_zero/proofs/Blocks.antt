@@ -9,7 +9,7 @@ use Rattle.mig_zero.specs.Zero.{IsZero}
 abbrev IsZeroByte : ℕ → Type 0
 IsZeroByte b = b ≡ 0
 
--- where the first k blocks are zero, and what is left after them, the bytes are
+-- if the first k blocks are zero, and what is left after them, the bytes are
 pub zero_from_blocks : (n k : ℕ) (xs : List ℕ) → All IsZero (first_chunks n k xs) → IsZero (drop (k * n) xs) → IsZero xs
 zero_from_blocks n zero xs blocks rest =
     let none : zero * n ≡ 0 = omega arith in
@@ -21,7 +21,7 @@ zero_from_blocks n (suc k) xs blocks rest =
     let left = All-same IsZeroByte (drop (k * n) (drop n xs)) (drop (suc k * n) xs) (drop-drop (k * n) n xs ∙ ap (λ (i : ℕ). drop i xs) far) rest in
     All-same IsZeroByte xs (take n xs ++ drop n xs) (sym (take-append-drop n xs)) (All-append IsZeroByte (take n xs) (drop n xs) first (zero_from_blocks n k (drop n xs) later left))
 
--- where the bytes are zero, each block is
+-- if the bytes are zero, each block is
 pub blocks_from_zero : (n k : ℕ) (xs : List ℕ) → IsZero xs → All IsZero (first_chunks n k xs)
 blocks_from_zero n zero xs whole = All-nil IsZero
 blocks_from_zero n (suc k) xs whole =

@@ -12,7 +12,7 @@ is_set b = not (b == 0)
 zero_from_unset : (b : ℕ) → is_set b ≡ false → b ≡ 0
 zero_from_unset b e = grind (arith, rules)
 
--- where the mask of a run of bytes is empty, the run is zero
+-- if the mask of a run of bytes is empty, the run is zero
 pub zero_from_empty_mask : (xs : List ℕ) (i n : ℕ) → i + n ≤ length xs → mask_l (map is_set (chunk i n xs)) ≡ 0 → AllWithin (λ b. b ≡ 0) xs i (i + n)
 zero_from_empty_mask xs i n room none k d from to = zero_from_unset (get_or xs k d) (none_from_empty_mask is_set xs i n d room none k from to)
 

@@ -2,7 +2,7 @@
 //! 0.
 //!
 //! A sender tests each page that it sends. A page of zeros is sent without its bytes. So the test
-//! must cost little beside the copy of a page, for a page of zeros and for any other.
+//! must cost little compared with the copy of a page, for a page of zeros and for any other.
 #![tactic(auto)]
 
 ghost use Rattle.std.specs.Prelude.{◌≡◌, ◌↔◌, ◌+◌, ◌-◌, ◌/◌, ◌≤◌, [], ◌∷◌, length, All, IsTrue, slice_index};

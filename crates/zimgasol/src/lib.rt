@@ -24,9 +24,9 @@
 //! `valid_up_to` of the loaders, but of `InPlaceSession`, reports at which byte it stands. No
 //! stream makes a call panic, and none makes a guest larger than the limit that the caller passes.
 //!
-//! What allocates takes an allocator first, and reports a refused allocation (`NoMemory`, number
-//! 60). Preconditions are checked at compile time: `requires` in a contract is what a caller has to
-//! know, by a test or by what it was promised before.
+//! A call that allocates takes an allocator first, and reports a refused allocation (`NoMemory`,
+//! number 60). Preconditions are checked at compile time: `requires` in a contract is what a caller
+//! has to know, from a test or from an earlier contract.
 //!
 //! # Examples
 //!
@@ -129,7 +129,7 @@
 //! # MultiSender
 //!
 //! Take it for multifd: a main stream and 1 to 255 channels. `round` has a worker for each channel,
-//! on a thread of its own where one can be made.
+//! on a thread of its own if one can be started.
 //!
 //! <!-- quoted from crates/mig_uses/src/migration.rt -->
 //! ```rust
@@ -171,8 +171,8 @@
 //!
 //! # load_single
 //!
-//! Take it for a stream that has come whole. It returns a `Loaded`: the memory, which is there if
-//! the verdict is `Ok`, the number of rounds, and the verdict.
+//! Take it for a stream that is complete. It returns a `Loaded`: the memory, which is there if the
+//! verdict is `Ok`, the number of rounds, and the verdict.
 //!
 //! <!-- quoted from crates/mig_uses/src/backup.rt -->
 //! ```rust
@@ -182,9 +182,9 @@
 //!
 //! # SingleLoader
 //!
-//! Take it for a stream that comes in pieces, into memory that the loader makes. After each piece
+//! Take it for a stream that is fed in pieces, into memory that the loader makes. After each piece
 //! the verdict is that on the bytes so far, so a bad stream is refused as soon as its fault has
-//! come:
+//! arrived:
 //!
 //! <!-- quoted from crates/mig_uses/src/incoming.rt -->
 //! ```rust
@@ -225,7 +225,7 @@
 //!
 //! # load_multi
 //!
-//! Take it for a main stream and channels that have come whole, the channels in any order. A worker
+//! Take it for a main stream and channels that are complete, the channels in any order. A worker
 //! for each channel reads its packets on a thread. It returns a `Loaded`, too.
 //!
 //! <!-- quoted from crates/mig_uses/src/migration.rt -->
@@ -285,7 +285,8 @@
 //!
 //! # first_difference
 //!
-//! Take it to see whether two memories of one table are the same, and else where they differ first:
+//! Take it to see whether two memories of one table are the same, and if not, the first place where
+//! they differ:
 //!
 //! <!-- quoted from crates/mig_uses/src/comparison.rt -->
 //! ```rust
@@ -300,7 +301,7 @@
 //!
 //! # The crates below
 //!
-//! The definitions that contracts cite stand in the crates below (`docs/ARCHITECTURE.md`). A crate
+//! The definitions that contracts cite are in the crates below (`docs/ARCHITECTURE.md`). A crate
 //! whose own contracts cite them names these crates beside this one. Readers and writers of a
 //! stream's records, `StreamReader`, `RecordReader` and `StreamWriter`, are those of `mig_stream`.
 #![tactic(auto)]

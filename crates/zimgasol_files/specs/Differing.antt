@@ -5,7 +5,7 @@ use Rattle.std.specs.Option.{option_copied}
 use Rattle.mig_mem.specs.Image.{Page}
 use Rattle.zimgasol_files.specs.declared.pages.Pages.{Pages}
 
--- the bytes have this page, from 0, whole
+-- the bytes have this page completely, counted from 0
 abbrev pub HasPage : ℕ → List ℕ → ℕ → Type 0
 HasPage size bytes page = page * size + size ≤ length bytes
 
@@ -46,7 +46,8 @@ AreSent block first piece zero pages = pages ≡ []
 AreSent block first piece (suc n) pages = (rest : List Page) × AreSent block first piece n rest
     × ((Differs piece n × (pages ≡ rest ++ page_sent block first piece n ∷ [])) ⊎ ((Differs piece n → ⊥) × (pages ≡ rest)))
 
--- The count that began at `start` has all of the first n pages that differ: as many as are sent.
+-- The count that began at `start` has all of the first n pages that differ, which are the pages
+-- sent.
 abbrev pub IsCountedTo : ℕ → Piece → ℕ → ℕ → ℕ → Type 0
 IsCountedTo first piece n start count = (sent : List Page) × AreSent 0 first piece n sent × (start + length sent < 2 ^ 64 → count ≡ start + length sent)
 

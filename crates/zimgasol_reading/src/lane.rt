@@ -20,7 +20,7 @@ pub struct ChannelCounts {
     pub first: Option<u64>,
     /// The greatest number of a complete packet.
     pub last: Option<u64>,
-    /// The pages that came with their bytes.
+    /// The pages with contents.
     pub pages: u64,
     /// The pages of zeros.
     pub zeros: u64,
@@ -104,7 +104,7 @@ impl Lane {
         self.reader.hello_id()
     }
 
-    /// Ends the channel: no more bytes come.
+    /// Ends the channel: no more bytes follow.
     pub fn end(&mut self) {
         self.reader.end();
     }

@@ -1,4 +1,4 @@
-//! Reads the main stream beside channels, round by round.
+//! Reads a main stream that has channels, round by round.
 
 ghost use Rattle.std.specs.Prelude.{◌≡◌, ◌+◌, ◌<◌, ◌≤◌, ◌^◌, length};
 

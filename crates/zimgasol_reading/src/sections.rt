@@ -24,7 +24,7 @@ const FLAG_MULTIFD_FLUSH: u16 = 0x200;
 /// The bytes of a section's footer.
 const FOOTER_LEN: usize = 5;
 
-// The item that comes next.
+// The next item.
 #[derive(Clone, Copy, PartialEq, Eq)]
 enum Next {
     // the head of a section, after its type byte
@@ -231,7 +231,8 @@ impl Sections {
         Ok(true)
     }
 
-    // Moves on to the next item. Returns whether `piece` may have more.
+    // Takes more bytes of the item, or moves on to the next one, by what was found. Returns whether
+    // `piece` may have more.
     fn follow(&mut self, piece: &[u8], start: u64, found: Found) -> Result<bool, AllocError> {
         match found {
             Found::More(len) => self.take(piece, start, len),
