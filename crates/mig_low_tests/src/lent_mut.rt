@@ -111,22 +111,20 @@ pub(crate) fn both<T: Drop>(one: T, other: T) -> [T; 2] {
     [one, other]
 }
 
-// Puts pages into two blocks, and asserts that these are given back.
-fn assert_given_back(
-    rt: &(impl AllocGlobal + Abort),
-    first: &mut [u8],
-    second: &mut [u8],
-    page: &[u8],
-    size: u64,
-)
-    requires { IsPageSize size }
-{
-    let table = table(rt, size);
-    let mut blocks = both(first, second);
-    let back = put_some(rt, &table, &mut blocks, page);
-    assert!(rt; back.len() == 2);
-    assert!(rt; is_first(back[0], page));
-    assert!(rt; is_second(back[1], page));
+// Returns whether a block that was given back is the first one, and the second one.
+fn is_first_given(block: &mut [u8], page: &[u8]) -> bool {
+    is_first(&*block, page)
+}
+
+fn is_second_given(block: &mut [u8], page: &[u8]) -> bool {
+    is_second(&*block, page)
+}
+
+// Asserts that two blocks are given back, with that page in each.
+fn assert_given_back(rt: &impl Abort, blocks: &mut [&mut [u8]], page: &[u8]) {
+    assert!(rt; blocks.len() == 2);
+    assert!(rt; is_first_given(blocks[0], page));
+    assert!(rt; is_second_given(blocks[1], page));
 }
 
 // Returns pages of `size` bytes that are full of a byte each.
@@ -145,10 +143,13 @@ fn pages_of(rt: &(impl AllocGlobal + Abort), size: u64, fills: &[u8]) -> Vec<u8>
 fn assert_put(rt: &(impl AllocGlobal + Abort), size: u64)
     requires { IsPageSize size }
 {
+    let table = table(rt, size);
     let page = counting_page(rt, size);
     let mut first = pages_of(rt, size, &[1, 9]);
     let mut second = pages_of(rt, size, &[9, 0, 1]);
-    assert_given_back(rt, &mut first, &mut second, &page, size);
+    let mut blocks = both(first.as_mut_slice(), second.as_mut_slice());
+    let back = put_some(rt, &table, &mut blocks, &page);
+    assert_given_back(rt, back, &page);
     assert!(rt; is_first(&first, &page));
     assert!(rt; is_second(&second, &page));
 }

@@ -35,11 +35,20 @@ fn three<'a>(rt: &(impl AllocGlobal + Abort), heap: &'a TestHeap) -> Vec<u8, &'a
     Vec::from_slice(heap, &[5, 6, 7]).expect(rt, "a text")
 }
 
+// Returns those bytes, and the packet of two pages after them.
+fn three_and_packet<'a>(
+    rt: &(impl AllocGlobal + Abort),
+    heap: &'a TestHeap,
+) -> Vec<u8, &'a TestHeap> {
+    let mut text = three(rt, heap);
+    assert!(rt; put_page_and_zeros(&mut text).is_ok());
+    text
+}
+
 #[test]
 fn packets(rt: HostRuntime) {
     let heap = TestHeap::new(rt.alloc());
-    let mut wanted = three(&rt, &heap);
-    assert!(rt; put_page_and_zeros(&mut wanted).is_ok());
+    let wanted = three_and_packet(&rt, &heap);
     let mut text = three(&rt, &heap);
     heap.refuse(1);
     assert!(rt; put_page_and_zeros(&mut text) == Err(NoMemory));
@@ -51,27 +60,33 @@ fn packets(rt: HostRuntime) {
     assert!(rt; text.as_slice() == wanted.as_slice());
 }
 
-// A head takes one allocation. With its page appended by the caller, it is the complete packet.
+// Appends the head of that packet.
+fn put_head<A: Allocator>(text: &mut Vec<u8, A>) -> Result<(), NoMemory> {
+    put_packet_head(4096, text, 0, false, b"a", &[4096], &[0])
+}
+
+// Appends the head to three bytes, after a refused allocation. A head takes one.
+fn put_head_again<A: Allocator>(rt: &impl Abort, heap: &TestHeap, text: &mut Vec<u8, A>) {
+    heap.refuse(1);
+    assert!(rt; put_head(text) == Err(NoMemory));
+    assert!(rt; text.as_slice() == [5u8, 6, 7].as_slice());
+    heap.refuse(2);
+    assert!(rt; put_head(text) == Ok(()));
+    assert!(rt; heap.is_waiting());
+    heap.refuse(0);
+    assert!(rt; text.len() == 1347);
+}
+
+// With its page appended by the caller, a head is the complete packet.
 #[test]
 fn heads(rt: HostRuntime) {
     let heap = TestHeap::new(rt.alloc());
     let mut text = three(&rt, &heap);
-    heap.refuse(1);
-    let run = put_packet_head(4096, &mut text, 0, false, b"a", &[4096], &[0]);
-    assert!(rt; run == Err(NoMemory));
-    assert!(rt; text.as_slice() == [5u8, 6, 7].as_slice());
-    heap.refuse(2);
-    let run = put_packet_head(4096, &mut text, 0, false, b"a", &[4096], &[0]);
-    assert!(rt; run == Ok(()));
-    assert!(rt; heap.is_waiting());
-    heap.refuse(0);
-    assert!(rt; text.len() == 1347);
+    put_head_again(&rt, &heap, &mut text);
     let mut page = [0u8; 4096];
     page[0] = 9;
     assert!(rt; text.extend_from_slice(&page).is_ok());
-    let mut wanted = three(&rt, &heap);
-    assert!(rt; put_page_and_zeros(&mut wanted).is_ok());
-    assert!(rt; text.as_slice() == wanted.as_slice());
+    assert!(rt; text.as_slice() == three_and_packet(&rt, &heap).as_slice());
 }
 
 // Returns whether there is no further round.
