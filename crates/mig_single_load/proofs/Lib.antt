@@ -3,4 +3,5 @@ mod Feeding
 pub mod Onto
 mod LoadedAtOnce
 pub mod LoadsInPlace
+pub mod ComesNext
 mod MachineSent

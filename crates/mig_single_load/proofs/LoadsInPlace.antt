@@ -367,6 +367,12 @@ stands_other given first text piece p m n so_far r t image at g whole differ =
 
 -- ---- before the first byte
 
+pub own_first : (given : LoadSettings) (table : RamTable) → IsOfTable given table []
+own_first given table =
+    let begin : StreamProgress = start given.frame Single table.page_size given.limit given.waiting in
+    let reads : Reads begin [] begin [] Reading = reads_short begin [] (omega arith) in
+    inl (record { table = None; rounds = []; state = Reading }, record { to = begin; rest = []; reads = reads; has_table = refl; has_rounds = refl }, refl)
+
 pub in_place_first : (given : LoadSettings) (first : Image) (p : Paused) (table : RamTable) → IsTable first.table → IsImage first → first.table ≡ table → PausesAt (settings_for first.table given) [] none_given p
     → LoadsInPlace first given first (load_in_place (Some p) (load_state.Stream Reading 0) table 0 0 false) [] false
 in_place_first given first p table is image same at =
@@ -389,7 +395,7 @@ in_place_first given first p table is image same at =
           own = λ _. (nothing ∙ ap (λ (x : Image). with_rounds x []) nothing, refl);
           other = λ o. absurd (apart first reading (inl refl) o);
         };
-        pauses = record { so_far = none_given; pauses = at; is_own = inl (reading, is_reading, refl); has_memory = nothing; has_sections = refl };
+        pauses = record { so_far = none_given; pauses = at; is_own = own_first given first.table; has_memory = nothing; has_sections = refl };
         is_in_state = (inl refl, refl, refl);
         is_read_to = record { to = begin; rest = []; state = Reading; reads = reads; has_length = omega (arith, ap (λ (l : List ℕ). length l) reads.has_text, length-append reads.front []) };
       };
@@ -585,7 +591,7 @@ stands_more given first text piece m n load_state.NoMemory size st = absurd st.i
 -- ---- a piece of it
 
 -- what a pause that goes on is given by
-gave_of : (given : LoadSettings) (table : RamTable) (text : List ℕ) (so_far : GivenSoFar) (p : Paused) → PausesAt (settings_for table given) text so_far p → p.progress.page_size ≡ table.page_size
+pub gave_of : (given : LoadSettings) (table : RamTable) (text : List ℕ) (so_far : GivenSoFar) (p : Paused) → PausesAt (settings_for table given) text so_far p → p.progress.page_size ≡ table.page_size
 gave_of given table text so_far p at = same_page_size (settings_for table given) text so_far (giver_at p) at
 
 -- a reader that was made of a pause, and has found the table, or the end of its piece
@@ -672,6 +678,7 @@ found_on_some given fed table piece p q n more fresh r s gave found f some own g
       has_fed = ap (λ (k : ℕ). k + length piece) some.has_fed ∙ sym (length-append some.text piece);
       so_far = all.0;
       pauses = pauses (settings_for table given) (some.text ++ piece) all.0 all.1.gives;
+      is_own = own_text given table (some.text ++ piece) some.so_far gave r next.gave_next f.there own;
       has_sections = all.1.has_sections;
     }
 

@@ -10,3 +10,5 @@ pub mod MachineSent
 pub mod Loader
 pub mod InPlace
 pub mod LoadInPlace
+-- What such a load's stream has next, for a caller who reads it straight to where it belongs
+pub mod ComesNext

@@ -240,6 +240,7 @@ pub record PausesSome (given : LoadSettings) (table : RamTable) (p : Paused) (se
   pub has_fed : fed ≡ length text
   pub so_far : GivenSoFar
   pub pauses : PausesAt (settings_for table given) text so_far p
+  pub is_own : IsOfTable given table text
   pub has_sections : sections ≡ length so_far.sections
 
 -- the invariant of what a load in place keeps

@@ -4,7 +4,8 @@
 ghost use Rattle.std.specs.Prelude.{◌≡◌, ◌≢◌, ◌+◌, ◌<◌, ◌≤◌, ◌^◌, ◌++◌, ◌↔◌, ◌⊎◌, ℕ, Bool, List, [], length, true, false, Some, None, Err, IsTrue, IsFalse, IsSome, IsOk, IfSome, IfOk, OnOk, OnErr};
 ghost use Rattle.std.specs.Option.{option_copied};
 ghost use Rattle.mig_mem.specs.RamTable.{RamTable};
-ghost use Rattle.mig_mem.specs.Image.{Image, IsImage};
+ghost use Rattle.mig_mem.specs.Image.{Image, IsImage, with_page};
+ghost use Rattle.mig_mem.specs.Place.{IsPlace};
 ghost use Rattle.mig_stream.specs.Progress.{whole_table};
 ghost use Rattle.mig_stream.specs.Reader.{IsSettled};
 ghost use Rattle.mig_stream.specs.Giving.{Giver, GivenSoFar, Gives};
@@ -15,12 +16,13 @@ ghost use Rattle.mig_single_load.specs.Settings.{ram_settings};
 ghost use Rattle.mig_single_load.specs.SingleLoad.{no_memory_at};
 ghost use Rattle.mig_single_load.specs.InPlace.{settings_of, HasVerdictOnto};
 ghost use Rattle.mig_single_load.specs.LoadInPlace.{InPlaceKeepsOtherPlaces, InPlaceOkIsWhole, LoadsInPlace, settings_for, GaveNext, PutsNextSome, PutsAll, GivesAll, IsEnd, PausesSome, PausesOnto, StandsOnto, PutsSome, HasSomeOnto, LacksMemory, closed_place, valid_place, HasClosedAtOnto, IsValidUpToOnto};
+ghost use Rattle.mig_single_load.specs.ComesNext.{page_wanted, page_asked, ComesNext};
 
 use crate::settle::{no_memory, other_table, verdict_at};
 use crate::{InPlaceFault, LoadFault, LoadSettings};
 use mig_assemble::put_records;
 use mig_mem::{GuestTarget, NoMemory, Table};
-use mig_stream::{Given, Pause, RecordReader, StreamState};
+use mig_stream::{Given, Pause, RecordReader, StreamState, Wanted};
 use std::alloc::{Allocator, Global};
 use std::fmt::{self, Debug, Formatter};
 use std::marker::Model;
@@ -303,6 +305,52 @@ impl<A: Allocator + Copy> InPlaceState<A> {
                 Err(InPlaceFault::NoMemory)
             }
         }
+    }
+
+    /// Returns what the next bytes of the stream are, so that its caller reads a page straight to
+    /// where it belongs. None once no more of it is read: after its end, a fault, another table or
+    /// a refused allocation.
+    ///
+    /// A caller that has `Bytes` reads no more than those, and feeds them. One that has a `Page`
+    /// reads its content into the memory, and calls `take_page`, or feeds it as any other bytes. So
+    /// no byte after the stream is read, and none of a page is copied.
+    pub fn wanted(&self) -> Option<Wanted>
+        ensures page { page_asked result ≡ page_wanted self.now }
+        ensures place { IfSome (page_wanted self.now) (λ place. IsPlace self.now.table place) }
+        ensures loads { (memory : Image) (given : LoadSettings) (first : Image) (text : List ℕ) (ended : Bool) → LoadsInPlace memory given first self.now text ended
+            → ComesNext given first text result }
+        ensures lacking { (memory : Image) (given : LoadSettings) (first : Image) (text : List ℕ) (ended : Bool) → LacksMemory memory given first self.now text ended
+            → result ≡ None }
+    {
+        match &self.pause {
+            Some(pause) => Some(pause.wanted()),
+            None => None,
+        }
+    }
+
+    /// Takes the content of the page that is wanted, all of it, as the next bytes of the stream. The
+    /// caller has read them into that page of the memory. They aren't looked at and not kept.
+    ///
+    /// It allocates nothing, and can't fail.
+    pub fn take_page(&mut self, content: &[u8])
+        requires open { IsFalse self.old.ended }
+        requires wanted { IsSome (page_wanted self.old) }
+        requires len { length content.now ≡ self.old.table.page_size }
+        requires room { self.old.fed + length content.now < 2 ^ 63 }
+        ensures loads { IfSome (page_wanted self.old) (λ place. (memory : Image) (given : LoadSettings) (first : Image) (text : List ℕ) → LoadsInPlace memory given first self.old text false
+            → LoadsInPlace (with_page memory place content.now) given first self.new (text ++ content.now) false) }
+        ensures table { self.new.table ≡ self.old.table }
+        ensures rounds { self.new.rounds ≡ self.old.rounds }
+        ensures open { IsFalse self.new.ended }
+        ensures fed { self.new.fed ≡ self.old.fed + length content.now }
+    {
+        let Some(mut pause) = self.pause.take() else {
+            unreachable!();
+        };
+        pause.take_page(content);
+        self.state = LoadState::Stream(StreamState::Reading, pause.valid_up_to());
+        self.pause = Some(pause);
+        self.fed += content.len() as u64;
     }
 }
 

@@ -14,7 +14,7 @@
 //! this one.
 //!
 //! Definitions, in reading order: `Settings`, `SingleLoad`, `LoadFaultNumber`, `Loader`, `InPlace`,
-//! `LoadInPlace` (`specs/`).
+//! `LoadInPlace`, `ComesNext` (`specs/`).
 #![tactic(auto)]
 
 mod at_once;

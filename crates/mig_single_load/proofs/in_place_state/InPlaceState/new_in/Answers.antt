@@ -4,7 +4,7 @@ use Rattle.mig_stream.specs.declared.item.Mode.TheVariants.{Single}
 use Rattle.mig_stream.specs.Reading.{settings, in_frame, with_waiting}
 use Rattle.mig_stream.specs.Giving.{none_given, PausesAt}
 use Rattle.mig_single_load.specs.LoadInPlace.{settings_for}
-use Rattle.mig_single_load.proofs.LoadsInPlace.{in_place_first}
+use Rattle.mig_single_load.proofs.LoadsInPlace.{own_first, in_place_first}
 use Rattle.mig_single_load.proofs.in_place_state.InPlaceState.new_in.Goals as goal
 
 pub returns-clause-loads : goal.returns-clause-loads
@@ -23,5 +23,5 @@ invariant_of-result g c =
     subst (λ (n : ℕ). PausesAt (with_waiting c.args.settings.waiting (in_frame c.args.settings.frame (settings Single n c.args.settings.limit))) [] none_given c.new_within.result) size c.new_within.ensures.pauses in
     record {
       is_table = subst IsTable (sym c.in_ok-table.ensures) c.keeps_limits.ensures;
-      pauses = (c.args.settings, record { text = []; has_fed = refl; so_far = none_given; pauses = at; has_sections = refl });
+      pauses = (c.args.settings, record { text = []; has_fed = refl; so_far = none_given; pauses = at; is_own = own_first c.args.settings table; has_sections = refl });
     }

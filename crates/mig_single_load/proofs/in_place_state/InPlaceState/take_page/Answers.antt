@@ -1,0 +1,55 @@
+use Rattle.std.proofs.Common.{◌≡◌, ◌∙◌, false, length, Option, Some, arith, rules, ap, subst, sym}
+use Rattle.std.specs.Prelude.{IsSome}
+use Rattle.std.specs.Option.{option_and_then}
+use Rattle.mig_mem.specs.declared.place.Place.{Place}
+use Rattle.mig_stream.specs.Giving.{Paused}
+use Rattle.mig_stream.specs.Wanted.{page_due}
+use Rattle.mig_single_load.specs.declared.settings.LoadSettings.{LoadSettings}
+use Rattle.mig_single_load.specs.LoadInPlace.{LoadInPlace, load_in_place, LoadsInPlace, PausesSome}
+use Rattle.mig_single_load.specs.ComesNext.{page_wanted}
+use Rattle.mig_single_load.proofs.LoadsInPlace.{at_some, gave_of}
+use Rattle.mig_single_load.proofs.ComesNext.{TakesPage, in_place_taken, some_taken, each_some, there_is}
+use Rattle.mig_single_load.proofs.in_place_state.InPlaceState.take_page.Goals as goal
+
+pub take_page-requires-clause-due : goal.take_page-requires-clause-due
+take_page-requires-clause-due g c =
+    let is : c.self.inside.pause ≡ Some c.in-Some.pause = search rules in
+    let some : c.args.self.now.pause ≡ Some c.in-Some.pause = ap (λ (x : LoadInPlace). x.pause) (sym c.self.view_is) ∙ is in
+    subst (λ (o : Option Paused). IsSome (option_and_then page_due o)) some c.requires.wanted
+
+pub take_page-requires-clause-len : goal.take_page-requires-clause-len
+take_page-requires-clause-len g c =
+    let is : c.self.inside.pause ≡ Some c.in-Some.pause = search rules in
+    let was = at_some (λ (p : Paused). (given : LoadSettings) × PausesSome given c.self.inside.table p c.self.inside.rounds c.self.inside.fed) c.self.inside.pause c.in-Some.pause is c.self.invariant.pauses in
+    c.requires.len ∙ ap (λ (x : LoadInPlace). x.table.page_size) (sym c.self.view_is) ∙ sym (gave_of was.0 c.self.inside.table was.1.text was.1.so_far c.in-Some.pause was.1.pauses)
+
+pub invariant_of-self : goal.invariant_of-self
+invariant_of-self g c =
+    let content = c.args.content.now in
+    let p : Paused = c.in-Some.pause in
+    let q : Paused = c.take_page.new.self in
+    let is : c.self.inside.pause ≡ Some p = search rules in
+    let was = at_some (λ (p : Paused). (given : LoadSettings) × PausesSome given c.self.inside.table p c.self.inside.rounds c.self.inside.fed) c.self.inside.pause p is c.self.invariant.pauses in
+    let some : c.args.self.now.pause ≡ Some p = ap (λ (x : LoadInPlace). x.pause) (sym c.self.view_is) ∙ is in
+    let due = there_is (page_due p) (subst (λ (o : Option Paused). IsSome (option_and_then page_due o)) some c.requires.wanted) in
+    let taken : TakesPage p q due.0 content = at_some (λ (place : Place). TakesPage p q place content) (page_due p) due.0 due.1 c.take_page.ensures in
+    let len : length content ≡ c.self.inside.table.page_size = c.requires.len ∙ ap (λ (x : LoadInPlace). x.table.page_size) (sym c.self.view_is) in
+    record {
+      is_table = c.self.invariant.is_table;
+      pauses = (was.0, some_taken was.0 c.self.inside.table content p q due.0 c.self.inside.rounds c.self.inside.fed due.1 len taken was.1);
+    }
+
+pub returns-clause-loads : goal.returns-clause-loads
+returns-clause-loads g c =
+    let content = c.args.content.now in
+    let s : LoadInPlace = load_in_place c.self.inside.pause c.self.inside.state c.self.inside.table c.self.inside.rounds c.self.inside.fed c.self.inside.ended in
+    let p : Paused = c.in-Some.pause in
+    let q : Paused = c.take_page.new.self in
+    let is : c.self.inside.pause ≡ Some p = search rules in
+    each_some (page_wanted c.args.self.now) _ (λ place wants memory given first text loads.
+    let some : c.args.self.now.pause ≡ Some p = ap (λ (x : LoadInPlace). x.pause) (sym c.self.view_is) ∙ is in
+    let due : page_due p ≡ Some place = ap (λ (o : Option Paused). option_and_then page_due o) (sym some) ∙ wants in
+    let taken : TakesPage p q place content = at_some (λ (place : Place). TakesPage p q place content) (page_due p) place due c.take_page.ensures in
+    let mine : LoadsInPlace memory given first s text false = subst (λ (x : LoadInPlace). LoadsInPlace memory given first x text false) (sym c.self.view_is) loads in
+    let len : length content ≡ s.table.page_size = c.requires.len ∙ ap (λ (x : LoadInPlace). x.table.page_size) (sym c.self.view_is) in
+    in_place_taken memory given first s text content p q place c.valid_up_to.result is due len (omega (arith, c.requires.room, ap (λ (x : LoadInPlace). x.fed) c.self.view_is)) taken c.valid_up_to.ensures mine)
