@@ -18,7 +18,9 @@ pub mod Midway
 pub mod Heading
 pub mod NamedSoFar
 pub mod Writing
+pub mod Places
 pub mod Told
+pub mod Refused
 pub mod Lawful
 pub mod Advancing
 pub mod MainComes

@@ -37,6 +37,7 @@ use Rattle.mig_in_place.specs.Sources.{KeptMain, KeptChannel, HoldsMain, HoldsCh
 use Rattle.mig_in_place.specs.Session.{InPlaceLoad, IsRunning, Loading, Loads, Stands, records_come}
 use Rattle.mig_in_place.proofs.Advancing.{pages_of, main_taken}
 use Rattle.mig_in_place.proofs.Mains.{same_found, table_is}
+use Rattle.mig_in_place.proofs.Places.{running_taken, text_taken}
 use Rattle.mig_in_place.proofs.Waiting.{main_goes, same_rounds_onto}
 
 -- channels of which only hellos have come gave nothing of a round
@@ -247,9 +248,9 @@ module _ (f : Loading) (memory : Image) (s : InPlaceLoad) (loads : Loads f memor
           (subst (λ (l : List Page). HoldsRound table (rounds_onto f.first k r.readings) k (record { records = l; channels = r.gave }) s.round memory) (sym come) (r.own own))
 
   -- the list names another table
-  pub of_other : (m : KeptMain) (other : RamTable) → HasTable (main_of given) text.bytes (Some other) → other ≢ s.table
+  pub of_other : (m : KeptMain) (other : RamTable) → StandsAt (main_of given) k text m → HasTable (main_of given) text.bytes (Some other) → other ≢ s.table
       → Stands (record f { texts = texts }) memory (record s { sources = record s.sources { main = m }; verdict = failed 0 origin.Main fault.OtherTable })
-  of_other m other has differ =
+  of_other m other stands has differ =
       let is : now.main.table ≡ Some other = table_is given text (Some other) now.main size has are_now.has_main in
       let not_own : now.main.table ≡ Some table → ⊥ = λ own. differ (let both : Some other ≡ Some table = sym is ∙ own in let e : other ≡ table = cc in e ∙ loads.same_table) in
       let none : r.readings.main.table ≡ None = (elim r.is_own [
@@ -271,5 +272,6 @@ module _ (f : Loading) (memory : Image) (s : InPlaceLoad) (loads : Loads f memor
           unknown = λ nothing. absurd (let clash : None ≡ Some other = sym nothing ∙ is in cc);
           other = λ _. record { has_none = before.1; has_verdict = refl; has_memory = before.0 };
         };
+        have_taken = text_taken given f.uuid f.texts s.sources k text m stands (running_taken given f.uuid f.first f.texts memory s r);
         runs = λ running. absurd cc;
       }

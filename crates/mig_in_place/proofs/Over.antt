@@ -28,7 +28,7 @@ use Rattle.mig_session.specs.declared.source.Source.TheVariants as source
 use Rattle.mig_session.specs.Session.{end_step}
 use Rattle.mig_in_place.specs.Named.{ChannelNames, SomeChannelNames, IsNamed}
 use Rattle.mig_in_place.specs.Answer.{rounds_onto, HasRoundsOnto, IsInPlaceAnswer, IsInPlaceWithoutMemory}
-use Rattle.mig_in_place.specs.Session.{InPlaceLoad, StandsFor, LacksMemory}
+use Rattle.mig_in_place.specs.Session.{InPlaceLoad, HaveTaken, StandsFor, LacksMemory}
 use Rattle.mig_in_place.proofs.Done.{own_or_other}
 use Rattle.mig_in_place.proofs.Ended.{ended_goes, end_bytes}
 use Rattle.mig_in_place.proofs.Waiting.{main_goes, channel_goes, same_rounds_onto}
@@ -158,8 +158,9 @@ module _ (given : LoadSettings) (uuid : List ℕ) (first : Image) (texts : Texts
 
 -- a source of a load ended, whose verdict is there
 pub end_stands : (given : LoadSettings) (uuid : List ℕ) (first : Image) (texts : Texts) (memory : Image) (s new : InPlaceLoad) (from : Source) → s.verdict ≢ Running → new ≡ record s { sources = new.sources }
+    → (HaveTaken (for_table first.table given) uuid texts s.sources → HaveTaken (for_table first.table given) uuid (end_step from texts) new.sources)
     → StandsFor given uuid first texts memory s → StandsFor given uuid first (end_step from texts) memory new
-end_stands given uuid first texts memory s new from judged same stands =
+end_stands given uuid first texts memory s new from judged same takes stands =
     let verdict : new.verdict ≡ s.verdict = ap (λ (x : InPlaceLoad). x.verdict) same in
     let on = ended_answer given uuid first texts memory s.rounds s.verdict from stands.is_table judged stands.is_answer in
     record {
@@ -167,6 +168,7 @@ end_stands given uuid first texts memory s new from judged same stands =
       is_image = stands.is_image;
       same_table = stands.same_table ∙ sym (ap (λ (x : InPlaceLoad). x.table) same);
       is_answer = subst (λ (x : InPlaceLoad). IsInPlaceAnswer given uuid first (end_step from texts) memory x.rounds x.verdict) (sym same) on;
+      have_taken = takes stands.have_taken;
       runs = λ runs. absurd (judged (sym verdict ∙ runs));
     }
 

@@ -33,6 +33,7 @@ use Rattle.mig_in_place.specs.Answer.{HasRoundsOnto, IsInPlaceWithoutMemory, rou
 use Rattle.mig_in_place.specs.Sources.{KeptChannel, HoldsChannel, TellsMainStatus, TellsChannelStatus, TellsHello, heads_given, head_places, named_places}
 use Rattle.mig_in_place.specs.Session.{InPlaceLoad, IsRunning, LacksMemory, Loading, Loads, Stands, IsDue, TellsVerdict, Lacks, records_come}
 use Rattle.mig_in_place.proofs.NamedSoFar.{in_either, main_named, channel_named}
+use Rattle.mig_in_place.proofs.Places.{running_taken}
 use Rattle.mig_in_place.proofs.Waits.{holds_first}
 use Rattle.mig_in_place.proofs.Writing.{stays_elsewhere}
 
@@ -201,6 +202,7 @@ stands_at f memory s v loads stops is =
           | inr own ↦ other.2 (let both : Some other.0 ≡ Some f.first.table = sym other.1 ∙ own in cc)
         ]);
       };
+      have_taken = running_taken given f.uuid f.first f.texts memory s r;
       runs = λ _. same_running given f.uuid f.first f.texts memory s v r;
     }
 

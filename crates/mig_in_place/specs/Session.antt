@@ -30,7 +30,7 @@ use Rattle.mig_session.specs.Session.{feed_step, end_step}
 use Rattle.mig_in_place.specs.Answer.{rounds_onto, IsInPlaceAnswer, IsInPlaceWithoutMemory}
 use Rattle.mig_in_place.specs.declared.main_stream.SizeList.{SizeList}
 use Rattle.mig_in_place.specs.Round.{KeptRound, Keeps, KeepsSome}
-use Rattle.mig_in_place.specs.Sources.{KeptMain, KeptSources, StandsAt, IsChannelOf, TellsList, TellsTakes, HasHelloAlone, WritesPages, HoldsMain, HoldsChannel, HoldsRound}
+use Rattle.mig_in_place.specs.Sources.{KeptMain, KeptSources, StandsAt, HasGiven, IsChannelOf, TellsList, TellsTakes, HasHelloAlone, WritesPages, HoldsMain, HoldsChannel, HoldsRound}
 
 -- ---- its state
 
@@ -99,6 +99,13 @@ pub record IsRunning (given : LoadSettings) (uuid : List ℕ) (first : Image) (t
   pub is_unwritten : readings.main.table ≡ None → All (λ kept. kept.block ≡ None) s.sources.channels
   pub awaited : readings.main.table ≡ None → readings.main.state ≡ stream_state.Reading → All HasHelloAlone gave
 
+-- The readers took the bytes of the texts, whatever the verdict is, and some rounds were taken of the
+-- main stream's.
+pub record HaveTaken (given : LoadSettings) (uuid : List ℕ) (texts : Texts) (s : KeptSources) : Type 0 where
+  pub rounds : ℕ
+  pub main : StandsAt (main_of given) rounds texts.main s.main
+  pub channels : AllZip (HasGiven (channel.settings given.page_size uuid (length texts.channels))) texts.channels s.channels
+
 -- A load was made for the memory `first` with these settings and under this UUID, and took this
 -- much of the streams. Its answer on them is that of a load in place. `memory` is the memory now.
 pub record StandsFor (given : LoadSettings) (uuid : List ℕ) (first : Image) (texts : Texts) (memory : Image) (s : InPlaceLoad) : Type 0 where
@@ -106,6 +113,7 @@ pub record StandsFor (given : LoadSettings) (uuid : List ℕ) (first : Image) (t
   pub is_image : IsImage first
   pub same_table : first.table ≡ s.table
   pub is_answer : IsInPlaceAnswer given uuid first texts memory s.rounds s.verdict
+  pub have_taken : HaveTaken (for_table first.table given) uuid texts s.sources
   pub runs : s.verdict ≡ Running → IsRunning (for_table first.table given) uuid first texts memory s
 
 -- `StandsFor`, after a refused allocation.

@@ -103,6 +103,10 @@ pub record HoldsChannel (given : channel.Settings) (table : RamTable) (k : ℕ) 
   pub has_missing : IfSome so_far.packet (λ packet. IsFalse (is_complete packet))
   pub has_block : IfSome c.block (λ b. IsSomeAnd so_far.packet (λ packet. LieIn table b packet.head))
 
+-- a channel's reader took its bytes, and gave something of them
+abbrev pub HasGiven : channel.Settings → Text → KeptChannel → Type 0
+HasGiven given text c = (so_far : GivenSoFar) × Gives given text.bytes so_far c.reader
+
 -- nothing of a channel was given but its hello
 pub record HasHelloAlone (so_far : GivenSoFar) : Type 0 where
   pub no_rounds : so_far.read.rounds ≡ []

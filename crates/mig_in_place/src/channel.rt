@@ -5,6 +5,7 @@ ghost use Rattle.std.specs.Option.{option_map};
 ghost use Rattle.mig_mem.specs.Place.{IsPlace, place_at};
 ghost use Rattle.mig_packet.specs.PageSize.{IsPageSize};
 ghost use Rattle.mig_packet.specs.Reading.{settings};
+ghost use Rattle.mig_packet.specs.Reader.{IsValidUpTo};
 ghost use Rattle.mig_packet.specs.Paging.{GivenSoFar, none_given, content_of};
 ghost use Rattle.mig_mem.specs.RamTable.{RamTable};
 ghost use Rattle.mig_mem.specs.Image.{Image, with_page};
@@ -13,7 +14,7 @@ ghost use Rattle.mig_packet.specs.Reading.{Settings};
 ghost use Rattle.mig_answer.specs.declared.status.Status.TheVariants.{Whole as whole};
 ghost use Rattle.mig_in_place.specs.declared.main_stream.SizeList.TheVariants as size_list;
 ghost use Rattle.mig_in_place.specs.Round.{KeepsSome};
-ghost use Rattle.mig_in_place.specs.Sources.{IsChannelOf, HoldsChannel, TellsChannelStatus, TellsHello, TellsTakes, holds_back, HasRead, HasReadSome, AddsHead, WritesInto, AddsPage, channel_count};
+ghost use Rattle.mig_in_place.specs.Sources.{IsChannelOf, HoldsChannel, HasGiven, TellsChannelStatus, TellsHello, TellsTakes, holds_back, HasRead, HasReadSome, AddsHead, WritesInto, AddsPage, channel_count};
 
 use crate::main_stream::{SizeList, is_pending};
 use crate::put::put_zeros;
@@ -259,6 +260,13 @@ impl<A: Allocator> Channel<A> {
         ensures { result ≡ self.now.reader.fed }
     {
         self.reader.fed()
+    }
+
+    /// Returns up to where the channel is valid.
+    pub(crate) fn valid_up_to(&self) -> u64
+        ensures { (given : Settings) (text : Text) → HasGiven given text self.now → IsValidUpTo given text.bytes result }
+    {
+        self.reader.valid_up_to()
     }
 
     /// Returns the status of the channel at the current round.

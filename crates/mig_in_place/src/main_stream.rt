@@ -6,7 +6,7 @@ ghost use Rattle.mig_mem.specs.PageSize.{IsPageSize};
 ghost use Rattle.mig_mem.specs.RamTable.{RamTable};
 ghost use Rattle.mig_mem.specs.Place.{IsPlace};
 ghost use Rattle.mig_stream.specs.Reading.{Settings};
-ghost use Rattle.mig_stream.specs.Reader.{HasTable, HasRound};
+ghost use Rattle.mig_stream.specs.Reader.{HasTable, HasRound, HasClosedAt, IsValidUpTo};
 ghost use Rattle.mig_single_load.specs.Settings.{main_of};
 ghost use Rattle.mig_answer.specs.Texts.{Text, no_text, with_piece, over};
 ghost use Rattle.mig_answer.specs.Status.{is_pending};
@@ -162,6 +162,20 @@ impl<A: Allocator> MainStream<A> {
         ensures { (given : Settings) (k : ℕ) (text : Text) → StandsAt given k text self.now → HasTable given text.bytes (option_copied result) }
     {
         self.reader.table()
+    }
+
+    /// Returns up to where the main stream is valid.
+    pub(crate) fn valid_up_to(&self) -> u64
+        ensures { (given : Settings) (k : ℕ) (text : Text) → StandsAt given k text self.now → IsValidUpTo given text.bytes result }
+    {
+        self.reader.valid_up_to()
+    }
+
+    /// Returns where the main stream is closed, if it is.
+    pub(crate) fn closed_at(&self) -> Option<u64>
+        ensures { (given : Settings) (k : ℕ) (text : Text) → StandsAt given k text self.now → HasClosedAt given text.bytes result }
+    {
+        self.reader.closed_at()
     }
 
     /// Returns the state of the size list.

@@ -11,19 +11,20 @@ ghost use Rattle.mig_packet.specs.Paging.{none_given};
 ghost use Rattle.mig_single_load.specs.declared.fault.InPlaceFault.TheVariants as in_place_fault;
 ghost use Rattle.mig_single_load.specs.declared.fault.Origin.TheVariants as origin;
 ghost use Rattle.mig_single_load.specs.declared.settings.LoadSettings.{LoadSettings};
-ghost use Rattle.mig_single_load.specs.Settings.{ram_settings, for_table};
+ghost use Rattle.mig_single_load.specs.declared.fault.Fault.TheVariants.{NoMemory as fault_no_memory};
+ghost use Rattle.mig_single_load.specs.Settings.{ram_settings, for_table, main_of};
 ghost use Rattle.mig_answer.specs.declared.verdict.Verdict.TheVariants.{Running as running};
 ghost use Rattle.mig_answer.specs.Texts.{no_text, no_texts};
 ghost use Rattle.mig_answer.specs.MultiLoad.{failed};
 ghost use Rattle.mig_session.specs.declared.source.Source.TheVariants as source;
-ghost use Rattle.mig_session.specs.Session.{HasSource, count_of, no_count, with_fed, with_end, feed_step, end_step};
+ghost use Rattle.mig_session.specs.Session.{HasSource, count_of, no_count, with_fed, with_end, feed_step, end_step, IsSourceValidUpTo};
 ghost use Rattle.mig_in_place.specs.Answer.{IsInPlaceAnswer};
 ghost use Rattle.mig_stream.specs.Reading.{Settings};
-ghost use Rattle.mig_stream.specs.Reader.{HasTable};
-ghost use Rattle.mig_answer.specs.Texts.{Text};
+ghost use Rattle.mig_stream.specs.Reader.{HasTable, HasClosedAt};
+ghost use Rattle.mig_answer.specs.Texts.{Text, Texts};
 ghost use Rattle.mig_in_place.specs.Round.{KeepsSome};
 ghost use Rattle.mig_in_place.specs.Sources.{counts_of, main_count, channel_count, at_next_round, StandsAt, HoldsChannel, TellsChannelStatus, TellsHello, HasTakenRecords};
-ghost use Rattle.mig_in_place.specs.Session.{TakesBytes, StandsFor, LacksMemory, StepsOn, StillLacks, RunsOut, Tells, Loading, Loads, Stands, IsDue, TellsVerdict, PassesAt, IsUnsettled, Lacks, LacksBehind, with_bytes, with_over, TakesNoMore, IsOpenAt, IsMainOf};
+ghost use Rattle.mig_in_place.specs.Session.{TakesBytes, StandsFor, LacksMemory, StepsOn, StillLacks, RunsOut, Tells, HaveTaken, Loading, Loads, Stands, IsDue, TellsVerdict, PassesAt, IsUnsettled, Lacks, LacksBehind, with_bytes, with_over, TakesNoMore, IsOpenAt, IsMainOf};
 
 use crate::channel::Channel;
 use crate::main_stream::{MainStream, is_pending};
@@ -554,6 +555,7 @@ impl<A: Allocator> InPlaceSession<A> {
     fn end_source(&mut self, source: Source)
         requires { HasSource (counts_of self.old.sources) source }
         ensures loads { (f : Loading) (memory : Image) → Loads f memory self.old → Loads (with_over source f) memory self.new }
+        ensures taken { (given : LoadSettings) (uuid : List ℕ) (texts : Texts) → HaveTaken given uuid texts self.old.sources → HaveTaken given uuid (end_step source texts) self.new.sources }
         ensures counts { counts_of self.new.sources ≡ with_end (counts_of self.old.sources) source }
         ensures others { self.new ≡ record self.old { sources = self.new.sources } }
     {
@@ -649,6 +651,47 @@ impl<A: Allocator> InPlaceSession<A> {
             Source::Main => self.main.ended(),
             Source::Channel(j) => self.channels[j].ended(),
         }
+    }
+
+    /// Returns how many bytes of the main stream close it, once it is closed: those up to its end
+    /// byte, or in a machine's stream up to the footer of RAM's END. The bytes taken after them are
+    /// left to the caller. None after a refused allocation.
+    pub fn closed_at(&self) -> Option<u64>
+        ensures stands { (memory : Image) → Tells memory self.now (λ given uuid first texts. HasClosedAt (main_of (for_table first.table given)) texts.main.bytes result) }
+        ensures lacking { (memory : Image) (given : LoadSettings) (uuid : List ℕ) (first : Image) (texts : Texts) → LacksMemory given uuid first texts memory self.now → result ≡ None }
+    {
+        if self.lacks_memory() {
+            return None;
+        }
+        self.main.closed_at()
+    }
+
+    /// Returns how many of the bytes taken of `source` are complete items without a fault, from the
+    /// first byte on. If the verdict is a fault of that source (`Fault::Stream`, `Fault::Channel`),
+    /// the item at fault begins after them. `OtherTable`, `HelloTwice`, `Extra` and `Short` belong to
+    /// no item, nor do the faults 54 to 59 of a round.
+    ///
+    /// A channel's page counts with its packet, once all its pages were taken: it was written before.
+    /// None after a refused allocation.
+    pub fn valid_up_to(&self, source: Source) -> Option<u64>
+        requires { HasSource (counts_of self.now.sources) source }
+        ensures stands { (memory : Image) → Tells memory self.now (λ given uuid first texts. IsSourceValidUpTo (for_table first.table given) uuid texts source result) }
+        ensures lacking { (memory : Image) (given : LoadSettings) (uuid : List ℕ) (first : Image) (texts : Texts) → LacksMemory given uuid first texts memory self.now → result ≡ None }
+    {
+        if self.lacks_memory() {
+            return None;
+        }
+        match source {
+            Source::Main => Some(self.main.valid_up_to()),
+            Source::Channel(j) => Some(self.channels[j].valid_up_to()),
+        }
+    }
+
+    // Returns whether an allocation was refused.
+    fn lacks_memory(&self) -> bool
+        ensures { IsTrue result ↔ (self.now.verdict ≡ failed self.now.rounds origin.Round fault_no_memory) }
+    {
+        self.verdict == failed(self.rounds, Origin::Round, Fault::NoMemory)
     }
 
     /// Returns the verdict on the bytes taken.

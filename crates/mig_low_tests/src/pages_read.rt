@@ -112,7 +112,9 @@ fn tell_the_same<A: Allocator + Copy, B: Allocator>(
     packets: &ChannelReader<A>,
     pages: &PageReader<B>,
 ) -> bool {
-    packets.state() == pages.state() && packets.hello_id() == pages.hello_id()
+    packets.state() == pages.state()
+        && packets.hello_id() == pages.hello_id()
+        && packets.valid_up_to() == pages.valid_up_to()
 }
 
 // Reads a stream in pieces of `len` bytes by packets and by pages, and returns the pages read.

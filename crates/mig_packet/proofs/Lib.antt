@@ -19,3 +19,4 @@ pub mod Paging
 pub mod PagingSteps
 pub mod PagingHello
 pub mod PagingState
+pub mod PagingValid

@@ -23,3 +23,4 @@ pub mod Taking
 pub mod Later
 pub mod Filling
 pub mod PagingStep
+pub mod PagingValid

@@ -10,9 +10,10 @@ ghost use Rattle.std.specs.Prelude.{IsTrue, IsFalse, IsSome, None, Some, IfOk, I
 ghost use Rattle.mig_packet.specs.PageSize.{IsPageSize, head_len};
 ghost use Rattle.mig_packet.specs.declared.state.ChannelState.TheVariants as state;
 ghost use Rattle.mig_packet.specs.Reading.{settings, Settings};
-ghost use Rattle.mig_packet.specs.Reader.{HasState, HasHello};
+ghost use Rattle.mig_packet.specs.Reader.{HasState, HasHello, IsValidUpTo};
 ghost use Rattle.mig_packet.specs.Paging.{GivenSoFar, none_given, Gives, GivesOn, HolderTells, Comes, Stops, NeedsMore, LeavesLess, CopiesCutPages, HasReading, IsWhole, head_of, content_of, begun_in};
 ghost use Rattle.mig_packet.specs.PagingStep.{Moves, Steps, IsTaken, IsCut, is_between, is_unsynced, closing_state};
+ghost use Rattle.mig_packet.specs.PagingValid.{open_len};
 ghost use Rattle.mig_packet.specs.Packet.{normal_count};
 ghost use Rattle.mig_packet.specs.declared.page_reader.Came.TheVariants as came;
 ghost use Rattle.std.specs.Option.{IsSomeAnd, option_map};
@@ -419,6 +420,51 @@ impl<A: Allocator> PageReader<A> {
         self.pages = None;
         self.head.clear();
         Came::Packet(sync)
+    }
+
+    /// Returns how many of the bytes taken are complete items without a fault, from the first byte
+    /// on. If the channel is bad, the item at fault begins after them. Otherwise an item that isn't
+    /// complete begins there, if bytes follow: the pages that were given of it don't count.
+    ///
+    /// A packet is complete with the last byte of its last page, before `Came::Packet` returns it.
+    pub fn valid_up_to(&self) -> u64
+        ensures { HolderTells self.now (λ given text so_far. IsValidUpTo given text result) }
+    {
+        let front = self.fed.saturating_sub(self.open_len() as u64);
+        front.saturating_sub(self.kept_len() as u64)
+    }
+
+    // Returns how many bytes were given of a packet that isn't complete.
+    fn open_len(&self) -> usize
+        ensures { result ≡ open_len self.now.given.page_size self.now.packet }
+    {
+        match self.pages {
+            None => 0,
+            Some(given) => self.given_len(given),
+        }
+    }
+
+    // Returns how many bytes the head has, and the `given` pages that were given, of a packet that
+    // isn't complete.
+    fn given_len(&self, given: usize) -> usize
+        requires begun { IsSomeAnd self.now.packet (λ packet. packet.1 ≡ given) }
+        ensures { result ≡ open_len self.now.given.page_size self.now.packet }
+    {
+        if given == normal_count_of(&self.head) {
+            return 0;
+        }
+        self.head.len() + given * self.page_size as usize
+    }
+
+    // Returns how many bytes are kept of a hello, a head or a page that isn't complete.
+    fn kept_len(&self) -> usize
+        ensures { result ≡ length self.now.kept }
+    {
+        match self.pages {
+            None => self.head.len(),
+            Some(_) if self.has_page => 0,
+            Some(_) => self.page.len(),
+        }
     }
 
     /// Returns the state of the bytes taken: more are needed, closed, or bad.

@@ -21,8 +21,8 @@
 //!
 //! A load returns the memory of the complete rounds, their number, and a verdict: `Ok`, or a
 //! `LoadFault`, which has the first fault (`Fault::number`), its round and its source.
-//! `valid_up_to` of the loaders, but of `InPlaceSession`, reports at which byte it stands. No
-//! stream makes a call panic, and none makes a guest larger than the limit that the caller passes.
+//! `valid_up_to` of the loaders reports at which byte it stands. No stream makes a call panic, and
+//! none makes a guest larger than the limit that the caller passes.
 //!
 //! A call that allocates takes an allocator first, and reports a refused allocation (`NoMemory`,
 //! number 60). Preconditions are checked at compile time: `requires` in a contract is what a caller

@@ -1,5 +1,6 @@
 use Rattle.std.proofs.Common.{◌≡◌, ◌≢◌, ◌∙◌, ap, sym, inl, inr, rules}
 use Rattle.std.proofs.lemmas.Bool.{cases_Bool}
+use Rattle.mig_single_load.specs.Settings.{for_table}
 use Rattle.mig_answer.specs.declared.verdict.Verdict.TheVariants.{Running}
 use Rattle.mig_session.specs.Session.{end_step}
 use Rattle.mig_in_place.specs.Session.{InPlaceLoad, Loading, Loads, with_over}
@@ -32,7 +33,8 @@ returns-then-eq-clause-lacking g c = λ memory given uuid first texts lacks.
 pub returns-else-eq-clause-steps : goal.returns-else-eq-clause-steps
 returns-else-eq-clause-steps g c = λ memory given uuid first texts stands.
     let judged : c.end_source.new.self.verdict ≢ Running = search rules in
-    end_stands given uuid first texts memory c.args.self.now c.end_source.new.self c.args.source (λ running. judged (ap (λ (x : InPlaceLoad). x.verdict) c.end_source.ensures.others ∙ running)) c.end_source.ensures.others stands
+    end_stands given uuid first texts memory c.args.self.now c.end_source.new.self c.args.source (λ running. judged (ap (λ (x : InPlaceLoad). x.verdict) c.end_source.ensures.others ∙ running)) c.end_source.ensures.others
+    (c.end_source.ensures.taken (for_table first.table given) uuid texts) stands
 
 pub returns-else-eq-clause-lacking : goal.returns-else-eq-clause-lacking
 returns-else-eq-clause-lacking g c = λ memory given uuid first texts lacks. end_lacks given uuid first texts memory c.args.self.now c.end_source.new.self c.args.source c.end_source.ensures.others lacks

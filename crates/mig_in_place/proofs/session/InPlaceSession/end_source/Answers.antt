@@ -7,13 +7,14 @@ use Rattle.mig_answer.specs.Texts.{over}
 use Rattle.mig_session.specs.declared.counts.Count.{Count}
 use Rattle.mig_session.specs.declared.source.Source.{Source}
 use Rattle.mig_session.specs.declared.source.Source.TheVariants as source
-use Rattle.mig_session.specs.Session.{HasSource, with_end}
+use Rattle.mig_session.specs.Session.{HasSource, with_end, end_step}
 use Rattle.mig_in_place.specs.Sources.{KeptMain, KeptChannel, IsChannelOf, channel_count, main_count, counts_of}
-use Rattle.mig_in_place.specs.Session.{InPlaceLoad, Loads, with_over}
+use Rattle.mig_in_place.specs.Session.{InPlaceLoad, HaveTaken, Loads, with_over}
 use Rattle.mig_in_place.proofs.ChannelComes.{all_set, all_there}
 use Rattle.mig_in_place.proofs.ChannelEnds.{channel_ended}
 use Rattle.mig_in_place.proofs.Ended.{ended_goes, ended_channel, channel_over}
 use Rattle.mig_in_place.proofs.MainComes.{main_ended}
+use Rattle.mig_in_place.proofs.Places.{text_taken, channel_taken}
 use Rattle.mig_in_place.proofs.session.InPlaceSession.end_source.Goals as goal
 
 pub returns-in-Main-clause-loads : goal.returns-in-Main-clause-loads
@@ -30,6 +31,15 @@ returns-in-Main-clause-loads g c = λ f memory loads.
       has_none = λ open_. mine.is_running.main.has_none (sym same ∙ open_);
     }))
 
+pub returns-in-Main-clause-taken : goal.returns-in-Main-clause-taken
+returns-in-Main-clause-taken g c = λ given uuid texts taken.
+    let i = c.self.inside in
+    let s : InPlaceLoad =
+    record { table = i.table; sources = record { main = i.main; channels = i.channels.items }; round = i.round; rounds = i.rounds; base = i.base; verdict = i.verdict } in
+    let mine : HaveTaken given uuid texts s.sources = subst (λ (x : InPlaceLoad). HaveTaken given uuid texts x.sources) (sym c.self.view_is) taken in
+    subst (λ (x : Source). HaveTaken given uuid (end_step x texts) (record s.sources { main = c.end.new.self })) (sym c.in-Main.is)
+    (text_taken given uuid texts s.sources mine.rounds (over texts.main) c.end.new.self (c.end.ensures.stands (main_of given) mine.rounds texts.main mine.main) mine)
+
 pub returns-in-Channel-clause-loads : goal.returns-in-Channel-clause-loads
 returns-in-Channel-clause-loads g c = λ f memory loads.
     let i = c.self.inside in
@@ -44,6 +54,21 @@ returns-in-Channel-clause-loads g c = λ f memory loads.
     let mine : Loads f memory s = subst (λ (x : InPlaceLoad). Loads f memory x) (sym c.self.view_is) loads in
     subst (λ (x : Source). Loads (with_over x f) memory (record s { sources = record s.sources { channels = set i.channels.items j c.end-in-Channel.new.self } })) (sym c.in-Channel.is)
     (channel_ended f memory s mine j q c.end-in-Channel.new.self is (ap (λ (x : KeptChannel). x.block) c.end-in-Channel.ensures.value) c.end-in-Channel.ensures.holds)
+
+pub returns-in-Channel-clause-taken : goal.returns-in-Channel-clause-taken
+returns-in-Channel-clause-taken g c = λ given uuid texts taken.
+    let i = c.self.inside in
+    let s : InPlaceLoad =
+    record { table = i.table; sources = record { main = i.main; channels = i.channels.items }; round = i.round; rounds = i.rounds; base = i.base; verdict = i.verdict } in
+    let j : ℕ = c.in-Channel.j in
+    let q : KeptChannel = c.index_mut-channel.result.now in
+    let has : HasSource (counts_of s.sources) (source.Channel j) =
+    subst (λ (x : InPlaceLoad). HasSource (counts_of x.sources) (source.Channel j)) (sym c.self.view_is) (subst (λ (x : Source). HasSource (counts_of c.args.self.now.sources) x) c.in-Channel.is c.requires) in
+    let below : j < length i.channels.items = (let e = length-map i.channels.items channel_count in omega (arith, e, has)) in
+    let is : slice_get i.channels.items j ≡ Some q = slice_get_read i.channels.items (length i.channels.items) j q refl below c.index_mut-channel.ensures.value in
+    let mine : HaveTaken given uuid texts s.sources = subst (λ (x : InPlaceLoad). HaveTaken given uuid texts x.sources) (sym c.self.view_is) taken in
+    subst (λ (x : Source). HaveTaken given uuid (end_step x texts) (record s.sources { channels = set i.channels.items j c.end-in-Channel.new.self })) (sym c.in-Channel.is)
+    (channel_taken given uuid texts s.sources j q c.end-in-Channel.new.self is c.end-in-Channel.ensures.value mine)
 
 pub returns-in-Channel-clause-counts : goal.returns-in-Channel-clause-counts
 returns-in-Channel-clause-counts g c =

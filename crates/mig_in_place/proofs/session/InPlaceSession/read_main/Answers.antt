@@ -28,7 +28,7 @@ returns-then-is_of_other_table-clause-read g c = λ f loads.
     let stands : StandsAt given i.rounds text c.feed.new.self = c.in_ok-feed.ensures.stands given i.rounds f.texts.main mine.is_running.main.stands in
     let other = c.if-is_of_other_table.ensures.other refl given i.rounds text stands in
     let at : Stands (with_bytes source.Main c.args.piece.now f) memory (record s { sources = record s.sources { main = c.feed.new.self }; verdict = failed 0 origin.Main fault.OtherTable }) =
-    of_other f memory s mine text (piece_goes f memory s mine c.args.piece.now open_) c.feed.new.self other.0 other.1 other.2 in
+    of_other f memory s mine text (piece_goes f memory s mine c.args.piece.now open_) c.feed.new.self other.0 stands other.1 other.2 in
     subst (λ (v : Verdict). IsUnsettled (with_bytes source.Main c.args.piece.now f) memory (record s { sources = record s.sources { main = c.feed.new.self }; verdict = v })) (sym c.failed-self-inside.ensures)
     (record { runs = λ running. absurd cc; stands = λ _. at })
 

@@ -1,12 +1,25 @@
-use Rattle.std.proofs.Common.{ℕ, ◌≡◌, ◌∙◌, sym, ap, subst, refl, inl, inr, rules}
+use Rattle.std.proofs.Common.{ℕ, ◌≡◌, ◌≢◌, ◌∙◌, sym, ap, subst, refl, inl, inr, rules}
 use Rattle.std.proofs.lemmas.Bool.{cases_Bool}
 use Rattle.mig_mem.specs.Image.{Image}
 use Rattle.mig_answer.specs.declared.verdict.Verdict.TheVariants.{Running}
-use Rattle.mig_in_place.specs.Session.{InPlaceLoad, Loads, IsDue, PassesAt, Lacks}
+use Rattle.mig_in_place.specs.Session.{InPlaceLoad, Loads, Stands, IsDue, PassesAt, Lacks}
 use Rattle.mig_in_place.proofs.Advancing.{never_twice}
 use Rattle.mig_in_place.proofs.Midway.{any_err}
 use Rattle.mig_in_place.proofs.Told.{lacks_memory}
 use Rattle.mig_in_place.proofs.session.InPlaceSession.settle.Goals as goal
+use Rattle.mig_in_place.proofs.session.InPlaceSession.settle.Goals.{then-ne-via-then-ne, then-ne-via-else-ne+then-tell}
+
+pub returns-then-ne-clause-stands : goal.returns-then-ne-clause-stands
+returns-then-ne-clause-stands g c = λ f unsettled.
+    let memory : Image = g.M.GuestTarget.image c.args.memory.now in
+    elim c.then-ne.branch [
+      | then-ne-via-then-ne w ↦
+          let judged : c.args.self.now.verdict ≢ Running = search rules in
+          subst (λ (x : InPlaceLoad). Stands f memory x) (sym w.self-is) (unsettled.stands judged)
+      | then-ne-via-else-ne+then-tell w ↦
+          let running : c.args.self.now.verdict ≡ Running = search rules in
+          subst (λ (x : InPlaceLoad). Stands f memory x) (sym w.self-is) (w.if-tell.ensures.told refl f memory (unsettled.runs running))
+    ]
 
 pub returns-in_err-judge-clause-lacks : goal.returns-in_err-judge-clause-lacks
 returns-in_err-judge-clause-lacks g c = any_err c.from_residual.result (λ f unsettled.
