@@ -26,7 +26,7 @@ use Rattle.mig_in_place.specs.declared.main_stream.SizeList.TheVariants as list
 use Rattle.mig_in_place.specs.Answer.{rounds_onto}
 use Rattle.mig_in_place.specs.Round.{KeptRound, Keeps}
 use Rattle.mig_in_place.specs.Sources.{KeptChannel, HoldsChannel, HoldsRound, HoldsAt, AtChannel, CameSoFar, came_with, HasHelloAlone, WritesPages, TellsList, IsListAt, HasRead, HasReadSome}
-use Rattle.mig_in_place.specs.Session.{InPlaceLoad, IsRunning, Loading, Loads, LacksBehind, with_bytes, records_come}
+use Rattle.mig_in_place.specs.Session.{InPlaceLoad, IsRunning, Loading, Loads, LacksWithin, with_bytes, records_come}
 use Rattle.mig_in_place.proofs.Told.{lacks_memory, lacks_same}
 use Rattle.mig_in_place.proofs.Keeping.{same_table}
 use Rattle.mig_in_place.proofs.Waiting.{channel_goes, same_rounds_onto}
@@ -279,11 +279,11 @@ module _ (f : Loading) (memory : Image) (s : InPlaceLoad) (loads : Loads f memor
       (λ other. (let same_all = unknown other (holds_at.is_unwritten other) in (same_all.0, same_all.1))) misplaced here.1
 
   -- an allocation was refused
-  pub channel_reads_some : (piece : List ℕ) (next : KeptChannel) (round : KeptRound) (changed : Image) → IsFalse c.reader.ended → changed.table ≡ memory.table
+  pub channel_reads_some : (piece : List ℕ) (taken : ℕ) (next : KeptChannel) (round : KeptRound) (changed : Image) → IsFalse c.reader.ended → changed.table ≡ memory.table
       → (l ≢ list.Complete → c.block ≡ None → (round ≡ s.round) × (changed ≡ memory) × (next.block ≡ None)) → (IsTrue s.round.has_misplaced → IsTrue round.has_misplaced)
-      → HasReadSome l piece c s.round memory round changed
-      → LacksBehind (source.Channel j) piece f changed (record s { sources = record s.sources { channels = set s.sources.channels j next }; round = round })
-  channel_reads_some piece next round changed open_ same_now unknown misplaced has =
+      → HasReadSome l piece taken c s.round memory round changed
+      → LacksWithin (source.Channel j) piece taken f changed (record s { sources = record s.sources { channels = set s.sources.channels j next }; round = round })
+  channel_reads_some piece taken next round changed open_ same_now unknown misplaced has =
       let here = has at text gave holds_at in
       let bytes : List ℕ = take here.0 piece in
       let stood : InPlaceLoad = record s { sources = record s.sources { channels = set s.sources.channels j here.1 }; round = round } in

@@ -5,7 +5,7 @@ use Rattle.std.proofs.lemmas.List.{append-nil, length-set}
 use Rattle.std.specs.Prelude.{slice_get, Some, Result, Ok, Err, IfOk, OnErr}
 use Rattle.mig_answer.specs.Texts.{Text, Texts, no_text, with_piece}
 use Rattle.mig_mem.specs.Image.{Image}
-use Rattle.mig_in_place.specs.Sources.{KeptChannel, channel_count}
+use Rattle.mig_in_place.specs.Sources.{KeptChannel, channel_count, counts_of}
 use Rattle.mig_in_place.specs.Session.{InPlaceLoad, Loading, Lacks, LacksBehind}
 use Rattle.mig_session.specs.declared.counts.Count.{Count}
 use Rattle.mig_session.specs.declared.source.Source.{Source}
@@ -114,6 +114,11 @@ pub on_err : {T E P Q : Type 0} (r : Result T E) → OnErr r P → (P → Q) →
 on_err (Ok x) h f = tt
 on_err (Err e) h f = f h
 
--- if no byte was taken
-pub none_behind : (from : Source) (piece : List ℕ) (f : Loading) (memory : Image) (s : InPlaceLoad) → Lacks f memory s → LacksBehind from piece f memory s
-none_behind from piece f memory s lacks = (0, omega arith, subst (λ (texts : Texts). Lacks (record f { texts = texts }) memory s) (sym (fed_none from f.texts)) lacks)
+-- where no byte was taken
+pub none_behind : (from : Source) (piece : List ℕ) (Was : Loading → Type 0) (memory : Image) (s : InPlaceLoad) → ((f : Loading) → Was f → Lacks f memory s) → LacksBehind from piece Was s memory s
+none_behind from piece Was memory s lacks = record {
+  taken = 0;
+  is_part = omega arith;
+  has_counts = sym (counted_none from (counts_of s.sources));
+  lacks = λ f was. (0, omega arith, subst (λ (texts : Texts). Lacks (record f { texts = texts }) memory s) (sym (fed_none from f.texts)) (lacks f was));
+}

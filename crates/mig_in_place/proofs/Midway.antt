@@ -578,20 +578,25 @@ at_last l piece n k m c r memory now after then next later last sum rests at = �
           (subst (λ (bytes : List ℕ). HoldsAt f l (record text { bytes = bytes }) behind.0 next later last) (more_text text piece n k) behind.1),
     )
 
--- if a head was refused
-pub at_refused : (l : SizeList) (piece : List ℕ) (n : ℕ) (c : KeptChannel) (r : KeptRound) (memory : Image) (now : KeptChannel) (after later : KeptRound) (then last : Image)
-    → HolderTells now.reader (λ given text so_far. Comes given.page_size came.Head so_far) → later ≡ after → last ≡ then
-    → IsAt l piece n c r memory now after then → HasReadSome l piece c r memory later last
-at_refused l piece n c r memory now after later then last comes same_round same_memory at = λ f text so_far holds.
-    let before = at.goes f text so_far holds in
-    let text_now : Text = with_piece (take n piece) text in
-    let here : HoldsAt f l text_now before.0 now after then = head_refused f l text_now before.0 now after then comes before.1 in (
-      n,
-      now,
-      before.0,
-      at.is_part,
-      subst (λ (m : Image). HoldsAt f l text_now before.0 now later m) (sym same_memory) (subst (λ (x : KeptRound). HoldsAt f l text_now before.0 now x then) (sym same_round) here),
-    )
+-- where a head was refused, of which so many bytes more were taken
+pub at_refused : (l : SizeList) (piece : List ℕ) (n k : ℕ) (c : KeptChannel) (r : KeptRound) (memory : Image) (now next : KeptChannel) (after later : KeptRound) (then last : Image)
+    → k ≤ length (drop n piece) → next.reader.fed ≡ now.reader.fed + k → HolderTells now.reader (λ given text so_far. Comes given.page_size came.Head so_far) → later ≡ after → last ≡ then
+    → IsAt l piece n c r memory now after then
+    → (m : ℕ) × (m ≤ length piece) × (next.reader.fed ≡ c.reader.fed + m) × HasReadSome l piece m c r memory later last
+at_refused l piece n k c r memory now next after later then last le fed comes same_round same_memory at =
+    (n + k, omega (arith, le, length-drop n piece, at.is_part), omega (arith, fed, at.has_fed), before_head)
+  where
+    before_head : HasReadSome l piece (n + k) c r memory later last
+    before_head = λ f text so_far holds.
+        let before = at.goes f text so_far holds in
+        let text_now : Text = with_piece (take n piece) text in
+        let here : HoldsAt f l text_now before.0 now after then = head_refused f l text_now before.0 now after then comes before.1 in (
+          n,
+          now,
+          before.0,
+          omega arith,
+          subst (λ (m : Image). HoldsAt f l text_now before.0 now later m) (sym same_memory) (subst (λ (x : KeptRound). HoldsAt f l text_now before.0 now x then) (sym same_round) here),
+        )
 
 -- nothing was taken
 pub at_none : (l : SizeList) (piece : List ℕ) (c : KeptChannel) (r : KeptRound) (memory : Image) → HasRead l piece 0 c r memory c r memory

@@ -18,7 +18,7 @@ use Rattle.mig_session.specs.Sources.{Counts}
 use Rattle.mig_session.specs.declared.source.Source.TheVariants as source
 use Rattle.mig_in_place.specs.declared.main_stream.SizeList.{SizeList}
 use Rattle.mig_in_place.specs.Sources.{KeptChannel, TellsList, TellsTakes, channel_count, counts_of}
-use Rattle.mig_in_place.specs.Session.{InPlaceLoad, Loading, Loads, Stands, IsUnsettled, Lacks, LacksBehind, LacksMemory, TakesBytes, TakesNoMore, with_bytes}
+use Rattle.mig_in_place.specs.Session.{InPlaceLoad, RunsOut, Loading, Loads, Stands, IsUnsettled, Lacks, LacksBehind, LacksMemory, TakesBytes, TakesNoMore, with_bytes}
 use Rattle.mig_in_place.proofs.Feeding.{fed_more, fed_none, counted_both, counted_none, source_still, count_fed}
 use Rattle.mig_in_place.proofs.Takes.{loads_of, channel_takes}
 
@@ -65,26 +65,37 @@ taken_more from piece n k first middle last old s read new turn running le reads
 }
 
 -- an allocation was refused in a turn
-pub lacks_read : (from : Source) (piece : List ℕ) (n : ℕ) (first middle last : Image) (old s new : InPlaceLoad) → s.verdict ≡ Running → ((f : Loading) → Loads f middle s → LacksBehind from (drop n piece) f last new)
-    → TakenSoFar from piece n first old middle s → (f : Loading) → Stands f first old → LacksBehind from piece f last new
-lacks_read from piece n first middle last old s new running lacks at = λ f stands.
-    let g : Loading = with_bytes from (take n piece) f in
-    let here = lacks g (loads_of g middle s running (at.steps f stands)) in (
-      n + here.0,
-      (let p = at.is_part in let le = here.1 in omega (arith, p, le, length-drop n piece)),
-      subst (λ (h : Loading). Lacks h last new) (more_fed from piece n here.0 f) here.2,
-    )
+pub lacks_read : (from : Source) (piece : List ℕ) (n : ℕ) (first middle last : Image) (old s new : InPlaceLoad) → s.verdict ≡ Running → LacksBehind from (drop n piece) (λ f. Loads f middle s) s last new
+    → TakenSoFar from piece n first old middle s → LacksBehind from piece (λ f. Stands f first old) old last new
+lacks_read from piece n first middle last old s new running lacks at = record {
+  taken = n + lacks.taken;
+  is_part = (let p = at.is_part in let le = lacks.is_part in omega (arith, p, le, length-drop n piece));
+  has_counts = lacks.has_counts ∙ ap (λ (x : Counts). with_fed x from lacks.taken) at.has_counts ∙ counted_both from n lacks.taken (counts_of old.sources);
+  lacks = λ f stands.
+      let g : Loading = with_bytes from (take n piece) f in
+      let here = lacks.lacks g (loads_of g middle s running (at.steps f stands)) in (
+        n + here.0,
+        (let le = here.1 in omega (arith, le)),
+        subst (λ (h : Loading). Lacks h last new) (more_fed from piece n here.0 f) here.2,
+      );
+}
 
 pub lacks_settle : (from : Source) (piece : List ℕ) (n k : ℕ) (first middle last : Image) (old s read new : InPlaceLoad) (turn : Image) → s.verdict ≡ Running → k ≤ length (drop n piece)
     → ((f : Loading) → Loads f middle s → IsUnsettled (with_bytes from (take k (drop n piece)) f) turn read) → ((f : Loading) → IsUnsettled f turn read → Lacks f last new)
-    → TakenSoFar from piece n first old middle s → (f : Loading) → Stands f first old → LacksBehind from piece f last new
-lacks_settle from piece n k first middle last old s read new turn running le reads settles at = λ f stands.
-    let g : Loading = with_bytes from (take n piece) f in
-    let unsettled = reads g (loads_of g middle s running (at.steps f stands)) in (
-      n + k,
-      (let p = at.is_part in omega (arith, p, le, length-drop n piece)),
-      subst (λ (h : Loading). Lacks h last new) (more_fed from piece n k f) (settles (with_bytes from (take k (drop n piece)) g) unsettled),
-    )
+    → counts_of read.sources ≡ with_fed (counts_of s.sources) from k → counts_of new.sources ≡ counts_of read.sources
+    → TakenSoFar from piece n first old middle s → LacksBehind from piece (λ f. Stands f first old) old last new
+lacks_settle from piece n k first middle last old s read new turn running le reads settles counted same_counts at = record {
+  taken = n + k;
+  is_part = (let p = at.is_part in omega (arith, p, le, length-drop n piece));
+  has_counts = same_counts ∙ counted ∙ ap (λ (x : Counts). with_fed x from k) at.has_counts ∙ counted_both from n k (counts_of old.sources);
+  lacks = λ f stands.
+      let g : Loading = with_bytes from (take n piece) f in
+      let unsettled = reads g (loads_of g middle s running (at.steps f stands)) in (
+        n + k,
+        omega arith,
+        subst (λ (h : Loading). Lacks h last new) (more_fed from piece n k f) (settles (with_bytes from (take k (drop n piece)) g) unsettled),
+      );
+}
 
 -- ---- what a turn needs
 
@@ -119,7 +130,17 @@ takes_none (source.Channel j) f memory s loads has none takes = go (slice_get s.
     go (Some c) is tells = false≢true ((channel_takes f memory s loads j c tells.0 false is tells.1 tells.2).1 takes)
 
 -- the verdict is set
-pub lacks_failed : (from : Source) (piece : List ℕ) (f : Loading) (memory : Image) (s : InPlaceLoad) (v : Verdict) → v ≡ failed s.rounds origin.Round fault.NoMemory → LacksBehind from piece f memory s
-    → (n : ℕ) × (n ≤ length piece) × LacksMemory f.given f.uuid f.first (feed_step from (take n piece) f.texts) memory (record s { verdict = v })
-lacks_failed from piece f memory s v is lacks =
-    (lacks.0, lacks.1, subst (λ (w : Verdict). LacksMemory f.given f.uuid f.first (feed_step from (take lacks.0 piece) f.texts) memory (record s { verdict = w })) (sym is) lacks.2)
+pub lacks_failed : (from : Source) (piece : List ℕ) (before : Image) (old : InPlaceLoad) (memory : Image) (s : InPlaceLoad) (v : Verdict) → v ≡ failed s.rounds origin.Round fault.NoMemory
+    → LacksBehind from piece (λ f. Stands f before old) old memory s → RunsOut from piece before old memory (record s { verdict = v })
+lacks_failed from piece before old memory s v is lacks = record {
+  taken = lacks.taken;
+  is_part = lacks.is_part;
+  has_counts = lacks.has_counts;
+  lacks = λ given uuid first texts stands.
+      let f : Loading = record { given = given; uuid = uuid; first = first; texts = texts } in
+      let here = lacks.lacks f stands in (
+        here.0,
+        here.1,
+        subst (λ (w : Verdict). LacksMemory given uuid first (feed_step from (take here.0 piece) texts) memory (record s { verdict = w })) (sym is) here.2,
+      );
+}

@@ -26,11 +26,11 @@ use Rattle.mig_answer.specs.MultiLoad.{main_at, channels_at, hello_ids, repeated
 use Rattle.mig_mem.specs.First.{first_some}
 use Rattle.mig_session.specs.declared.source.Source.{Source}
 use Rattle.mig_session.specs.declared.source.Source.TheVariants as source
-use Rattle.mig_session.specs.Session.{feed_step, end_step}
+use Rattle.mig_session.specs.Session.{with_fed, feed_step, end_step}
 use Rattle.mig_in_place.specs.Answer.{rounds_onto, IsInPlaceAnswer, IsInPlaceWithoutMemory}
 use Rattle.mig_in_place.specs.declared.main_stream.SizeList.{SizeList}
 use Rattle.mig_in_place.specs.Round.{KeptRound, Keeps, KeepsSome}
-use Rattle.mig_in_place.specs.Sources.{KeptMain, KeptSources, StandsAt, HasGiven, IsChannelOf, TellsList, TellsTakes, HasHelloAlone, WritesPages, HoldsMain, HoldsChannel, HoldsRound}
+use Rattle.mig_in_place.specs.Sources.{KeptMain, KeptSources, counts_of, StandsAt, HasGiven, IsChannelOf, TellsList, TellsTakes, HasHelloAlone, WritesPages, HoldsMain, HoldsChannel, HoldsRound}
 
 -- ---- its state
 
@@ -134,10 +134,15 @@ abbrev pub StillLacks : (Texts → Texts) → Image → InPlaceLoad → Image �
 StillLacks step before old after new = (given : LoadSettings) (uuid : List ℕ) (first : Image) (texts : Texts)
     → LacksMemory given uuid first texts before old → LacksMemory given uuid first (step texts) after new
 
--- An allocation was refused while a piece of a source was fed, some bytes of which had been taken.
-abbrev pub RunsOut : Source → List ℕ → Image → InPlaceLoad → Image → InPlaceLoad → Type 0
-RunsOut from piece before old after new = (given : LoadSettings) (uuid : List ℕ) (first : Image) (texts : Texts)
-    → StandsFor given uuid first texts before old → (n : ℕ) × (n ≤ length piece) × LacksMemory given uuid first (feed_step from (take n piece) texts) after new
+-- An allocation was refused as a piece of a source was fed, of which some bytes were taken: as many as
+-- are counted more. The load lacks memory on the texts with these, or with some of them: the last ones
+-- may be those of a packet's head for which there was no room.
+pub record RunsOut (from : Source) (piece : List ℕ) (before : Image) (old : InPlaceLoad) (after : Image) (new : InPlaceLoad) : Type 0 where
+  pub taken : ℕ
+  pub is_part : taken ≤ length piece
+  pub has_counts : counts_of new.sources ≡ with_fed (counts_of old.sources) from taken
+  pub lacks : (given : LoadSettings) (uuid : List ℕ) (first : Image) (texts : Texts) → StandsFor given uuid first texts before old
+      → (n : ℕ) × (n ≤ taken) × LacksMemory given uuid first (feed_step from (take n piece) texts) after new
 
 -- a statement on a load and a memory that depends on nothing else than the streams that they
 -- represent
@@ -204,9 +209,18 @@ abbrev pub IsOpenAt : Source → KeptSources → Type 0
 IsOpenAt source.Main s = IsFalse s.main.is_whole
 IsOpenAt (source.Channel j) s = ⊤
 
--- Some bytes of a piece were taken, and an allocation was refused.
-abbrev pub LacksBehind : Source → List ℕ → Loading → Image → InPlaceLoad → Type 0
-LacksBehind from piece f memory s = (n : ℕ) × (n ≤ length piece) × Lacks (with_bytes from (take n piece) f) memory s
+-- Of so many bytes of a piece all or some of the first came to the round, and an allocation was
+-- refused.
+abbrev pub LacksWithin : Source → List ℕ → ℕ → Loading → Image → InPlaceLoad → Type 0
+LacksWithin from piece taken f memory s = (n : ℕ) × (n ≤ taken) × Lacks (with_bytes from (take n piece) f) memory s
+
+-- Bytes of a piece were taken, as many as are counted more, and an allocation was refused: whatever
+-- the load was of.
+pub record LacksBehind (from : Source) (piece : List ℕ) (Was : Loading → Type 0) (old : InPlaceLoad) (after : Image) (new : InPlaceLoad) : Type 0 where
+  pub taken : ℕ
+  pub is_part : taken ≤ length piece
+  pub has_counts : counts_of new.sources ≡ with_fed (counts_of old.sources) from taken
+  pub lacks : (f : Loading) → Was f → LacksWithin from piece taken f after new
 
 -- ---- whatever the memory holds
 

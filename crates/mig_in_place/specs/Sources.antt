@@ -299,8 +299,8 @@ abbrev pub HasRead : SizeList → List ℕ → ℕ → KeptChannel → KeptRound
 HasRead l piece n c r memory new after then = (f : AtChannel) (text : Text) (so_far : GivenSoFar) → HoldsAt f l text so_far c r memory
     → (gave : GivenSoFar) × HoldsAt f l (with_piece (take n piece) text) gave new after then
 
--- The state after a refused allocation: all that was written is of the bytes before the head whose
--- packet couldn't be added.
-abbrev pub HasReadSome : SizeList → List ℕ → KeptChannel → KeptRound → Image → KeptRound → Image → Type 0
-HasReadSome l piece c r memory after then = (f : AtChannel) (text : Text) (so_far : GivenSoFar) → HoldsAt f l text so_far c r memory
-    → (n : ℕ) × (some : KeptChannel) × (gave : GivenSoFar) × (n ≤ length piece) × HoldsAt f l (with_piece (take n piece) text) gave some after then
+-- What it leaves where an allocation was refused, of which so many bytes were taken: all that was
+-- written is of the bytes that came before the head whose packet couldn't be added.
+abbrev pub HasReadSome : SizeList → List ℕ → ℕ → KeptChannel → KeptRound → Image → KeptRound → Image → Type 0
+HasReadSome l piece taken c r memory after then = (f : AtChannel) (text : Text) (so_far : GivenSoFar) → HoldsAt f l text so_far c r memory
+    → (n : ℕ) × (some : KeptChannel) × (gave : GivenSoFar) × (n ≤ taken) × HoldsAt f l (with_piece (take n piece) text) gave some after then

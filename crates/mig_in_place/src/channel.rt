@@ -84,7 +84,7 @@ impl<A: Allocator> Channel<A> {
     ///
     /// # Errors
     ///
-    /// `NoMemory`: an allocation was refused. Some bytes may have been taken.
+    /// `NoMemory`: an allocation was refused. Some bytes may have been taken, and are counted.
     pub(crate) fn read<M: GuestTarget>(
         &mut self,
         list: SizeList,
@@ -98,7 +98,8 @@ impl<A: Allocator> Channel<A> {
         requires round { KeepsSome (M.image memory.old).table round.old }
         ensures taken { IfOk result (λ n. n ≤ length piece.now) }
         ensures read { IfOk result (λ n. HasRead list piece.now n self.old round.old (M.image memory.old) self.new round.new (M.image memory.new)) }
-        ensures some { OnErr result (HasReadSome list piece.now self.old round.old (M.image memory.old) round.new (M.image memory.new)) }
+        ensures some { OnErr result ((n : ℕ) × (n ≤ length piece.now) × (self.new.reader.fed ≡ self.old.reader.fed + n)
+            × HasReadSome list piece.now n self.old round.old (M.image memory.old) round.new (M.image memory.new)) }
         ensures waits { IfOk result (λ n. n < length piece.now → TellsTakes list self.new false) }
         ensures unknown { list ≢ size_list.Complete → self.old.block ≡ None → (round.new ≡ round.old) × (M.image memory.new ≡ M.image memory.old) × (self.new.block ≡ None) }
         ensures fed { IfOk result (λ n. self.new.reader.fed ≡ self.old.reader.fed + n) }

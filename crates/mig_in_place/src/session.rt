@@ -290,7 +290,7 @@ impl<A: Allocator + Copy> InPlaceSession<A> {
     ///
     /// - `OtherTable`: `memory` has another table than the load. Nothing has changed.
     /// - `NoMemory`: an allocation was refused. The load has failed for good: the verdict is
-    ///   `NoMemory` from now on.
+    ///   `NoMemory` from now on. The bytes of the piece that were taken are counted.
     pub fn feed<M: GuestTarget>(
         &mut self,
         memory: &mut M,
@@ -338,7 +338,7 @@ impl<A: Allocator + Copy> InPlaceSession<A> {
         requires table { (M.image memory.old).table ≡ self.old.table }
         ensures taken { IfOk result (λ n. n ≤ length piece.now) }
         ensures steps { IfOk result (λ n. StepsOn (feed_step source (take n piece.now)) (M.image memory.old) self.old (M.image memory.new) self.new) }
-        ensures lacks { OnErr result ((f : Loading) → Stands f (M.image memory.old) self.old → LacksBehind source piece.now f (M.image memory.new) self.new) }
+        ensures lacks { OnErr result (LacksBehind source piece.now (λ f. Stands f (M.image memory.old) self.old) self.old (M.image memory.new) self.new) }
         ensures waits { IfOk result (λ n. n < length piece.now → (self.new.verdict ≢ running)
             ⊎ Tells (M.image memory.new) self.new (λ given uuid first texts. TakesBytes (for_table first.table given) uuid self.new.rounds texts source → ⊥)) }
         ensures settled { self.old.verdict ≢ running → (result ≡ Ok 0) × (self.new ≡ self.old) × (M.image memory.new ≡ M.image memory.old) }
@@ -378,7 +378,7 @@ impl<A: Allocator + Copy> InPlaceSession<A> {
         ensures taken { IfOk result (λ n. n ≤ length piece.now) }
         ensures read { IfOk result (λ n. (f : Loading) → Loads f (M.image memory.old) self.old
             → IsUnsettled (with_bytes source (take n piece.now) f) (M.image memory.new) self.new) }
-        ensures lacks { OnErr result ((f : Loading) → Loads f (M.image memory.old) self.old → LacksBehind source piece.now f (M.image memory.new) self.new) }
+        ensures lacks { OnErr result (LacksBehind source piece.now (λ f. Loads f (M.image memory.old) self.old) self.old (M.image memory.new) self.new) }
         ensures waits { IfOk result (λ n. n < length piece.now → TakesNoMore source self.new.sources) }
         ensures counts { IfOk result (λ n. counts_of self.new.sources ≡ with_fed (counts_of self.old.sources) source n) }
         ensures table { (self.new.table ≡ self.old.table) × ((M.image memory.new).table ≡ (M.image memory.old).table) }
@@ -407,7 +407,7 @@ impl<A: Allocator + Copy> InPlaceSession<A> {
         ensures taken { IfOk result (λ n. n ≤ length piece.now) }
         ensures read { IfOk result (λ n. (f : Loading) → Loads f (M.image memory.old) self.old
             → Loads (with_bytes (source.Channel j) (take n piece.now) f) (M.image memory.new) self.new) }
-        ensures lacks { OnErr result ((f : Loading) → Loads f (M.image memory.old) self.old → LacksBehind (source.Channel j) piece.now f (M.image memory.new) self.new) }
+        ensures lacks { OnErr result (LacksBehind (source.Channel j) piece.now (λ f. Loads f (M.image memory.old) self.old) self.old (M.image memory.new) self.new) }
         ensures waits { IfOk result (λ n. n < length piece.now → TakesNoMore (source.Channel j) self.new.sources) }
         ensures counts { IfOk result (λ n. counts_of self.new.sources ≡ with_fed (counts_of self.old.sources) (source.Channel j) n) }
         ensures table { (self.new.table ≡ self.old.table) × ((M.image memory.new).table ≡ (M.image memory.old).table) }

@@ -202,8 +202,10 @@ returns-in_err-begin_packet-in-Head-clause-some g c =
     let on : GivesOn bytes came.Head i.reader new = subst (λ (a : Came). GivesOn bytes a i.reader new) c.in-Head.is gives in
     let comes = subst (λ (a : Came). HolderTells i.reader (λ given text so_far. Comes given.page_size a so_far)) c.in-Head.is c.read_on-count.ensures.comes in
     let err = c.in_err-begin_packet-in-Head.ensures.err in
-    any_err c.from_residual.result (at_refused l piece n c.args.self.now c.args.round.now first (kept i.reader i.block i.is_whole) c.items.round c.begin_packet.new.round memory
-    (g.M.GuestTarget.image c.begin_packet.new.memory) comes err.1 err.2 at)
+    let within : k ≤ length (drop n piece) = subst (λ (x : List ℕ). k ≤ length x) all c.read_on-count.ensures.taken in
+    let counted : c.begin_packet.new.self.reader.fed ≡ i.reader.fed + k = ap (λ (x : KeptChannel). x.reader.fed) err.0 ∙ c.read_on-count.ensures.fed in
+    any_err c.from_residual.result (at_refused l piece n k c.args.self.now c.args.round.now first (kept i.reader i.block i.is_whole) c.begin_packet.new.self c.items.round c.begin_packet.new.round memory
+    (g.M.GuestTarget.image c.begin_packet.new.memory) within counted comes err.1 err.2 at)
 
 pub returns-in_err-begin_packet-in-Head-clause-channel : goal.returns-in_err-begin_packet-in-Head-clause-channel
 returns-in_err-begin_packet-in-Head-clause-channel g c =

@@ -33,8 +33,8 @@ returns-in_err-count-clause-lacks g c =
     let turn : Image = g.M.GuestTarget.image c.read.new.memory in
     let all : take (length piece - n) (drop n piece) ≡ drop n piece = rest_is piece n in
     let running : s.verdict ≡ Running = c.if-not-is_taking.ensures.runs refl in
-    let lacks : (f : Loading) → Loads f middle s → LacksBehind c.args.source (drop n piece) f turn c.read.new.self =
-    subst (λ (x : List ℕ). (f : Loading) → Loads f middle s → LacksBehind c.args.source x f turn c.read.new.self) all c.in_err-count.ensures.lacks in
+    let lacks : LacksBehind c.args.source (drop n piece) (λ f. Loads f middle s) s turn c.read.new.self =
+    subst (λ (x : List ℕ). LacksBehind c.args.source x (λ f. Loads f middle s) s turn c.read.new.self) all c.in_err-count.ensures.lacks in
     any_err c.from_residual.result (lacks_read c.args.source piece n first middle turn c.args.self.now s c.read.new.self running lacks c.rounds.invariant)
 
 pub returns-in_err-settle-clause-lacks : goal.returns-in_err-settle-clause-lacks
@@ -53,7 +53,8 @@ returns-in_err-settle-clause-lacks g c =
     let reads : (f : Loading) → Loads f middle s → IsUnsettled (with_bytes c.args.source (take k (drop n piece)) f) turn c.read.new.self =
     subst (λ (x : List ℕ). (f : Loading) → Loads f middle s → IsUnsettled (with_bytes c.args.source (take k x) f) turn c.read.new.self) all c.in_ok-count.ensures.read in
     any_err c.from_residual-in_err-settle.result
-    (lacks_settle c.args.source piece n k first middle last c.args.self.now s c.read.new.self c.settle.new.self turn running le reads c.in_err-settle.ensures.lacks c.rounds.invariant)
+    (lacks_settle c.args.source piece n k first middle last c.args.self.now s c.read.new.self c.settle.new.self turn running le reads c.in_err-settle.ensures.lacks c.in_ok-count.ensures.counts
+    c.settle.ensures.counts c.rounds.invariant)
 
 pub returns-then-self-rounds-clause-steps : goal.returns-then-self-rounds-clause-steps
 returns-then-self-rounds-clause-steps g c = λ given uuid guest texts stands.
