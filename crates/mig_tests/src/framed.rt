@@ -20,33 +20,35 @@ use std::test::Fail;
 // The result of a load, other than its memory.
 type Answer = (u64, Result<(), LoadFault>);
 
-const FRAMES: [Frame; 2] = [Frame::Ram, Frame::Machine];
+/// Both frames.
+pub(crate) const FRAMES: [Frame; 2] = [Frame::Ram, Frame::Machine];
 
-fn settings(frame: Frame) -> LoadSettings
+/// Returns the settings of a load in a frame.
+pub(crate) fn settings(frame: Frame) -> LoadSettings
     ensures page_size { result.page_size ≡ 4096 }
     ensures limit { result.limit ≤ 2 ^ 40 }
 {
     LoadSettings::new(PAGE_SIZE_4K, MAX_TOTAL).with_frame(frame)
 }
 
-// Returns the byte at which the stream of two rounds is closed: its sections have 8, 63, 4149, 27
-// and 18 bytes, and the end byte follows; before START of a machine are 131 bytes, and before END
-// 5.
-fn closed_at(frame: Frame) -> u64 {
+/// Returns where the stream of two rounds is closed: its sections have 8, 63, 4149, 27 and 18 bytes,
+/// and the end byte follows; before START of a machine are 131 bytes, and before END 5.
+pub(crate) fn closed_at(frame: Frame) -> u64 {
     match frame {
         Frame::Ram => 8 + 63 + 4149 + 27 + 18 + 1,
         Frame::Machine => 8 + 131 + 63 + 4149 + 27 + 5 + 18,
     }
 }
 
-// That stream with bytes after it.
-fn followed(rt: &(impl AllocGlobal + Abort), frame: Frame) -> Vec<u8> {
+/// Returns that stream with bytes after it.
+pub(crate) fn followed(rt: &(impl AllocGlobal + Abort), frame: Frame) -> Vec<u8> {
     let (mut text, _after) = two_rounds_in(rt, frame);
     append(rt, &mut text, b"\x06\x00\x00\x00\x02{}");
     text
 }
 
-fn fault_of(round: u64, fault: StreamFault) -> LoadFault {
+/// Returns a fault of the stream, after `round` complete sections.
+pub(crate) fn fault_of(round: u64, fault: StreamFault) -> LoadFault {
     LoadFault {
         round,
         source: Origin::Main,

@@ -42,3 +42,5 @@ mod valid;
 mod waiting;
 #[cfg(test)]
 mod wanted;
+#[cfg(test)]
+mod wanted_in_place;
