@@ -715,7 +715,7 @@ ZIMGASOL_API zimgasol_status zimgasol_multi_new(zimgasol_multi *multi, zimgasol_
 
 /* Begins a round of `count` dirty pages, in any order, of which each counts once. Returns DONE,
  * OUT_OF_TURN where a round is open or the streams are ended, NO_PAGE where the table lacks one of
- * them, or NO_MEMORY. A round can't be left out again. */
+ * them, or NO_MEMORY. */
 ZIMGASOL_API zimgasol_status zimgasol_multi_begin_round(zimgasol_multi *multi,
     const zimgasol_place *dirty, size_t count);
 
@@ -735,6 +735,15 @@ ZIMGASOL_API zimgasol_status zimgasol_multi_give_back(zimgasol_multi *multi,
 /* Ends the round with a FLUSH on the main stream. Returns DONE, NO_MEMORY (the round is open as
  * before), or OUT_OF_TURN where no round is open or not all workers are back. */
 ZIMGASOL_API zimgasol_status zimgasol_multi_end_round(zimgasol_multi *multi);
+
+/* Gives up the streams in the middle of a round, as where a channel broke, or where the migration
+ * is cancelled. Packets of the round may have been drained already, and no call takes them back
+ * from the receiver, so no other round can follow. What the sender holds is freed. From then on
+ * each call but _free does nothing, and returns OUT_OF_TURN, or 0 where it drains. What was drained
+ * of the main stream lacks its END, without which no load is DONE. Workers that are out stay: each
+ * may be stepped and drained as before, also by another thread meanwhile, and is freed on its own.
+ * Returns DONE, or OUT_OF_TURN where no round is open. */
+ZIMGASOL_API zimgasol_status zimgasol_multi_cancel_round(zimgasol_multi *multi);
 
 /* Ends the streams. What waits of them is still to be drained. Returns DONE, NO_MEMORY, or
  * OUT_OF_TURN where a round is open or they are ended. */

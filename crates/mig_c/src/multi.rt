@@ -6,7 +6,7 @@ ghost use Rattle.std.specs.Prelude.{◌≡◌, ◌≢◌, ◌≤◌, ◌<◌, �
 ghost use Rattle.mig_packet.specs.PageSize.{page_limit as most_pages};
 ghost use Rattle.mig_c_calls.specs.Status.{done};
 ghost use Rattle.mig_c.specs.Kinds.{table_in, multi_in, worker_in, Turns, Tells};
-ghost use Rattle.mig_c_calls.specs.Multi.{StartsOf, OpensMulti, OfTable, Refuses, place_of, ChangesMulti, BeginsRound, HandsOutWorker, TakesBackWorker, AreOfRound, TurnsBoth, EndsRound, Finishes, DrainsMain, DrainsChannel};
+ghost use Rattle.mig_c_calls.specs.Multi.{StartsOf, OpensMulti, OfTable, Refuses, place_of, ChangesMulti, BeginsRound, HandsOutWorker, TakesBackWorker, AreOfRound, TurnsBoth, EndsRound, CancelsRound, Finishes, DrainsMain, DrainsChannel};
 
 use crate::handle::{Handle, MultiHandle, TableHandle, WorkerHandle};
 use crate::object::Object;
@@ -261,6 +261,29 @@ pub extern "C" fn zimgasol_multi_end_round(alloc: Global, multi: &mut MultiHandl
 {
     let mut object = multi.handle.take().into_box(alloc);
     let status = end_round(alloc, &mut object);
+    multi.handle = Handle::of(object);
+    status
+}
+
+fn cancel_round(alloc: Global, object: &mut Object) -> u32
+    requires { IsSome (multi_in (Some object.old)) }
+    ensures { Turns (CancelsRound result) (multi_in (Some object.old)) (multi_in (Some object.new)) }
+{
+    match object {
+        Object::Multi(multi) => multi.cancel_round(alloc),
+        _ => unreachable!(),
+    }
+}
+
+/// Gives up the streams in the middle of a round, whose packets may have been handed out already.
+/// Workers that are out stay.
+#[unsafe(no_mangle)]
+pub extern "C" fn zimgasol_multi_cancel_round(alloc: Global, multi: &mut MultiHandle) -> u32
+    requires multi { IsSome (multi_in multi.old.handle.value) }
+    ensures cancels { Turns (CancelsRound result) (multi_in multi.old.handle.value) (multi_in multi.new.handle.value) }
+{
+    let mut object = multi.handle.take().into_box(alloc);
+    let status = cancel_round(alloc, &mut object);
     multi.handle = Handle::of(object);
     status
 }

@@ -2,8 +2,11 @@
 use Rattle.std.proofs.Common.{ℕ, ◌≡◌, ◌≢◌, ◌+◌, ◌<◌, ◌≤◌, ◌∙◌, ◌==◌, List, [], ◌∷◌, ◌++◌, length, map, replicate, take, drop, get_or, set, Bool, true, false, if◌then◌else◌, refl, sym, ap, subst, arith, inl, inr}
 use Rattle.std.specs.List.{range_with_len}
 use Rattle.std.proofs.lemmas.Bool.{cases_lt, cond-true, cond-false, eq-eqb, ne_eqb}
-use Rattle.std.proofs.lemmas.List.{append-nil, append_assoc, drop_all, drop-drop, take-append-drop, nil_from_length, length-map, get_or-replicate, get_or-set_other, get_or-set_same}
+use Rattle.std.proofs.lemmas.List.{append-nil, append_assoc, drop_all, drop-drop, take-append-drop, nil_from_length, length-append, length-take-le, length-map, get_or-replicate, get_or-set_other, get_or-set_same}
 use mathlib.Core.Path.{fun_ext}
+use Rattle.mig_mem.specs.RamTable.{RamTable}
+use Rattle.mig_mem.specs.Image.{Image}
+use Rattle.mig_mem.specs.declared.place.Place.{Place}
 use Rattle.mig_stream.specs.Written.{FlushPart, written_so_far, main}
 use Rattle.mig_send.specs.DealtRounds.{DealtRound, IsSending, channel_text}
 use Rattle.mig_send.specs.MultiSending.{MultiSending, Drained, HasSentRounds, KeepsCounts, texts_of, whole_texts, with_main, with_channel}
@@ -12,7 +15,7 @@ use Rattle.mig_c_calls.specs.declared.sending.EndedStreams.{EndedStreams}
 use Rattle.mig_c_calls.specs.declared.sending.MultiState.{MultiState}
 use Rattle.mig_c_calls.specs.declared.sending.MultiState.TheVariants.{Idle, Round, Over}
 use Rattle.mig_c_calls.specs.declared.sending.Multi.{Multi}
-use Rattle.mig_c_calls.specs.Multi.{MultiSetting, IsSenderOf, SendsTo, InRoundTo, Sends, InRound, IsIdle, IsOpen, IsOver, HandsOutOf, DrainsMain, RefillsMain, waiting_in, and_waiting, left_of, all_channels}
+use Rattle.mig_c_calls.specs.Multi.{MultiSetting, IsSenderOf, SendsTo, InRoundTo, Sends, InRound, IsIdle, IsOpen, IsOver, HasNothingLeft, HasGivenUp, HandsOutOf, DrainsMain, RefillsMain, waiting_in, and_waiting, left_of, all_channels}
 use Rattle.mig_c_calls.proofs.Sends.{same_drained, still_of}
 
 -- ---- bytes that wait
@@ -40,6 +43,15 @@ and_front given front old new has_front =
     ap (λ (l : List ℕ). record given { main = l })
     (ap (λ (l : List ℕ). given.main ++ l) (sym has_front) ∙ sym (append_assoc given.main front (waiting_in new.main)))
 
+-- where no byte waits, none is handed out
+none_of_none : (count : ℕ) (out left : List ℕ) → count ≤ length out → take count out ++ left ≡ [] → (count ≡ 0) × (left ≡ [])
+none_of_none count out left fits none =
+    let lens : length (take count out) + length left ≡ 0 = sym (length-append (take count out) left) ∙ ap (λ (l : List ℕ). length l) none in
+    let taken : length (take count out) ≡ count = length-take-le count out fits in (
+      omega (arith, lens, taken),
+      nil_from_length left (omega (arith, lens)),
+    )
+
 pub drains_main : (count : ℕ) (out : List ℕ) (old mid new : Multi) → RefillsMain old mid → HandsOutOf count out mid.main new.main → new.state ≡ mid.state
     → DrainsMain count out old new
 drains_main count out old mid new refills hands same = record {
@@ -54,11 +66,39 @@ drains_main count out old mid new refills hands same = record {
   in_round = λ is. same ∙ (refills.in_round is).0;
   idle = λ is. subst (λ (s : MultiState). IsIdle s) (sym same) (refills.idle is);
   ended = λ is. subst (λ (s : MultiState). IsOver s) (sym same) (refills.ended is);
+  given_up = λ is.
+      let mid_is : HasGivenUp mid = refills.given_up is in
+      let none = none_of_none count out (waiting_in new.main) hands.fits (hands.has_front ∙ mid_is.1) in
+      (none.0, (subst (λ (s : MultiState). HasNothingLeft s) (sym same) mid_is.0, none.1));
   written = λ is zero room. refills.written is (hands.none zero room);
   all = λ is zero room. refills.all is (hands.none zero room);
 }
 
--- if bytes wait nothing is taken out
+-- ---- a round is given up
+
+-- What was drained of the main stream in a round is the beginning of what was written of it.
+round_breaks_off : (setting : MultiSetting) (image : Image) (dirty : List Place) (drained : Drained) (rounds : List DealtRound) (s : MultiState)
+    → InRoundTo setting image dirty drained rounds s
+    → (rest : List ℕ) × (drained.main ++ rest ≡ written_so_far setting.table (replicate (length rounds) FlushPart))
+round_breaks_off setting image dirty drained rounds (Idle s) is = absurd is
+round_breaks_off setting image dirty drained rounds (Round r) is = (
+  is.old.main.text,
+  ap (λ (l : List ℕ). l ++ is.old.main.text) is.same_main
+      ∙ is.has_sent.has_main.has_text
+      ∙ ap (λ (t : RamTable). written_so_far t (replicate (length rounds) FlushPart)) is.is_of.same_table,
+)
+round_breaks_off setting image dirty drained rounds (Over e) is = absurd is
+
+pub breaks_off : (setting : MultiSetting) (image : Image) (dirty : List Place) (given : Drained) (rounds : List DealtRound) (m : Multi)
+    → InRound setting image dirty given rounds m
+    → (rest : List ℕ) × (given.main ++ rest ≡ written_so_far setting.table (replicate (length rounds) FlushPart))
+breaks_off setting image dirty given rounds m here =
+    let cut = round_breaks_off setting image dirty (and_waiting given m) rounds m.state here in
+    (waiting_in m.main ++ cut.0, sym (append_assoc given.main (waiting_in m.main) cut.0) ∙ cut.1)
+
+-- ---- bytes are taken out
+
+-- where bytes wait nothing is taken out
 pub refills_not : (m : Multi) → waiting_in m.main ≢ [] → RefillsMain m m
 refills_not m waits = record {
   keeps = λ setting given rounds sends. sends;
@@ -66,6 +106,7 @@ refills_not m waits = record {
   in_round = λ is. (refl, refl);
   idle = λ is. is;
   ended = λ is. is;
+  given_up = λ is. is;
   written = λ is none. absurd (waits none);
   all = λ is none. absurd (waits none);
 }
@@ -93,6 +134,7 @@ refills_idle old new s s' bytes was is none waits keeps all drains = record {
   in_round = λ here. absurd (subst (λ (m : MultiState). IsOpen m) was here);
   idle = λ _. subst (λ (m : MultiState). IsIdle m) (sym is) tt;
   ended = λ here. absurd (subst (λ (m : MultiState). IsOver m) was here);
+  given_up = λ here. absurd (subst (λ (m : MultiState). HasNothingLeft m) was here.0);
   written = λ _ empty setting given rounds sends.
       let before = subst (λ (m : MultiState). SendsTo setting (and_waiting given old) rounds m) was sends in
       sym (none_waits given old none)
@@ -129,6 +171,9 @@ refills_over old new e e' was is none waits rest channels given_is = record {
   in_round = λ here. absurd (subst (λ (m : MultiState). IsOpen m) was here);
   idle = λ here. absurd (subst (λ (m : MultiState). IsIdle m) was here);
   ended = λ _. subst (λ (m : MultiState). IsOver m) (sym is) tt;
+  given_up = λ here.
+      let before = subst (λ (m : MultiState). HasNothingLeft m) was here.0 in
+      (subst (λ (m : MultiState). HasNothingLeft m) (sym is) (rest, channels ∙ before.1), waits ∙ before.0);
   written = λ here. absurd (subst (λ (m : MultiState). IsIdle m) was here);
   all = λ _ empty setting given rounds sends.
       let before = subst (λ (m : MultiState). SendsTo setting (and_waiting given old) rounds m) was sends in

@@ -105,15 +105,16 @@ drains_none e at out none = record {
   hands = λ _ setting drained rounds sends.
       same_streams setting drained (with_channel drained at []) rounds e e refl refl (handed drained at [] e e refl (λ channel not. refl)) sends;
   ended = λ _. tt;
+  given_up = λ is. (refl, is);
   all = λ _ zero room setting drained rounds sends lt. left_done setting drained rounds e at sends (none setting sends.0 lt) lt;
   same = λ not. absurd (not tt);
 }
 
-pub drains_left : (e e' : EndedStreams) (at count : ℕ) (out : List ℕ) → at < length e.given.items
+pub drains_left : (e e' : EndedStreams) (at count : ℕ) (out : List ℕ) → at < length e.given.items → at < length e.sent.channels.items
     → e'.given.items ≡ set e.given.items at (get_or e.given.items at 0 + count) → e'.sent.main.items ≡ e.sent.main.items
     → texts_of e'.sent.channels.items ≡ texts_of e.sent.channels.items → count ≤ length out → take count out ≡ take count (left_of e at)
     → (count ≡ 0 → 0 < length out → length (left_of e at) ≡ 0) → DrainsChannel at count out (Over e) (Over e')
-drains_left e e' at count out lt moved same_main same_texts fits front none =
+drains_left e e' at count out lt within moved same_main same_texts fits front none =
     let given : List ℕ = e.given.items in
     let now : ℕ = get_or given at 0 in
     let text : List ℕ = get_or (texts_of e.sent.channels.items) at [] in
@@ -135,6 +136,8 @@ drains_left e e' at count out lt moved same_main same_texts fits front none =
           same_streams setting drained (with_channel drained at (take count out)) rounds e e' (ap (λ (l : List ℕ). length l) moved ∙ length-set given at (now + count))
           (ap (λ (l : List ℕ). drained.main ++ l) same_main) (handed drained at (take count out) e e' here other) sends;
       ended = λ _. tt;
-      all = λ _ zero room setting drained rounds sends within. left_done setting drained rounds e at sends (nil_from_length (left_of e at) (none zero room)) within;
+      given_up = λ is.
+          absurd (omega (arith, within, length-map e.sent.channels.items (λ (v : Vec ℕ Global). v.items), ap (λ (ts : List (List ℕ)). length ts) is.1));
+      all = λ _ zero room setting drained rounds sends is_channel. left_done setting drained rounds e at sends (nil_from_length (left_of e at) (none zero room)) is_channel;
       same = λ not. absurd (not tt);
     }

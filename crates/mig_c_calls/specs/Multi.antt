@@ -115,6 +115,16 @@ IsOver (Idle s) = ⊥
 IsOver (Round r) = ⊥
 IsOver (Over e) = ⊤
 
+-- The streams are over, and nothing of them is left to hand out.
+abbrev pub HasNothingLeft : MultiState → Type 0
+HasNothingLeft (Idle s) = ⊥
+HasNothingLeft (Round r) = ⊥
+HasNothingLeft (Over e) = (e.sent.main.items ≡ []) × (texts_of e.sent.channels.items ≡ [])
+
+-- The sender has given its streams up: no byte waits, and none will.
+abbrev pub HasGivenUp : Multi → Type 0
+HasGivenUp m = HasNothingLeft m.state × (waiting_in m.main ≡ [])
+
 -- a round is open, and this is so of it
 abbrev pub OfRound : (OpenMulti → Type 0) → MultiState → Type 0
 OfRound IsSo (Idle s) = ⊥
@@ -328,7 +338,19 @@ pub record EndsRound (status : ℕ) (old new : MultiState) : Type 0 where
   pub wrong : status ≡ out_of_turn → OfRound (λ r. length r.spents ≡ length r.sender.channels) old → ⊥
   pub in_turn : status ≢ out_of_turn → OfRound (λ r. length r.spents ≡ length r.sender.channels) old
 
--- The effect of `finish`.
+-- What `cancel_round` does: the sender gives its streams up. What was handed out of the main stream
+-- goes no further than the rounds that were ended, so it lacks the stream's END.
+pub record CancelsRound (status : ℕ) (old new : Multi) : Type 0 where
+  pub is_named : IsOneOf (done ∷ out_of_turn ∷ []) status
+  pub gives_up : status ≡ done → HasGivenUp new
+  pub breaks_off : status ≡ done → (setting : MultiSetting) (image : Image) (dirty : List Place) (given : Drained) (rounds : List DealtRound)
+      → InRound setting image dirty given rounds old
+      → (rest : List ℕ) × (given.main ++ rest ≡ written_so_far setting.table (replicate (length rounds) FlushPart))
+  pub same : status ≢ done → new ≡ old
+  pub wrong : status ≡ out_of_turn → IsOpen old.state → ⊥
+  pub in_turn : status ≢ out_of_turn → IsOpen old.state
+
+-- What `finish` does.
 pub record Finishes (status : ℕ) (old new : MultiState) : Type 0 where
   pub is_named : IsOneOf (done ∷ no_memory ∷ out_of_turn ∷ []) status
   pub ends : status ≡ done → IsOver new
@@ -337,9 +359,9 @@ pub record Finishes (status : ℕ) (old new : MultiState) : Type 0 where
   pub wrong : status ≡ out_of_turn → IsIdle old → ⊥
   pub in_turn : status ≢ out_of_turn → IsIdle old
 
--- The effect of `drain`: it copies out the next bytes of the main stream. If there are none between
--- two rounds, all bytes written so far were copied out; if there are none after the end of the
--- streams, all of them were. An open round stays as it is.
+-- What `drain` does: it hands out the next bytes of the main stream. Where it has none between two
+-- rounds, all that was written so far was handed out; of streams that are ended, all of it. A round
+-- that is open stays as it is. Of streams that were given up it hands out nothing.
 pub record DrainsMain (count : ℕ) (out : List ℕ) (old new : Multi) : Type 0 where
   pub fits : count ≤ length out
   pub hands : (setting : MultiSetting) (given : Drained) (rounds : List DealtRound) → Sends setting given rounds old
@@ -349,6 +371,7 @@ pub record DrainsMain (count : ℕ) (out : List ℕ) (old new : Multi) : Type 0 
   pub in_round : IsOpen old.state → new.state ≡ old.state
   pub idle : IsIdle old.state → IsIdle new.state
   pub ended : IsOver old.state → IsOver new.state
+  pub given_up : HasGivenUp old → (count ≡ 0) × HasGivenUp new
   pub written : IsIdle old.state → count ≡ 0 → 0 < length out → (setting : MultiSetting) (given : Drained) (rounds : List DealtRound)
       → Sends setting given rounds old → given.main ≡ written_so_far setting.table (replicate (length rounds) FlushPart)
   pub all : IsOver old.state → count ≡ 0 → 0 < length out → (setting : MultiSetting) (given : Drained) (rounds : List DealtRound)
@@ -362,17 +385,20 @@ pub record RefillsMain (old new : Multi) : Type 0 where
   pub in_round : IsOpen old.state → (new.state ≡ old.state) × (new.main ≡ old.main)
   pub idle : IsIdle old.state → IsIdle new.state
   pub ended : IsOver old.state → IsOver new.state
+  pub given_up : HasGivenUp old → HasGivenUp new
   pub written : IsIdle old.state → waiting_in new.main ≡ [] → (setting : MultiSetting) (given : Drained) (rounds : List DealtRound)
       → Sends setting given rounds old → given.main ≡ written_so_far setting.table (replicate (length rounds) FlushPart)
   pub all : IsOver old.state → waiting_in new.main ≡ [] → (setting : MultiSetting) (given : Drained) (rounds : List DealtRound)
       → Sends setting given rounds old → given.main ≡ main setting.table (length rounds)
 
--- The effect of `drain_channel`: after the end of the streams it copies out the rest of a channel.
+-- What `drain_channel` does: of streams that are ended it hands out what is left of a channel, and of
+-- streams that were given up nothing.
 pub record DrainsChannel (channel count : ℕ) (out : List ℕ) (old new : MultiState) : Type 0 where
   pub fits : count ≤ length out
   pub hands : IsOver old → (setting : MultiSetting) (drained : Drained) (rounds : List DealtRound) → SendsTo setting drained rounds old
       → SendsTo setting (with_channel drained channel (take count out)) rounds new
   pub ended : IsOver old → IsOver new
+  pub given_up : HasNothingLeft old → (count ≡ 0) × HasNothingLeft new
   pub all : IsOver old → count ≡ 0 → 0 < length out → (setting : MultiSetting) (drained : Drained) (rounds : List DealtRound) → SendsTo setting drained rounds old
       → channel < setting.channels → drained.channel channel ≡ channel_text setting.uuid rounds channel
   pub same : (IsOver old → ⊥) → (count ≡ 0) × (new ≡ old)

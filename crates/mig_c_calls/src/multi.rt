@@ -7,7 +7,7 @@ ghost use Rattle.mig_mem.specs.PlaceSet.{PlaceSet};
 ghost use Rattle.mig_packet.specs.PageSize.{page_limit as most_pages};
 ghost use Rattle.mig_send.specs.MultiRound.{TakesBack};
 ghost use Rattle.mig_c_calls.specs.declared.sending.MultiState.TheVariants.{Idle, Round, Over};
-ghost use Rattle.mig_c_calls.specs.Multi.{MultiSetting, Starts, place_of, set_of, ChangesMulti, BeginsRound, Deals, GivesNext, HandsOutWorker, CanComeBack, TakesBackWorker, IsOfRound, EndsRound, Finishes, DrainsMain, RefillsMain, DrainsChannel};
+ghost use Rattle.mig_c_calls.specs.Multi.{MultiSetting, Starts, place_of, set_of, ChangesMulti, BeginsRound, Deals, GivesNext, HandsOutWorker, CanComeBack, TakesBackWorker, IsOfRound, EndsRound, CancelsRound, Finishes, DrainsMain, RefillsMain, DrainsChannel, IsOpen, HasNothingLeft};
 
 use crate::sending::{DealtRound, EndedStreams, HeldWorker, Multi, MultiState, NamedPlace};
 use crate::status::{DONE, NO_MEMORY, NO_PAGE, OUT_OF_TURN};
@@ -220,19 +220,32 @@ fn finished(alloc: Global, state: MultiState) -> (MultiState, u32)
     }
 }
 
-// Takes the state out of a sender, which must get one again.
-fn take_state(alloc: Global, multi: &mut Multi) -> MultiState
-    ensures state { result ≡ multi.old.state }
-    ensures main { multi.new.main ≡ multi.old.main }
+// Streams that are over, of which nothing is left.
+fn nothing_left(alloc: Global) -> MultiState
+    ensures { HasNothingLeft result }
 {
-    let nothing = MultiState::Over(EndedStreams {
+    MultiState::Over(EndedStreams {
         sent: Sent {
             main: Vec::new(alloc),
             channels: Vec::new(alloc),
         },
         given: Vec::new(alloc),
-    });
-    mem::replace(&mut multi.state, nothing)
+    })
+}
+
+// Takes the state out of a sender, which is to get one again.
+fn take_state(alloc: Global, multi: &mut Multi) -> MultiState
+    ensures state { result ≡ multi.old.state }
+    ensures main { multi.new.main ≡ multi.old.main }
+{
+    mem::replace(&mut multi.state, nothing_left(alloc))
+}
+
+// Whether a round is open.
+fn is_open(state: &MultiState) -> bool
+    ensures { IsTrue result ↔ IsOpen state.now }
+{
+    matches!(state, MultiState::Round(_))
 }
 
 // Drains the bytes that were written to the main stream, if no drained byte waits.
@@ -363,7 +376,22 @@ impl Multi {
         status
     }
 
-    /// Ends the streams, if no round is open. Returns the status: `DONE`, `NO_MEMORY` or
+    /// Gives up the streams in the middle of a round. What of the round was handed out can't be
+    /// taken back from those who have it, so no other round can follow: the streams are over, and
+    /// nothing of them is handed out any more. Workers that are out stay. Returns the status:
+    /// `DONE` or `OUT_OF_TURN`.
+    pub fn cancel_round(&mut self, alloc: Global) -> u32
+        ensures { CancelsRound result self.old self.new }
+    {
+        if !is_open(&self.state) {
+            return OUT_OF_TURN;
+        }
+        self.state = nothing_left(alloc);
+        self.main = Waiting::none(alloc);
+        DONE
+    }
+
+    /// Ends the streams, where no round is open. Returns the status: `DONE`, `NO_MEMORY` or
     /// `OUT_OF_TURN`.
     pub fn finish(&mut self, alloc: Global) -> u32
         ensures { ChangesMulti (Finishes result) self.old self.new }

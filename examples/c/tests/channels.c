@@ -129,13 +129,81 @@ static int send_none(zimgasol_table *table) {
     return 0;
 }
 
-/* Feeds all streams in pieces of `cut` bytes, each source by turns as long as it takes some. */
+/* Feeds all streams in pieces of `cut` bytes, each source by turns as long as it takes some, and
+ * ends them. */
+static int feed_all(zimgasol_in_place_session *load, size_t cut) {
+    size_t taken = 7;
+    memset(given, 0, sizeof given);
+    for (int moved = 1; moved;) {
+        moved = 0;
+        for (size_t source = 0; source <= CHANNELS; source++) {
+            size_t left = length[source] - given[source], len = left < cut ? left : cut;
+            if (len == 0 || !zimgasol_in_place_session_takes(load, source)) continue;
+            WANT(zimgasol_in_place_session_feed(load, into, 2, source, stream[source] + given[source], len, &taken) == ZIMGASOL_DONE);
+            WANT(taken <= len);
+            given[source] += taken;
+            WANT(zimgasol_in_place_session_fed(load, source) == given[source]);
+            moved = moved || taken > 0;
+        }
+        /* the array of the blocks stays as it is */
+        WANT(into[0].bytes == loaded[0] && into[0].len == PAGES * PAGE && into[1].bytes == loaded[1] && into[1].len == OTHER * PAGE);
+    }
+    for (size_t source = 0; source <= CHANNELS; source++) {
+        WANT(given[source] == length[source]);
+        WANT(zimgasol_in_place_session_end(load, source) == ZIMGASOL_DONE);
+        WANT(zimgasol_in_place_session_feed(load, into, 2, source, stream[0], 1, &taken) == ZIMGASOL_IS_OVER && taken == 0);
+    }
+    return 0;
+}
+
+/* A round is given up in its middle: one worker was drained of a part of its bytes, one wasn't
+ * stepped, and one wasn't handed out. Those that are out go on, and are freed before the sender and
+ * after it. */
+static int give_up(zimgasol_table *table) {
+    static zimgasol_place all[PAGES];
+    zimgasol_multi multi = {0};
+    zimgasol_worker workers[2] = {{0}}, none = {0};
+    uint8_t out[1000];
+    for (size_t p = 0; p < PAGES; p++) all[p] = (zimgasol_place){0, p};
+    WANT(zimgasol_multi_new(&multi, table, uuid, 16, CHANNELS, 16) == ZIMGASOL_DONE);
+    WANT(zimgasol_multi_cancel_round(&multi) == ZIMGASOL_OUT_OF_TURN);
+    WANT(zimgasol_multi_drain(&multi, out, 10) == 10);
+    WANT(zimgasol_multi_begin_round(&multi, all, PAGES) == ZIMGASOL_DONE);
+    for (size_t j = 0; j < 2; j++) WANT(zimgasol_multi_worker(&multi, &workers[j]) == ZIMGASOL_DONE);
+    WANT(zimgasol_worker_step(&workers[0], lent, 2) == ZIMGASOL_RUNNING);
+    WANT(zimgasol_worker_drain(&workers[0], out, sizeof out) == sizeof out);
+    WANT(zimgasol_multi_cancel_round(&multi) == ZIMGASOL_DONE && multi.full != 0);
+    WANT(zimgasol_multi_cancel_round(&multi) == ZIMGASOL_OUT_OF_TURN);
+    WANT(zimgasol_multi_begin_round(&multi, all, PAGES) == ZIMGASOL_OUT_OF_TURN);
+    WANT(zimgasol_multi_worker(&multi, &none) == ZIMGASOL_OUT_OF_TURN && none.full == 0);
+    WANT(zimgasol_multi_give_back(&multi, &workers[0]) == ZIMGASOL_OUT_OF_TURN && workers[0].full != 0);
+    WANT(zimgasol_multi_end_round(&multi) == ZIMGASOL_OUT_OF_TURN);
+    WANT(zimgasol_multi_finish(&multi) == ZIMGASOL_OUT_OF_TURN);
+    /* what waited of the main stream is gone, and so is the hello of the third channel */
+    WANT(zimgasol_multi_drain(&multi, out, sizeof out) == 0);
+    WANT(zimgasol_multi_drain_channel(&multi, 2, out, sizeof out) == 0);
+    WANT(zimgasol_worker_step(&workers[1], lent, 2) == ZIMGASOL_RUNNING);
+    WANT(zimgasol_worker_drain(&workers[1], out, 100) == 100);
+    zimgasol_worker_free(&workers[0]);
+    zimgasol_multi_free(&multi);
+    WANT(multi.full == 0 && zimgasol_worker_step(&workers[1], lent, 2) == ZIMGASOL_RUNNING);
+    zimgasol_worker_free(&workers[1]);
+    /* a sender that is freed in a round */
+    WANT(zimgasol_multi_new(&multi, table, uuid, 16, CHANNELS, 16) == ZIMGASOL_DONE);
+    WANT(zimgasol_multi_begin_round(&multi, all, PAGES) == ZIMGASOL_DONE);
+    WANT(zimgasol_multi_worker(&multi, &workers[0]) == ZIMGASOL_DONE);
+    zimgasol_multi_free(&multi);
+    WANT(zimgasol_worker_step(&workers[0], lent, 2) == ZIMGASOL_RUNNING);
+    zimgasol_worker_free(&workers[0]);
+    return 0;
+}
+
+/* Loads all streams, fed in pieces of `cut` bytes. */
 static int load_all(zimgasol_table *table, size_t cut) {
     zimgasol_in_place_session load = {0};
     zimgasol_fault fault;
     size_t taken = 7;
     uint64_t pages = 0;
-    memset(given, 0, sizeof given);
     memset(loaded, 0xEE, sizeof loaded);
     WANT(zimgasol_in_place_session_new(&load, table, uuid, 16, 0, ZIMGASOL_FRAME_RAM) == ZIMGASOL_BAD_CHANNELS);
     WANT(zimgasol_in_place_session_new(&load, table, uuid, 17, 256, ZIMGASOL_FRAME_RAM) == ZIMGASOL_BAD_CHANNELS);
@@ -147,25 +215,7 @@ static int load_all(zimgasol_table *table, size_t cut) {
     WANT(zimgasol_in_place_session_feed(&load, into, 2, 1 + CHANNELS, stream[0], 1, &taken) == ZIMGASOL_BAD_SOURCE && taken == 0);
     WANT(zimgasol_in_place_session_feed(&load, into, 1, 0, stream[0], 1, &taken) == ZIMGASOL_BAD_LENGTH && taken == 0);
     WANT(zimgasol_in_place_session_end(&load, 1 + CHANNELS) == ZIMGASOL_BAD_SOURCE);
-    for (int moved = 1; moved;) {
-        moved = 0;
-        for (size_t source = 0; source <= CHANNELS; source++) {
-            size_t left = length[source] - given[source], len = left < cut ? left : cut;
-            if (len == 0 || !zimgasol_in_place_session_takes(&load, source)) continue;
-            WANT(zimgasol_in_place_session_feed(&load, into, 2, source, stream[source] + given[source], len, &taken) == ZIMGASOL_DONE);
-            WANT(taken <= len);
-            given[source] += taken;
-            WANT(zimgasol_in_place_session_fed(&load, source) == given[source]);
-            moved = moved || taken > 0;
-        }
-        /* the array of the blocks stays as it is */
-        WANT(into[0].bytes == loaded[0] && into[0].len == PAGES * PAGE && into[1].bytes == loaded[1] && into[1].len == OTHER * PAGE);
-    }
-    for (size_t source = 0; source <= CHANNELS; source++) {
-        WANT(given[source] == length[source]);
-        WANT(zimgasol_in_place_session_end(&load, source) == ZIMGASOL_DONE);
-        WANT(zimgasol_in_place_session_feed(&load, into, 2, source, stream[0], 1, &taken) == ZIMGASOL_IS_OVER && taken == 0);
-    }
+    if (feed_all(&load, cut)) return 1;
     WANT(zimgasol_in_place_session_verdict(&load, &fault) == ZIMGASOL_DONE && fault.number == 0);
     WANT(zimgasol_in_place_session_rounds(&load) == 2);
     for (size_t p = 0; p < PAGES; p++) pages += memcmp(loaded[0] + p * PAGE, guest[0] + p * PAGE, PAGE) != 0;
@@ -200,12 +250,12 @@ int main(void) {
     zimgasol_table table = {0};
     size_t entry;
     WANT(zimgasol_table_new(&table, PAGE, blocks, 2, &entry) == ZIMGASOL_DONE);
-    if (send_all(&table) || send_none(&table)) return 1;
+    if (send_all(&table) || send_none(&table) || give_up(&table)) return 1;
     size_t cuts[] = {MOST, 100000, 4096, 777};
     for (size_t i = 0; i < sizeof cuts / sizeof cuts[0]; i++)
         if (load_all(&table, cuts[i])) return 1;
     if (load_wrong(&table)) return 1;
-    zimgasol_table_free(&table);
     printf("%zu bytes on the main stream, %zu, %zu and %zu on the channels; 0 pages differ\n", length[0], length[1], length[2], length[3]);
+    zimgasol_table_free(&table);
     return 0;
 }
