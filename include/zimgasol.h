@@ -704,8 +704,9 @@ ZIMGASOL_API void zimgasol_sender_free(zimgasol_sender *sender);
  *
  * All steps of a round are passed the same blocks, of the same bytes: nobody writes to them from
  * the first step to the last. So it is for a guest that is stopped, for a snapshot, or for pages
- * that are write-protected meanwhile. A worker is given back to the round that handed it out,
- * and to no other one: nothing checks that. */
+ * that are write-protected meanwhile. A worker is given back to the sender that handed it out, and
+ * to no other one. Nothing checks that: another sender may take it, and its streams are wrong
+ * then. A load finds packets that are missing or come twice, but not another guest's pages. */
 
 /* Makes a sender of a table, of which it keeps a copy, on 1 to 255 channels under a UUID of 16
  * bytes, with at most `limit` pages to a packet (128 pages of 4096 bytes, 64 of 8192). Returns

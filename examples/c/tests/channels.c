@@ -245,6 +245,54 @@ static int load_wrong(zimgasol_table *table) {
     return 0;
 }
 
+/* Steps a worker until it has ended. */
+static int step_all(zimgasol_worker *worker) {
+    zimgasol_status status;
+    while ((status = zimgasol_worker_step(worker, lent, 2)) == ZIMGASOL_RUNNING) continue;
+    WANT(status == ZIMGASOL_DONE);
+    return 0;
+}
+
+/* A worker that is given back to another sender than its own, against the header's rule: nothing
+ * refuses it, and no load takes the streams for whole ones. The first sender's worker has packed
+ * packets 0 to 18, all of the round; the second sender's own first one has drawn packet 0, and the
+ * others the packets from 1 on. So packet 1 comes twice. */
+static int foreign(zimgasol_table *table) {
+    static zimgasol_place all[PAGES];
+    zimgasol_multi other = {0}, multi = {0};
+    zimgasol_worker stray = {0}, workers[CHANNELS] = {{0}};
+    zimgasol_in_place_session load = {0};
+    zimgasol_fault fault;
+    size_t len, taken;
+    for (size_t p = 0; p < PAGES; p++) all[p] = (zimgasol_place){0, p};
+    WANT(zimgasol_multi_new(&other, table, uuid, 16, CHANNELS, 16) == ZIMGASOL_DONE);
+    WANT(zimgasol_multi_begin_round(&other, all, PAGES) == ZIMGASOL_DONE);
+    WANT(zimgasol_multi_worker(&other, &stray) == ZIMGASOL_DONE);
+    if (step_all(&stray)) return 1;
+    WANT(zimgasol_multi_new(&multi, table, uuid, 16, CHANNELS, 16) == ZIMGASOL_DONE);
+    WANT(zimgasol_multi_begin_round(&multi, all, PAGES) == ZIMGASOL_DONE);
+    for (size_t j = 0; j < CHANNELS; j++) WANT(zimgasol_multi_worker(&multi, &workers[j]) == ZIMGASOL_DONE);
+    WANT(zimgasol_worker_step(&workers[0], lent, 2) == ZIMGASOL_RUNNING);
+    for (size_t j = 1; j < CHANNELS; j++) if (step_all(&workers[j])) return 1;
+    WANT(zimgasol_multi_give_back(&multi, &stray) == ZIMGASOL_DONE && stray.full == 0);
+    WANT(zimgasol_multi_give_back(&multi, &workers[0]) == ZIMGASOL_OUT_OF_TURN && workers[0].full != 0);
+    for (size_t j = 1; j < CHANNELS; j++) WANT(zimgasol_multi_give_back(&multi, &workers[j]) == ZIMGASOL_DONE);
+    WANT(zimgasol_multi_end_round(&multi) == ZIMGASOL_DONE && zimgasol_multi_finish(&multi) == ZIMGASOL_DONE);
+    memset(length, 0, sizeof length);
+    if (drain_main(&multi)) return 1;
+    for (size_t j = 0; j < CHANNELS; j++)
+        while ((len = zimgasol_multi_drain_channel(&multi, j, stream[1 + j] + length[1 + j], 10000)) > 0) length[1 + j] += len;
+    WANT(zimgasol_in_place_session_new(&load, table, uuid, 16, CHANNELS, ZIMGASOL_FRAME_RAM) == ZIMGASOL_DONE);
+    for (size_t source = 0; source <= CHANNELS; source++)
+        WANT(zimgasol_in_place_session_feed(&load, into, 2, source, stream[source], length[source], &taken) == ZIMGASOL_DONE);
+    WANT(zimgasol_in_place_session_verdict(&load, &fault) == ZIMGASOL_ROUND_DOUBLED && fault.first == 1 && fault.round == 0);
+    zimgasol_in_place_session_free(&load);
+    zimgasol_worker_free(&workers[0]);
+    zimgasol_multi_free(&multi);
+    zimgasol_multi_free(&other);
+    return 0;
+}
+
 int main(void) {
     zimgasol_block blocks[2] = {{.id = "pc.ram", .pages = PAGES}, {.id = "pc.bios", .pages = OTHER}};
     zimgasol_table table = {0};
@@ -256,6 +304,7 @@ int main(void) {
         if (load_all(&table, cuts[i])) return 1;
     if (load_wrong(&table)) return 1;
     printf("%zu bytes on the main stream, %zu, %zu and %zu on the channels; 0 pages differ\n", length[0], length[1], length[2], length[3]);
+    if (foreign(&table)) return 1;
     zimgasol_table_free(&table);
     return 0;
 }
