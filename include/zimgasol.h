@@ -210,7 +210,7 @@ typedef enum zimgasol_status {
     ZIMGASOL_BATCH_LIMIT = 62,
     /* a load into blocks: the stream's table isn't that of the blocks */
     ZIMGASOL_OTHER_TABLE = 63,
-    /* more page records than may wait: no load of this library sets such a limit */
+    /* more page records in a section or a round than may wait (zimgasol_settings) */
     ZIMGASOL_STREAM_WAITING = 64,
 
     /* ---- a call, and how a load stands */
@@ -262,6 +262,19 @@ typedef enum zimgasol_frame {
 } zimgasol_frame;
 
 ZIMGASOL_ASSERT(sizeof(zimgasol_frame) == sizeof(uint32_t), "an enum has the size of an int");
+
+/* What a load is passed beside its streams, where its _new says `_within`. All zeros are the
+ * settings of the same call without it, in the frame RAM.
+ *  - `waiting`: the most page records of one section of a single stream, or of one round of a main
+ *    stream. One more is the fault STREAM_WAITING. 0 sets no limit. A loader keeps the pages of a
+ *    section until its footer has come, so this bounds what a sender can have it keep. Each load
+ *    judges it, so that all give one answer. The packets of channels aren't counted.
+ *  - `reserved`: zeros, as room for what may come. */
+typedef struct zimgasol_settings {
+    zimgasol_frame frame;
+    uint64_t waiting;
+    uint64_t reserved[6];
+} zimgasol_settings;
 
 /* A RAM block: its id, which a byte 0 ends, as in QEMU's idstr, and how many pages it has. */
 typedef struct zimgasol_block {
@@ -383,6 +396,10 @@ ZIMGASOL_API void zimgasol_table_free(zimgasol_table *table);
 ZIMGASOL_API zimgasol_status zimgasol_loader_new(zimgasol_loader *loader, uint64_t page_size,
     uint64_t limit, zimgasol_frame frame);
 
+/* As zimgasol_loader_new, with settings. */
+ZIMGASOL_API zimgasol_status zimgasol_loader_new_within(zimgasol_loader *loader,
+    uint64_t page_size, uint64_t limit, const zimgasol_settings *settings);
+
 /* Takes the next piece of the stream, of any length, and puts the sections that it makes whole into
  * the memory. The piece may go afterwards. Returns DONE; NO_MEMORY, where nothing has changed and
  * the piece can be fed again; WAITS, where it was taken, and sections wait for memory of the guest,
@@ -470,6 +487,10 @@ ZIMGASOL_API void zimgasol_loader_free(zimgasol_loader *loader);
 ZIMGASOL_API zimgasol_status zimgasol_in_place_new(zimgasol_in_place *in_place,
     zimgasol_table *table, zimgasol_frame frame);
 
+/* As zimgasol_in_place_new, with settings. */
+ZIMGASOL_API zimgasol_status zimgasol_in_place_new_within(zimgasol_in_place *in_place,
+    zimgasol_table *table, const zimgasol_settings *settings);
+
 /* Takes the next piece of the stream, of any length, and writes its pages into the blocks, of which
  * there are `count`, in the table's order. The array `blocks` stays as it is. The piece may go
  * afterwards. Returns DONE, also once the verdict is there, where bytes are only counted. Or the
@@ -516,6 +537,11 @@ ZIMGASOL_API void zimgasol_in_place_free(zimgasol_in_place *in_place);
  * or NO_MEMORY. */
 ZIMGASOL_API zimgasol_status zimgasol_session_new(zimgasol_session *session, uint64_t page_size,
     const uint8_t *uuid, size_t uuid_len, size_t channels, uint64_t limit, zimgasol_frame frame);
+
+/* As zimgasol_session_new, with settings. */
+ZIMGASOL_API zimgasol_status zimgasol_session_new_within(zimgasol_session *session,
+    uint64_t page_size, const uint8_t *uuid, size_t uuid_len, size_t channels, uint64_t limit,
+    const zimgasol_settings *settings);
 
 /* Takes the next piece of a source, ZIMGASOL_MAIN or ZIMGASOL_CHANNEL(j), and puts the rounds that
  * all sources have whole into the memory. Returns DONE, also where the load is over and bytes are
@@ -581,6 +607,11 @@ ZIMGASOL_API void zimgasol_session_free(zimgasol_session *session);
 ZIMGASOL_API zimgasol_status zimgasol_in_place_session_new(zimgasol_in_place_session *session,
     zimgasol_table *table, const uint8_t *uuid, size_t uuid_len, size_t channels,
     zimgasol_frame frame);
+
+/* As zimgasol_in_place_session_new, with settings. */
+ZIMGASOL_API zimgasol_status zimgasol_in_place_session_new_within(
+    zimgasol_in_place_session *session, zimgasol_table *table, const uint8_t *uuid,
+    size_t uuid_len, size_t channels, const zimgasol_settings *settings);
 
 /* Takes the first bytes of a piece of a source, ZIMGASOL_MAIN or ZIMGASOL_CHANNEL(j), and writes
  * their pages into the blocks, of which there are `count`, in the table's order. *taken is how

@@ -25,6 +25,7 @@ STRUCTS = {
     "NamedPlace": "zimgasol_place",
     "NamedBlock": "zimgasol_block",
     "FoundFault": "zimgasol_fault",
+    "AskedSettings": "zimgasol_settings",
     "StatusText": "zimgasol_text",
 }
 # slices of bytes, in a slice: each is a pointer and a length to C
@@ -116,8 +117,7 @@ def struct_fields():
         body = re.search(r"#\[repr\(C\)\]\s*(?:#\[[^]]*\]\s*)*pub struct %s \{(.*?)\n\}" % rust, sources, re.S)[1]
         ours = [line for label, kind in FIELD.findall(body) for line in c_fields(label, kind)]
         theirs = [line.strip() for line in re.search(r"typedef struct %s \{(.*?)\}" % name, header, re.S)[1].split(";") if line.strip()]
-        yield name, ours, theirs
-
+        yield name, ours, [line.replace("zimgasol_frame ", "uint32_t ") for line in theirs]
 
     for name, ours in SLICES.values():
         theirs = [line.strip() for line in re.search(r"typedef struct %s \{(.*?)\}" % name, header, re.S)[1].split(";") if line.strip()]

@@ -1,4 +1,4 @@
--- The frame of a stream, by its number for C.
+-- What C passes to a load beside its streams: what they are read as, and what may wait.
 use Rattle.std.specs.Prelude.{ℕ, ◌==◌, Option, None, Some, if◌then◌else◌}
 use Rattle.std.specs.Option.{option_map}
 use Rattle.mig_stream.specs.declared.item.Frame.{Frame}
@@ -9,9 +9,13 @@ use Rattle.mig_single_load.specs.declared.settings.LoadSettings.{LoadSettings}
 abbrev pub frame_of : ℕ → Option Frame
 frame_of number = if number == 0 then Some Ram else if number == 1 then Some Machine else None
 
-abbrev pub load_settings : ℕ → ℕ → Frame → LoadSettings
-load_settings page_size limit frame = record { page_size = page_size; limit = limit; frame = frame; waiting = None }
+-- the most page records of a section or a round: 0 sets no limit
+abbrev pub waiting_of : ℕ → Option ℕ
+waiting_of count = if count == 0 then None else Some count
 
--- the settings that C asks for, if there is such a frame
-abbrev pub asked_settings : ℕ → ℕ → ℕ → Option LoadSettings
-asked_settings page_size limit frame = option_map (load_settings page_size limit) (frame_of frame)
+abbrev pub load_settings : ℕ → ℕ → Option ℕ → Frame → LoadSettings
+load_settings page_size limit waiting frame = record { page_size = page_size; limit = limit; frame = frame; waiting = waiting }
+
+-- the settings that C asks for, where there is such a frame
+abbrev pub asked_settings : ℕ → ℕ → ℕ → Option ℕ → Option LoadSettings
+asked_settings page_size limit frame waiting = option_map (load_settings page_size limit waiting) (frame_of frame)

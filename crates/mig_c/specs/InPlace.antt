@@ -17,30 +17,30 @@ use Rattle.mig_c.specs.Found.{seen_so_far}
 
 -- ---- the calls
 
--- The settings of a load into blocks of this table. The limit is the largest one: the table is
--- known, and a stream with another one is refused.
-abbrev pub settings_into : RamTable → Frame → LoadSettings
-settings_into table frame = load_settings table.page_size (2 ^ 40) frame
+-- The settings of a load into blocks of this table. The limit of its stream is the largest one: what
+-- the table has is known, and another table is refused.
+abbrev pub settings_into : RamTable → Frame → Option ℕ → LoadSettings
+settings_into table frame waiting = load_settings table.page_size (2 ^ 40) waiting frame
 
--- For any blocks that fit this table the load was fed nothing yet. Its stream is read in this
--- frame.
-pub record Begins (table : RamTable) (frame : Frame) (s : LoadInPlace) : Type 0 where
+-- With any blocks that fit this table it was fed nothing yet, of a stream that is read in this
+-- frame, and may have so many page records in a section.
+pub record Begins (table : RamTable) (frame : Frame) (waiting : Option ℕ) (s : EagerLoad) : Type 0 where
   pub same_table : s.table ≡ table
   pub none_fed : s.fed ≡ 0
   pub goes_on : IsFalse s.ended
   pub loads : (blocks : List (List ℕ)) → FitTable table blocks
-      → LoadsInPlace (lent_image table blocks) (settings_into table frame) (lent_image table blocks) s [] false
+      → EagerlyLoads (lent_image table blocks) (settings_into table frame waiting) (lent_image table blocks) s [] false
 
-abbrev pub Opens : Option RamTable → Option Frame → Option LoadInPlace → Type 0
-Opens None frame made = ⊤
-Opens (Some table) None made = ⊥
-Opens (Some table) (Some frame) None = ⊥
-Opens (Some table) (Some frame) (Some s) = Begins table frame s
+abbrev pub Opens : Option RamTable → Option Frame → Option ℕ → Option EagerLoad → Type 0
+Opens None frame waiting made = ⊤
+Opens (Some table) None waiting made = ⊥
+Opens (Some table) (Some frame) waiting None = ⊥
+Opens (Some table) (Some frame) waiting (Some s) = Begins table frame waiting s
 
 -- What `new` does, with a table and the number of a frame.
-pub record OpensInPlace (table : Option RamTable) (frame : ℕ) (status : ℕ) (made : Option LoadInPlace) : Type 0 where
+pub record OpensInPlace (table : Option RamTable) (frame : ℕ) (waiting : Option ℕ) (status : ℕ) (made : Option EagerLoad) : Type 0 where
   pub is_named : IsOneOf (done ∷ no_memory ∷ bad_frame ∷ []) status
-  pub opens : status ≡ done → Opens table (frame_of frame) made
+  pub opens : status ≡ done → Opens table (frame_of frame) waiting made
   pub no_frame : status ≡ bad_frame → frame_of frame ≡ None
   pub has_frame : status ≢ bad_frame → frame_of frame ≢ None
 

@@ -22,24 +22,24 @@ use Rattle.mig_c.specs.InPlace.{settings_into}
 
 -- ---- the calls
 
--- For any blocks that fit this table the load took nothing yet. Its main stream is read in this
--- frame, and it has `channels` channels under this UUID.
-pub record BeginsInto (table : RamTable) (uuid : List ℕ) (channels : ℕ) (frame : Frame) (s : InPlaceLoad) : Type 0 where
+-- With any blocks that fit this table it took nothing yet: of a main stream that is read in this
+-- frame, and may have so many page records in a round, and of so many channels under this UUID.
+pub record BeginsInto (table : RamTable) (uuid : List ℕ) (channels : ℕ) (frame : Frame) (waiting : Option ℕ) (s : InPlaceLoad) : Type 0 where
   pub same_table : s.table ≡ table
   pub as_many : length (counts_of s.sources).channels ≡ channels
   pub stands : (blocks : List (List ℕ)) → FitTable table blocks
-      → StandsFor (settings_into table frame) uuid (lent_image table blocks) (no_texts channels) (lent_image table blocks) s
+      → StandsFor (settings_into table frame waiting) uuid (lent_image table blocks) (no_texts channels) (lent_image table blocks) s
 
-abbrev pub Opens : Option RamTable → List ℕ → ℕ → Option Frame → Option InPlaceLoad → Type 0
-Opens None uuid channels frame made = ⊤
-Opens (Some table) uuid channels None made = ⊥
-Opens (Some table) uuid channels (Some frame) None = ⊥
-Opens (Some table) uuid channels (Some frame) (Some s) = BeginsInto table uuid channels frame s
+abbrev pub Opens : Option RamTable → List ℕ → ℕ → Option Frame → Option ℕ → Option InPlaceLoad → Type 0
+Opens None uuid channels frame waiting made = ⊤
+Opens (Some table) uuid channels None waiting made = ⊥
+Opens (Some table) uuid channels (Some frame) waiting None = ⊥
+Opens (Some table) uuid channels (Some frame) waiting (Some s) = BeginsInto table uuid channels frame waiting s
 
--- The effect of `new`, with a table. It returns the first error.
-pub record OpensInto (table : Option RamTable) (uuid : List ℕ) (channels frame : ℕ) (status : ℕ) (made : Option InPlaceLoad) : Type 0 where
+-- What `new` does, with a table: the first thing that is wrong with what it is given is returned.
+pub record OpensInto (table : Option RamTable) (uuid : List ℕ) (channels frame : ℕ) (waiting : Option ℕ) (status : ℕ) (made : Option InPlaceLoad) : Type 0 where
   pub is_named : IsOneOf (done ∷ no_memory ∷ bad_channels ∷ bad_length ∷ bad_frame ∷ []) status
-  pub opens : status ≡ done → Opens table uuid channels (frame_of frame) made
+  pub opens : status ≡ done → Opens table uuid channels (frame_of frame) waiting made
   pub no_number : status ≡ bad_channels → (channels ≡ 0) ⊎ (255 < channels)
   pub numbered : status ≢ bad_channels → (1 ≤ channels) × (channels ≤ 255)
   pub short : status ≡ bad_length → length uuid ≢ 16

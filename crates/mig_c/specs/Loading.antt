@@ -21,10 +21,10 @@ Opens None made = ⊥
 Opens (Some given) None = ⊥
 Opens (Some given) (Some l) = IsFresh given l
 
--- The effect of `new`. It returns the first error.
-pub record OpensLoader (page_size limit frame : ℕ) (status : ℕ) (made : Option Loader) : Type 0 where
+-- What `new` does: the first thing that is wrong with what it is given is told.
+pub record OpensLoader (page_size limit frame : ℕ) (waiting : Option ℕ) (status : ℕ) (made : Option Loader) : Type 0 where
   pub is_named : IsOneOf (done ∷ no_memory ∷ bad_page_size ∷ bad_limit ∷ bad_frame ∷ []) status
-  pub opens : status ≡ done → Opens (asked_settings page_size limit frame) made
+  pub opens : status ≡ done → Opens (asked_settings page_size limit frame waiting) made
   pub foreign_size : status ≡ bad_page_size → IsPageSize page_size → ⊥
   pub has_size : status ≢ bad_page_size → IsPageSize page_size
   pub above : status ≡ bad_limit → 2 ^ 40 < limit

@@ -17,10 +17,10 @@ Opens None uuid channels made = ⊥
 Opens (Some given) uuid channels None = ⊥
 Opens (Some given) uuid channels (Some s) = StandsFor given uuid (no_texts channels) s
 
--- The effect of `new`. It returns the first error.
-pub record OpensSession (page_size : ℕ) (uuid : List ℕ) (channels limit frame : ℕ) (status : ℕ) (made : Option LoadSession) : Type 0 where
+-- What `new` does: the first thing that is wrong with what it is given is told.
+pub record OpensSession (page_size : ℕ) (uuid : List ℕ) (channels limit frame : ℕ) (waiting : Option ℕ) (status : ℕ) (made : Option LoadSession) : Type 0 where
   pub is_named : IsOneOf (done ∷ no_memory ∷ bad_page_size ∷ bad_limit ∷ bad_channels ∷ bad_length ∷ bad_frame ∷ []) status
-  pub opens : status ≡ done → Opens (asked_settings page_size limit frame) uuid channels made
+  pub opens : status ≡ done → Opens (asked_settings page_size limit frame waiting) uuid channels made
   pub foreign_size : status ≡ bad_page_size → IsPageSize page_size → ⊥
   pub has_size : status ≢ bad_page_size → IsPageSize page_size
   pub above : status ≡ bad_limit → 2 ^ 40 < limit

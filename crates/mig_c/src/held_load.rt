@@ -104,14 +104,15 @@ impl HeldLoad {
         alloc: Global,
         table: &Table<Global>,
         frame: Frame,
+        waiting: Option<u64>,
     ) -> Result<HeldLoad, NoMemory>
-        ensures { IfOk result (λ s. Begins table.now frame s) }
+        ensures { IfOk result (λ s. Begins table.now frame waiting s) }
     {
         let settings = LoadSettings {
             page_size: table.page_size(),
             limit: MAX_LIMIT,
             frame,
-            waiting: None,
+            waiting,
         };
         let state = InPlaceState::new_in(alloc, table, settings)?;
         let table = Some(table.copy_in(alloc)?);

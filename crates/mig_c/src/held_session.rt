@@ -133,15 +133,16 @@ impl HeldSession {
         uuid: &Uuid,
         channels: usize,
         frame: Frame,
+        waiting: Option<u64>,
     ) -> Result<HeldSession, NoMemory>
         requires channels { (1 ≤ channels) × (channels ≤ 255) }
-        ensures { IfOk result (λ s. BeginsInto table.now uuid.now channels frame s) }
+        ensures { IfOk result (λ s. BeginsInto table.now uuid.now channels frame waiting s) }
     {
         let settings = LoadSettings {
             page_size: table.page_size(),
             limit: MAX_LIMIT,
             frame,
-            waiting: None,
+            waiting,
         };
         let session = InPlaceSession::new_in(alloc, table, settings, uuid, channels)?;
         let table = Some(table.copy_in(alloc)?);

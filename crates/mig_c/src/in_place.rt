@@ -1,9 +1,10 @@
 //! The calls of a load of one stream into blocks of C. The blocks are passed to the call that feeds
 //! it. Each page is written as soon as its bytes have arrived.
 
-ghost use Rattle.std.specs.Prelude.{◌≡◌, ◌≢◌, IsSome, IfOk, None, Some};
+ghost use Rattle.std.specs.Prelude.{◌≡◌, ◌≢◌, IsSome, IfOk, IfErr, None, Some};
 ghost use Rattle.mig_mem.specs.Lent.{mut_lent_bytes};
 ghost use Rattle.mig_c_calls.specs.Status.{done};
+ghost use Rattle.mig_c.specs.Frames.{waiting_of as limit_of};
 ghost use Rattle.mig_c.specs.Kinds.{table_in, in_place_in, Turns, Tells};
 ghost use Rattle.mig_c.specs.InPlace.{Opens, OpensInPlace, FeedsInPlace, EndsInPlace, TellsVerdict, TellsClosedAt};
 
@@ -12,31 +13,67 @@ use crate::frame::frame_of;
 use crate::handle::{Handle, InPlaceHandle, TableHandle};
 use crate::held_load::HeldLoad;
 use crate::object::Object;
+use crate::settings::{AskedSettings, waiting_of};
 use mig_c_calls::status::{BAD_FRAME, DONE, NO_MEMORY};
 use mig_mem::{NoMemory, Table};
 use mig_stream::Frame;
 use std::alloc::Global;
 
-// Creates a load in a box.
-fn made(alloc: Global, table: &Table<Global>, frame: Frame) -> Result<Box<Object>, NoMemory>
-    ensures { IfOk result (λ object. Opens (Some table.now) (Some frame) (in_place_in (Some object.value))) }
+// A load in a box.
+fn made(
+    alloc: Global,
+    table: &Table<Global>,
+    frame: Frame,
+    waiting: Option<u64>,
+) -> Result<Box<Object>, NoMemory>
+    ensures { IfOk result (λ object. Opens (Some table.now) (Some frame) waiting (in_place_in (Some object.value))) }
 {
-    let load = HeldLoad::new(alloc, table, frame)?;
+    let load = HeldLoad::new(alloc, table, frame, waiting)?;
     Ok(Box::new(alloc, Object::InPlace(load))?)
 }
 
-fn made_of(alloc: Global, table: &Object, frame: Frame) -> Result<Box<Object>, NoMemory>
+fn made_of(
+    alloc: Global,
+    table: &Object,
+    frame: Frame,
+    waiting: Option<u64>,
+) -> Result<Box<Object>, NoMemory>
     requires { IsSome (table_in (Some table.now)) }
-    ensures { IfOk result (λ object. Opens (table_in (Some table.now)) (Some frame) (in_place_in (Some object.value))) }
+    ensures { IfOk result (λ object. Opens (table_in (Some table.now)) (Some frame) waiting (in_place_in (Some object.value))) }
 {
     match table {
-        Object::Table(table) => made(alloc, table, frame),
+        Object::Table(table) => made(alloc, table, frame, waiting),
         _ => unreachable!(),
     }
 }
 
-/// Creates a load into blocks of a table, which it copies. Its stream is read in `frame`. No bytes
-/// were fed.
+// Makes a load into blocks of a table, or returns why there is none.
+fn opened(
+    alloc: Global,
+    table: &mut TableHandle,
+    frame: u32,
+    waiting: Option<u64>,
+) -> Result<Box<Object>, u32>
+    requires { IsSome (table_in table.old.handle.value) }
+    ensures ok { IfOk result (λ object. OpensInPlace (table_in table.old.handle.value) frame waiting done (in_place_in (Some object.value))) }
+    ensures err { IfErr result (λ status. OpensInPlace (table_in table.old.handle.value) frame waiting status None) }
+    ensures refused { IfErr result (λ status. status ≢ done) }
+    ensures table { table.new.handle.value ≡ table.old.handle.value }
+{
+    let Some(frame) = frame_of(frame) else {
+        return Err(BAD_FRAME);
+    };
+    let object = table.handle.take().into_box(alloc);
+    let made = made_of(alloc, &object, frame, waiting);
+    table.handle = Handle::of(object);
+    match made {
+        Ok(object) => Ok(object),
+        Err(NoMemory) => Err(NO_MEMORY),
+    }
+}
+
+/// Makes a load that was fed nothing, into blocks of a table, of which it keeps copies. Its stream
+/// is read in a frame.
 #[unsafe(no_mangle)]
 pub extern "C" fn zimgasol_in_place_new(
     alloc: Global,
@@ -46,23 +83,43 @@ pub extern "C" fn zimgasol_in_place_new(
 ) -> u32
     requires none { in_place.old.handle.value ≡ None }
     requires table { IsSome (table_in table.old.handle.value) }
-    ensures opens { OpensInPlace (table_in table.old.handle.value) frame result (in_place_in in_place.new.handle.value) }
+    ensures opens { OpensInPlace (table_in table.old.handle.value) frame None result (in_place_in in_place.new.handle.value) }
     ensures none { result ≢ done → in_place.new.handle.value ≡ None }
     ensures table { table.new.handle.value ≡ table.old.handle.value }
 {
-    let Some(frame) = frame_of(frame) else {
-        return BAD_FRAME;
-    };
-    let object = table.handle.take().into_box(alloc);
-    let made = made_of(alloc, &object, frame);
-    table.handle = Handle::of(object);
-    match made {
+    match opened(alloc, table, frame, None) {
         Ok(object) => {
             in_place.handle = Handle::of(object);
             in_place.full = 1;
             DONE
         }
-        Err(NoMemory) => NO_MEMORY,
+        Err(status) => status,
+    }
+}
+
+/// Makes a load that was fed nothing, into blocks of a table, of which it keeps copies, with these
+/// settings.
+#[unsafe(no_mangle)]
+pub extern "C" fn zimgasol_in_place_new_within(
+    alloc: Global,
+    in_place: &mut InPlaceHandle,
+    table: &mut TableHandle,
+    settings: &AskedSettings,
+) -> u32
+    requires none { in_place.old.handle.value ≡ None }
+    requires table { IsSome (table_in table.old.handle.value) }
+    ensures opens { OpensInPlace (table_in table.old.handle.value) settings.now.frame (limit_of settings.now.waiting) result (in_place_in in_place.new.handle.value) }
+    ensures none { result ≢ done → in_place.new.handle.value ≡ None }
+    ensures table { table.new.handle.value ≡ table.old.handle.value }
+{
+    let waiting = waiting_of(settings.waiting);
+    match opened(alloc, table, settings.frame, waiting) {
+        Ok(object) => {
+            in_place.handle = Handle::of(object);
+            in_place.full = 1;
+            DONE
+        }
+        Err(status) => status,
     }
 }
 

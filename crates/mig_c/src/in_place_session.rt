@@ -1,9 +1,10 @@
 //! The calls of a load of several channels into blocks of C, which is fed in pieces by source. Each
 //! page is written as soon as its bytes have arrived.
 
-ghost use Rattle.std.specs.Prelude.{◌≡◌, ◌≢◌, ◌≤◌, IsSome, IfOk, None, Some};
+ghost use Rattle.std.specs.Prelude.{◌≡◌, ◌≢◌, ◌≤◌, IsSome, IfOk, IfErr, None, Some};
 ghost use Rattle.mig_mem.specs.Lent.{mut_lent_bytes};
 ghost use Rattle.mig_c_calls.specs.Status.{done};
+ghost use Rattle.mig_c.specs.Frames.{waiting_of as limit_of};
 ghost use Rattle.mig_c.specs.Kinds.{table_in, in_place_session_in, Turns, Tells};
 ghost use Rattle.mig_c.specs.Found.{seen_of_verdict};
 ghost use Rattle.mig_c.specs.Sessions.{source_of};
@@ -14,6 +15,7 @@ use crate::frame::frame_of;
 use crate::handle::{Handle, InPlaceSessionHandle, TableHandle};
 use crate::held_session::HeldSession;
 use crate::object::Object;
+use crate::settings::{AskedSettings, waiting_of};
 use crate::sources::source_of;
 use mig_c_calls::status::{BAD_CHANNELS, BAD_FRAME, BAD_LENGTH, DONE, NO_MEMORY};
 use mig_mem::{NoMemory, Table};
@@ -29,11 +31,12 @@ fn made(
     uuid: &Uuid,
     channels: usize,
     frame: Frame,
+    waiting: Option<u64>,
 ) -> Result<Box<Object>, NoMemory>
     requires channels { (1 ≤ channels) × (channels ≤ 255) }
-    ensures { IfOk result (λ object. Opens (Some table.now) uuid.now channels (Some frame) (in_place_session_in (Some object.value))) }
+    ensures { IfOk result (λ object. Opens (Some table.now) uuid.now channels (Some frame) waiting (in_place_session_in (Some object.value))) }
 {
-    let load = HeldSession::new(alloc, table, uuid, channels, frame)?;
+    let load = HeldSession::new(alloc, table, uuid, channels, frame, waiting)?;
     Ok(Box::new(alloc, Object::InPlaceSession(load))?)
 }
 
@@ -43,19 +46,53 @@ fn made_of(
     uuid: &Uuid,
     channels: usize,
     frame: Frame,
+    waiting: Option<u64>,
 ) -> Result<Box<Object>, NoMemory>
     requires table { IsSome (table_in (Some table.now)) }
     requires channels { (1 ≤ channels) × (channels ≤ 255) }
-    ensures { IfOk result (λ object. Opens (table_in (Some table.now)) uuid.now channels (Some frame) (in_place_session_in (Some object.value))) }
+    ensures { IfOk result (λ object. Opens (table_in (Some table.now)) uuid.now channels (Some frame) waiting (in_place_session_in (Some object.value))) }
 {
     match table {
-        Object::Table(table) => made(alloc, table, uuid, channels, frame),
+        Object::Table(table) => made(alloc, table, uuid, channels, frame, waiting),
         _ => unreachable!(),
     }
 }
 
-/// Creates a load into blocks of a table, which it copies, from `channels` channels under a UUID of
-/// 16 bytes. Its main stream is read in `frame`. No bytes were taken.
+// Makes a load into blocks of a table, or returns why there is none.
+fn opened(
+    alloc: Global,
+    table: &mut TableHandle,
+    uuid: &[u8],
+    channels: usize,
+    frame: u32,
+    waiting: Option<u64>,
+) -> Result<Box<Object>, u32>
+    requires { IsSome (table_in table.old.handle.value) }
+    ensures ok { IfOk result (λ object. OpensInto (table_in table.old.handle.value) uuid.now channels frame waiting done (in_place_session_in (Some object.value))) }
+    ensures err { IfErr result (λ status. OpensInto (table_in table.old.handle.value) uuid.now channels frame waiting status None) }
+    ensures refused { IfErr result (λ status. status ≢ done) }
+    ensures table { table.new.handle.value ≡ table.old.handle.value }
+{
+    if channels == 0 || channels > 255 {
+        return Err(BAD_CHANNELS);
+    }
+    let Ok(uuid) = Uuid::from_slice(uuid) else {
+        return Err(BAD_LENGTH);
+    };
+    let Some(frame) = frame_of(frame) else {
+        return Err(BAD_FRAME);
+    };
+    let object = table.handle.take().into_box(alloc);
+    let made = made_of(alloc, &object, &uuid, channels, frame, waiting);
+    table.handle = Handle::of(object);
+    match made {
+        Ok(object) => Ok(object),
+        Err(NoMemory) => Err(NO_MEMORY),
+    }
+}
+
+/// Makes a load that took nothing, into blocks of a table, of which it keeps copies, from so many
+/// channels under a UUID of 16 bytes. Its main stream is read in a frame.
 #[unsafe(no_mangle)]
 pub extern "C" fn zimgasol_in_place_session_new(
     alloc: Global,
@@ -67,29 +104,46 @@ pub extern "C" fn zimgasol_in_place_session_new(
 ) -> u32
     requires none { session.old.handle.value ≡ None }
     requires table { IsSome (table_in table.old.handle.value) }
-    ensures opens { OpensInto (table_in table.old.handle.value) uuid.now channels frame result (in_place_session_in session.new.handle.value) }
+    ensures opens { OpensInto (table_in table.old.handle.value) uuid.now channels frame None result (in_place_session_in session.new.handle.value) }
     ensures none { result ≢ done → session.new.handle.value ≡ None }
     ensures table { table.new.handle.value ≡ table.old.handle.value }
 {
-    if channels == 0 || channels > 255 {
-        return BAD_CHANNELS;
-    }
-    let Ok(uuid) = Uuid::from_slice(uuid) else {
-        return BAD_LENGTH;
-    };
-    let Some(frame) = frame_of(frame) else {
-        return BAD_FRAME;
-    };
-    let object = table.handle.take().into_box(alloc);
-    let made = made_of(alloc, &object, &uuid, channels, frame);
-    table.handle = Handle::of(object);
-    match made {
+    match opened(alloc, table, uuid, channels, frame, None) {
         Ok(object) => {
             session.handle = Handle::of(object);
             session.full = 1;
             DONE
         }
-        Err(NoMemory) => NO_MEMORY,
+        Err(status) => status,
+    }
+}
+
+/// Makes a load that took nothing, into blocks of a table, of which it keeps copies, from so many
+/// channels under a UUID of 16 bytes, with these settings.
+#[unsafe(no_mangle)]
+pub extern "C" fn zimgasol_in_place_session_new_within(
+    alloc: Global,
+    session: &mut InPlaceSessionHandle,
+    table: &mut TableHandle,
+    uuid: &[u8],
+    channels: usize,
+    settings: &AskedSettings,
+) -> u32
+    requires none { session.old.handle.value ≡ None }
+    requires table { IsSome (table_in table.old.handle.value) }
+    ensures opens { OpensInto (table_in table.old.handle.value) uuid.now channels settings.now.frame (limit_of settings.now.waiting) result
+        (in_place_session_in session.new.handle.value) }
+    ensures none { result ≢ done → session.new.handle.value ≡ None }
+    ensures table { table.new.handle.value ≡ table.old.handle.value }
+{
+    let waiting = waiting_of(settings.waiting);
+    match opened(alloc, table, uuid, channels, settings.frame, waiting) {
+        Ok(object) => {
+            session.handle = Handle::of(object);
+            session.full = 1;
+            DONE
+        }
+        Err(status) => status,
     }
 }
 

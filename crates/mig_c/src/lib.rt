@@ -28,6 +28,7 @@ mod putting;
 mod reading;
 mod sender;
 mod session;
+mod settings;
 mod sources;
 mod table;
 mod text;

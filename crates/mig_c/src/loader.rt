@@ -1,9 +1,10 @@
 //! The calls of a loader of one stream, which is fed in pieces.
 
-ghost use Rattle.std.specs.Prelude.{◌≡◌, ◌≢◌, ◌≤◌, ◌^◌, IsSome, IfOk, None, Some, IsTrue, length};
+ghost use Rattle.std.specs.Prelude.{◌≡◌, ◌≢◌, ◌≤◌, ◌^◌, IsSome, IfOk, IfErr, None, Some, IsTrue, length};
 ghost use Rattle.mig_mem.specs.PageSize.{IsPageSize};
 ghost use Rattle.mig_single_load.specs.Loader.{memory_of, sections_loaded};
 ghost use Rattle.mig_c_calls.specs.Status.{done};
+ghost use Rattle.mig_c.specs.Frames.{waiting_of as limit_of};
 ghost use Rattle.mig_c.specs.Kinds.{loader_in, Turns, Tells};
 ghost use Rattle.mig_c.specs.Reading.{GivesPage, GivesPages, GivesBlock, FindsFilled, place_at, block_count};
 ghost use Rattle.mig_c.specs.Loading.{IsFresh, Opens, Feeds, Settles, Ends, TellsVerdict, TellsClosedAt, OpensLoader};
@@ -14,6 +15,7 @@ use crate::frame::frame_of;
 use crate::handle::{Handle, LoaderHandle};
 use crate::object::Object;
 use crate::reading;
+use crate::settings::{AskedSettings, waiting_of};
 use mig_c_calls::status::{
     BAD_FRAME, BAD_LIMIT, BAD_PAGE_SIZE, DONE, IS_OVER, MAX_LIMIT, NO_MEMORY, ROOM, RUNNING,
     TOO_LONG, WAITS,
@@ -32,7 +34,40 @@ fn made(alloc: Global, settings: LoadSettings) -> Result<Box<Object>, NoMemory>
     Ok(Box::new(alloc, Object::Loader(loader))?)
 }
 
-/// Creates a loader of a stream that is read in `frame`. No bytes were fed.
+// Makes a loader, or returns why there is none.
+fn opened(
+    alloc: Global,
+    page_size: u64,
+    limit: u64,
+    frame: u32,
+    waiting: Option<u64>,
+) -> Result<Box<Object>, u32>
+    ensures ok { IfOk result (λ object. OpensLoader page_size limit frame waiting done (loader_in (Some object.value))) }
+    ensures err { IfErr result (λ status. OpensLoader page_size limit frame waiting status None) }
+    ensures refused { IfErr result (λ status. status ≢ done) }
+{
+    if !is_page_size(page_size) {
+        return Err(BAD_PAGE_SIZE);
+    }
+    if limit > MAX_LIMIT {
+        return Err(BAD_LIMIT);
+    }
+    let Some(frame) = frame_of(frame) else {
+        return Err(BAD_FRAME);
+    };
+    let settings = LoadSettings {
+        page_size,
+        limit,
+        frame,
+        waiting,
+    };
+    match made(alloc, settings) {
+        Ok(object) => Ok(object),
+        Err(NoMemory) => Err(NO_MEMORY),
+    }
+}
+
+/// Makes a loader that was fed nothing, of a stream that is read in a frame.
 #[unsafe(no_mangle)]
 pub extern "C" fn zimgasol_loader_new(
     alloc: Global,
@@ -42,31 +77,40 @@ pub extern "C" fn zimgasol_loader_new(
     frame: u32,
 ) -> u32
     requires none { loader.old.handle.value ≡ None }
-    ensures opens { OpensLoader page_size limit frame result (loader_in loader.new.handle.value) }
+    ensures opens { OpensLoader page_size limit frame None result (loader_in loader.new.handle.value) }
     ensures none { result ≢ done → loader.new.handle.value ≡ None }
 {
-    if !is_page_size(page_size) {
-        return BAD_PAGE_SIZE;
-    }
-    if limit > MAX_LIMIT {
-        return BAD_LIMIT;
-    }
-    let Some(frame) = frame_of(frame) else {
-        return BAD_FRAME;
-    };
-    let settings = LoadSettings {
-        page_size,
-        limit,
-        frame,
-        waiting: None,
-    };
-    match made(alloc, settings) {
+    match opened(alloc, page_size, limit, frame, None) {
         Ok(object) => {
             loader.handle = Handle::of(object);
             loader.full = 1;
             DONE
         }
-        Err(NoMemory) => NO_MEMORY,
+        Err(status) => status,
+    }
+}
+
+/// Makes a loader that was fed nothing, with these settings.
+#[unsafe(no_mangle)]
+pub extern "C" fn zimgasol_loader_new_within(
+    alloc: Global,
+    loader: &mut LoaderHandle,
+    page_size: u64,
+    limit: u64,
+    settings: &AskedSettings,
+) -> u32
+    requires none { loader.old.handle.value ≡ None }
+    ensures opens { OpensLoader page_size limit settings.now.frame (limit_of settings.now.waiting) result (loader_in loader.new.handle.value) }
+    ensures none { result ≢ done → loader.new.handle.value ≡ None }
+{
+    let waiting = waiting_of(settings.waiting);
+    match opened(alloc, page_size, limit, settings.frame, waiting) {
+        Ok(object) => {
+            loader.handle = Handle::of(object);
+            loader.full = 1;
+            DONE
+        }
+        Err(status) => status,
     }
 }
 

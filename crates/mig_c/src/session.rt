@@ -1,9 +1,10 @@
 //! The calls of a load of several channels, which is fed in pieces by source.
 
-ghost use Rattle.std.specs.Prelude.{◌≡◌, ◌≢◌, ◌≤◌, ◌^◌, IsSome, IfOk, None, Some, length};
+ghost use Rattle.std.specs.Prelude.{◌≡◌, ◌≢◌, ◌≤◌, ◌^◌, IsSome, IfOk, IfErr, None, Some, length};
 ghost use Rattle.mig_mem.specs.PageSize.{IsPageSize};
 ghost use Rattle.mig_session.specs.Session.{answer_in};
 ghost use Rattle.mig_c_calls.specs.Status.{done};
+ghost use Rattle.mig_c.specs.Frames.{waiting_of as limit_of};
 ghost use Rattle.mig_c.specs.Kinds.{session_in, Turns, Tells};
 ghost use Rattle.mig_c.specs.Found.{seen_of_verdict};
 ghost use Rattle.mig_c.specs.Reading.{GivesPage, GivesPages, GivesBlock, FindsFilled, place_at, block_count};
@@ -15,6 +16,7 @@ use crate::frame::frame_of;
 use crate::handle::{Handle, SessionHandle};
 use crate::object::Object;
 use crate::reading;
+use crate::settings::{AskedSettings, waiting_of};
 use crate::sources::{end_source, fed_of, feed_source, source_of};
 use mig_answer::Verdict;
 use mig_c_calls::status::{
@@ -42,8 +44,49 @@ fn made(
     Ok(Box::new(alloc, Object::Session(session))?)
 }
 
-/// Creates a session of `channels` channels under a UUID of 16 bytes. Its main stream is read in
-/// `frame`. No bytes were fed.
+// Makes a session, or returns why there is none.
+fn opened(
+    alloc: Global,
+    page_size: u64,
+    uuid: &[u8],
+    channels: usize,
+    limit: u64,
+    frame: u32,
+    waiting: Option<u64>,
+) -> Result<Box<Object>, u32>
+    ensures ok { IfOk result (λ object. OpensSession page_size uuid.now channels limit frame waiting done (session_in (Some object.value))) }
+    ensures err { IfErr result (λ status. OpensSession page_size uuid.now channels limit frame waiting status None) }
+    ensures refused { IfErr result (λ status. status ≢ done) }
+{
+    if !is_page_size(page_size) {
+        return Err(BAD_PAGE_SIZE);
+    }
+    if limit > MAX_LIMIT {
+        return Err(BAD_LIMIT);
+    }
+    if channels == 0 || channels > 255 {
+        return Err(BAD_CHANNELS);
+    }
+    let Ok(uuid) = Uuid::from_slice(uuid) else {
+        return Err(BAD_LENGTH);
+    };
+    let Some(frame) = frame_of(frame) else {
+        return Err(BAD_FRAME);
+    };
+    let settings = LoadSettings {
+        page_size,
+        limit,
+        frame,
+        waiting,
+    };
+    match made(alloc, settings, &uuid, channels) {
+        Ok(object) => Ok(object),
+        Err(NoMemory) => Err(NO_MEMORY),
+    }
+}
+
+/// Makes a session that was fed nothing, of so many channels under a UUID of 16 bytes. Its main
+/// stream is read in a frame.
 #[unsafe(no_mangle)]
 pub extern "C" fn zimgasol_session_new(
     alloc: Global,
@@ -55,37 +98,44 @@ pub extern "C" fn zimgasol_session_new(
     frame: u32,
 ) -> u32
     requires none { session.old.handle.value ≡ None }
-    ensures opens { OpensSession page_size uuid.now channels limit frame result (session_in session.new.handle.value) }
+    ensures opens { OpensSession page_size uuid.now channels limit frame None result (session_in session.new.handle.value) }
     ensures none { result ≢ done → session.new.handle.value ≡ None }
 {
-    if !is_page_size(page_size) {
-        return BAD_PAGE_SIZE;
-    }
-    if limit > MAX_LIMIT {
-        return BAD_LIMIT;
-    }
-    if channels == 0 || channels > 255 {
-        return BAD_CHANNELS;
-    }
-    let Ok(uuid) = Uuid::from_slice(uuid) else {
-        return BAD_LENGTH;
-    };
-    let Some(frame) = frame_of(frame) else {
-        return BAD_FRAME;
-    };
-    let settings = LoadSettings {
-        page_size,
-        limit,
-        frame,
-        waiting: None,
-    };
-    match made(alloc, settings, &uuid, channels) {
+    match opened(alloc, page_size, uuid, channels, limit, frame, None) {
         Ok(object) => {
             session.handle = Handle::of(object);
             session.full = 1;
             DONE
         }
-        Err(NoMemory) => NO_MEMORY,
+        Err(status) => status,
+    }
+}
+
+/// Makes a session that was fed nothing, of so many channels under a UUID of 16 bytes, with these
+/// settings.
+#[unsafe(no_mangle)]
+pub extern "C" fn zimgasol_session_new_within(
+    alloc: Global,
+    session: &mut SessionHandle,
+    page_size: u64,
+    uuid: &[u8],
+    channels: usize,
+    limit: u64,
+    settings: &AskedSettings,
+) -> u32
+    requires none { session.old.handle.value ≡ None }
+    ensures opens { OpensSession page_size uuid.now channels limit settings.now.frame (limit_of settings.now.waiting) result (session_in session.new.handle.value) }
+    ensures none { result ≢ done → session.new.handle.value ≡ None }
+{
+    let waiting = waiting_of(settings.waiting);
+    let frame = settings.frame;
+    match opened(alloc, page_size, uuid, channels, limit, frame, waiting) {
+        Ok(object) => {
+            session.handle = Handle::of(object);
+            session.full = 1;
+            DONE
+        }
+        Err(status) => status,
     }
 }
 

@@ -228,18 +228,24 @@ static void cut_in_place(void) {
     zimgasol_in_place_free(&load);
 }
 
-/* The main stream of a round of a block of two pages, and its channel. */
+/* The main stream of a round of a block of two pages, which may be records of zeros on it, and its channel. */
 static void put_be(uint64_t number, int bytes) {
     while (bytes-- > 0) main_text[main_len++] = (uint8_t)(number >> 8 * bytes);
 }
 
-static void put_main(void) {
+static void put_main_with(int zero_pages) {
     main_len = 0;
     put_be(0x5145564D, 4), put_be(3, 4);
     put_be(1, 1), put_be(1, 4), put_be(3, 1), put_be(0x72616D, 3), put_be(0, 4), put_be(4, 4);
     put_be(2 * PAGE | 4, 8), put_be(1, 1), put_be('a', 1), put_be(2 * PAGE, 8), put_be(0x10, 8), put_be(0x7E, 1), put_be(1, 4);
-    put_be(2, 1), put_be(1, 4), put_be(0x200, 8), put_be(0x10, 8), put_be(0x7E, 1), put_be(1, 4);
+    put_be(2, 1), put_be(1, 4);
+    if (zero_pages) put_be(2, 8), put_be(1, 1), put_be('a', 1), put_be(0, 1), put_be(PAGE | 0x22, 8), put_be(0, 1);
+    put_be(0x200, 8), put_be(0x10, 8), put_be(0x7E, 1), put_be(1, 4);
     put_be(3, 1), put_be(1, 4), put_be(0x10, 8), put_be(0x7E, 1), put_be(1, 4), put_be(0, 1);
+}
+
+static void put_main(void) {
+    put_main_with(0);
 }
 
 static void put_channel(void) {
@@ -306,6 +312,51 @@ static void load_several(size_t cut) {
     zimgasol_session_free(&session);
 }
 
+/* Each section of the stream has two page records: with a limit of one, the second one of the first round is at fault. */
+static void limit_one_stream(uint64_t waiting) {
+    zimgasol_settings settings = {.waiting = waiting};
+    zimgasol_loader loader = {0};
+    zimgasol_in_place load = {0};
+    zimgasol_buffer blocks[2] = {{first_block, sizeof first_block}, {second_block, sizeof second_block}};
+    zimgasol_block named[2] = {{.id = "a", .pages = 3}, {.id = "pc.ram", .pages = 2}};
+    zimgasol_table table = {0};
+    zimgasol_fault fault;
+    size_t entry;
+    AGAIN(zimgasol_loader_new_within(&loader, PAGE, 1 << 20, &settings));
+    AGAIN(zimgasol_table_new(&table, PAGE, named, 2, &entry));
+    AGAIN(zimgasol_in_place_new_within(&load, &table, &settings));
+    zimgasol_table_free(&table);
+    WANT(zimgasol_loader_feed(&loader, text, text_len) == ZIMGASOL_DONE && zimgasol_in_place_feed(&load, blocks, 2, text, text_len) == ZIMGASOL_DONE);
+    uint32_t wanted = waiting == 1 ? ZIMGASOL_STREAM_WAITING : ZIMGASOL_DONE;
+    WANT(zimgasol_loader_verdict(&loader, &fault) == wanted);
+    WANT(zimgasol_in_place_verdict(&load, &fault) == wanted);
+    if (waiting == 1) {
+        WANT(fault.round == 1 && fault.source == ZIMGASOL_MAIN);
+    }
+    zimgasol_loader_free(&loader);
+    zimgasol_in_place_free(&load);
+    settings.frame = (zimgasol_frame)2;
+    WANT(zimgasol_loader_new_within(&loader, PAGE, 1 << 20, &settings) == ZIMGASOL_BAD_FRAME && loader.full == 0);
+}
+
+/* The main stream of a round has two records of zero pages, and the channel a SYNC packet alone: with a limit of one the second record is at fault. */
+static void limit_channels(uint64_t waiting) {
+    static const uint8_t uuid[16] = {1, 2, 3};
+    static const uint64_t none[1] = {0};
+    zimgasol_settings settings = {.waiting = waiting};
+    zimgasol_session session = {0};
+    zimgasol_fault fault;
+    put_main_with(1);
+    AGAIN(zimgasol_hello(uuid, 16, 0, channel_text, 64));
+    AGAIN(zimgasol_put_packet(PAGE, 0, true, (const uint8_t *)"", 0, none, 0, page, 0, none, 0, channel_text + 64, MOST - 64, &channel_len));
+    channel_len += 64;
+    AGAIN(zimgasol_session_new_within(&session, PAGE, uuid, 16, 1, 1 << 20, &settings));
+    WANT(feed_session(&session, MOST) == ZIMGASOL_DONE);
+    WANT(zimgasol_session_verdict(&session, &fault) == (waiting == 1 ? ZIMGASOL_STREAM_WAITING : ZIMGASOL_DONE));
+    zimgasol_session_free(&session);
+    put_main();
+}
+
 /* Calls that aren't to be made so. */
 static void misuse(void) {
     static const uint8_t uuid[16] = {0};
@@ -352,6 +403,10 @@ int main(int count, char **words) {
     put_main();
     send();
     cut_in_place();
+    for (uint64_t waiting = 1; waiting <= 2; waiting++) {
+        limit_one_stream(waiting);
+        limit_channels(waiting);
+    }
     for (refused = first; refused <= last; refused++) {
         counted = refusals = 0;
         send();
