@@ -377,6 +377,17 @@ static inline int zimgasol_fault_text(const zimgasol_fault *fault, char *out, si
         zimgasol_status_text(fault->number), carried, source, (unsigned long long)fault->round);
 }
 
+/* As zimgasol_fault_text, and says at which byte of its source the fault is: where the item at
+ * fault begins, as the _valid_up_to calls report it. */
+static inline int zimgasol_fault_text_at(const zimgasol_fault *fault, uint64_t at, char *out,
+    size_t len) {
+    int first = zimgasol_fault_text(fault, out, len);
+    size_t used = first < 0 ? 0 : (size_t)first;
+    int more = snprintf(used < len ? out + used : NULL, used < len ? len - used : 0,
+        ", at byte %llu", (unsigned long long)at);
+    return first < 0 || more < 0 ? -1 : first + more;
+}
+
 /* ---- a table: the page size of a guest, and its RAM blocks in their order */
 
 /* Makes a table of `count` blocks. Returns DONE, BAD_PAGE_SIZE, NO_MEMORY, or the first thing that
@@ -433,6 +444,11 @@ ZIMGASOL_API uint64_t zimgasol_loader_fed(zimgasol_loader *loader);
  * after them are the caller's. Returns DONE, or RUNNING where the stream isn't closed, and *at
  * stays. */
 ZIMGASOL_API zimgasol_status zimgasol_loader_closed_at(zimgasol_loader *loader, uint64_t *at);
+
+/* Returns how many of the bytes fed are complete items without a fault, from the first byte on. If
+ * the verdict is a fault of the stream (11 to 49, 64), the item at fault begins after them: at this
+ * byte, counted from 0. */
+ZIMGASOL_API uint64_t zimgasol_loader_valid_up_to(zimgasol_loader *loader);
 
 /* Returns how many blocks the guest has: 0 where its memory isn't there yet. */
 ZIMGASOL_API size_t zimgasol_loader_blocks(zimgasol_loader *loader);
@@ -526,6 +542,11 @@ ZIMGASOL_API uint64_t zimgasol_in_place_fed(zimgasol_in_place *in_place);
 ZIMGASOL_API zimgasol_status zimgasol_in_place_closed_at(zimgasol_in_place *in_place,
     uint64_t *at);
 
+/* Reports in *at how many of the bytes fed are complete items without a fault, as
+ * zimgasol_loader_valid_up_to does. Returns whether it is known: with OTHER_TABLE and NO_MEMORY it
+ * isn't, and *at stays. */
+ZIMGASOL_API bool zimgasol_in_place_valid_up_to(zimgasol_in_place *in_place, uint64_t *at);
+
 /* Frees it. The blocks stay the caller's. */
 ZIMGASOL_API void zimgasol_in_place_free(zimgasol_in_place *in_place);
 
@@ -561,6 +582,20 @@ ZIMGASOL_API zimgasol_status zimgasol_session_verdict(zimgasol_session *session,
 
 /* Returns how many bytes of a source were fed: 0 where there is no such source. */
 ZIMGASOL_API uint64_t zimgasol_session_fed(zimgasol_session *session, size_t source);
+
+/* Reports in *at how many of the bytes fed the main stream has, as zimgasol_loader_closed_at does
+ * of a stream. Returns DONE; or RUNNING, and *at stays, where it isn't closed, or wasn't before the
+ * verdict was there, and after NO_MEMORY. */
+ZIMGASOL_API zimgasol_status zimgasol_session_closed_at(zimgasol_session *session, uint64_t *at);
+
+/* Reports in *at how many of a source's bytes are complete items without a fault, from the first
+ * byte on. If the verdict is a fault of that source (11 to 45, 46 to 49, 64), the item at fault
+ * begins after them: at this byte, counted from 0. The other faults are of several sources, or of a
+ * round, and of no item. Returns whether it is known: not where there is no such source, as
+ * ZIMGASOL_ROUND, nor after NO_MEMORY, and then *at stays. What is fed once the verdict is there
+ * isn't read, so it isn't counted. */
+ZIMGASOL_API bool zimgasol_session_valid_up_to(zimgasol_session *session, size_t source,
+    uint64_t *at);
 
 /* As those of a loader. */
 ZIMGASOL_API uint64_t zimgasol_session_rounds(zimgasol_session *session);

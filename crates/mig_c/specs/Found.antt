@@ -1,5 +1,5 @@
 -- A load's fault as C sees it.
-use Rattle.std.specs.Prelude.{if◌then◌else◌, ℕ, Bool, List, [], ◌∷◌, ◌+◌, ◌-◌, ◌^◌, ◌==◌, min, Result, Ok, Err, ⊤}
+use Rattle.std.specs.Prelude.{if◌then◌else◌, ℕ, Bool, true, false, Option, None, Some, List, [], ◌∷◌, ◌+◌, ◌-◌, ◌^◌, ◌==◌, min, Result, Ok, Err, ⊤}
 use Rattle.mig_stream.specs.declared.fault.StreamFault.{StreamFault}
 use Rattle.mig_stream.specs.declared.fault.StreamFault.TheVariants as stream
 use Rattle.mig_packet.specs.declared.fault.ChannelFault.TheVariants as channel
@@ -82,3 +82,8 @@ abbrev pub seen_of_verdict : ℕ → Verdict → FoundFault
 seen_of_verdict rounds verdict.Done = no_fault
 seen_of_verdict rounds verdict.Running = goes_on rounds
 seen_of_verdict rounds (verdict.Failed f) = found_of f
+
+-- a number that C is told, or that it isn't: a call says which
+abbrev pub if_told : Bool → ℕ → Option ℕ
+if_told true number = Some number
+if_told false number = None

@@ -9,11 +9,11 @@ use Rattle.mig_single_load.specs.declared.settings.LoadSettings.{LoadSettings}
 use Rattle.mig_single_load.specs.declared.fault.LoadFault.{LoadFault}
 use Rattle.mig_single_load.specs.SingleLoad.{no_memory_at}
 use Rattle.mig_single_load.specs.InPlace.{HasVerdictOnto}
-use Rattle.mig_single_load.specs.LoadInPlace.{LoadInPlace, LoadsInPlace, LacksMemory, HasClosedAtOnto}
+use Rattle.mig_single_load.specs.Eager.{EagerLoad, EagerlyLoads, LacksMemory, HasClosedAtOnto, IsValidUpToOnto}
 use Rattle.mig_c.specs.declared.fault.FoundFault.{FoundFault}
 use Rattle.mig_c_calls.specs.Status.{IsOneOf, done, running, no_memory, is_over, too_long, bad_length, bad_frame}
 use Rattle.mig_c.specs.Frames.{frame_of, load_settings}
-use Rattle.mig_c.specs.Found.{seen_so_far}
+use Rattle.mig_c.specs.Found.{seen_so_far, if_told}
 
 -- ---- the calls
 
@@ -113,7 +113,16 @@ pub record TellsClosedAt (status before after : ℕ) (s : LoadInPlace) : Type 0 
       → status ≡ running
   pub same : status ≢ done → after ≡ before
 
--- ---- private: a page in the bytes of its block
+-- C sees how many of the bytes that were fed are complete items without a fault: a fault's item begins
+-- after them. It isn't told so of a stream of another table, nor after a refused allocation.
+pub record TellsValidUpTo (told : Bool) (before after : ℕ) (s : EagerLoad) : Type 0 where
+  pub loads : (memory : Image) (given : LoadSettings) (first : Image) (text : List ℕ) (ended : Bool) → EagerlyLoads memory given first s text ended
+      → IsValidUpToOnto given first text (if_told told after)
+  pub has_failed : (memory : Image) (given : LoadSettings) (first : Image) (text : List ℕ) (ended : Bool) → LacksMemory memory given first s text ended
+      → IsFalse told
+  pub same : IsFalse told → after ≡ before
+
+-- ---- the inside: a page in the bytes of its block
 
 -- the bytes of a block with other content at one of its pages
 abbrev pub with_content : ℕ → List ℕ → ℕ → List ℕ → List ℕ

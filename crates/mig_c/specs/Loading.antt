@@ -5,7 +5,7 @@ use Rattle.mig_single_load.specs.declared.settings.LoadSettings.{LoadSettings}
 use Rattle.mig_single_load.specs.declared.fault.LoadFault.{LoadFault}
 use Rattle.mig_single_load.specs.Loader.{Loader, Loads, HasAllSections, Waits, Judges}
 use Rattle.mig_mem.specs.PageSize.{IsPageSize}
-use Rattle.mig_stream.specs.Reader.{IsSettled, HasClosedAt}
+use Rattle.mig_stream.specs.Reader.{IsSettled, HasClosedAt, IsValidUpTo}
 use Rattle.mig_c.specs.declared.fault.FoundFault.{FoundFault}
 use Rattle.mig_c_calls.specs.Status.{IsOneOf, done, running, waits, no_memory, is_over, too_long, bad_page_size, bad_limit, bad_frame}
 use Rattle.mig_c.specs.Frames.{frame_of, asked_settings}
@@ -82,3 +82,8 @@ pub record TellsClosedAt (status before after : ℕ) (l : Loader) : Type 0 where
   pub closed : status ≡ done → (given : LoadSettings) (text : List ℕ) (ended : Bool) → Loads given l text ended → HasClosedAt (single_of given) text (Some after)
   pub not_closed : status ≡ running → (given : LoadSettings) (text : List ℕ) (ended : Bool) → Loads given l text ended → HasClosedAt (single_of given) text None
   pub same : status ≢ done → after ≡ before
+
+-- C sees how many of the bytes that were fed are complete items without a fault: a fault's item begins
+-- after them.
+abbrev pub TellsValidUpTo : ℕ → Loader → Type 0
+TellsValidUpTo number l = (given : LoadSettings) (text : List ℕ) (ended : Bool) → Loads given l text ended → IsValidUpTo (single_of given) text number

@@ -1,15 +1,18 @@
--- The effects of a session's calls, by status.
-use Rattle.std.specs.Prelude.{◌≡◌, ◌≢◌, ◌⊎◌, ◌≤◌, ◌<◌, ◌+◌, ◌-◌, ◌^◌, ℕ, List, [], ◌∷◌, length, IsTrue, IsFalse, if◌then◌else◌, ◌==◌, Option, None, Some}
+-- What the calls of a session do, by their status.
+use Rattle.std.specs.Prelude.{◌≡◌, ◌≢◌, ◌⊎◌, ◌≤◌, ◌<◌, ◌+◌, ◌-◌, ◌^◌, ℕ, Bool, List, [], ◌∷◌, length, IsTrue, IsFalse, if◌then◌else◌, ◌==◌, Option, None, Some}
 use Rattle.mig_session.specs.declared.source.Source.{Source}
 use Rattle.mig_session.specs.declared.source.Source.TheVariants as source
 use Rattle.mig_single_load.specs.declared.settings.LoadSettings.{LoadSettings}
 use Rattle.mig_answer.specs.declared.verdict.Verdict.TheVariants.{Running}
-use Rattle.mig_answer.specs.Texts.{no_texts}
-use Rattle.mig_session.specs.Session.{LoadSession, StandsFor, HasSource, count_of, feed_step, end_step, answer_in, StepsOn, RunsOut, StillLacks}
+use Rattle.mig_stream.specs.Reader.{IsClosedAt, HasClosedAt}
+use Rattle.mig_single_load.specs.Settings.{main_of}
+use Rattle.mig_answer.specs.Texts.{Texts, no_texts}
+use Rattle.mig_session.specs.Session.{LoadSession, StandsFor, HasSource, count_of, feed_step, end_step, answer_in, StepsOn, RunsOut, StillLacks, AsRead, LacksMemory, IsSourceValidUpTo}
 use Rattle.mig_session.specs.Advancing.{failed_without_memory}
 use Rattle.mig_mem.specs.PageSize.{IsPageSize}
-use Rattle.mig_c_calls.specs.Status.{IsOneOf, done, no_memory, bad_page_size, bad_limit, bad_channels, bad_source, is_over, too_long, bad_length, bad_frame}
+use Rattle.mig_c_calls.specs.Status.{IsOneOf, done, running, no_memory, bad_page_size, bad_limit, bad_channels, bad_source, is_over, too_long, bad_length, bad_frame}
 use Rattle.mig_c.specs.Frames.{frame_of, asked_settings}
+use Rattle.mig_c.specs.Found.{if_told}
 
 -- a session that was fed nothing
 abbrev pub Opens : Option LoadSettings → List ℕ → ℕ → Option LoadSession → Type 0
@@ -61,6 +64,27 @@ pub record TellsFed (from : Source) (fed : ℕ) (s : LoadSession) : Type 0 where
   pub counted : HasSource s.counts from → fed ≡ (count_of s.counts from).fed
   pub foreign : (HasSource s.counts from → ⊥) → fed ≡ 0
 
--- the source with a number: 0 is the main stream, 1 + j is channel j
+-- C sees how many of the bytes fed the main stream has, once it is closed; before that the number
+-- stays. Once the verdict is there the streams aren't read on.
+pub record TellsClosedAt (status before after : ℕ) (s : LoadSession) : Type 0 where
+  pub is_named : IsOneOf (done ∷ running ∷ []) status
+  pub closed : status ≡ done → (given : LoadSettings) (uuid : List ℕ) (texts : Texts) → StandsFor given uuid texts s
+      → IsClosedAt (main_of given) texts.main.bytes after
+  pub not_closed : status ≡ running → (given : LoadSettings) (uuid : List ℕ) (texts : Texts) → StandsFor given uuid texts s
+      → AsRead given uuid texts s (λ read. HasClosedAt (main_of given) read.main.bytes None)
+  pub lacking : (given : LoadSettings) (uuid : List ℕ) (texts : Texts) → LacksMemory given uuid texts s → status ≡ running
+  pub same : status ≢ done → after ≡ before
+
+-- C sees how many of a source's bytes are complete items without a fault, as far as they were read: a
+-- fault's item begins after them. It isn't told so where there is no such source, nor after a
+-- refused allocation.
+pub record TellsValidUpTo (from : Source) (told : Bool) (before after : ℕ) (s : LoadSession) : Type 0 where
+  pub stands : HasSource s.counts from → (given : LoadSettings) (uuid : List ℕ) (texts : Texts) → StandsFor given uuid texts s
+      → AsRead given uuid texts s (λ read. IsSourceValidUpTo given uuid read from (if_told told after))
+  pub lacking : (given : LoadSettings) (uuid : List ℕ) (texts : Texts) → LacksMemory given uuid texts s → IsFalse told
+  pub foreign : (HasSource s.counts from → ⊥) → IsFalse told
+  pub same : IsFalse told → after ≡ before
+
+-- the source of a number: 0 is the main stream, 1 + j channel j
 abbrev pub source_of : ℕ → Source
 source_of n = if n == 0 then source.Main else source.Channel (n - 1)

@@ -3,7 +3,7 @@
 
 ghost use Rattle.std.specs.Prelude.{◌≡◌, ◌<◌, ◌+◌, ◌^◌, IsFalse, IfOk, length};
 ghost use Rattle.mig_mem.specs.Lent.{mut_lent_bytes};
-ghost use Rattle.mig_c.specs.InPlace.{Begins, RefusesPiece, FeedsMemory, FeedsInPlace, EndsInPlace, TellsVerdict, TellsClosedAt};
+ghost use Rattle.mig_c.specs.InPlace.{Begins, RefusesPiece, FeedsMemory, FeedsInPlace, EndsInPlace, TellsVerdict, TellsClosedAt, TellsValidUpTo};
 
 use crate::fault::{FoundFault, of_verdict};
 use crate::lent::{LentBlocks, fit, put_back, taken_out};
@@ -162,6 +162,20 @@ impl HeldLoad {
                 DONE
             }
             None => RUNNING,
+        }
+    }
+
+    /// Returns whether it is known how many of the bytes fed are complete items without a fault, and
+    /// reports how many.
+    pub(crate) fn valid_up_to(&self, at: &mut u64) -> bool
+        ensures { TellsValidUpTo result at.old at.new self.now }
+    {
+        match self.state.valid_up_to() {
+            Some(count) => {
+                *at = count;
+                true
+            }
+            None => false,
         }
     }
 

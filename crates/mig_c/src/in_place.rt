@@ -4,9 +4,9 @@
 ghost use Rattle.std.specs.Prelude.{◌≡◌, ◌≢◌, IsSome, IfOk, IfErr, None, Some};
 ghost use Rattle.mig_mem.specs.Lent.{mut_lent_bytes};
 ghost use Rattle.mig_c_calls.specs.Status.{done};
-ghost use Rattle.mig_c.specs.Frames.{waiting_of as limit_of};
+ghost use Rattle.mig_c.specs.Frames.{waiting_of as most_waiting};
 ghost use Rattle.mig_c.specs.Kinds.{table_in, in_place_in, Turns, Tells};
-ghost use Rattle.mig_c.specs.InPlace.{Opens, OpensInPlace, FeedsInPlace, EndsInPlace, TellsVerdict, TellsClosedAt};
+ghost use Rattle.mig_c.specs.InPlace.{Opens, OpensInPlace, FeedsInPlace, EndsInPlace, TellsVerdict, TellsClosedAt, TellsValidUpTo};
 
 use crate::fault::FoundFault;
 use crate::frame::frame_of;
@@ -108,7 +108,7 @@ pub extern "C" fn zimgasol_in_place_new_within(
 ) -> u32
     requires none { in_place.old.handle.value ≡ None }
     requires table { IsSome (table_in table.old.handle.value) }
-    ensures opens { OpensInPlace (table_in table.old.handle.value) settings.now.frame (limit_of settings.now.waiting) result (in_place_in in_place.new.handle.value) }
+    ensures opens { OpensInPlace (table_in table.old.handle.value) settings.now.frame (most_waiting settings.now.waiting) result (in_place_in in_place.new.handle.value) }
     ensures none { result ≢ done → in_place.new.handle.value ≡ None }
     ensures table { table.new.handle.value ≡ table.old.handle.value }
 {
@@ -274,7 +274,35 @@ pub extern "C" fn zimgasol_in_place_closed_at(
     status
 }
 
-/// Frees a load. The blocks stay the caller's. An empty handle stays as it is.
+fn valid_up_to(object: &Object, at: &mut u64) -> bool
+    requires { IsSome (in_place_in (Some object.now)) }
+    ensures { Tells (TellsValidUpTo result at.old at.new) (in_place_in (Some object.now)) }
+{
+    match object {
+        Object::InPlace(load) => load.valid_up_to(at),
+        _ => unreachable!(),
+    }
+}
+
+/// Returns whether it is known how many of the bytes fed are complete items without a fault, from
+/// the first byte on, and reports how many.
+#[unsafe(no_mangle)]
+pub extern "C" fn zimgasol_in_place_valid_up_to(
+    alloc: Global,
+    in_place: &mut InPlaceHandle,
+    at: &mut u64,
+) -> bool
+    requires in_place { IsSome (in_place_in in_place.old.handle.value) }
+    ensures same { in_place.new.handle.value ≡ in_place.old.handle.value }
+    ensures tells { Tells (TellsValidUpTo result at.old at.new) (in_place_in in_place.old.handle.value) }
+{
+    let object = in_place.handle.take().into_box(alloc);
+    let result = valid_up_to(&object, at);
+    in_place.handle = Handle::of(object);
+    result
+}
+
+/// Frees a load. The blocks stay the caller's. A handle without one stays as it is.
 #[unsafe(no_mangle)]
 pub extern "C" fn zimgasol_in_place_free(alloc: Global, in_place: &mut InPlaceHandle)
     ensures none { in_place.new.handle.value ≡ None }

@@ -4,7 +4,7 @@
 ghost use Rattle.std.specs.Prelude.{◌≡◌, ◌≢◌, ◌≤◌, IsSome, IfOk, IfErr, None, Some};
 ghost use Rattle.mig_mem.specs.Lent.{mut_lent_bytes};
 ghost use Rattle.mig_c_calls.specs.Status.{done};
-ghost use Rattle.mig_c.specs.Frames.{waiting_of as limit_of};
+ghost use Rattle.mig_c.specs.Frames.{waiting_of as most_waiting};
 ghost use Rattle.mig_c.specs.Kinds.{table_in, in_place_session_in, Turns, Tells};
 ghost use Rattle.mig_c.specs.Found.{seen_of_verdict};
 ghost use Rattle.mig_c.specs.Sessions.{source_of};
@@ -131,7 +131,7 @@ pub extern "C" fn zimgasol_in_place_session_new_within(
 ) -> u32
     requires none { session.old.handle.value ≡ None }
     requires table { IsSome (table_in table.old.handle.value) }
-    ensures opens { OpensInto (table_in table.old.handle.value) uuid.now channels settings.now.frame (limit_of settings.now.waiting) result
+    ensures opens { OpensInto (table_in table.old.handle.value) uuid.now channels settings.now.frame (most_waiting settings.now.waiting) result
         (in_place_session_in session.new.handle.value) }
     ensures none { result ≢ done → session.new.handle.value ≡ None }
     ensures table { table.new.handle.value ≡ table.old.handle.value }

@@ -4,10 +4,10 @@ ghost use Rattle.std.specs.Prelude.{◌≡◌, ◌≢◌, ◌≤◌, ◌^◌, Is
 ghost use Rattle.mig_mem.specs.PageSize.{IsPageSize};
 ghost use Rattle.mig_single_load.specs.Loader.{memory_of, sections_loaded};
 ghost use Rattle.mig_c_calls.specs.Status.{done};
-ghost use Rattle.mig_c.specs.Frames.{waiting_of as limit_of};
+ghost use Rattle.mig_c.specs.Frames.{waiting_of as most_waiting};
 ghost use Rattle.mig_c.specs.Kinds.{loader_in, Turns, Tells};
 ghost use Rattle.mig_c.specs.Reading.{GivesPage, GivesPages, GivesBlock, FindsFilled, place_at, block_count};
-ghost use Rattle.mig_c.specs.Loading.{IsFresh, Opens, Feeds, Settles, Ends, TellsVerdict, TellsClosedAt, OpensLoader};
+ghost use Rattle.mig_c.specs.Loading.{IsFresh, Opens, Feeds, Settles, Ends, TellsVerdict, TellsClosedAt, TellsValidUpTo, OpensLoader};
 
 use crate::block::NamedBlock;
 use crate::fault::{FoundFault, of_verdict};
@@ -100,7 +100,7 @@ pub extern "C" fn zimgasol_loader_new_within(
     settings: &AskedSettings,
 ) -> u32
     requires none { loader.old.handle.value ≡ None }
-    ensures opens { OpensLoader page_size limit settings.now.frame (limit_of settings.now.waiting) result (loader_in loader.new.handle.value) }
+    ensures opens { OpensLoader page_size limit settings.now.frame (most_waiting settings.now.waiting) result (loader_in loader.new.handle.value) }
     ensures none { result ≢ done → loader.new.handle.value ≡ None }
 {
     let waiting = waiting_of(settings.waiting);
@@ -326,6 +326,29 @@ pub extern "C" fn zimgasol_loader_closed_at(
     let status = closed_at(&object, at);
     loader.handle = Handle::of(object);
     status
+}
+
+fn valid_up_to(object: &Object) -> u64
+    requires { IsSome (loader_in (Some object.now)) }
+    ensures { Tells (TellsValidUpTo result) (loader_in (Some object.now)) }
+{
+    match object {
+        Object::Loader(loader) => loader.valid_up_to(),
+        _ => unreachable!(),
+    }
+}
+
+/// Returns how many of the bytes fed are complete items without a fault, from the first byte on.
+#[unsafe(no_mangle)]
+pub extern "C" fn zimgasol_loader_valid_up_to(alloc: Global, loader: &mut LoaderHandle) -> u64
+    requires loader { IsSome (loader_in loader.old.handle.value) }
+    ensures same { loader.new.handle.value ≡ loader.old.handle.value }
+    ensures tells { Tells (TellsValidUpTo result) (loader_in loader.old.handle.value) }
+{
+    let object = loader.handle.take().into_box(alloc);
+    let number = valid_up_to(&object);
+    loader.handle = Handle::of(object);
+    number
 }
 
 fn page(object: &Object, block: usize, page: u64, out: &mut [u8]) -> u32

@@ -4,11 +4,11 @@ ghost use Rattle.std.specs.Prelude.{◌≡◌, ◌≢◌, ◌≤◌, ◌^◌, Is
 ghost use Rattle.mig_mem.specs.PageSize.{IsPageSize};
 ghost use Rattle.mig_session.specs.Session.{answer_in};
 ghost use Rattle.mig_c_calls.specs.Status.{done};
-ghost use Rattle.mig_c.specs.Frames.{waiting_of as limit_of};
+ghost use Rattle.mig_c.specs.Frames.{waiting_of as most_waiting};
 ghost use Rattle.mig_c.specs.Kinds.{session_in, Turns, Tells};
 ghost use Rattle.mig_c.specs.Found.{seen_of_verdict};
 ghost use Rattle.mig_c.specs.Reading.{GivesPage, GivesPages, GivesBlock, FindsFilled, place_at, block_count};
-ghost use Rattle.mig_c.specs.Sessions.{Opens, OpensSession, FeedsSource, EndsSource, source_of, TellsFed};
+ghost use Rattle.mig_c.specs.Sessions.{Opens, OpensSession, FeedsSource, EndsSource, source_of, TellsFed, TellsClosedAt, TellsValidUpTo};
 
 use crate::block::NamedBlock;
 use crate::fault::{FoundFault, found, none, running};
@@ -17,7 +17,7 @@ use crate::handle::{Handle, SessionHandle};
 use crate::object::Object;
 use crate::reading;
 use crate::settings::{AskedSettings, waiting_of};
-use crate::sources::{end_source, fed_of, feed_source, source_of};
+use crate::sources::{closed_at_of, end_source, fed_of, feed_source, source_of, valid_up_to_of};
 use mig_answer::Verdict;
 use mig_c_calls::status::{
     BAD_CHANNELS, BAD_FRAME, BAD_LENGTH, BAD_LIMIT, BAD_PAGE_SIZE, DONE, MAX_LIMIT, NO_MEMORY,
@@ -124,7 +124,7 @@ pub extern "C" fn zimgasol_session_new_within(
     settings: &AskedSettings,
 ) -> u32
     requires none { session.old.handle.value ≡ None }
-    ensures opens { OpensSession page_size uuid.now channels limit settings.now.frame (limit_of settings.now.waiting) result (session_in session.new.handle.value) }
+    ensures opens { OpensSession page_size uuid.now channels limit settings.now.frame (most_waiting settings.now.waiting) result (session_in session.new.handle.value) }
     ensures none { result ≢ done → session.new.handle.value ≡ None }
 {
     let waiting = waiting_of(settings.waiting);
@@ -217,6 +217,62 @@ pub extern "C" fn zimgasol_session_fed(
     let number = fed(&object, source_of(source));
     session.handle = Handle::of(object);
     number
+}
+
+fn closed_at(object: &Object, at: &mut u64) -> u32
+    requires { IsSome (session_in (Some object.now)) }
+    ensures { Tells (TellsClosedAt result at.old at.new) (session_in (Some object.now)) }
+{
+    match object {
+        Object::Session(session) => closed_at_of(session, at),
+        _ => unreachable!(),
+    }
+}
+
+/// Reports how many of the bytes fed the main stream has, once it is closed.
+#[unsafe(no_mangle)]
+pub extern "C" fn zimgasol_session_closed_at(
+    alloc: Global,
+    session: &mut SessionHandle,
+    at: &mut u64,
+) -> u32
+    requires session { IsSome (session_in session.old.handle.value) }
+    ensures same { session.new.handle.value ≡ session.old.handle.value }
+    ensures tells { Tells (TellsClosedAt result at.old at.new) (session_in session.old.handle.value) }
+{
+    let object = session.handle.take().into_box(alloc);
+    let status = closed_at(&object, at);
+    session.handle = Handle::of(object);
+    status
+}
+
+fn valid_up_to(object: &Object, source: Source, at: &mut u64) -> bool
+    requires { IsSome (session_in (Some object.now)) }
+    ensures { Tells (TellsValidUpTo source result at.old at.new) (session_in (Some object.now)) }
+{
+    match object {
+        Object::Session(session) => valid_up_to_of(session, source, at),
+        _ => unreachable!(),
+    }
+}
+
+/// Returns whether it is known how many bytes of a source are complete items without a fault, from
+/// the first byte on, and reports how many.
+#[unsafe(no_mangle)]
+pub extern "C" fn zimgasol_session_valid_up_to(
+    alloc: Global,
+    session: &mut SessionHandle,
+    source: usize,
+    at: &mut u64,
+) -> bool
+    requires session { IsSome (session_in session.old.handle.value) }
+    ensures same { session.new.handle.value ≡ session.old.handle.value }
+    ensures tells { Tells (TellsValidUpTo (source_of source) result at.old at.new) (session_in session.old.handle.value) }
+{
+    let object = session.handle.take().into_box(alloc);
+    let result = valid_up_to(&object, source_of(source), at);
+    session.handle = Handle::of(object);
+    result
 }
 
 fn verdict_of(session: &Session<Global>) -> FoundFault

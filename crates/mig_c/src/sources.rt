@@ -2,9 +2,9 @@
 
 ghost use Rattle.std.specs.Prelude.{◌≡◌, ◌↔◌, IsTrue};
 ghost use Rattle.mig_session.specs.Session.{HasSource};
-ghost use Rattle.mig_c.specs.Sessions.{FeedsSource, EndsSource, TellsFed, source_of};
+ghost use Rattle.mig_c.specs.Sessions.{FeedsSource, EndsSource, TellsFed, TellsClosedAt, TellsValidUpTo, source_of};
 
-use mig_c_calls::status::{BAD_SOURCE, DONE, IS_OVER, NO_MEMORY, TOO_LONG};
+use mig_c_calls::status::{BAD_SOURCE, DONE, IS_OVER, NO_MEMORY, RUNNING, TOO_LONG};
 use mig_mem::NoMemory;
 use mig_session::{Session, Source};
 use std::alloc::Global;
@@ -59,7 +59,37 @@ pub(crate) fn fed_of(session: &Session<Global>, source: Source) -> u64
     }
 }
 
-/// Ends a source.
+/// Reports how many of the bytes fed the main stream has, once it is closed.
+pub(crate) fn closed_at_of(session: &Session<Global>, at: &mut u64) -> u32
+    ensures { TellsClosedAt result at.old at.new session.now }
+{
+    match session.closed_at() {
+        Some(count) => {
+            *at = count;
+            DONE
+        }
+        None => RUNNING,
+    }
+}
+
+/// Returns whether it is known how many bytes of a source are complete items without a fault, and
+/// reports how many.
+pub(crate) fn valid_up_to_of(session: &Session<Global>, source: Source, at: &mut u64) -> bool
+    ensures { TellsValidUpTo source result at.old at.new session.now }
+{
+    if !has_source(session, source) {
+        return false;
+    }
+    match session.valid_up_to(source) {
+        Some(count) => {
+            *at = count;
+            true
+        }
+        None => false,
+    }
+}
+
+/// The text of a source is over.
 pub(crate) fn end_source(session: &mut Session<Global>, source: Source) -> u32
     ensures { EndsSource source result session.old session.new }
 {

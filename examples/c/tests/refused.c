@@ -312,8 +312,11 @@ static void load_several(size_t cut) {
     zimgasol_session_free(&session);
 }
 
-/* Each section of the stream has two page records: with a limit of one, the second one of the first round is at fault. */
+/* Each section of the stream has two page records: with a limit of one, the second one of the first round is at fault. It begins after START, the head of
+ * the section, and a record with its own head, an id and a page. */
 static void limit_one_stream(uint64_t waiting) {
+    static const uint64_t second = 71 + 5 + 8 + 2 + PAGE;
+    static const char words[] = "64, stream: too many records wait, after 1 rounds, at byte 4182";
     zimgasol_settings settings = {.waiting = waiting};
     zimgasol_loader loader = {0};
     zimgasol_in_place load = {0};
@@ -321,22 +324,36 @@ static void limit_one_stream(uint64_t waiting) {
     zimgasol_block named[2] = {{.id = "a", .pages = 3}, {.id = "pc.ram", .pages = 2}};
     zimgasol_table table = {0};
     zimgasol_fault fault;
+    char told[100], few[10];
     size_t entry;
+    uint64_t at = 7;
     AGAIN(zimgasol_loader_new_within(&loader, PAGE, 1 << 20, &settings));
     AGAIN(zimgasol_table_new(&table, PAGE, named, 2, &entry));
     AGAIN(zimgasol_in_place_new_within(&load, &table, &settings));
     zimgasol_table_free(&table);
     WANT(zimgasol_loader_feed(&loader, text, text_len) == ZIMGASOL_DONE && zimgasol_in_place_feed(&load, blocks, 2, text, text_len) == ZIMGASOL_DONE);
     uint32_t wanted = waiting == 1 ? ZIMGASOL_STREAM_WAITING : ZIMGASOL_DONE;
-    WANT(zimgasol_loader_verdict(&loader, &fault) == wanted);
-    WANT(zimgasol_in_place_verdict(&load, &fault) == wanted);
+    uint64_t valid = waiting == 1 ? second : text_len;
+    WANT(zimgasol_loader_verdict(&loader, &fault) == wanted && zimgasol_loader_valid_up_to(&loader) == valid);
+    WANT(zimgasol_in_place_verdict(&load, &fault) == wanted && zimgasol_in_place_valid_up_to(&load, &at) && at == valid);
     if (waiting == 1) {
         WANT(fault.round == 1 && fault.source == ZIMGASOL_MAIN);
+        WANT(zimgasol_fault_text_at(&fault, at, told, sizeof told) == (int)strlen(words) && strcmp(told, words) == 0);
+        WANT(zimgasol_fault_text_at(&fault, at, few, sizeof few) == (int)strlen(words) && strncmp(few, words, 9) == 0 && few[9] == 0);
+        WANT(zimgasol_fault_text_at(&fault, at, told, strlen(words)) == (int)strlen(words) && strncmp(told, words, strlen(words) - 1) == 0);
     }
     zimgasol_loader_free(&loader);
     zimgasol_in_place_free(&load);
     settings.frame = (zimgasol_frame)2;
     WANT(zimgasol_loader_new_within(&loader, PAGE, 1 << 20, &settings) == ZIMGASOL_BAD_FRAME && loader.full == 0);
+    /* of a stream of another table it isn't known how much is valid */
+    make_in_place(&load);
+    text[71 - 13 - 8 - 6]++;
+    WANT(zimgasol_in_place_feed(&load, blocks, 2, text, text_len) == ZIMGASOL_DONE && zimgasol_in_place_verdict(&load, &fault) == ZIMGASOL_OTHER_TABLE);
+    text[71 - 13 - 8 - 6]--;
+    at = 7;
+    WANT(!zimgasol_in_place_valid_up_to(&load, &at) && at == 7);
+    zimgasol_in_place_free(&load);
 }
 
 /* The main stream of a round has two records of zero pages, and the channel a SYNC packet alone: with a limit of one the second record is at fault. */
@@ -346,15 +363,38 @@ static void limit_channels(uint64_t waiting) {
     zimgasol_settings settings = {.waiting = waiting};
     zimgasol_session session = {0};
     zimgasol_fault fault;
+    uint64_t at = 7;
     put_main_with(1);
     AGAIN(zimgasol_hello(uuid, 16, 0, channel_text, 64));
     AGAIN(zimgasol_put_packet(PAGE, 0, true, (const uint8_t *)"", 0, none, 0, page, 0, none, 0, channel_text + 64, MOST - 64, &channel_len));
     channel_len += 64;
     AGAIN(zimgasol_session_new_within(&session, PAGE, uuid, 16, 1, 1 << 20, &settings));
+    WANT(zimgasol_session_closed_at(&session, &at) == ZIMGASOL_RUNNING && at == 7);
     WANT(feed_session(&session, MOST) == ZIMGASOL_DONE);
     WANT(zimgasol_session_verdict(&session, &fault) == (waiting == 1 ? ZIMGASOL_STREAM_WAITING : ZIMGASOL_DONE));
+    WANT(zimgasol_session_valid_up_to(&session, ZIMGASOL_MAIN, &at) && at == (waiting == 1 ? 56 + 5 + 11 : main_len));
+    at = 7;
+    WANT(zimgasol_session_closed_at(&session, &at) == (waiting == 1 ? ZIMGASOL_RUNNING : ZIMGASOL_DONE) && at == (waiting == 1 ? 7 : main_len));
+    at = 7;
+    WANT(!zimgasol_session_valid_up_to(&session, ZIMGASOL_CHANNEL(1), &at) && !zimgasol_session_valid_up_to(&session, ZIMGASOL_ROUND, &at) && at == 7);
     zimgasol_session_free(&session);
     put_main();
+}
+
+/* The magic of a channel's second packet is wrong: the hello has 64 bytes, and the first packet 1,344 and a page. */
+static void wrong_packet(void) {
+    static const uint8_t uuid[16] = {1, 2, 3};
+    static const uint64_t second = 64 + 1344 + PAGE;
+    zimgasol_session session = {0};
+    zimgasol_fault fault;
+    uint64_t at = 7;
+    put_channel();
+    channel_text[second]++;
+    AGAIN(zimgasol_session_new(&session, PAGE, uuid, 16, 1, 1 << 20, ZIMGASOL_FRAME_RAM));
+    WANT(feed_session(&session, MOST) == ZIMGASOL_DONE);
+    WANT(zimgasol_session_verdict(&session, &fault) == ZIMGASOL_CHANNEL_PACKET_MAGIC && fault.source == ZIMGASOL_CHANNEL(0));
+    WANT(zimgasol_session_valid_up_to(&session, fault.source, &at) && at == second);
+    zimgasol_session_free(&session);
 }
 
 /* Calls that aren't to be made so. */
@@ -407,6 +447,7 @@ int main(int count, char **words) {
         limit_one_stream(waiting);
         limit_channels(waiting);
     }
+    wrong_packet();
     for (refused = first; refused <= last; refused++) {
         counted = refusals = 0;
         send();
