@@ -780,6 +780,14 @@ ZIMGASOL_API void zimgasol_sender_free(zimgasol_sender *sender);
 ZIMGASOL_API zimgasol_status zimgasol_multi_new(zimgasol_multi *multi, zimgasol_table *table,
     const uint8_t *uuid, size_t uuid_len, size_t channels, size_t limit);
 
+/* Makes a sender as zimgasol_multi_new does, whose main stream is a machine's: a configuration with
+ * the machine's name, of at most 1,024 bytes, follows the file header. The channels are the same.
+ * QEMU refuses a stream with another name than its own machine's. Returns DONE, BAD_LENGTH (of the
+ * UUID or the name), CHANNELS, BATCH_LIMIT or NO_MEMORY. */
+ZIMGASOL_API zimgasol_status zimgasol_multi_new_named(zimgasol_multi *multi,
+    zimgasol_table *table, const uint8_t *uuid, size_t uuid_len, size_t channels, size_t limit,
+    const uint8_t *name, size_t name_len);
+
 /* Begins a round of `count` dirty pages, in any order, of which each counts once. Returns DONE,
  * OUT_OF_TURN where a round is open or the streams are ended, NO_PAGE where the table lacks one of
  * them, or NO_MEMORY. */
@@ -815,6 +823,11 @@ ZIMGASOL_API zimgasol_status zimgasol_multi_cancel_round(zimgasol_multi *multi);
 /* Ends the streams. What waits of them is still to be drained. Returns DONE, NO_MEMORY, or
  * OUT_OF_TURN where a round is open or they are ended. */
 ZIMGASOL_API zimgasol_status zimgasol_multi_finish(zimgasol_multi *multi);
+
+/* Ends the streams, the main stream with the footer of RAM's END, and leaves out its end byte: the
+ * caller goes on with the sections of devices and the end byte on the main stream, once all was
+ * drained. Returns as zimgasol_multi_finish. */
+ZIMGASOL_API zimgasol_status zimgasol_multi_finish_open(zimgasol_multi *multi);
 
 /* Copies the next bytes of the main stream to `out`, at most `len`, and returns how many, as
  * zimgasol_sender_drain does: 0 where none waits. */

@@ -6,25 +6,17 @@ use Rattle.std.proofs.lemmas.List.{take-append-drop, drop-drop, drop_all, append
 use Rattle.mig_mem.specs.RamTable.{RamTable}
 use Rattle.mig_mem.specs.Image.{Page}
 use Rattle.mig_stream.specs.Writer.{Writer, PartSoFar, HasPut}
-use Rattle.mig_stream.specs.Text.{file_header, configuration}
 use Rattle.mig_stream.specs.Written.{RoundPart, single, written_so_far}
 use Rattle.mig_stream.proofs.Configured.{configured_is_written, configured_is_closed}
 use Rattle.mig_send.specs.Sending.{HasSentDrained}
+use Rattle.mig_c_calls.specs.Named.{IsNamed}
+use Rattle.mig_c_calls.proofs.Named.{named_more}
 use Rattle.mig_c.specs.declared.sender.Sender.{Sender}
 use Rattle.mig_c.specs.declared.sender.Sending.{Sending}
 use Rattle.mig_c.specs.declared.sender.Sending.TheVariants.{Idle, Round, Over, LeftOpen}
-use Rattle.mig_c.specs.Sending.{waiting, text_so_far, whole_stream, open_stream, IsNamed, HasSentRounds, HasPutPages, IsIdle, IsEnded, IsLeftOpen, EndsRound, Drains, Refills, Hands, Skips}
+use Rattle.mig_c.specs.Sending.{waiting, text_so_far, whole_stream, open_stream, HasSentRounds, HasPutPages, IsIdle, IsEnded, IsLeftOpen, EndsRound, Drains, Refills, Hands, Skips}
 
 -- ---- a stream with a machine's name, or with none
-
--- what follows is the same of both
-pub named_more : (name : Option (List ℕ)) (bytes plain more : List ℕ) → IsNamed name bytes plain → IsNamed name (bytes ++ more) (plain ++ more)
-named_more None bytes plain more is = ap (λ (l : List ℕ). l ++ more) is
-named_more (Some name) bytes plain more is = (
-  is.0 ++ more,
-  ap (λ (l : List ℕ). l ++ more) is.1 ∙ append_assoc (file_header ++ configuration (Some name)) is.0 more,
-  ap (λ (l : List ℕ). l ++ more) is.2 ∙ append_assoc file_header is.0 more,
-)
 
 -- the whole stream, with its end byte and without
 pub named_whole : (name : Option (List ℕ)) (bytes : List ℕ) (table : RamTable) (rounds : List (List Page)) → IsNamed name bytes (single table rounds)

@@ -9,7 +9,7 @@ use Rattle.mig_single_load.specs.declared.settings.LoadSettings.{LoadSettings}
 use Rattle.mig_single_load.specs.declared.fault.LoadFault.{LoadFault}
 use Rattle.mig_single_load.specs.SingleLoad.{no_memory_at}
 use Rattle.mig_single_load.specs.InPlace.{HasVerdictOnto}
-use Rattle.mig_single_load.specs.Eager.{EagerLoad, EagerlyLoads, LacksMemory, HasClosedAtOnto, IsValidUpToOnto}
+use Rattle.mig_single_load.specs.LoadInPlace.{LoadInPlace, LoadsInPlace, LacksMemory, HasClosedAtOnto, IsValidUpToOnto}
 use Rattle.mig_c.specs.declared.fault.FoundFault.{FoundFault}
 use Rattle.mig_c_calls.specs.Status.{IsOneOf, done, running, no_memory, is_over, too_long, bad_length, bad_frame}
 use Rattle.mig_c.specs.Frames.{frame_of, load_settings}
@@ -24,21 +24,21 @@ settings_into table frame waiting = load_settings table.page_size (2 ^ 40) waiti
 
 -- With any blocks that fit this table it was fed nothing yet, of a stream that is read in this
 -- frame, and may have so many page records in a section.
-pub record Begins (table : RamTable) (frame : Frame) (waiting : Option ℕ) (s : EagerLoad) : Type 0 where
+pub record Begins (table : RamTable) (frame : Frame) (waiting : Option ℕ) (s : LoadInPlace) : Type 0 where
   pub same_table : s.table ≡ table
   pub none_fed : s.fed ≡ 0
   pub goes_on : IsFalse s.ended
   pub loads : (blocks : List (List ℕ)) → FitTable table blocks
-      → EagerlyLoads (lent_image table blocks) (settings_into table frame waiting) (lent_image table blocks) s [] false
+      → LoadsInPlace (lent_image table blocks) (settings_into table frame waiting) (lent_image table blocks) s [] false
 
-abbrev pub Opens : Option RamTable → Option Frame → Option ℕ → Option EagerLoad → Type 0
+abbrev pub Opens : Option RamTable → Option Frame → Option ℕ → Option LoadInPlace → Type 0
 Opens None frame waiting made = ⊤
 Opens (Some table) None waiting made = ⊥
 Opens (Some table) (Some frame) waiting None = ⊥
 Opens (Some table) (Some frame) waiting (Some s) = Begins table frame waiting s
 
 -- What `new` does, with a table and the number of a frame.
-pub record OpensInPlace (table : Option RamTable) (frame : ℕ) (waiting : Option ℕ) (status : ℕ) (made : Option EagerLoad) : Type 0 where
+pub record OpensInPlace (table : Option RamTable) (frame : ℕ) (waiting : Option ℕ) (status : ℕ) (made : Option LoadInPlace) : Type 0 where
   pub is_named : IsOneOf (done ∷ no_memory ∷ bad_frame ∷ []) status
   pub opens : status ≡ done → Opens table (frame_of frame) waiting made
   pub no_frame : status ≡ bad_frame → frame_of frame ≡ None
@@ -115,8 +115,8 @@ pub record TellsClosedAt (status before after : ℕ) (s : LoadInPlace) : Type 0 
 
 -- C sees how many of the bytes that were fed are complete items without a fault: a fault's item begins
 -- after them. It isn't told so of a stream of another table, nor after a refused allocation.
-pub record TellsValidUpTo (told : Bool) (before after : ℕ) (s : EagerLoad) : Type 0 where
-  pub loads : (memory : Image) (given : LoadSettings) (first : Image) (text : List ℕ) (ended : Bool) → EagerlyLoads memory given first s text ended
+pub record TellsValidUpTo (told : Bool) (before after : ℕ) (s : LoadInPlace) : Type 0 where
+  pub loads : (memory : Image) (given : LoadSettings) (first : Image) (text : List ℕ) (ended : Bool) → LoadsInPlace memory given first s text ended
       → IsValidUpToOnto given first text (if_told told after)
   pub has_failed : (memory : Image) (given : LoadSettings) (first : Image) (text : List ℕ) (ended : Bool) → LacksMemory memory given first s text ended
       → IsFalse told

@@ -5,7 +5,6 @@ use Rattle.mig_mem.specs.declared.place.Place.{Place}
 use Rattle.mig_mem.specs.Place.{IsPlace}
 use Rattle.mig_mem.specs.Image.{Page}
 use Rattle.mig_stream.specs.Format.{most_name_bytes}
-use Rattle.mig_stream.specs.Text.{file_header, configuration}
 use Rattle.mig_stream.specs.Written.{RoundPart, single, written_so_far}
 use Rattle.mig_stream.specs.MachineWritten.{machine_written, machine_closed}
 use Rattle.mig_stream.specs.Writer.{PartSoFar, HasPut}
@@ -13,6 +12,7 @@ use Rattle.mig_send.specs.Sending.{HasSentDrained}
 use Rattle.mig_c.specs.declared.sender.Sender.{Sender}
 use Rattle.mig_c.specs.declared.sender.Sending.{Sending}
 use Rattle.mig_c.specs.declared.sender.Sending.TheVariants.{Idle, Round, Over, LeftOpen}
+use Rattle.mig_c_calls.specs.Named.{IsNamed}
 use Rattle.mig_c_calls.specs.Status.{IsOneOf, done, no_memory, no_page, bad_length, out_of_turn}
 
 -- the bytes that were drained of the stream's writer and wait to be copied out
@@ -28,13 +28,7 @@ HasSentRounds table drained rounds (Round part) = (part.before.table ≡ table) 
 HasSentRounds table drained rounds (Over text) = drained ++ text.items ≡ single table rounds
 HasSentRounds table drained rounds (LeftOpen text) = drained ++ text.items ≡ machine_written None table (map RoundPart rounds)
 
--- The first bytes of a stream with a machine's name, in a configuration after the file header; and
--- the bytes without it. If there is no name, the two are equal.
-abbrev pub IsNamed : Option (List ℕ) → List ℕ → List ℕ → Type 0
-IsNamed None bytes plain = bytes ≡ plain
-IsNamed (Some name) bytes plain = (rest : List ℕ) × (bytes ≡ file_header ++ configuration (Some name) ++ rest) × (plain ≡ file_header ++ rest)
-
--- The sender has sent these rounds of a table, and these bytes of their stream were copied out. The
+-- The sender has sent these rounds of a table, and these bytes of their stream were handed out. The
 -- stream has the name of a machine, or none.
 abbrev pub Sends : RamTable → Option (List ℕ) → List ℕ → List (List Page) → Sender → Type 0
 Sends table name given rounds s = (plain : List ℕ) × IsNamed name (given ++ waiting s) plain × HasSentRounds table plain rounds s.state

@@ -2,7 +2,8 @@
 //! Each worker has a handle of its own (`worker`), and shares the round's deal with the others. No
 //! two threads share a handle.
 
-ghost use Rattle.std.specs.Prelude.{◌≡◌, ◌≢◌, ◌≤◌, ◌<◌, ◌∷◌, [], IsSome, IfOk, IfErr, IfSome, OnOk, None, Some, map, IsTrue, ◌↔◌};
+ghost use Rattle.std.specs.Prelude.{◌≡◌, ◌≢◌, ◌≤◌, ◌<◌, ◌∷◌, [], IsSome, IfOk, IfErr, IfSome, OnOk, None, Some, map, length, true, false, IsTrue, ◌↔◌};
+ghost use Rattle.mig_stream.specs.Format.{most_name_bytes};
 ghost use Rattle.mig_packet.specs.PageSize.{page_limit as most_pages};
 ghost use Rattle.mig_c_calls.specs.Status.{done};
 ghost use Rattle.mig_c.specs.Kinds.{table_in, multi_in, worker_in, Turns, Tells};
@@ -10,6 +11,7 @@ ghost use Rattle.mig_c_calls.specs.Multi.{StartsOf, OpensMulti, OfTable, Refuses
 
 use crate::handle::{Handle, MultiHandle, TableHandle, WorkerHandle};
 use crate::object::Object;
+use crate::sender::MOST_NAME_BYTES;
 use mig_c_calls::status::{BAD_LENGTH, BATCH_LIMIT, CHANNELS, DONE, NO_MEMORY};
 use mig_c_calls::{Multi, NamedPlace};
 use mig_mem::{NoMemory, Table};
@@ -25,7 +27,7 @@ fn made(
     channels: usize,
     limit: usize,
 ) -> Result<Box<Object>, NoMemory>
-    ensures { IfOk result (λ object. StartsOf (Some table.now) uuid channels limit (multi_in (Some object.value))) }
+    ensures { IfOk result (λ object. StartsOf (Some table.now) uuid channels limit None (multi_in (Some object.value))) }
 {
     let multi = Multi::new(alloc, table, uuid, channels, limit)?;
     Ok(Box::new(alloc, Object::Multi(multi))?)
@@ -48,7 +50,7 @@ fn made_of(
     limit: usize,
 ) -> Result<Box<Object>, u32>
     requires { IsSome (table_in (Some table.now)) }
-    ensures ok { IfOk result (λ object. StartsOf (table_in (Some table.now)) uuid channels limit (multi_in (Some object.value))) }
+    ensures ok { IfOk result (λ object. StartsOf (table_in (Some table.now)) uuid channels limit None (multi_in (Some object.value))) }
     ensures fits { OnOk result (OfTable (λ t. (0 < limit) × (limit ≤ most_pages t.page_size)) (table_in (Some table.now))) }
     ensures err { IfErr result (λ status. Refuses (table_in (Some table.now)) limit status) }
 {
@@ -79,7 +81,7 @@ pub extern "C" fn zimgasol_multi_new(
 ) -> u32
     requires none { multi.old.handle.value ≡ None }
     requires table { IsSome (table_in table.old.handle.value) }
-    ensures opens { OpensMulti (table_in table.old.handle.value) uuid.now channels limit result (multi_in multi.new.handle.value) }
+    ensures opens { OpensMulti (table_in table.old.handle.value) uuid.now channels limit None result (multi_in multi.new.handle.value) }
     ensures none { result ≢ done → multi.new.handle.value ≡ None }
     ensures table { table.new.handle.value ≡ table.old.handle.value }
 {
@@ -91,6 +93,91 @@ pub extern "C" fn zimgasol_multi_new(
     }
     let object = table.handle.take().into_box(alloc);
     let made = made_of(alloc, &object, uuid, channels, limit);
+    table.handle = Handle::of(object);
+    match made {
+        Ok(object) => {
+            multi.handle = Handle::of(object);
+            multi.full = 1;
+            DONE
+        }
+        Err(status) => status,
+    }
+}
+
+// A sender whose main stream has a machine's name, in a box.
+fn made_named(
+    alloc: Global,
+    table: &Table<Global>,
+    uuid: Uuid,
+    channels: usize,
+    limit: usize,
+    name: &[u8],
+) -> Result<Box<Object>, NoMemory>
+    requires name { length name.now ≤ most_name_bytes }
+    ensures { IfOk result (λ object. StartsOf (Some table.now) uuid channels limit (Some name.now) (multi_in (Some object.value))) }
+{
+    let multi = Multi::new_named(alloc, table, uuid, channels, limit, name)?;
+    Ok(Box::new(alloc, Object::Multi(multi))?)
+}
+
+// Makes such a sender of a table, or says why there is none.
+fn made_named_of(
+    alloc: Global,
+    table: &Object,
+    uuid: Uuid,
+    channels: usize,
+    limit: usize,
+    name: &[u8],
+) -> Result<Box<Object>, u32>
+    requires table { IsSome (table_in (Some table.now)) }
+    requires name { length name.now ≤ most_name_bytes }
+    ensures ok { IfOk result (λ object. StartsOf (table_in (Some table.now)) uuid channels limit (Some name.now) (multi_in (Some object.value))) }
+    ensures fits { OnOk result (OfTable (λ t. (0 < limit) × (limit ≤ most_pages t.page_size)) (table_in (Some table.now))) }
+    ensures err { IfErr result (λ status. Refuses (table_in (Some table.now)) limit status) }
+{
+    match table {
+        Object::Table(table) => {
+            if !is_batch_limit(table, limit) {
+                return Err(BATCH_LIMIT);
+            }
+            match made_named(alloc, table, uuid, channels, limit, name) {
+                Ok(object) => Ok(object),
+                Err(NoMemory) => Err(NO_MEMORY),
+            }
+        }
+        _ => unreachable!(),
+    }
+}
+
+/// Makes a sender as `zimgasol_multi_new` does, whose main stream has a machine's name in a
+/// configuration after the file header.
+#[unsafe(no_mangle)]
+pub extern "C" fn zimgasol_multi_new_named(
+    alloc: Global,
+    multi: &mut MultiHandle,
+    table: &mut TableHandle,
+    uuid: &[u8],
+    channels: usize,
+    limit: usize,
+    name: &[u8],
+) -> u32
+    requires none { multi.old.handle.value ≡ None }
+    requires table { IsSome (table_in table.old.handle.value) }
+    ensures opens { OpensMulti (table_in table.old.handle.value) uuid.now channels limit (Some name.now) result (multi_in multi.new.handle.value) }
+    ensures none { result ≢ done → multi.new.handle.value ≡ None }
+    ensures table { table.new.handle.value ≡ table.old.handle.value }
+{
+    if name.len() > MOST_NAME_BYTES {
+        return BAD_LENGTH;
+    }
+    let Ok(uuid) = Uuid::from_slice(uuid) else {
+        return BAD_LENGTH;
+    };
+    if channels == 0 || channels > 255 {
+        return CHANNELS;
+    }
+    let object = table.handle.take().into_box(alloc);
+    let made = made_named_of(alloc, &object, uuid, channels, limit, name);
     table.handle = Handle::of(object);
     match made {
         Ok(object) => {
@@ -290,7 +377,7 @@ pub extern "C" fn zimgasol_multi_cancel_round(alloc: Global, multi: &mut MultiHa
 
 fn finish(alloc: Global, object: &mut Object) -> u32
     requires { IsSome (multi_in (Some object.old)) }
-    ensures { Turns (ChangesMulti (Finishes result)) (multi_in (Some object.old)) (multi_in (Some object.new)) }
+    ensures { Turns (ChangesMulti (Finishes false result)) (multi_in (Some object.old)) (multi_in (Some object.new)) }
 {
     match object {
         Object::Multi(multi) => multi.finish(alloc),
@@ -302,10 +389,33 @@ fn finish(alloc: Global, object: &mut Object) -> u32
 #[unsafe(no_mangle)]
 pub extern "C" fn zimgasol_multi_finish(alloc: Global, multi: &mut MultiHandle) -> u32
     requires multi { IsSome (multi_in multi.old.handle.value) }
-    ensures finishes { Turns (ChangesMulti (Finishes result)) (multi_in multi.old.handle.value) (multi_in multi.new.handle.value) }
+    ensures finishes { Turns (ChangesMulti (Finishes false result)) (multi_in multi.old.handle.value) (multi_in multi.new.handle.value) }
 {
     let mut object = multi.handle.take().into_box(alloc);
     let status = finish(alloc, &mut object);
+    multi.handle = Handle::of(object);
+    status
+}
+
+fn finish_open(alloc: Global, object: &mut Object) -> u32
+    requires { IsSome (multi_in (Some object.old)) }
+    ensures { Turns (ChangesMulti (Finishes true result)) (multi_in (Some object.old)) (multi_in (Some object.new)) }
+{
+    match object {
+        Object::Multi(multi) => multi.finish_open(alloc),
+        _ => unreachable!(),
+    }
+}
+
+/// Ends the streams, and leaves the main stream open after the footer of RAM's END: what of them
+/// waits is still to be drained.
+#[unsafe(no_mangle)]
+pub extern "C" fn zimgasol_multi_finish_open(alloc: Global, multi: &mut MultiHandle) -> u32
+    requires multi { IsSome (multi_in multi.old.handle.value) }
+    ensures finishes { Turns (ChangesMulti (Finishes true result)) (multi_in multi.old.handle.value) (multi_in multi.new.handle.value) }
+{
+    let mut object = multi.handle.take().into_box(alloc);
+    let status = finish_open(alloc, &mut object);
     multi.handle = Handle::of(object);
     status
 }

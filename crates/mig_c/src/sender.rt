@@ -40,8 +40,8 @@ pub struct Sender {
     pub(crate) given: usize,
 }
 
-// The most bytes of a machine's name.
-const MOST_NAME_BYTES: usize = 1024;
+/// The most bytes that a machine's name has.
+pub(crate) const MOST_NAME_BYTES: usize = 1024;
 
 // Creates a sender of a stream without a name.
 fn plain(alloc: Global, table: &Table<Global>) -> Result<Sender, NoMemory>

@@ -1,22 +1,22 @@
 -- What a sender on several channels hands out of its main stream, and of channels that are ended.
-use Rattle.std.proofs.Common.{ℕ, ◌≡◌, ◌≢◌, ◌+◌, ◌<◌, ◌≤◌, ◌∙◌, ◌==◌, List, [], ◌∷◌, ◌++◌, length, map, replicate, take, drop, get_or, set, Bool, true, false, if◌then◌else◌, refl, sym, ap, subst, arith, inl, inr}
-use Rattle.std.specs.List.{range_with_len}
-use Rattle.std.proofs.lemmas.Bool.{cases_lt, cond-true, cond-false, eq-eqb, ne_eqb}
-use Rattle.std.proofs.lemmas.List.{append-nil, append_assoc, drop_all, drop-drop, take-append-drop, nil_from_length, length-append, length-take-le, length-map, get_or-replicate, get_or-set_other, get_or-set_same}
-use mathlib.Core.Path.{fun_ext}
+use Rattle.std.proofs.Common.{ℕ, ◌≡◌, ◌≢◌, ◌+◌, ◌<◌, ◌≤◌, ◌∙◌, List, [], ◌++◌, length, replicate, take, drop, get_or, Option, None, refl, sym, ap, subst, arith}
+use Rattle.std.proofs.lemmas.List.{append-nil, append_assoc, drop-drop, take-append-drop, nil_from_length, length-append, length-take-le}
 use Rattle.mig_mem.specs.RamTable.{RamTable}
 use Rattle.mig_mem.specs.Image.{Image}
 use Rattle.mig_mem.specs.declared.place.Place.{Place}
-use Rattle.mig_stream.specs.Written.{FlushPart, written_so_far, main}
-use Rattle.mig_send.specs.DealtRounds.{DealtRound, IsSending, channel_text}
-use Rattle.mig_send.specs.MultiSending.{MultiSending, Drained, HasSentRounds, KeepsCounts, texts_of, whole_texts, with_main, with_channel}
+use Rattle.mig_stream.specs.Written.{FlushPart, written_so_far}
+use Rattle.mig_send.specs.DealtRounds.{DealtRound}
+use Rattle.mig_send.specs.MultiSending.{MultiSending, Drained, HasSentRounds, KeepsCounts, texts_of, with_main}
 use Rattle.mig_c_calls.specs.declared.waiting.Waiting.{Waiting}
 use Rattle.mig_c_calls.specs.declared.sending.EndedStreams.{EndedStreams}
 use Rattle.mig_c_calls.specs.declared.sending.MultiState.{MultiState}
 use Rattle.mig_c_calls.specs.declared.sending.MultiState.TheVariants.{Idle, Round, Over}
 use Rattle.mig_c_calls.specs.declared.sending.Multi.{Multi}
-use Rattle.mig_c_calls.specs.Multi.{MultiSetting, IsSenderOf, SendsTo, InRoundTo, Sends, InRound, IsIdle, IsOpen, IsOver, HasNothingLeft, HasGivenUp, HandsOutOf, DrainsMain, RefillsMain, waiting_in, and_waiting, left_of, all_channels}
-use Rattle.mig_c_calls.proofs.Sends.{same_drained, still_of}
+use Rattle.mig_c_calls.specs.Named.{IsNamed}
+use Rattle.mig_c_calls.specs.Multi.{MultiSetting, SendsTo, InRoundTo, InRound, IsIdle, IsOpen, IsOver, HasNothingLeft, HasGivenUp, HandsOutOf, DrainsMain, RefillsMain, waiting_in, with_plain, left_of, is_left_open, ended_main}
+use Rattle.mig_c_calls.proofs.Named.{named_more, named_ended, ended_is}
+use Rattle.mig_c_calls.proofs.Sends.{still_of}
+use Rattle.mig_c_calls.proofs.Ends.{same_streams}
 
 -- ---- bytes that wait
 
@@ -36,12 +36,11 @@ hands_out count out old new fits front same given none = record {
 
 -- ---- the main stream
 
--- what is copied out of the main stream's bytes that were drained
-and_front : (given : Drained) (front : List ℕ) (old new : Multi) → front ++ waiting_in new.main ≡ waiting_in old.main
-    → and_waiting given old ≡ and_waiting (with_main given front) new
+-- what is handed out of the main stream's bytes that were taken out
+and_front : (given front : List ℕ) (old new : Multi) → front ++ waiting_in new.main ≡ waiting_in old.main
+    → given ++ waiting_in old.main ≡ (given ++ front) ++ waiting_in new.main
 and_front given front old new has_front =
-    ap (λ (l : List ℕ). record given { main = l })
-    (ap (λ (l : List ℕ). given.main ++ l) (sym has_front) ∙ sym (append_assoc given.main front (waiting_in new.main)))
+    ap (λ (l : List ℕ). given ++ l) (sym has_front) ∙ sym (append_assoc given front (waiting_in new.main))
 
 -- where no byte waits, none is handed out
 none_of_none : (count : ℕ) (out left : List ℕ) → count ≤ length out → take count out ++ left ≡ [] → (count ≡ 0) × (left ≡ [])
@@ -57,15 +56,24 @@ pub drains_main : (count : ℕ) (out : List ℕ) (old mid new : Multi) → Refil
 drains_main count out old mid new refills hands same = record {
   fits = hands.fits;
   hands = λ setting given rounds sends.
-      subst (λ (s : MultiState). SendsTo setting (and_waiting (with_main given (take count out)) new) rounds s) (sym same)
-      (subst (λ (d : Drained). SendsTo setting d rounds mid.state) (and_front given (take count out) mid new hands.has_front) (refills.keeps setting given rounds sends));
+      let kept : (plain : List ℕ) × IsNamed setting.name (given.main ++ waiting_in mid.main) plain × SendsTo setting (with_plain given plain) rounds mid.state =
+      refills.keeps setting given rounds sends in (
+        kept.0,
+        subst (λ (l : List ℕ). IsNamed setting.name l kept.0) (and_front given.main (take count out) mid new hands.has_front) kept.1,
+        subst (λ (s : MultiState). SendsTo setting (with_plain given kept.0) rounds s) (sym same) kept.2,
+      );
   hands_in_round = λ setting image dirty given rounds here.
-      subst (λ (s : MultiState). InRoundTo setting image dirty (and_waiting (with_main given (take count out)) new) rounds s) (sym same)
-      (subst (λ (d : Drained). InRoundTo setting image dirty d rounds mid.state) (and_front given (take count out) mid new hands.has_front)
-      (refills.keeps_round setting image dirty given rounds here));
+      let kept : (plain : List ℕ) × IsNamed setting.name (given.main ++ waiting_in mid.main) plain × InRoundTo setting image dirty (with_plain given plain) rounds mid.state =
+      refills.keeps_round setting image dirty given rounds here in (
+        kept.0,
+        subst (λ (l : List ℕ). IsNamed setting.name l kept.0) (and_front given.main (take count out) mid new hands.has_front) kept.1,
+        subst (λ (s : MultiState). InRoundTo setting image dirty (with_plain given kept.0) rounds s) (sym same) kept.2,
+      );
   in_round = λ is. same ∙ (refills.in_round is).0;
   idle = λ is. subst (λ (s : MultiState). IsIdle s) (sym same) (refills.idle is);
-  ended = λ is. subst (λ (s : MultiState). IsOver s) (sym same) (refills.ended is);
+  ended = λ is.
+      let was : IsOver mid.state × (is_left_open mid.state ≡ is_left_open old.state) = refills.ended is in
+      (subst (λ (s : MultiState). IsOver s) (sym same) was.0, ap (λ (s : MultiState). is_left_open s) same ∙ was.1);
   given_up = λ is.
       let mid_is : HasGivenUp mid = refills.given_up is in
       let none = none_of_none count out (waiting_in new.main) hands.fits (hands.has_front ∙ mid_is.1) in
@@ -91,10 +99,14 @@ round_breaks_off setting image dirty drained rounds (Over e) is = absurd is
 
 pub breaks_off : (setting : MultiSetting) (image : Image) (dirty : List Place) (given : Drained) (rounds : List DealtRound) (m : Multi)
     → InRound setting image dirty given rounds m
-    → (rest : List ℕ) × (given.main ++ rest ≡ written_so_far setting.table (replicate (length rounds) FlushPart))
+    → (rest : List ℕ) × IsNamed setting.name (given.main ++ rest) (written_so_far setting.table (replicate (length rounds) FlushPart))
 breaks_off setting image dirty given rounds m here =
-    let cut = round_breaks_off setting image dirty (and_waiting given m) rounds m.state here in
-    (waiting_in m.main ++ cut.0, sym (append_assoc given.main (waiting_in m.main) cut.0) ∙ cut.1)
+    let cut = round_breaks_off setting image dirty (with_plain given here.0) rounds m.state here.2 in (
+      waiting_in m.main ++ cut.0,
+      subst (λ (l : List ℕ). IsNamed setting.name l (written_so_far setting.table (replicate (length rounds) FlushPart))) (append_assoc given.main (waiting_in m.main) cut.0)
+          (subst (λ (l : List ℕ). IsNamed setting.name ((given.main ++ waiting_in m.main) ++ cut.0) l) cut.1
+          (named_more setting.name (given.main ++ waiting_in m.main) here.0 cut.0 here.1)),
+    )
 
 -- ---- bytes are taken out
 
@@ -105,15 +117,18 @@ refills_not m waits = record {
   keeps_round = λ setting image dirty given rounds here. here;
   in_round = λ is. (refl, refl);
   idle = λ is. is;
-  ended = λ is. is;
+  ended = λ is. (is, refl);
   given_up = λ is. is;
   written = λ is none. absurd (waits none);
   all = λ is none. absurd (waits none);
 }
 
 -- with nothing that waits
-none_waits : (given : Drained) (m : Multi) → waiting_in m.main ≡ [] → (and_waiting given m).main ≡ given.main
-none_waits given m none = ap (λ (l : List ℕ). given.main ++ l) none ∙ append-nil given.main
+none_waits : (given : List ℕ) (m : Multi) → waiting_in m.main ≡ [] → given ++ waiting_in m.main ≡ given
+none_waits given m none = ap (λ (l : List ℕ). given ++ l) none ∙ append-nil given
+
+named_given : (name : Option (List ℕ)) (given plain : List ℕ) (m : Multi) → waiting_in m.main ≡ [] → IsNamed name (given ++ waiting_in m.main) plain → IsNamed name given plain
+named_given name given plain m none named = subst (λ (l : List ℕ). IsNamed name l plain) (none_waits given m none) named
 
 pub refills_idle : (old new : Multi) (s s' : MultiSending) (bytes : List ℕ) → old.state ≡ Idle s → new.state ≡ Idle s' → waiting_in old.main ≡ [] → waiting_in new.main ≡ bytes
     → KeepsCounts s s'
@@ -122,26 +137,27 @@ pub refills_idle : (old new : Multi) (s s' : MultiSending) (bytes : List ℕ) �
     → RefillsMain old new
 refills_idle old new s s' bytes was is none waits keeps all drains = record {
   keeps = λ setting given rounds sends.
-      let before = subst (λ (m : MultiState). SendsTo setting (and_waiting given old) rounds m) was sends in
-      subst (λ (m : MultiState). SendsTo setting (and_waiting given new) rounds m) (sym is) (
-        still_of setting s s' keeps.same_setting before.0,
-        same_drained (with_main (and_waiting given old) bytes) (and_waiting given new) s' rounds (drains (and_waiting given old) rounds before.1)
-            (ap (λ (l : List ℕ). given.main ++ l) waits ∙ ap (λ (l : List ℕ). l ++ bytes) (sym (none_waits given old none)))
-            (λ channel lt. refl),
+      let before = subst (λ (m : MultiState). SendsTo setting (with_plain given sends.0) rounds m) was sends.2 in (
+        sends.0 ++ bytes,
+        subst (λ (l : List ℕ). IsNamed setting.name (given.main ++ l) (sends.0 ++ bytes)) (sym waits)
+            (named_more setting.name given.main sends.0 bytes (named_given setting.name given.main sends.0 old none sends.1)),
+        subst (λ (m : MultiState). SendsTo setting (with_plain given (sends.0 ++ bytes)) rounds m) (sym is)
+            (still_of setting s s' keeps.same_setting before.0, drains (with_plain given sends.0) rounds before.1),
       );
   keeps_round = λ setting image dirty given rounds here.
-      absurd (subst (λ (m : MultiState). InRoundTo setting image dirty (and_waiting given old) rounds m) was here);
+      absurd (subst (λ (m : MultiState). InRoundTo setting image dirty (with_plain given here.0) rounds m) was here.2);
   in_round = λ here. absurd (subst (λ (m : MultiState). IsOpen m) was here);
   idle = λ _. subst (λ (m : MultiState). IsIdle m) (sym is) tt;
   ended = λ here. absurd (subst (λ (m : MultiState). IsOver m) was here);
   given_up = λ here. absurd (subst (λ (m : MultiState). HasNothingLeft m) was here.0);
   written = λ _ empty setting given rounds sends.
-      let before = subst (λ (m : MultiState). SendsTo setting (and_waiting given old) rounds m) was sends in
-      sym (none_waits given old none)
-      ∙ sym (append-nil (and_waiting given old).main)
-      ∙ ap (λ (l : List ℕ). (and_waiting given old).main ++ l) (sym (sym waits ∙ empty))
-      ∙ all (and_waiting given old) rounds before.1
-      ∙ ap (λ (t : Rattle.mig_mem.specs.RamTable.RamTable). written_so_far t (replicate (length rounds) FlushPart)) before.0.same_table;
+      let before = subst (λ (m : MultiState). SendsTo setting (with_plain given sends.0) rounds m) was sends.2 in
+      let whole : sends.0 ≡ written_so_far setting.table (replicate (length rounds) FlushPart) =
+      sym (append-nil sends.0)
+      ∙ ap (λ (l : List ℕ). sends.0 ++ l) (sym (sym waits ∙ empty))
+      ∙ all (with_plain given sends.0) rounds before.1
+      ∙ ap (λ (t : RamTable). written_so_far t (replicate (length rounds) FlushPart)) before.0.same_table in
+      subst (λ (l : List ℕ). IsNamed setting.name given.main l) whole (named_given setting.name given.main sends.0 old none sends.1);
   all = λ here. absurd (subst (λ (m : MultiState). IsOver m) was here);
 }
 
@@ -151,34 +167,46 @@ same_left e e' texts given channel =
     ap (λ (ns : List ℕ). drop (get_or ns channel 0) (get_or (texts_of e.sent.channels.items) channel [])) (sym given)
     ∙ ap (λ (ts : List (List ℕ)). drop (get_or e'.given.items channel 0) (get_or ts channel [])) (sym texts)
 
+-- the rest of a main stream that is ended waits, and nothing follows it
+rest_waits : (plain : List ℕ) (new : Multi) (e e' : EndedStreams) → waiting_in new.main ≡ e.sent.main.items → e'.sent.main.items ≡ []
+    → (plain ++ waiting_in new.main) ++ e'.sent.main.items ≡ plain ++ e.sent.main.items
+rest_waits plain new e e' waits rest =
+    ap (λ (l : List ℕ). (plain ++ waiting_in new.main) ++ l) rest
+    ∙ append-nil (plain ++ waiting_in new.main)
+    ∙ ap (λ (l : List ℕ). plain ++ l) waits
+
 pub refills_over : (old new : Multi) (e e' : EndedStreams) → old.state ≡ Over e → new.state ≡ Over e' → waiting_in old.main ≡ []
-    → waiting_in new.main ≡ e.sent.main.items → e'.sent.main.items ≡ [] → texts_of e'.sent.channels.items ≡ texts_of e.sent.channels.items → e'.given.items ≡ e.given.items → RefillsMain old new
-refills_over old new e e' was is none waits rest channels given_is = record {
+    → waiting_in new.main ≡ e.sent.main.items → e'.sent.main.items ≡ [] → texts_of e'.sent.channels.items ≡ texts_of e.sent.channels.items → e'.given.items ≡ e.given.items
+    → e'.left_open ≡ e.left_open → RefillsMain old new
+refills_over old new e e' was is none waits rest channels given_is ends = record {
   keeps = λ setting given rounds sends.
-      let before = subst (λ (m : MultiState). SendsTo setting (and_waiting given old) rounds m) was sends in
-      subst (λ (m : MultiState). SendsTo setting (and_waiting given new) rounds m) (sym is) (
-        ap (λ (l : List ℕ). length l) given_is ∙ before.0,
-        subst (λ (l : List ℕ). IsSending setting.table setting.uuid setting.limit setting.channels rounds l (all_channels setting.channels (and_waiting given new) e'))
-            (ap (λ (l : List ℕ). l ++ e.sent.main.items) (none_waits given old none)
-            ∙ ap (λ (l : List ℕ). given.main ++ l) (sym waits)
-            ∙ sym (append-nil (and_waiting given new).main)
-            ∙ ap (λ (l : List ℕ). (and_waiting given new).main ++ l) (sym rest))
-            (subst (λ (texts : List (List ℕ)). IsSending setting.table setting.uuid setting.limit setting.channels rounds ((and_waiting given old).main ++ e.sent.main.items) texts)
-            (ap (λ (left : ℕ → List ℕ). map (λ channel. given.channel channel ++ left channel) (range_with_len 0 setting.channels)) (fun_ext (same_left e e' channels given_is))) before.1),
+      let before = subst (λ (m : MultiState). SendsTo setting (with_plain given sends.0) rounds m) was sends.2 in (
+        sends.0 ++ waiting_in new.main,
+        named_more setting.name given.main sends.0 (waiting_in new.main) (named_given setting.name given.main sends.0 old none sends.1),
+        subst (λ (m : MultiState). SendsTo setting (with_plain given (sends.0 ++ waiting_in new.main)) rounds m) (sym is)
+            (same_streams setting (with_plain given sends.0) (with_plain given (sends.0 ++ waiting_in new.main)) rounds e e' (ap (λ (l : List ℕ). length l) given_is) ends
+            (rest_waits sends.0 new e e' waits rest)
+            (λ channel. ap (λ (l : List ℕ). given.channel channel ++ l) (sym (same_left e e' channels given_is channel))) before),
       );
   keeps_round = λ setting image dirty given rounds here.
-      absurd (subst (λ (m : MultiState). InRoundTo setting image dirty (and_waiting given old) rounds m) was here);
+      absurd (subst (λ (m : MultiState). InRoundTo setting image dirty (with_plain given here.0) rounds m) was here.2);
   in_round = λ here. absurd (subst (λ (m : MultiState). IsOpen m) was here);
   idle = λ here. absurd (subst (λ (m : MultiState). IsIdle m) was here);
-  ended = λ _. subst (λ (m : MultiState). IsOver m) (sym is) tt;
+  ended = λ _. (
+    subst (λ (m : MultiState). IsOver m) (sym is) tt,
+    ap (λ (m : MultiState). is_left_open m) is ∙ ends ∙ ap (λ (m : MultiState). is_left_open m) (sym was),
+  );
   given_up = λ here.
       let before = subst (λ (m : MultiState). HasNothingLeft m) was here.0 in
       (subst (λ (m : MultiState). HasNothingLeft m) (sym is) (rest, channels ∙ before.1), waits ∙ before.0);
   written = λ here. absurd (subst (λ (m : MultiState). IsIdle m) was here);
   all = λ _ empty setting given rounds sends.
-      let before = subst (λ (m : MultiState). SendsTo setting (and_waiting given old) rounds m) was sends in
-      sym (none_waits given old none)
-      ∙ sym (append-nil (and_waiting given old).main)
-      ∙ ap (λ (l : List ℕ). (and_waiting given old).main ++ l) (sym (sym waits ∙ empty))
-      ∙ before.1.has_main;
+      let before = subst (λ (m : MultiState). SendsTo setting (with_plain given sends.0) rounds m) was sends.2 in
+      let whole : sends.0 ≡ ended_main e.left_open None setting.table (length rounds) =
+      sym (append-nil sends.0)
+      ∙ ap (λ (l : List ℕ). sends.0 ++ l) (sym (sym waits ∙ empty))
+      ∙ ended_is e.left_open setting.table setting.uuid setting.limit setting.channels rounds _ _ before.1 in
+      named_ended e.left_open setting.name given.main setting.table (length rounds)
+      (subst (λ (l : List ℕ). IsNamed setting.name given.main l) whole (named_given setting.name given.main sends.0 old none sends.1))
+      ∙ ap (λ (m : MultiState). ended_main (is_left_open m) setting.name setting.table (length rounds)) (sym was);
 }

@@ -1,5 +1,5 @@
 -- Streams on several channels that are ended: what is left of the channels.
-use Rattle.std.proofs.Common.{ℕ, ◌≡◌, ◌≢◌, ◌+◌, ◌<◌, ◌≤◌, ◌∙◌, ◌==◌, List, [], ◌∷◌, ◌++◌, length, map, replicate, take, drop, get_or, set, Bool, if◌then◌else◌, refl, sym, ap, subst, arith, inl, inr}
+use Rattle.std.proofs.Common.{ℕ, ◌≡◌, ◌≢◌, ◌+◌, ◌<◌, ◌≤◌, ◌∙◌, ◌==◌, List, [], ◌++◌, length, map, replicate, take, drop, get_or, set, Bool, refl, sym, ap, subst, arith, inl, inr}
 use Rattle.std.specs.Prelude.{Vec}
 use Rattle.std.specs.List.{range_with_len}
 use Rattle.std.specs.declared.alloc.Global.{Global}
@@ -9,11 +9,12 @@ use Rattle.std.proofs.lemmas.List.FromFn.{length-map-range_with_len, get_or-map-
 use mathlib.Core.Path.{fun_ext}
 use Rattle.mig_mem.specs.RamTable.{RamTable}
 use Rattle.mig_send.specs.declared.multi.Sent.{Sent}
-use Rattle.mig_send.specs.DealtRounds.{DealtRound, IsSending, channel_text, channel_texts}
+use Rattle.mig_send.specs.DealtRounds.{DealtRound, channel_text, channel_texts}
 use Rattle.mig_send.specs.MultiSending.{MultiSending, Drained, texts_of, whole_texts, with_channel}
 use Rattle.mig_c_calls.specs.declared.sending.EndedStreams.{EndedStreams}
 use Rattle.mig_c_calls.specs.declared.sending.MultiState.TheVariants.{Over}
-use Rattle.mig_c_calls.specs.Multi.{MultiSetting, IsSenderOf, SendsTo, DrainsChannel, left_of, all_channels}
+use Rattle.mig_c_calls.specs.Multi.{MultiSetting, IsSenderOf, AreEnded, SendsTo, DrainsChannel, left_of, all_channels}
+use Rattle.mig_c_calls.proofs.Named.{texts_are}
 
 -- of one number, and of none, it is that number
 same_at : (n i m : ℕ) → get_or (replicate n m) i m ≡ m
@@ -30,48 +31,53 @@ long_texts drained texts uuid rounds n same =
     ∙ length-map-range_with_len (channel_text uuid rounds) 0 n
 
 -- at first all of each channel is left
-pub finishes : (s : MultiSending) (sent : Sent Global) (given : Vec ℕ Global) (n : ℕ) (setting : MultiSetting) (drained : Drained) (rounds : List DealtRound)
+pub finishes : (left_open : Bool) (s : MultiSending) (sent : Sent Global) (given : Vec ℕ Global) (n : ℕ) (setting : MultiSetting) (drained : Drained) (rounds : List DealtRound)
     → given.items ≡ replicate n 0 → n ≡ length s.channels → IsSenderOf setting s
-    → IsSending s.main.table s.uuid s.limit (length s.channels) rounds (drained.main ++ sent.main.items) (whole_texts drained (texts_of sent.channels.items))
-    → SendsTo setting drained rounds (Over (record { sent = sent; given = given }))
-finishes s sent given n setting drained rounds zeros many is sending =
+    → AreEnded left_open s.main.table s.uuid s.limit (length s.channels) rounds (drained.main ++ sent.main.items) (whole_texts drained (texts_of sent.channels.items))
+    → SendsTo setting drained rounds (Over (record { sent = sent; given = given; left_open = left_open }))
+finishes left_open s sent given n setting drained rounds zeros many is ended =
     let texts : List (List ℕ) = texts_of sent.channels.items in
     let main_text : List ℕ = drained.main ++ sent.main.items in
-    let e : EndedStreams = record { sent = sent; given = given } in
-    let long : length texts ≡ setting.channels = long_texts drained texts s.uuid rounds (length s.channels) sending.has_texts ∙ is.as_many in
+    let e : EndedStreams = record { sent = sent; given = given; left_open = left_open } in
+    let has_texts = texts_are left_open s.main.table s.uuid s.limit (length s.channels) rounds main_text (whole_texts drained texts) ended in
+    let long : length texts ≡ setting.channels = long_texts drained texts s.uuid rounds (length s.channels) has_texts ∙ is.as_many in
     let all_left : (channel : ℕ) → left_of e channel ≡ get_or texts channel [] =
     λ channel. ap (λ (k : ℕ). drop k (get_or texts channel [])) (ap (λ (l : List ℕ). get_or l channel 0) zeros ∙ same_at n channel 0) in
     let same : whole_texts drained texts ≡ all_channels setting.channels drained e =
     ap (λ (k : ℕ). map (λ channel. drained.channel channel ++ get_or texts channel []) (range_with_len 0 k)) long
     ∙ ap (λ (f : ℕ → List ℕ). map f (range_with_len 0 setting.channels)) (fun_ext (λ channel. ap (λ (l : List ℕ). drained.channel channel ++ l) (sym (all_left channel)))) in (
       ap (λ (l : List ℕ). length l) zeros ∙ length-replicate n 0 ∙ many ∙ is.as_many,
-      subst (λ (ts : List (List ℕ)). IsSending setting.table setting.uuid setting.limit setting.channels rounds main_text ts) same
-          (subst (λ (k : ℕ). IsSending setting.table setting.uuid setting.limit k rounds main_text (whole_texts drained texts)) is.as_many
-          (subst (λ (k : ℕ). IsSending setting.table setting.uuid k (length s.channels) rounds main_text (whole_texts drained texts)) is.same_limit
-          (subst (λ (u : List ℕ). IsSending setting.table u s.limit (length s.channels) rounds main_text (whole_texts drained texts)) is.same_uuid
-          (subst (λ (t : RamTable). IsSending t s.uuid s.limit (length s.channels) rounds main_text (whole_texts drained texts)) is.same_table sending)))),
+      subst (λ (ts : List (List ℕ)). AreEnded left_open setting.table setting.uuid setting.limit setting.channels rounds main_text ts) same
+          (subst (λ (k : ℕ). AreEnded left_open setting.table setting.uuid setting.limit k rounds main_text (whole_texts drained texts)) is.as_many
+          (subst (λ (k : ℕ). AreEnded left_open setting.table setting.uuid k (length s.channels) rounds main_text (whole_texts drained texts)) is.same_limit
+          (subst (λ (u : List ℕ). AreEnded left_open setting.table u s.limit (length s.channels) rounds main_text (whole_texts drained texts)) is.same_uuid
+          (subst (λ (t : RamTable). AreEnded left_open t s.uuid s.limit (length s.channels) rounds main_text (whole_texts drained texts)) is.same_table ended)))),
     )
 
 -- if nothing is left of a channel, all of it was copied out
 left_done : (setting : MultiSetting) (drained : Drained) (rounds : List DealtRound) (e : EndedStreams) (channel : ℕ) → SendsTo setting drained rounds (Over e)
     → left_of e channel ≡ [] → channel < setting.channels → drained.channel channel ≡ channel_text setting.uuid rounds channel
 left_done setting drained rounds e channel sends none lt =
+    let has_texts : all_channels setting.channels drained e ≡ channel_texts setting.uuid setting.channels rounds =
+    texts_are e.left_open setting.table setting.uuid setting.limit setting.channels rounds (drained.main ++ e.sent.main.items) (all_channels setting.channels drained e) sends.1 in
     sym (append-nil (drained.channel channel))
     ∙ ap (λ (l : List ℕ). drained.channel channel ++ l) (sym none)
     ∙ sym (get_or-map-range_with_len (λ c. drained.channel c ++ left_of e c) 0 setting.channels channel channel [] lt (omega arith))
-    ∙ ap (λ (l : List (List ℕ)). get_or l channel []) sends.1.has_texts
+    ∙ ap (λ (l : List (List ℕ)). get_or l channel []) has_texts
     ∙ get_or-map-range_with_len (channel_text setting.uuid rounds) 0 setting.channels channel channel [] lt (omega arith)
 
--- with other bytes copied out, and the others left, the streams are equal
-same_streams : (setting : MultiSetting) (drained after : Drained) (rounds : List DealtRound) (e e' : EndedStreams) → length e'.given.items ≡ length e.given.items
+-- with other bytes handed out, and the others left, the streams are the same
+pub same_streams : (setting : MultiSetting) (drained after : Drained) (rounds : List DealtRound) (e e' : EndedStreams) → length e'.given.items ≡ length e.given.items
+    → e'.left_open ≡ e.left_open
     → after.main ++ e'.sent.main.items ≡ drained.main ++ e.sent.main.items
     → ((channel : ℕ) → after.channel channel ++ left_of e' channel ≡ drained.channel channel ++ left_of e channel)
     → SendsTo setting drained rounds (Over e) → SendsTo setting after rounds (Over e')
-same_streams setting drained after rounds e e' long main_is channels sends = (
+same_streams setting drained after rounds e e' long ends main_is channels sends = (
   long ∙ sends.0,
-  subst (λ (l : List ℕ). IsSending setting.table setting.uuid setting.limit setting.channels rounds l (all_channels setting.channels after e')) (sym main_is)
-      (subst (λ (ts : List (List ℕ)). IsSending setting.table setting.uuid setting.limit setting.channels rounds (drained.main ++ e.sent.main.items) ts)
-      (ap (λ (f : ℕ → List ℕ). map f (range_with_len 0 setting.channels)) (fun_ext (λ channel. sym (channels channel)))) sends.1),
+  subst (λ (b : Bool). AreEnded b setting.table setting.uuid setting.limit setting.channels rounds (after.main ++ e'.sent.main.items) (all_channels setting.channels after e')) (sym ends)
+      (subst (λ (l : List ℕ). AreEnded e.left_open setting.table setting.uuid setting.limit setting.channels rounds l (all_channels setting.channels after e')) (sym main_is)
+      (subst (λ (ts : List (List ℕ)). AreEnded e.left_open setting.table setting.uuid setting.limit setting.channels rounds (drained.main ++ e.sent.main.items) ts)
+      (ap (λ (f : ℕ → List ℕ). map f (range_with_len 0 setting.channels)) (fun_ext (λ channel. sym (channels channel)))) sends.1)),
 )
 
 -- of a channel that there isn't nothing is left
@@ -103,18 +109,19 @@ pub drains_none : (e : EndedStreams) (at : ℕ) (out : List ℕ) → ((setting :
 drains_none e at out none = record {
   fits = omega arith;
   hands = λ _ setting drained rounds sends.
-      same_streams setting drained (with_channel drained at []) rounds e e refl refl (handed drained at [] e e refl (λ channel not. refl)) sends;
-  ended = λ _. tt;
+      same_streams setting drained (with_channel drained at []) rounds e e refl refl refl (handed drained at [] e e refl (λ channel not. refl)) sends;
+  ended = λ _. (tt, refl);
   given_up = λ is. (refl, is);
   all = λ _ zero room setting drained rounds sends lt. left_done setting drained rounds e at sends (none setting sends.0 lt) lt;
   same = λ not. absurd (not tt);
 }
 
 pub drains_left : (e e' : EndedStreams) (at count : ℕ) (out : List ℕ) → at < length e.given.items → at < length e.sent.channels.items
+    → e'.left_open ≡ e.left_open
     → e'.given.items ≡ set e.given.items at (get_or e.given.items at 0 + count) → e'.sent.main.items ≡ e.sent.main.items
     → texts_of e'.sent.channels.items ≡ texts_of e.sent.channels.items → count ≤ length out → take count out ≡ take count (left_of e at)
     → (count ≡ 0 → 0 < length out → length (left_of e at) ≡ 0) → DrainsChannel at count out (Over e) (Over e')
-drains_left e e' at count out lt within moved same_main same_texts fits front none =
+drains_left e e' at count out lt within ends moved same_main same_texts fits front none =
     let given : List ℕ = e.given.items in
     let now : ℕ = get_or given at 0 in
     let text : List ℕ = get_or (texts_of e.sent.channels.items) at [] in
@@ -133,9 +140,9 @@ drains_left e e' at count out lt within moved same_main same_texts fits front no
     record {
       fits = fits;
       hands = λ _ setting drained rounds sends.
-          same_streams setting drained (with_channel drained at (take count out)) rounds e e' (ap (λ (l : List ℕ). length l) moved ∙ length-set given at (now + count))
+          same_streams setting drained (with_channel drained at (take count out)) rounds e e' (ap (λ (l : List ℕ). length l) moved ∙ length-set given at (now + count)) ends
           (ap (λ (l : List ℕ). drained.main ++ l) same_main) (handed drained at (take count out) e e' here other) sends;
-      ended = λ _. tt;
+      ended = λ _. (tt, ends);
       given_up = λ is.
           absurd (omega (arith, within, length-map e.sent.channels.items (λ (v : Vec ℕ Global). v.items), ap (λ (ts : List (List ℕ)). length ts) is.1));
       all = λ _ zero room setting drained rounds sends is_channel. left_done setting drained rounds e at sends (nil_from_length (left_of e at) (none zero room)) is_channel;

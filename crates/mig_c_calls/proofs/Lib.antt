@@ -1,3 +1,4 @@
+pub mod Named
 pub mod Sends
 pub mod Drains
 pub mod Calls

@@ -1,19 +1,18 @@
--- A sender on several channels, as C holds it: its rounds, their workers, and what is copied out.
-use Rattle.std.proofs.Common.{ℕ, ◌≡◌, ◌≢◌, ◌+◌, ◌<◌, ◌≤◌, ◌∙◌, ◌==◌, List, [], ◌∷◌, ◌++◌, length, map, replicate, take, drop, get_or, Bool, true, false, if◌then◌else◌, refl, sym, ap, subst, arith, inl, inr}
-use Rattle.std.specs.Prelude.{Result, Ok, Err, IsOk, is_ok, IsTrue, ◌||◌}
+-- A sender on several channels, as C holds it: its rounds, their workers, and what is handed out.
+use Rattle.std.proofs.Common.{ℕ, ◌≡◌, ◌≢◌, ◌+◌, ◌<◌, ◌≤◌, ◌∙◌, ◌==◌, List, [], ◌∷◌, ◌++◌, length, replicate, take, get_or, Bool, true, false, if◌then◌else◌, refl, sym, ap, subst, arith, inl, inr}
+use Rattle.std.specs.Prelude.{Result, Err, IsOk, is_ok, IsTrue, ◌||◌}
 use Rattle.std.proofs.lemmas.Bool.{cases_lt, cond-true, cond-false, eq-eqb, ne_eqb}
 use Rattle.std.proofs.lemmas.List.{append-nil, append_assoc, append_cancel_left, length-append}
 use Rattle.mig_mem.specs.declared.place.Place.{Place}
-use Rattle.mig_mem.specs.RamTable.{RamTable}
 use Rattle.mig_mem.specs.Image.{Image, IsImage}
 use Rattle.mig_mem.specs.PlaceSet.{PlaceSet}
-use Rattle.mig_stream.specs.Written.{FlushPart, written_so_far}
+use Rattle.mig_stream.specs.Written.{FlushPart}
 use Rattle.mig_stream.specs.Writer.{HasDrained}
 use Rattle.mig_deal.specs.Deal.{SeatView}
 use Rattle.mig_send.specs.declared.channel_worker.Hand.{Hand}
 use Rattle.mig_send.specs.declared.channel_worker.Hand.TheVariants.{Drawing, Claimed, Ending, Ended, Moving}
 use Rattle.mig_send.specs.DealtRounds.{DealtRound, channel_text}
-use Rattle.mig_send.specs.MultiSending.{MultiSending, Drained, HasSentRounds, KeepsSetting, KeepsCounts, with_main, with_channel}
+use Rattle.mig_send.specs.MultiSending.{MultiSending, Drained, HasSentRounds, KeepsSetting, with_channel}
 use Rattle.mig_send.specs.ChannelWork.{ChannelWork, HasPacked, HasEnded, seats_of}
 use Rattle.mig_send.specs.MultiRound as round
 use Rattle.mig_send.specs.MultiRound.{OpenMulti, IsRoundSoFar, HasBegun, HandsOut, TakesBack, HasSentRound, dirty_of, handed_out, with_channels}

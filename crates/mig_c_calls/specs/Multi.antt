@@ -1,7 +1,8 @@
--- A sender of C on several channels: the rounds that it has sent, the bytes that were copied out of
--- its streams, and the workers of its rounds, each with a handle of its own.
-use Rattle.std.specs.Prelude.{◌≡◌, ◌≢◌, ◌⊎◌, ◌+◌, ◌≤◌, ◌<◌, ◌++◌, ℕ, List, [], ◌∷◌, drop, take, map, length, replicate, get_or, All, Option, None, Some, Result, IsOk, ◌↔◌, ⊤}
+-- A sender of C on several channels: what it has sent, what was handed out of its streams, and the
+-- workers of its rounds, each with a handle of its own.
+use Rattle.std.specs.Prelude.{◌≡◌, ◌≢◌, ◌⊎◌, ◌+◌, ◌≤◌, ◌<◌, ◌++◌, ℕ, Bool, true, false, List, [], ◌∷◌, drop, take, map, length, replicate, get_or, All, Option, None, Some, Result, IsOk, ◌↔◌, ⊤}
 use Rattle.std.specs.List.{fold, range_with_len}
+use Rattle.std.specs.declared.alloc.Global.{Global}
 use Rattle.mig_mem.specs.RamTable.{RamTable}
 use Rattle.mig_mem.specs.declared.place.Place.{Place}
 use Rattle.mig_mem.specs.declared.fault.NoMemory.{NoMemory}
@@ -10,9 +11,11 @@ use Rattle.mig_mem.specs.PlaceSet.{PlaceSet, with_place}
 use Rattle.mig_mem.specs.Image.{Image, IsImage}
 use Rattle.mig_mem.specs.Lent.{FitTable, lent_image}
 use Rattle.mig_stream.specs.Written.{FlushPart, written_so_far, main}
+use Rattle.mig_stream.specs.MachineWritten.{machine_written, machine_closed}
 use Rattle.mig_packet.specs.PageSize.{page_limit}
-use Rattle.mig_send.specs.DealtRounds.{DealtRound, IsSending, channel_text}
-use Rattle.mig_send.specs.MultiSending.{MultiSending, Drained, HasSentRounds, nothing_drained, texts_of, with_main, with_channel}
+use Rattle.mig_send.specs.DealtRounds.{DealtRound, IsSending, IsMachineSending, channel_text}
+use Rattle.mig_send.specs.MultiSending.{MultiSending, Drained, HasSentRounds, nothing_drained, texts_of, whole_texts, with_main, with_channel}
+use Rattle.mig_send.specs.declared.multi.Sent.{Sent}
 use Rattle.mig_send.specs.ChannelWork.{ChannelWork, HasPacked, HasStepped, HasEnded}
 use Rattle.mig_send.specs.MultiRound.{OpenMulti, IsRoundSoFar, HandsOut, dirty_of, handed_out}
 use Rattle.mig_c_calls.specs.declared.waiting.Waiting.{Waiting}
@@ -22,6 +25,7 @@ use Rattle.mig_c_calls.specs.declared.sending.MultiState.{MultiState}
 use Rattle.mig_c_calls.specs.declared.sending.MultiState.TheVariants.{Idle, Round, Over}
 use Rattle.mig_c_calls.specs.declared.sending.Multi.{Multi}
 use Rattle.mig_c_calls.specs.declared.sending.HeldWorker.{HeldWorker}
+use Rattle.mig_c_calls.specs.Named.{IsNamed, IsLongName}
 use Rattle.mig_c_calls.specs.Status.{IsOneOf, channels as no_channels, batch_limit as bad_batch_limit, done, no_memory, running, bad_length, no_page, out_of_turn}
 
 -- ---- bytes that wait
@@ -38,12 +42,13 @@ pub record HandsOutOf (count : ℕ) (out : List ℕ) (old new : Waiting) : Type 
 
 -- ---- the sender
 
--- what a sender was made with
+-- What a sender was made with. Its main stream has the name of a machine, or none.
 pub record MultiSetting : Type 0 where
   pub table : RamTable
   pub uuid : List ℕ
   pub limit : ℕ
   pub channels : ℕ
+  pub name : Option (List ℕ)
 
 pub record IsSenderOf (setting : MultiSetting) (s : MultiSending) : Type 0 where
   pub same_table : s.main.table ≡ setting.table
@@ -59,13 +64,18 @@ left_of e channel = drop (get_or e.given.items channel 0) (get_or (texts_of e.se
 abbrev pub all_channels : ℕ → Drained → EndedStreams → List (List ℕ)
 all_channels channels drained e = map (λ channel. drained.channel channel ++ left_of e channel) (range_with_len 0 channels)
 
--- No round is open, the sender has sent these rounds, and these bytes were drained of it. If it is
--- ended, the rest of its streams is there.
+-- The streams of some rounds, whose main stream is ended with its end byte, or left open without it.
+abbrev pub AreEnded : Bool → RamTable → List ℕ → ℕ → ℕ → List DealtRound → List ℕ → List (List ℕ) → Type 0
+AreEnded false table uuid limit channels rounds main_text texts = IsSending table uuid limit channels rounds main_text texts
+AreEnded true table uuid limit channels rounds main_text texts = IsMachineSending None table uuid limit channels rounds main_text texts
+
+-- No round is open, the sender has sent these rounds, and these bytes were drained of it: of the main
+-- stream those without a name. Where it is ended, the rest of its streams is there.
 abbrev pub SendsTo : MultiSetting → Drained → List DealtRound → MultiState → Type 0
 SendsTo setting drained rounds (Idle s) = IsSenderOf setting s × HasSentRounds drained s rounds
 SendsTo setting drained rounds (Round r) = ⊥
 SendsTo setting drained rounds (Over e) = (length e.given.items ≡ setting.channels)
-    × IsSending setting.table setting.uuid setting.limit setting.channels rounds
+    × AreEnded e.left_open setting.table setting.uuid setting.limit setting.channels rounds
     (drained.main ++ e.sent.main.items) (all_channels setting.channels drained e)
 
 -- A round of these dirty pages is open, after these rounds. The workers that were given back packed
@@ -88,17 +98,20 @@ InRoundTo setting image dirty drained rounds (Idle s) = ⊥
 InRoundTo setting image dirty drained rounds (Round r) = IsInRound setting image dirty drained rounds r.round
 InRoundTo setting image dirty drained rounds (Over e) = ⊥
 
--- These bytes were copied out, and those that wait of the main stream were drained of it too.
-abbrev pub and_waiting : Drained → Multi → Drained
-and_waiting given m = with_main given (waiting_in m.main)
+-- what was drained, with these bytes of the main stream in place of others
+abbrev pub with_plain : Drained → List ℕ → Drained
+with_plain given plain = record given { main = plain }
 
--- It has sent these rounds, and these bytes of its streams were copied out.
+-- It has sent these rounds, and these bytes of its streams were handed out. Those that wait of the
+-- main stream follow them, and without the machine's name they are what was drained.
 abbrev pub Sends : MultiSetting → Drained → List DealtRound → Multi → Type 0
-Sends setting given rounds m = SendsTo setting (and_waiting given m) rounds m.state
+Sends setting given rounds m = (plain : List ℕ) × IsNamed setting.name (given.main ++ waiting_in m.main) plain
+    × SendsTo setting (with_plain given plain) rounds m.state
 
 -- A round is open, and these bytes of its streams were copied out.
 abbrev pub InRound : MultiSetting → Image → List Place → Drained → List DealtRound → Multi → Type 0
-InRound setting image dirty given rounds m = InRoundTo setting image dirty (and_waiting given m) rounds m.state
+InRound setting image dirty given rounds m = (plain : List ℕ) × IsNamed setting.name (given.main ++ waiting_in m.main) plain
+    × InRoundTo setting image dirty (with_plain given plain) rounds m.state
 
 abbrev pub IsIdle : MultiState → Type 0
 IsIdle (Idle s) = ⊤
@@ -114,6 +127,18 @@ abbrev pub IsOver : MultiState → Type 0
 IsOver (Idle s) = ⊥
 IsOver (Round r) = ⊥
 IsOver (Over e) = ⊤
+
+-- the main stream was left open after RAM's END
+abbrev pub is_left_open : MultiState → Bool
+is_left_open (Idle s) = false
+is_left_open (Round r) = false
+is_left_open (Over e) = e.left_open
+
+-- the main stream of so many rounds once it is ended, with its end byte or left open
+abbrev pub ended_main : Bool → Option (List ℕ) → RamTable → ℕ → List ℕ
+ended_main false None table rounds = main table rounds
+ended_main false (Some name) table rounds = machine_closed (Some name) table (replicate rounds FlushPart)
+ended_main true name table rounds = machine_written name table (replicate rounds FlushPart)
 
 -- The streams are over, and nothing of them is left to hand out.
 abbrev pub HasNothingLeft : MultiState → Type 0
@@ -163,22 +188,24 @@ pub record Packs (image : Image) (sent given more : List ℕ) (w : HeldWorker) :
 abbrev pub Starts : MultiSetting → Multi → Type 0
 Starts setting m = Sends setting nothing_drained [] m × IsIdle m.state
 
-abbrev pub StartsOf : Option RamTable → List ℕ → ℕ → ℕ → Option Multi → Type 0
-StartsOf None uuid channels limit made = ⊤
-StartsOf (Some table) uuid channels limit None = ⊥
-StartsOf (Some table) uuid channels limit (Some m) = Starts (record { table = table; uuid = uuid; limit = limit; channels = channels }) m
+abbrev pub StartsOf : Option RamTable → List ℕ → ℕ → ℕ → Option (List ℕ) → Option Multi → Type 0
+StartsOf None uuid channels limit name made = ⊤
+StartsOf (Some table) uuid channels limit name None = ⊥
+StartsOf (Some table) uuid channels limit name (Some m) = Starts (record { table = table; uuid = uuid; limit = limit; channels = channels; name = name }) m
 
 -- this holds of the table
 abbrev pub OfTable : (RamTable → Type 0) → Option RamTable → Type 0
 OfTable IsSo None = ⊤
 OfTable IsSo (Some table) = IsSo table
 
--- The effect of `new`, with a table. It returns the first error.
-pub record OpensMulti (table : Option RamTable) (uuid : List ℕ) (channels limit : ℕ) (status : ℕ) (made : Option Multi) : Type 0 where
+-- What `new` does, with a table, and with a machine's name or none: the first thing that is wrong with
+-- what it is given is returned.
+pub record OpensMulti (table : Option RamTable) (uuid : List ℕ) (channels limit : ℕ) (name : Option (List ℕ)) (status : ℕ) (made : Option Multi) : Type 0 where
   pub is_named : IsOneOf (done ∷ no_memory ∷ bad_length ∷ no_channels ∷ bad_batch_limit ∷ []) status
-  pub starts : status ≡ done → StartsOf table uuid channels limit made
-  pub short : status ≡ bad_length → length uuid ≢ 16
+  pub starts : status ≡ done → StartsOf table uuid channels limit name made
+  pub unfit : status ≡ bad_length → length uuid ≡ 16 → IsLongName name
   pub is_uuid : status ≢ bad_length → length uuid ≡ 16
+  pub has_room : status ≢ bad_length → IsLongName name → ⊥
   pub none : status ≡ no_channels → (channels ≡ 0) ⊎ (255 < channels)
   pub has_channels : status ≢ bad_length → status ≢ no_channels → (0 < channels) × (channels ≤ 255)
   pub bad_limit : status ≡ bad_batch_limit → OfTable (λ t. (0 < limit) × (limit ≤ page_limit t.page_size) → ⊥) table
@@ -345,15 +372,20 @@ pub record CancelsRound (status : ℕ) (old new : Multi) : Type 0 where
   pub gives_up : status ≡ done → HasGivenUp new
   pub breaks_off : status ≡ done → (setting : MultiSetting) (image : Image) (dirty : List Place) (given : Drained) (rounds : List DealtRound)
       → InRound setting image dirty given rounds old
-      → (rest : List ℕ) × (given.main ++ rest ≡ written_so_far setting.table (replicate (length rounds) FlushPart))
+      → (rest : List ℕ) × IsNamed setting.name (given.main ++ rest) (written_so_far setting.table (replicate (length rounds) FlushPart))
   pub same : status ≢ done → new ≡ old
   pub wrong : status ≡ out_of_turn → IsOpen old.state → ⊥
   pub in_turn : status ≢ out_of_turn → IsOpen old.state
 
--- What `finish` does.
-pub record Finishes (status : ℕ) (old new : MultiState) : Type 0 where
+-- The rest of the streams of a sender that is idle: with what was drained they are the whole ones.
+abbrev pub EndsStreams : Bool → MultiSending → Sent Global → Type 0
+EndsStreams left_open s sent = (drained : Drained) (rounds : List DealtRound) → HasSentRounds drained s rounds
+    → AreEnded left_open s.main.table s.uuid s.limit (length s.channels) rounds (drained.main ++ sent.main.items) (whole_texts drained (texts_of sent.channels.items))
+
+-- What `finish` does, and `finish_open`, which leaves the main stream open after RAM's END.
+pub record Finishes (left_open : Bool) (status : ℕ) (old new : MultiState) : Type 0 where
   pub is_named : IsOneOf (done ∷ no_memory ∷ out_of_turn ∷ []) status
-  pub ends : status ≡ done → IsOver new
+  pub ends : status ≡ done → IsOver new × (is_left_open new ≡ left_open)
   pub keeps : (setting : MultiSetting) (drained : Drained) (rounds : List DealtRound) → SendsTo setting drained rounds old → SendsTo setting drained rounds new
   pub same : status ≢ done → IsSame new old
   pub wrong : status ≡ out_of_turn → IsIdle old → ⊥
@@ -370,12 +402,12 @@ pub record DrainsMain (count : ℕ) (out : List ℕ) (old new : Multi) : Type 0 
       → InRound setting image dirty given rounds old → InRound setting image dirty (with_main given (take count out)) rounds new
   pub in_round : IsOpen old.state → new.state ≡ old.state
   pub idle : IsIdle old.state → IsIdle new.state
-  pub ended : IsOver old.state → IsOver new.state
+  pub ended : IsOver old.state → IsOver new.state × (is_left_open new.state ≡ is_left_open old.state)
   pub given_up : HasGivenUp old → (count ≡ 0) × HasGivenUp new
   pub written : IsIdle old.state → count ≡ 0 → 0 < length out → (setting : MultiSetting) (given : Drained) (rounds : List DealtRound)
-      → Sends setting given rounds old → given.main ≡ written_so_far setting.table (replicate (length rounds) FlushPart)
+      → Sends setting given rounds old → IsNamed setting.name given.main (written_so_far setting.table (replicate (length rounds) FlushPart))
   pub all : IsOver old.state → count ≡ 0 → 0 < length out → (setting : MultiSetting) (given : Drained) (rounds : List DealtRound)
-      → Sends setting given rounds old → given.main ≡ main setting.table (length rounds)
+      → Sends setting given rounds old → given.main ≡ ended_main (is_left_open old.state) setting.name setting.table (length rounds)
 
 -- the first step of `drain`: if no byte waits, those that were written since are drained
 pub record RefillsMain (old new : Multi) : Type 0 where
@@ -384,12 +416,12 @@ pub record RefillsMain (old new : Multi) : Type 0 where
       → InRound setting image dirty given rounds old → InRound setting image dirty given rounds new
   pub in_round : IsOpen old.state → (new.state ≡ old.state) × (new.main ≡ old.main)
   pub idle : IsIdle old.state → IsIdle new.state
-  pub ended : IsOver old.state → IsOver new.state
+  pub ended : IsOver old.state → IsOver new.state × (is_left_open new.state ≡ is_left_open old.state)
   pub given_up : HasGivenUp old → HasGivenUp new
   pub written : IsIdle old.state → waiting_in new.main ≡ [] → (setting : MultiSetting) (given : Drained) (rounds : List DealtRound)
-      → Sends setting given rounds old → given.main ≡ written_so_far setting.table (replicate (length rounds) FlushPart)
+      → Sends setting given rounds old → IsNamed setting.name given.main (written_so_far setting.table (replicate (length rounds) FlushPart))
   pub all : IsOver old.state → waiting_in new.main ≡ [] → (setting : MultiSetting) (given : Drained) (rounds : List DealtRound)
-      → Sends setting given rounds old → given.main ≡ main setting.table (length rounds)
+      → Sends setting given rounds old → given.main ≡ ended_main (is_left_open old.state) setting.name setting.table (length rounds)
 
 -- What `drain_channel` does: of streams that are ended it hands out what is left of a channel, and of
 -- streams that were given up nothing.
@@ -397,7 +429,7 @@ pub record DrainsChannel (channel count : ℕ) (out : List ℕ) (old new : Multi
   pub fits : count ≤ length out
   pub hands : IsOver old → (setting : MultiSetting) (drained : Drained) (rounds : List DealtRound) → SendsTo setting drained rounds old
       → SendsTo setting (with_channel drained channel (take count out)) rounds new
-  pub ended : IsOver old → IsOver new
+  pub ended : IsOver old → IsOver new × (is_left_open new ≡ is_left_open old)
   pub given_up : HasNothingLeft old → (count ≡ 0) × HasNothingLeft new
   pub all : IsOver old → count ≡ 0 → 0 < length out → (setting : MultiSetting) (drained : Drained) (rounds : List DealtRound) → SendsTo setting drained rounds old
       → channel < setting.channels → drained.channel channel ≡ channel_text setting.uuid rounds channel

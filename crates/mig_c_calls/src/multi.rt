@@ -1,13 +1,14 @@
 //! The calls of a sender on several channels, and of its open round. The calls of the round's
 //! workers are in `worker`.
 
-ghost use Rattle.std.specs.Prelude.{◌≡◌, ◌≢◌, ◌+◌, ◌≤◌, ◌<◌, [], IsSome, IsTrue, ◌↔◌, IfOk, IfErr, OnOk, OnErr, None, Some, length, All, map, replicate};
+ghost use Rattle.std.specs.Prelude.{◌≡◌, ◌≢◌, ◌+◌, ◌≤◌, ◌<◌, [], IsSome, IsTrue, ◌↔◌, true, false, IfOk, IfErr, OnOk, OnErr, None, Some, length, All, map, replicate};
 ghost use Rattle.mig_mem.specs.Place.{IsPlace};
 ghost use Rattle.mig_mem.specs.PlaceSet.{PlaceSet};
+ghost use Rattle.mig_stream.specs.Format.{most_name_bytes};
 ghost use Rattle.mig_packet.specs.PageSize.{page_limit as most_pages};
 ghost use Rattle.mig_send.specs.MultiRound.{TakesBack};
 ghost use Rattle.mig_c_calls.specs.declared.sending.MultiState.TheVariants.{Idle, Round, Over};
-ghost use Rattle.mig_c_calls.specs.Multi.{MultiSetting, Starts, place_of, set_of, ChangesMulti, BeginsRound, Deals, GivesNext, HandsOutWorker, CanComeBack, TakesBackWorker, IsOfRound, EndsRound, CancelsRound, Finishes, DrainsMain, RefillsMain, DrainsChannel, IsOpen, HasNothingLeft};
+ghost use Rattle.mig_c_calls.specs.Multi.{MultiSetting, Starts, place_of, set_of, ChangesMulti, BeginsRound, Deals, GivesNext, HandsOutWorker, CanComeBack, TakesBackWorker, IsOfRound, EndsRound, CancelsRound, EndsStreams, Finishes, DrainsMain, RefillsMain, DrainsChannel, IsOpen, HasNothingLeft};
 
 use crate::sending::{DealtRound, EndedStreams, HeldWorker, Multi, MultiState, NamedPlace};
 use crate::status::{DONE, NO_MEMORY, NO_PAGE, OUT_OF_TURN};
@@ -196,25 +197,46 @@ fn zeros(alloc: Global, count: usize) -> Result<Vec<usize>, NoMemory>
     Ok(vec![in alloc; 0usize; count]?)
 }
 
-// Ends the streams of a sender.
-fn finished_sender(alloc: Global, sender: MultiSender<Global>) -> (MultiState, u32)
-    ensures { Finishes result.1 (Idle sender) result.0 }
+// Ends the streams of a sender, the main stream with its end byte or left open.
+fn end_streams(
+    sender: MultiSender<Global>,
+    left_open: bool,
+) -> Result<Sent<Global>, MultiSender<Global>>
+    ensures ok { IfOk result (λ sent. EndsStreams left_open sender sent) }
+    ensures err { IfErr result (λ s. s ≡ sender) }
+{
+    if left_open {
+        return sender.finish_open();
+    }
+    sender.finish()
+}
+
+// Ends the streams of a sender that is idle.
+fn finished_sender(alloc: Global, sender: MultiSender<Global>, left_open: bool) -> (MultiState, u32)
+    ensures { Finishes left_open result.1 (Idle sender) result.0 }
 {
     let Ok(given) = zeros(alloc, sender.channels()) else {
         return (MultiState::Idle(sender), NO_MEMORY);
     };
-    match sender.finish() {
-        Ok(sent) => (MultiState::Over(EndedStreams { sent, given }), DONE),
+    match end_streams(sender, left_open) {
+        Ok(sent) => {
+            let ended = EndedStreams {
+                sent,
+                given,
+                left_open,
+            };
+            (MultiState::Over(ended), DONE)
+        }
         Err(sender) => (MultiState::Idle(sender), NO_MEMORY),
     }
 }
 
-// Ends the streams, if no round is open.
-fn finished(alloc: Global, state: MultiState) -> (MultiState, u32)
-    ensures { Finishes result.1 state result.0 }
+// Ends the streams, where no round is open.
+fn finished(alloc: Global, state: MultiState, left_open: bool) -> (MultiState, u32)
+    ensures { Finishes left_open result.1 state result.0 }
 {
     match state {
-        MultiState::Idle(sender) => finished_sender(alloc, sender),
+        MultiState::Idle(sender) => finished_sender(alloc, sender, left_open),
         MultiState::Round(dealt) => (MultiState::Round(dealt), OUT_OF_TURN),
         MultiState::Over(streams) => (MultiState::Over(streams), OUT_OF_TURN),
     }
@@ -230,6 +252,7 @@ fn nothing_left(alloc: Global) -> MultiState
             channels: Vec::new(alloc),
         },
         given: Vec::new(alloc),
+        left_open: false,
     })
 }
 
@@ -314,7 +337,7 @@ impl Multi {
         channels: usize,
         limit: usize,
     ) -> Result<Multi, NoMemory>
-        ensures { IfOk result (λ m. Starts (record { table = table.now; uuid = uuid; limit = limit; channels = channels }) m) }
+        ensures { IfOk result (λ m. Starts (record { table = table.now; uuid = uuid; limit = limit; channels = channels; name = None }) m) }
     {
         let Ok(sender) = MultiSender::new(alloc, table, uuid, channels, limit) else {
             return Err(NoMemory);
@@ -325,7 +348,38 @@ impl Multi {
         })
     }
 
-    /// Begins a round of these dirty places. They may be in any order, and repeated. Returns the
+    /// Creates a sender as `new` does, whose main stream is a machine's: a configuration with the
+    /// machine's `name` follows its file header.
+    ///
+    /// # Errors
+    ///
+    /// Those of `new`.
+    pub fn new_named(
+        alloc: Global,
+        table: &Table<Global>,
+        uuid: Uuid,
+        channels: usize,
+        limit: usize,
+        name: &[u8],
+    ) -> Result<Multi, NoMemory>
+        requires name { length name.now ≤ most_name_bytes }
+        ensures { IfOk result (λ m. Starts (record { table = table.now; uuid = uuid; limit = limit; channels = channels; name = Some name.now }) m) }
+    {
+        let Ok((first, sender)) = MultiSender::with_configuration(
+            alloc, table, uuid, channels, limit, name,
+        ) else {
+            return Err(NoMemory);
+        };
+        Ok(Multi {
+            state: MultiState::Idle(sender),
+            main: Waiting {
+                bytes: first,
+                given: 0,
+            },
+        })
+    }
+
+    /// Begins a round of these dirty places, in any order, of which each counts once. Returns the
     /// status: `DONE`, `NO_MEMORY`, `NO_PAGE` or `OUT_OF_TURN`.
     pub fn begin_round(&mut self, alloc: Global, places: &[NamedPlace]) -> u32
         ensures { ChangesMulti (BeginsRound (map place_of places.now) result) self.old self.new }
@@ -394,9 +448,20 @@ impl Multi {
     /// Ends the streams, where no round is open. Returns the status: `DONE`, `NO_MEMORY` or
     /// `OUT_OF_TURN`.
     pub fn finish(&mut self, alloc: Global) -> u32
-        ensures { ChangesMulti (Finishes result) self.old self.new }
+        ensures { ChangesMulti (Finishes false result) self.old self.new }
     {
-        let (state, status) = finished(alloc, take_state(alloc, self));
+        let (state, status) = finished(alloc, take_state(alloc, self), false);
+        self.state = state;
+        status
+    }
+
+    /// Ends the streams, where no round is open, and leaves the main stream open after the footer of
+    /// RAM's END: the caller goes on with the sections of devices and the end byte. Returns the
+    /// status: `DONE`, `NO_MEMORY` or `OUT_OF_TURN`.
+    pub fn finish_open(&mut self, alloc: Global) -> u32
+        ensures { ChangesMulti (Finishes true result) self.old self.new }
+    {
+        let (state, status) = finished(alloc, take_state(alloc, self), true);
         self.state = state;
         status
     }

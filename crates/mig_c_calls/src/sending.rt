@@ -36,6 +36,8 @@ pub struct EndedStreams {
     pub(crate) sent: Sent<Global>,
     /// How many bytes of each channel were copied out.
     pub(crate) given: Vec<usize>,
+    /// Whether the main stream was left open after RAM's END.
+    pub(crate) left_open: bool,
 }
 
 /// The state of a sender on several channels.

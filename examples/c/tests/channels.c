@@ -50,7 +50,7 @@ static int send_round(zimgasol_multi *multi, const zimgasol_place *dirty, size_t
     WANT(zimgasol_multi_begin_round(multi, &outside, 1) == ZIMGASOL_NO_PAGE);
     WANT(zimgasol_multi_begin_round(multi, dirty, count) == ZIMGASOL_DONE);
     WANT(zimgasol_multi_begin_round(multi, dirty, count) == ZIMGASOL_OUT_OF_TURN);
-    WANT(zimgasol_multi_finish(multi) == ZIMGASOL_OUT_OF_TURN);
+    WANT(zimgasol_multi_finish(multi) == ZIMGASOL_OUT_OF_TURN && zimgasol_multi_finish_open(multi) == ZIMGASOL_OUT_OF_TURN);
     for (size_t j = 0; j < CHANNELS; j++) {
         WANT(zimgasol_multi_worker(multi, &workers[j]) == ZIMGASOL_DONE);
         WANT(zimgasol_worker_channel(&workers[j]) == j);
@@ -156,6 +156,60 @@ static int feed_all(zimgasol_in_place_session *load, size_t cut) {
     return 0;
 }
 
+/* A round of three pages, whose main stream is a machine's where there is a name. */
+static int send_some(zimgasol_table *table, const char *name) {
+    zimgasol_multi multi = {0};
+    zimgasol_place some[3] = {{0, 1}, {1, 0}, {0, 7}};
+    memset(length, 0, sizeof length);
+    if (name == NULL) WANT(zimgasol_multi_new(&multi, table, uuid, 16, CHANNELS, 16) == ZIMGASOL_DONE);
+    else WANT(zimgasol_multi_new_named(&multi, table, uuid, 16, CHANNELS, 16, (const uint8_t *)name, strlen(name)) == ZIMGASOL_DONE);
+    if (send_round(&multi, some, 3)) return 1;
+    WANT((name == NULL ? zimgasol_multi_finish(&multi) : zimgasol_multi_finish_open(&multi)) == ZIMGASOL_DONE);
+    WANT(zimgasol_multi_finish_open(&multi) == ZIMGASOL_OUT_OF_TURN && zimgasol_multi_finish(&multi) == ZIMGASOL_OUT_OF_TURN);
+    if (drain_main(&multi)) return 1;
+    zimgasol_multi_free(&multi);
+    return 0;
+}
+
+/* A machine's main stream is that of RAM with a configuration after the file header and without the
+ * end byte, and its channels are the same. It is loaded in its frame, with what follows it. */
+static int send_named(zimgasol_table *table) {
+    enum { LITTLE = 1 << 16 };
+    static const uint8_t configuration[] = {7, 0, 0, 0, 4, 'v', 'i', 'r', 't'}, long_name[1025] = {'m'};
+    static uint8_t named[1 + CHANNELS][LITTLE];
+    size_t named_length[1 + CHANNELS], rest = 8 + sizeof configuration;
+    zimgasol_settings settings = {.frame = ZIMGASOL_FRAME_MACHINE};
+    zimgasol_in_place_session load = {0};
+    zimgasol_multi multi = {0};
+    zimgasol_fault fault;
+    WANT(zimgasol_multi_new_named(&multi, table, uuid, 16, CHANNELS, 16, long_name, 1025) == ZIMGASOL_BAD_LENGTH && multi.full == 0);
+    WANT(zimgasol_multi_new_named(&multi, table, uuid, 15, CHANNELS, 16, long_name, 4) == ZIMGASOL_BAD_LENGTH && multi.full == 0);
+    WANT(zimgasol_multi_new_named(&multi, table, uuid, 16, 0, 16, long_name, 1024) == ZIMGASOL_CHANNELS && multi.full == 0);
+    WANT(zimgasol_multi_new_named(&multi, table, uuid, 16, CHANNELS, 129, long_name, 1024) == ZIMGASOL_BATCH_LIMIT && multi.full == 0);
+    write_guest(1);
+    if (send_some(table, "virt")) return 1;
+    for (size_t s = 0; s <= CHANNELS; s++) {
+        WANT(length[s] < LITTLE);
+        memcpy(named[s], stream[s], named_length[s] = length[s]);
+    }
+    if (send_some(table, NULL)) return 1;
+    WANT(named_length[0] == length[0] + sizeof configuration - 1 && memcmp(named[0], stream[0], 8) == 0);
+    WANT(memcmp(named[0] + 8, configuration, sizeof configuration) == 0);
+    WANT(memcmp(named[0] + rest, stream[0] + 8, length[0] - 9) == 0 && stream[0][length[0] - 1] == 0);
+    for (size_t s = 1; s <= CHANNELS; s++) WANT(named_length[s] == length[s] && memcmp(named[s], stream[s], length[s]) == 0);
+    memcpy(stream[0], named[0], named_length[0]);
+    memcpy(stream[0] + named_length[0], "\4 and so on", 11);
+    length[0] = named_length[0] + 11;
+    memset(loaded, 0, sizeof loaded);
+    WANT(zimgasol_in_place_session_new_within(&load, table, uuid, 16, CHANNELS, &settings) == ZIMGASOL_DONE);
+    if (feed_all(&load, 777)) return 1;
+    WANT(zimgasol_in_place_session_verdict(&load, &fault) == ZIMGASOL_DONE && zimgasol_in_place_session_rounds(&load) == 1);
+    WANT(memcmp(loaded[0] + PAGE, guest[0] + PAGE, PAGE) == 0 && memcmp(loaded[0] + 7 * PAGE, guest[0] + 7 * PAGE, PAGE) == 0);
+    WANT(memcmp(loaded[1], guest[1], PAGE) == 0);
+    zimgasol_in_place_session_free(&load);
+    return 0;
+}
+
 /* A round is given up in its middle: one worker was drained of a part of its bytes, one wasn't
  * stepped, and one wasn't handed out. Those that are out go on, and are freed before the sender and
  * after it. */
@@ -178,7 +232,7 @@ static int give_up(zimgasol_table *table) {
     WANT(zimgasol_multi_worker(&multi, &none) == ZIMGASOL_OUT_OF_TURN && none.full == 0);
     WANT(zimgasol_multi_give_back(&multi, &workers[0]) == ZIMGASOL_OUT_OF_TURN && workers[0].full != 0);
     WANT(zimgasol_multi_end_round(&multi) == ZIMGASOL_OUT_OF_TURN);
-    WANT(zimgasol_multi_finish(&multi) == ZIMGASOL_OUT_OF_TURN);
+    WANT(zimgasol_multi_finish(&multi) == ZIMGASOL_OUT_OF_TURN && zimgasol_multi_finish_open(&multi) == ZIMGASOL_OUT_OF_TURN);
     /* what waited of the main stream is gone, and so is the hello of the third channel */
     WANT(zimgasol_multi_drain(&multi, out, sizeof out) == 0);
     WANT(zimgasol_multi_drain_channel(&multi, 2, out, sizeof out) == 0);
@@ -304,7 +358,7 @@ int main(void) {
         if (load_all(&table, cuts[i])) return 1;
     if (load_wrong(&table)) return 1;
     printf("%zu bytes on the main stream, %zu, %zu and %zu on the channels; 0 pages differ\n", length[0], length[1], length[2], length[3]);
-    if (foreign(&table)) return 1;
+    if (send_named(&table) || foreign(&table)) return 1;
     zimgasol_table_free(&table);
     return 0;
 }

@@ -78,6 +78,28 @@ static void send(zimgasol_table *table) {
     zimgasol_multi_free(&multi);
 }
 
+/* A machine's streams without a round, ended and left open; and given up in the middle of a round.
+ * The main stream has the file header, a configuration of 9 bytes, START of one block and END. */
+static void send_named(zimgasol_table *table) {
+    zimgasol_multi multi = {0};
+    zimgasol_worker worker = {0};
+    zimgasol_place place = {0, 3};
+    uint8_t out[10];
+    size_t len, total = 0;
+    AGAIN(zimgasol_multi_new_named(&multi, table, uuid, 16, CHANNELS, 2, (const uint8_t *)"virt", 4));
+    AGAIN(zimgasol_multi_finish_open(&multi));
+    while ((len = zimgasol_multi_drain(&multi, out, sizeof out)) > 0) total += len;
+    WANT(total == 8 + 9 + (17 + 8 + 15 + 13) + (5 + 13));
+    zimgasol_multi_free(&multi);
+    AGAIN(zimgasol_multi_new_named(&multi, table, uuid, 16, CHANNELS, 2, (const uint8_t *)"virt", 4));
+    AGAIN(zimgasol_multi_begin_round(&multi, &place, 1));
+    AGAIN(zimgasol_multi_worker(&multi, &worker));
+    WANT(steps(&worker));
+    WANT(zimgasol_multi_cancel_round(&multi) == ZIMGASOL_DONE);
+    zimgasol_multi_free(&multi);
+    zimgasol_worker_free(&worker);
+}
+
 /* Feeds all sources by turns, and ends them. Returns whether the load goes on or is done: no where
  * it has failed for good. */
 static int feeds(zimgasol_in_place_session *load, size_t cut) {
@@ -137,6 +159,7 @@ int main(void) {
             if (refused == 0) memcpy(first[s], stream[s], first_length[s] = length[s]);
             WANT(length[s] == first_length[s] && memcmp(first[s], stream[s], length[s]) == 0);
         }
+        send_named(&table);
         load(&table, MOST);
         load(&table, 1000);
         zimgasol_table_free(&table);

@@ -1,4 +1,4 @@
-use Rattle.std.proofs.Common.{◌≡◌, ◌<◌, ◌≤◌, ◌+◌, ◌∙◌, ℕ, List, [], refl, arith, length, take, drop, get_or, set, map, sym, ap}
+use Rattle.std.proofs.Common.{◌≡◌, ◌<◌, ◌+◌, ◌∙◌, ℕ, List, [], refl, arith, length, take, drop, get_or, set, sym, ap}
 use Rattle.std.specs.Prelude.{Vec}
 use Rattle.std.specs.declared.alloc.Global.{Global}
 use Rattle.std.proofs.lemmas.List.{get_or-map}
@@ -30,6 +30,6 @@ returns c =
     get_or-map items e.sent.channels.items at c.index.result.now [] within ∙ ap items (sym c.index.ensures) in
     let here : c.behind.result.now ≡ left_of e at =
     c.behind.ensures ∙ ap (λ (n : ℕ). drop n c.deref.result.now) given ∙ ap (λ (l : List ℕ). drop (get_or e.given.items at 0) l) (c.deref.ensures.value ∙ sym text) in
-    drains_left e _ at count c.copy_front-count.new.out lt within (ap (λ (n : ℕ). set e.given.items at (n + count)) given) refl refl
+    drains_left e _ at count c.copy_front-count.new.out lt within refl (ap (λ (n : ℕ). set e.given.items at (n + count)) given) refl refl
     c.copy_front-count.ensures.fits (c.copy_front-count.ensures.front ∙ ap (λ (l : List ℕ). take count l) here)
     (λ zero room. ap (λ (l : List ℕ). length l) (sym here) ∙ c.copy_front-count.ensures.none zero room)

@@ -1,4 +1,4 @@
-use Rattle.std.proofs.Common.{◌≡◌, ◌∙◌, sym, ap}
+use Rattle.std.proofs.Common.{◌∙◌, sym, ap}
 use Rattle.mig_send.specs.ChannelWork.{RoundTerms}
 use Rattle.mig_c_calls.proofs.multi.next_worker.Goals as goal
 

@@ -1,4 +1,4 @@
-use Rattle.std.proofs.Common.{◌≡◌, List, ℕ, [], refl, ap}
+use Rattle.std.proofs.Common.{refl, ap}
 use Rattle.mig_send.specs.ChannelWork.{ChannelWork}
 use Rattle.mig_c_calls.proofs.Sends.{worker_refills}
 use Rattle.mig_c_calls.proofs.worker.refill.Goals as goal

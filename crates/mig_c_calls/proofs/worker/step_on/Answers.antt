@@ -1,7 +1,6 @@
-use Rattle.std.proofs.Common.{◌≡◌, refl, sym, subst, arith}
-use Rattle.std.specs.Prelude.{Result, Ok, Err, IsOk}
+use Rattle.std.proofs.Common.{refl, sym, subst, arith}
+use Rattle.std.specs.Prelude.{Result, IsOk}
 use Rattle.mig_mem.specs.declared.fault.NoMemory.{NoMemory}
-use Rattle.mig_send.specs.ChannelWork.{HasStepped}
 use Rattle.mig_c_calls.proofs.Sends.{err_not_ok}
 use Rattle.mig_c_calls.proofs.worker.step_on.Goals as goal
 

@@ -15,6 +15,6 @@ returns c =
       goes_on = c.in_ok-state.ensures.open;
       loads = λ blocks fit.
           let first : Image = lent_image c.args.table.now blocks in
-          subst (λ (n : ℕ). EagerlyLoads first (load_settings n (2 ^ 40) c.args.waiting c.args.frame) first state [] false) c.page_size.ensures
+          subst (λ (n : ℕ). LoadsInPlace first (load_settings n (2 ^ 40) c.args.waiting c.args.frame) first state [] false) c.page_size.ensures
           (c.in_ok-state.ensures.loads first (lent_is_image c.args.table.now blocks fit) refl);
     }

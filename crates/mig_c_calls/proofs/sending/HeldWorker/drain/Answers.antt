@@ -1,4 +1,4 @@
-use Rattle.std.proofs.Common.{◌≡◌, ◌∙◌, List, ℕ, [], ◌++◌, ap, sym, refl, take}
+use Rattle.std.proofs.Common.{◌≡◌, [], refl, take}
 use Rattle.mig_c_calls.specs.Multi.{waiting_in}
 use Rattle.mig_c_calls.proofs.Sends.{worker_hands, nothing_left}
 use Rattle.mig_c_calls.proofs.sending.HeldWorker.drain.Goals as goal

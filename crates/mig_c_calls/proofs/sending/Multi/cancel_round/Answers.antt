@@ -1,4 +1,4 @@
-use Rattle.std.proofs.Common.{◌≡◌, refl, arith}
+use Rattle.std.proofs.Common.{refl, arith}
 use Rattle.mig_c_calls.proofs.Drains.{breaks_off}
 use Rattle.mig_c_calls.proofs.sending.Multi.cancel_round.Goals as goal
 

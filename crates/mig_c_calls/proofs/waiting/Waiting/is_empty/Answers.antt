@@ -1,4 +1,4 @@
-use Rattle.std.proofs.Common.{◌≡◌, ℕ, List, [], ap, length, drop, arith}
+use Rattle.std.proofs.Common.{◌≡◌, ℕ, List, ap, length, drop, arith}
 use Rattle.std.proofs.lemmas.Bool.{leb-true, le-leb}
 use Rattle.std.proofs.lemmas.List.{drop_all, length-drop}
 use Rattle.mig_c_calls.proofs.waiting.Waiting.is_empty.Goals as goal
