@@ -223,6 +223,16 @@
 //! state.feed(memory, piece)
 //! ```
 //!
+//! Before each read of a socket it says what comes next, so that a page is read straight to where it
+//! belongs (`docs/EMBEDDING.md`, "Copies of a page"):
+//!
+//! <!-- quoted from crates/mig_tests/src/wanted_in_place.rt -->
+//! ```rust
+//! let Some(Wanted::Page(place)) = state.wanted() else {
+//!     return false;
+//! };
+//! ```
+//!
 //! # load_multi
 //!
 //! Take it for a main stream and channels that are complete, the channels in any order. A worker
@@ -323,5 +333,5 @@ pub use mig_mem::{
 pub use mig_send::{
     ChannelWorker, MultiRound, MultiSender, OpenGate, OpenRound, SendFault, Sent, SingleSender,
 };
-pub use mig_stream::{Frame, StreamFault};
+pub use mig_stream::{Frame, StreamFault, Wanted};
 pub use uuid::Uuid;
