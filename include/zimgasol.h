@@ -26,8 +26,8 @@
  *  - Memory. `malloc`, `realloc` and `free` are one allocator, and each block is aligned to every
  *    power of two up to 16 that divides its size.
  *
- * No call keeps a pointer to a caller's buffer, and no buffer of the library is handed out. What
- * was loaded is copied out page by page, or into blocks that the caller passes to each call.
+ * No call keeps a pointer to a caller's buffer, and none returns a buffer of the library. What was
+ * loaded is copied out page by page, or into blocks that the caller passes to each call.
  *
  * The library calls `malloc`, `realloc`, `free` and the functions of <string.h> that move and
  * compare bytes, and nothing else. So no call starts a thread, waits, reads or writes a file, or
@@ -295,7 +295,7 @@ typedef struct zimgasol_fault {
     uint64_t reserved[3];
 } zimgasol_fault;
 
-/* A text of the library's own, which lasts: its bytes, of which the last one is 0. */
+/* A string of the library's own, which lasts: its bytes, of which the last one is 0. */
 typedef struct zimgasol_text {
     const uint8_t *bytes;
     size_t bytes_len;
@@ -770,8 +770,8 @@ ZIMGASOL_API void zimgasol_sender_free(zimgasol_sender *sender);
  *
  * All steps of a round are passed the same blocks, of the same bytes: nobody writes to them from
  * the first step to the last. So it is for a guest that is stopped, for a snapshot, or for pages
- * that are write-protected meanwhile. A worker is given back to the sender that handed it out, and
- * to no other one. Nothing checks that: another sender may take it, and its streams are wrong
+ * that are write-protected meanwhile. A worker is given back to the sender that made it, and to no
+ * other one. Nothing checks that: another sender may take it, and its streams are wrong
  * then. A load finds packets that are missing or come twice, but not another guest's pages. */
 
 /* Makes a sender of a table, of which it keeps a copy, on 1 to 255 channels under a UUID of 16
@@ -794,9 +794,9 @@ ZIMGASOL_API zimgasol_status zimgasol_multi_new_named(zimgasol_multi *multi,
 ZIMGASOL_API zimgasol_status zimgasol_multi_begin_round(zimgasol_multi *multi,
     const zimgasol_place *dirty, size_t count);
 
-/* Hands out the worker of the next channel, from channel 0 on, into an empty handle. Its bytes
+/* Makes the worker of the next channel, from channel 0 on, in an empty handle. Its bytes
  * begin with those of its channel that weren't drained before, at first the hello. Returns DONE,
- * NO_MEMORY, or OUT_OF_TURN where no round is open or all workers were handed out. */
+ * NO_MEMORY, or OUT_OF_TURN if no round is open or each channel's worker was made. */
 ZIMGASOL_API zimgasol_status zimgasol_multi_worker(zimgasol_multi *multi, zimgasol_worker *worker);
 
 /* Takes back the worker of the next channel, from channel 0 on, once it has ended; its handle is
@@ -868,8 +868,8 @@ ZIMGASOL_API zimgasol_status zimgasol_hello(const uint8_t *uuid, size_t uuid_len
     uint8_t *out, size_t len);
 
 /* Writes one packet to the front of `out`: of a block's id, which has no byte 0 (a reader takes it
- * up to the first one), of the offsets in bytes of its normal pages with their contents one behind
- * the other, and of the offsets of its pages of zeros. It checks neither id nor offsets nor number.
+ * up to the first one), of the offsets in bytes of its normal pages with their contents one after
+ * another, and of the offsets of its pages of zeros. It checks neither id nor offsets nor number.
  * Returns DONE, BAD_PAGE_SIZE, TOO_MANY_PAGES, NO_MEMORY, or BAD_LENGTH: of the contents (the
  * normal pages' together), of the id (at most 255), or of `out`. With DONE, and where `out` alone
  * is too short, *written is how many bytes the packet has; else it stays. */
